@@ -1,4 +1,4 @@
-"""Schedules: the text of one, its file (docs/FORMATS.md), and its entries."""
+"""Schedules: the text of one, its file (docs/REFERENCE.md), and its entries."""
 
 import re
 import struct

@@ -1,5 +1,5 @@
 #!/usr/bin/env python3
-"""Makes the schedules of seeds, by docs/FORMATS.md ("The schedule of a seed") and the plain machine alone.
+"""Makes the schedules of seeds, by docs/REFERENCE.md ("The schedule of a seed") and the plain machine alone.
 
     oracle/seeds.py POLICY SEEDS FILE..
 

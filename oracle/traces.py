@@ -4,7 +4,7 @@
     oracle/traces.py [--columns | --json] [--summary] [--from N] [--to N] [--only N,..] --schedule FILE FILE..
     oracle/traces.py --write
 
-The schedule is a text. What an event did is told by the state before it and the state after it, as docs/FORMATS.md
+The schedule is a text. What an event did is told by the state before it and the state after it, as docs/REFERENCE.md
 says. With --write the traces of the lessons below become cases of `crates/conformance`, with what they have to print.
 """
 

@@ -57,6 +57,8 @@ class Documents(unittest.TestCase):
     def test_sentences(self) -> None:
         text = f"{'word ' * 31}end. {'word ' * 20}end.\n\nShort.\n"
         self.assertEqual(documents.long_sentences(Document("x.md", text)), 1)
+        text = f"- **{'word ' * 20}end.** {'Word ' * 20}end. [{'Word ' * 20}](x y).\n"
+        self.assertEqual(documents.long_sentences(Document("x.md", text)), 0)
 
 
 if __name__ == "__main__":

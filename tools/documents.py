@@ -245,7 +245,8 @@ def sentences(document: Document) -> Iterator[str]:
     """The sentences of a document, without code and tables."""
     text = "\n".join("" if line.text.lstrip().startswith(("|", "#")) else line.text for line in document.prose())
     for paragraph in re.split(r"\n\s*\n|\n(?=\s*(?:[-*]|\d+\.) )", text):
-        plain = re.sub(r"`[^`]*`", "x", " ".join(paragraph.split()))
+        plain = re.sub(r"`[^`]*`", "x", " ".join(re.sub(r"^> ?", "", paragraph, flags=re.M).split()))
+        plain = re.sub(r"\[([^\]]*)\]\([^)]*\)", r"\1", plain).replace("**", "").replace("*", "")
         yield from re.split(r"(?<=[.!?:;]) +(?=[A-Z(x])", plain)
 
 

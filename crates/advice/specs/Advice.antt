@@ -1,5 +1,5 @@
 -- What advice on files says (own).
-use Rattle.std.specs.Prelude.{◌≡◌, ℕ, List, [], ◌∷◌, ◌++◌, codes, false, true, map, vec_items}
+use Rattle.std.specs.Prelude.{◌≡◌, ℕ, List, [], ◌∷◌, ◌++◌, codes, false, true, vec_items}
 use Rattle.std.specs.List.{Contains, flat_map}
 use Rattle.model.specs.Classes.{Program}
 use Rattle.model.specs.Linkable.{AreSpelled, stands, DuplicateClass}

@@ -1,5 +1,5 @@
 -- What files are read as.
-use Rattle.std.specs.Prelude.{◌≡◌, ℕ, List, Option, Some, length, map, vec_items}
+use Rattle.std.specs.Prelude.{◌≡◌, ℕ, List, Some, length, map, vec_items}
 use Rattle.model.specs.Classes.{Program}
 use Rattle.model.specs.CodeParts.{count_from}
 use Rattle.model.specs.Linkable.{AreSpelled}

@@ -142,13 +142,14 @@ fn told_of(alloc: Global, files: &[GivenFile<'_>]) -> Result<Vec<Told>, AllocErr
     }
 }
 
-/// The text that tells of each file what is wrong with it, in words of Java, and what to write instead: a line that says so, and below it a
-/// line for each fault, all of them indented. It is empty where nothing is found, as where the files are refused by verification, or have
-/// no main. The only error is a want of memory.
+/// The text that tells of each file what is wrong with it, in words of Java, and what to write instead: a line that
+/// says so, and below it a line for each fault, all of them indented. It is empty where nothing is found, as where
+/// the files are refused by verification, or have no main. The only error is a want of memory.
 ///
-/// The files stand in their order. Of each is told first what is wrong with it as a class file; a file of another version, or with
-/// constants of a newer kind, is read all the same, as far as that goes. Then comes what it names above itself, its fields, and its
-/// methods, each with its code: whatever is outside of the profile, or not found among the classes of all files.
+/// The files stand in their order. Of each is told first what is wrong with it as a class file; a file of another
+/// version, or with constants of a newer kind, is read all the same, as far as that goes. Then comes what it names
+/// above itself, its fields, and its methods, each with its code: whatever is outside of the profile, or not found
+/// among the classes of all files.
 pub fn advice(alloc: Global, files: &[GivenFile<'_>]) -> Result<Vec<u8>, AllocError>
     ensures { IfOk result (λ text. IsAdvice (map bytes_of files.now) text.items) }
 {

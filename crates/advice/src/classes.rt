@@ -14,8 +14,8 @@ use link_conditions::class_rules::{DeclaredMethods, first_broken_rule};
 use std::alloc::{AllocError, Global};
 use std::marker::Model;
 
-/// The classes of a program, with what is above each of them, the methods that they declare, and the first that is above itself. Contracts
-/// see the program.
+/// The classes of a program, with what is above each of them, the methods that they declare, and the first that is
+/// above itself. Contracts see the program.
 #[derive(Drop)]
 pub(crate) struct Classes {
     pub(crate) hierarchy: Hierarchy,

@@ -14,8 +14,8 @@ use model::{ExceptionEntry, Instr};
 use std::alloc::{AllocError, Global};
 use std::marker::Model;
 
-/// A class file among those of a program, of each part of which can be asked whether it is outside of the profile, or names what is not
-/// found. Contracts see the program and the tree of the file.
+/// A class file among those of a program, of each part of which can be asked whether it is outside of the profile, or
+/// names what is not found. Contracts see the program and the tree of the file.
 #[derive(Drop)]
 pub(crate) struct Facts<'a> {
     hierarchy: &'a Hierarchy,

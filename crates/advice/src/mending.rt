@@ -43,8 +43,9 @@ fn entry_at(bytes: &[u8], at: usize) -> Option<Entry> {
     })
 }
 
-/// Puts an entry that version 49.0 has in the place of one that it has not, and that has as many bytes: a String for a MethodType, a
-/// Module or a Package, an Integer of the same bits for a Dynamic or an InvokeDynamic, and a Utf8 of one letter for a MethodHandle.
+/// Puts an entry that version 49.0 has in the place of one that it has not, and that has as many bytes: a String for
+/// a MethodType, a Module or a Package, an Integer of the same bits for a Dynamic or an InvokeDynamic, and a Utf8 of
+/// one letter for a MethodHandle.
 fn mend_entry(bytes: &mut [u8], at: usize) {
     match bytes.get(at).copied() {
         Some(16 | 19 | 20) => put(bytes, at, 8),
@@ -80,8 +81,8 @@ fn mend_pool(bytes: &mut [u8]) {
     }
 }
 
-/// Makes of a class file of any version one of version 49.0, as far as that goes: each entry of its constant pool of a kind that came
-/// later (JVMS table 4.4-B of its later editions) is another one, so that all stands where it stood.
+/// Makes of a class file of any version one of version 49.0, as far as that goes: each entry of its constant pool of
+/// a kind that came later (JVMS table 4.4-B of its later editions) is another one, so that all stands where it stood.
 pub(crate) fn mend(bytes: &mut [u8]) {
     for (at, byte) in [(4usize, 0u8), (5, 0), (6, 0), (7, 49)] {
         put(bytes, at, byte);

@@ -35,7 +35,8 @@ fn mended_class(alloc: Global, bytes: &[u8]) -> Result<Option<ClassFile>, AllocE
 
 /// What the bytes of a file are read as.
 pub(crate) fn read_file(alloc: Global, bytes: &[u8]) -> Result<ReadFile, AllocError>
-    ensures { (tree : FileTree) → Spells bytes.now tree → IfOk result (λ read. option_map file_of read.class ≡ Some tree) }
+    ensures { (tree : FileTree) → Spells bytes.now tree
+        → IfOk result (λ read. option_map file_of read.class ≡ Some tree) }
 {
     let fault = match decode(alloc, bytes) {
         Ok(class) => {
@@ -76,8 +77,8 @@ pub(crate) fn fault_of(fault: Option<Malformed>) -> Option<FileFault> {
     Some(FileFault::Malformed(fault?.cause))
 }
 
-/// What all files are read as: the classes of those that have one, and of each file the place of its class among these, and what is wrong
-/// with it.
+/// What all files are read as: the classes of those that have one, and of each file the place of its class among
+/// these, and what is wrong with it.
 #[derive(Drop)]
 pub(crate) struct ReadFiles {
     pub(crate) classes: Vec<ClassFile>,

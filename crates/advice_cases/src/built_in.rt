@@ -16,7 +16,8 @@ fn write_line<W: Write>(output: &mut W, word: &str, flags: u16, texts: &[&[u8]])
     writeln!(output)
 }
 
-/// Writes a class: its flags, its name and its superclass, and then its interfaces, its fields and its methods, each in a line.
+/// Writes a class: its flags, its name and its superclass, and then its interfaces, its fields and its methods, each
+/// in a line.
 fn write_class<W: Write>(output: &mut W, class: &ClassFile) -> io::Result<()> {
     let names = [class_name(class), superclass_name(class).unwrap_or(b"-")];
     write_line(output, "class", class.flags, &names)?;

@@ -1,5 +1,6 @@
-//! The program `advice_cases`, which tells the advice on the files of cases. Its words name texts of cases; what is told of the files that
-//! the command line of each case names goes to standard output. The word `built-in` stands for the built-in classes, which are listed.
+//! The program `advice_cases`, which tells the advice on the files of cases. Its words name texts of cases; what is
+//! told of the files that the command line of each case names goes to standard output. The word `built-in` stands for
+//! the built-in classes, which are listed.
 #![tactic(auto)]
 
 mod built_in;

@@ -1,6 +1,6 @@
 //! `bursts NUMBER [timed]` runs methods by their linked code, in one burst each, up to the number: those of local
-//! instructions by `local_burst`, and all by `object_burst`. With `timed` it also tells the thread's processor time for an
-//! instruction, the least of 25 runs.
+//! instructions by `local_burst`, and all by `object_burst`. With `timed` it also tells the thread's processor time
+//! for an instruction, the least of 25 runs.
 
 use crate::arguments::number;
 use crate::samples::{Argument, Sample, samples};

@@ -1,9 +1,9 @@
-//! `hostile SHAPE [NUMBER]` makes class files of a shape that is hard to link or to verify, and links and verifies them, with
-//! as much of each kind in them as the number says. It prints the number, the bytes of the files, and whether they pass.
-//! With no number it begins with 8 and doubles it until a run takes some seconds, the files have a million bytes, or they
-//! don't pass; and it prints, too, how many microseconds of processor time linking and verification took, to which power of
-//! the bytes the time grew from one run to the next, and the peak memory of the process so far. With no shape it prints
-//! their names. `bench/hostile.py` makes a table of it.
+//! `hostile SHAPE [NUMBER]` makes class files of a shape that is hard to link or to verify, and links and verifies
+//! them, with as much of each kind in them as the number says. It prints the number, the bytes of the files, and
+//! whether they pass. With no number it begins with 8 and doubles it until a run takes some seconds, the files have a
+//! million bytes, or they don't pass; and it prints, too, how many microseconds of processor time linking and
+//! verification took, to which power of the bytes the time grew from one run to the next, and the peak memory of the
+//! process so far. With no shape it prints their names. `bench/hostile.py` makes a table of it.
 
 use crate::arguments::number;
 use crate::logarithm::thousandths;

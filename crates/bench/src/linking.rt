@@ -1,6 +1,6 @@
-//! `link FILE [whole]` links class files. Each line of the file has the names of class files, parted by spaces, and makes
-//! one program: of each it is told how many files were linked, or why they are refused. With `whole` the linked program is
-//! made too, and told how many methods it has. `bench/link.py` times both.
+//! `link FILE [whole]` links class files. Each line of the file has the names of class files, parted by spaces, and
+//! makes one program: of each it is told how many files were linked, or why they are refused. With `whole` the linked
+//! program is made too, and told how many methods it has. `bench/link.py` times both.
 
 use crate::telling::tell_refusal;
 use anyhow::{Context, Result};

@@ -1,5 +1,5 @@
-//! Programs that time others: the first argument names one of them, which has the other arguments. What each takes and tells
-//! stands at the head of its module. With `each FILE` each line of the file is such words.
+//! Programs that time others: the first argument names one of them, which has the other arguments. What each takes
+//! and tells stands at the head of its module. With `each FILE` each line of the file is such words.
 #![tactic(auto)]
 
 mod arguments;

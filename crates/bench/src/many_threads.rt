@@ -1,6 +1,6 @@
-//! `machine EVENTS FILE..` runs class files on the machine: the first argument names a file with a schedule, or is a number
-//! of events of the main thread. It prints the numbers that the run printed, how many events were done and why no more; how
-//! long the events alone took it says on standard error. `bench/machine.py` times it.
+//! `machine EVENTS FILE..` runs class files on the machine: the first argument names a file with a schedule, or is a
+//! number of events of the main thread. It prints the numbers that the run printed, how many events were done and why
+//! no more; how long the events alone took it says on standard error. `bench/machine.py` times it.
 
 use crate::arguments::files;
 use crate::telling::{tell_refusal, tell_time};

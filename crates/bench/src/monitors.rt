@@ -1,6 +1,6 @@
-//! `monitors TIMES THREADS OBJECTS FAT` times the monitors of objects: object 0 is entered and left so many times; so many
-//! threads wait for object 1 and are notified at once; and of so many objects, two at least, as many as the last number
-//! says get a waiter, which is notified. `bench/monitors.sh` times it.
+//! `monitors TIMES THREADS OBJECTS FAT` times the monitors of objects: object 0 is entered and left so many times; so
+//! many threads wait for object 1 and are notified at once; and of so many objects, two at least, as many as the last
+//! number says get a waiter, which is notified. `bench/monitors.sh` times it.
 
 use crate::arguments::number;
 use anyhow::{Result, ensure};

@@ -1,5 +1,5 @@
-//! `objects OBJECTS WAITERS` allocates so many objects, each with a field and a monitor that is entered once, and lets a
-//! thread wait for as many of them. `bench/heap.sh` times it and reads its memory.
+//! `objects OBJECTS WAITERS` allocates so many objects, each with a field and a monitor that is entered once, and
+//! lets a thread wait for as many of them. `bench/heap.sh` times it and reads its memory.
 
 use crate::arguments::number;
 use anyhow::{Context, Result, ensure};

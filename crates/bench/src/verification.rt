@@ -1,6 +1,6 @@
-//! `verify [within N] FILE..` links class files, verifies them, and says how many bytes of code they have and whether they
-//! pass; how long the verification alone took it says on standard error. With `within N` it may take so many steps, and not
-//! those that the program gives. `bench/verifier.py` times it.
+//! `verify [within N] FILE..` links class files, verifies them, and says how many bytes of code they have and whether
+//! they pass; how long the verification alone took it says on standard error. With `within N` it may take so many
+//! steps, and not those that the program gives. `bench/verifier.py` times it.
 
 use crate::arguments::files;
 use crate::telling::{tell_refusal, tell_time};

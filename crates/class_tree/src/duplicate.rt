@@ -74,7 +74,8 @@ fn check_differ<T: Member>(
     at: usize,
 ) -> Result<usize, Stop>
     ensures { ChecksOrStops causes.Duplicate
-        result (differ (map (λ m. name_and_descriptor_at firsts.now (T.name_index m) (T.descriptor_index m)) members.now)) }
+        result (differ (map (λ m.
+        name_and_descriptor_at firsts.now (T.name_index m) (T.descriptor_index m)) members.now)) }
 {
     let mut seen = HashSet::new(alloc);
     let mut at = at;

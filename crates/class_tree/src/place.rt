@@ -46,7 +46,8 @@ fn length_before_code(attributes: &[MethodAttribute]) -> usize
 
 /// The length of what stands in a method before its Code, with its name and length.
 fn length_in_method(method: &Method) -> usize
-    ensures { result ≡ saturated (length (before_parts (method_of method.now) ++ before_code (method_of method.now).parts)) }
+    ensures { result ≡ saturated
+        (length (before_parts (method_of method.now) ++ before_code (method_of method.now).parts)) }
 {
     length_before_code(&method.attributes).saturating_add(8)
 }
@@ -68,14 +69,16 @@ fn length_before(methods: &[Method], index: usize) -> usize
 }
 
 impl ClassFile {
-    /// The offset of what the Code of a method holds, behind its name and length. Methods count from 0. Where the method
-    /// has no Code it is the offset behind its attributes, and where there is no such method that behind them all. No
-    /// file in memory is so long that the highest `usize` is answered in its place.
+    /// The offset of what the Code of a method holds, behind its name and length. Methods count from 0. Where the
+    /// method has no Code it is the offset behind its attributes, and where there is no such method that behind them
+    /// all. No file in memory is so long that the highest `usize` is answered in its place.
     pub fn code_offset(&self, method: usize) -> usize
         ensures place { result ≡ saturated (length (front_of_code (file_of self.now) method)) }
         // Where the tree is that of bytes in memory, what the Code holds stands there.
-        ensures stands { (bytes : List ℕ) (m : MethodTree) (c : CodeTree) → Layout bytes (file_of self.now) → length bytes < 2 ^ 64
-            → slice_get (file_of self.now).methods method ≡ Some m → code_in m.parts ≡ Some c → BeginsWith (code c) (drop result bytes) }
+        ensures stands { (bytes : List ℕ) (m : MethodTree) (c : CodeTree) → Layout bytes (file_of self.now)
+            → length bytes < 2 ^ 64
+            → slice_get (file_of self.now).methods method ≡ Some m → code_in m.parts ≡ Some c
+            → BeginsWith (code c) (drop result bytes) }
     {
         first_method(self).saturating_add(length_before(&self.methods, method))
     }

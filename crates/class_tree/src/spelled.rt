@@ -261,7 +261,8 @@ impl Spelled for Method {
 fn put_members(alloc: Global, file: &ClassFile, out: &mut Vec<u8>) -> Result<(), AllocError>
     ensures { OnOk result (out.new.items ≡ out.old.items
         ++ (table spelling.field (file_of file.now).fields
-        ++ (table spelling.method (file_of file.now).methods ++ table spelling.skipped (file_of file.now).attributes))) }
+        ++ (table spelling.method (file_of file.now).methods
+        ++ table spelling.skipped (file_of file.now).attributes))) }
 {
     put_table(alloc, &file.fields, out)?;
     put_table(alloc, &file.methods, out)?;

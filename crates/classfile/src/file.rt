@@ -83,11 +83,11 @@ fn laid_out(alloc: Global, bytes: &[u8]) -> Result<ClassFile, Malformed>
 ///
 /// First all fields are read in the order of the file, and the first fault is answered, each at the offset where its
 /// field begins: `Truncated`, `Magic`, `Version` (at 4), `Tag`, `Utf8`, `Attribute` (a length that does not fit) and,
-/// behind the last field, `Trailing`. A constant_pool_count of 0 is `Truncated` there. Then the conditions follow, each
-/// over the whole file: `Index`, at the first index that names no entry of the kind that it has to name; `Name` and
-/// `Descriptor`, at the first index of a name or of a descriptor that is none; `Attribute`, at the first method without
-/// its Code, or the name of a Code or a ConstantValue too many, or the index of a ConstantValue of another kind than the
-/// field's type; `Duplicate`, at the second of two members of one name and one descriptor.
+/// behind the last field, `Trailing`. A constant_pool_count of 0 is `Truncated` there. Then the conditions follow,
+/// each over the whole file: `Index`, at the first index that names no entry of the kind that it has to name; `Name`
+/// and `Descriptor`, at the first index of a name or of a descriptor that is none; `Attribute`, at the first method
+/// without its Code, or the name of a Code or a ConstantValue too many, or the index of a ConstantValue of another
+/// kind than the field's type; `Duplicate`, at the second of two members of one name and one descriptor.
 pub fn decode(alloc: Global, bytes: &[u8]) -> Result<ClassFile, Malformed>
     // What is answered is spelled so.
     ensures found { IfOk result (λ c. Spells bytes.now (file_of c)) }

@@ -58,7 +58,8 @@ fn read_times<T: Part>(
     count: u16,
     reader: &mut Reader<'_>,
 ) -> Result<Vec<T>, Stop>
-    ensures { Gives (λ x. (map T.view x.items, reader.new)) result (times_at (T.read_at pool.now owner) count reader.old) }
+    ensures { Gives (λ x.
+        (map T.view x.items, reader.new)) result (times_at (T.read_at pool.now owner) count reader.old) }
 {
     let mut parts = Vec::new(alloc);
     'parts: for _ in 0..count {

@@ -1,6 +1,6 @@
 -- The command line (own), in the words of the crate `clap`: which options there are, and which command the words
 -- spell.
-use Rattle.std.specs.Prelude.{◌≡◌, ◌≤◌, ◌⊎◌, ℕ, ◌-◌, ◌^◌, ◌==◌, Bool, List, ◌∷◌, ◌++◌, map, true, false, codes, Option, Some, None, string_bytes, vec_items}
+use Rattle.std.specs.Prelude.{◌≡◌, ◌≤◌, ◌⊎◌, ℕ, ◌-◌, ◌^◌, ◌==◌, Bool, List, map, true, false, codes, Option, Some, None, string_bytes, vec_items}
 use Rattle.std.specs.List.{All, slice_split}
 use Rattle.std.specs.Option.{option_map, option_map_or}
 use Rattle.std.specs.Str.{bytes_eq}
@@ -94,6 +94,14 @@ with_limits app = with_rule (with_rule (with_rule (with_rule (with_rule app
     (number_option (codes "threads") 1 32767))
     (number_option (codes "frames") 1 65535)
 
+-- `--main NAME`, the class whose main is run
+abbrev pub main_option : Rule
+main_option = path_option (codes "main")
+
+-- within which limits a program is run, and from which class on
+abbrev pub with_program : App → App
+with_program app = with_rule (with_limits app) main_option
+
 -- how many workers, how many events in all and in a row, and by which seed and policy
 abbrev pub with_run_options : App → App
 with_run_options app = with_rule (with_rule (with_rule (with_rule (with_rule app
@@ -115,10 +123,10 @@ abbrev pub with_files : App → Rule → App
 with_files app files = with_rule (with_rule (with_rule app (flag (codes "explain"))) (flag (codes "quiet"))) files
 
 abbrev pub jvm_run : App
-jvm_run = with_files (with_limits (with_rule (with_run_options (new_app (codes "run"))) record_option)) class_files
+jvm_run = with_files (with_program (with_rule (with_run_options (new_app (codes "run"))) record_option)) class_files
 
 abbrev pub jvm_replay : App
-jvm_replay = with_files (with_limits (with_then_run (with_rule (new_app (codes "replay")) schedule_option))) class_files
+jvm_replay = with_files (with_program (with_then_run (with_rule (new_app (codes "replay")) schedule_option))) class_files
 
 -- which events are told: from one number up to another, of some threads
 abbrev pub with_window : App → App
@@ -132,7 +140,7 @@ abbrev pub with_form : App → App
 with_form app = with_rule (with_rule (with_rule app (flag (codes "columns"))) (flag (codes "json"))) (flag (codes "summary"))
 
 abbrev pub jvm_trace : App
-jvm_trace = with_files (with_limits (with_form (with_window (with_rule (new_app (codes "trace")) schedule_option)))) class_files
+jvm_trace = with_files (with_program (with_form (with_window (with_rule (new_app (codes "trace")) schedule_option)))) class_files
 
 -- which outcome is to be found, among how many states, in how much memory, and where its schedule is recorded
 abbrev pub with_search_options : App → App
@@ -143,10 +151,10 @@ with_search_options app = with_rule (with_rule (with_rule (with_rule app
     record_option
 
 abbrev pub jvm_search : App
-jvm_search = with_files (with_limits (with_search_options (new_app (codes "search")))) class_files
+jvm_search = with_files (with_program (with_search_options (new_app (codes "search")))) class_files
 
 abbrev pub jvm_verify : App
-jvm_verify = with_files (with_rule (new_app (codes "verify")) (flag (codes "library"))) class_files
+jvm_verify = with_files (with_rule (with_rule (new_app (codes "verify")) (flag (codes "library"))) main_option) class_files
 
 abbrev pub jvm_disasm : App
 jvm_disasm = with_files (with_rule (new_app (codes "disasm")) (flag (codes "names"))) class_files
@@ -225,6 +233,7 @@ pub record AreRunValues (rows : List Row) (run : Run) : Type 0 where
   pub options : AreRunNumbers rows run.options
   pub recording : first_of (codes "record") rows ≡ option_map string_bytes run.record
   pub limits : AreLimitNumbers rows run.limits
+  pub main : first_of (codes "main") rows ≡ option_map string_bytes run.main
   pub files : all_of (codes "files") rows ≡ Some (map string_bytes run.files.items)
   pub other_files : All (IsApart (first_of (codes "record") rows)) (map string_bytes run.files.items)
   pub explain : run.explain ≡ is_set (first_of (codes "explain") rows)
@@ -246,6 +255,7 @@ pub record AreValues (rows : List Row) (replay : Replay) : Type 0 where
   pub schedule : first_of (codes "schedule") rows ≡ Some (string_bytes replay.schedule)
   pub then_run : IsThenRun rows replay.then_run
   pub limits : AreLimitNumbers rows replay.limits
+  pub main : first_of (codes "main") rows ≡ option_map string_bytes replay.main
   pub files : all_of (codes "files") rows ≡ Some (map string_bytes replay.files.items)
   pub other_schedule : IsApart (first_of (codes "record") rows) (string_bytes replay.schedule)
   pub other_files : All (IsApart (first_of (codes "record") rows)) (map string_bytes replay.files.items)
@@ -267,6 +277,7 @@ pub record AreTraceValues (rows : List Row) (trace : Trace) : Type 0 where
   pub form : IsTraceForm rows trace.form
   pub summary : trace.summary ≡ is_set (first_of (codes "summary") rows)
   pub limits : AreLimitNumbers rows trace.limits
+  pub main : first_of (codes "main") rows ≡ option_map string_bytes trace.main
   pub files : all_of (codes "files") rows ≡ Some (map string_bytes trace.files.items)
   pub explain : trace.explain ≡ is_set (first_of (codes "explain") rows)
   pub quiet : trace.quiet ≡ is_set (first_of (codes "quiet") rows)
@@ -285,6 +296,7 @@ pub record AreSearchValues (rows : List Row) (search : Search) : Type 0 where
   pub memory : IsNumber 0 4294967295 (first_of (codes "memory") rows) search.memory
   pub recording : first_of (codes "record") rows ≡ option_map string_bytes search.record
   pub limits : AreLimitNumbers rows search.limits
+  pub main : first_of (codes "main") rows ≡ option_map string_bytes search.main
   pub files : all_of (codes "files") rows ≡ Some (map string_bytes search.files.items)
   pub other_text : IsGoalApart (first_of (codes "record") rows) search.goal
   pub other_files : All (IsApart (first_of (codes "record") rows)) (map string_bytes search.files.items)
@@ -293,6 +305,7 @@ pub record AreSearchValues (rows : List Row) (search : Search) : Type 0 where
 
 -- the values that the words give to `jvm verify`
 pub record AreVerifyValues (rows : List Row) (verify : Verify) : Type 0 where
+  pub main : first_of (codes "main") rows ≡ option_map string_bytes verify.main
   pub files : all_of (codes "files") rows ≡ Some (map string_bytes verify.files.items)
   pub library : verify.library ≡ is_set (first_of (codes "library") rows)
   pub explain : verify.explain ≡ is_set (first_of (codes "explain") rows)

@@ -1,5 +1,6 @@
 -- Which words name one file, whatever stands in the folders (own).
-use Rattle.std.specs.Prelude.{◌≡◌, Bool, length, slice_index, [], ◌∷◌, ◌||◌, ◌==◌, codes, if◌then◌else◌, flat_map, Option, Some, None, IfSome, string_bytes}
+use Rattle.std.specs.Prelude.{◌≡◌, Bool, length, slice_index, [], ◌∷◌, ◌||◌, ◌&&◌, ◌==◌, codes, if◌then◌else◌, flat_map, Option, Some, None, IfSome, string_bytes}
+use Rattle.std.proofs.Math.Bool.{beq}
 use Rattle.std.specs.List.{slice_split}
 use Rattle.std.specs.Str.{bytes_eq}
 use Rattle.clap.specs.Words.{Text}
@@ -22,6 +23,10 @@ is_absolute path = slice_index path 0 == 0x2f
 pub record IsSamePath (one other : Text) : Type 0 where
   pub begin : is_absolute one ≡ is_absolute other
   pub steps : steps_of one ≡ steps_of other
+
+-- whether they are
+abbrev pub is_same_path : (one other : Text) → Bool
+is_same_path one other = beq (is_absolute one) (is_absolute other) && bytes_eq (steps_of one) (steps_of other)
 
 -- where a file is written, it is another one than this
 abbrev pub IsApart : (written : Option Text) → (read : Text) → Type 0

@@ -25,12 +25,9 @@ Examples:
   jvm search --for deadlock A.class
   jvm schedule a.schedule";
 
-/// What class files are that are run.
-pub(crate) const FILES_HELP: &str = "The class files; the main method is that of the first";
-
-/// What class files are that are verified.
-pub(crate) const VERIFIED_HELP: &str =
-    "The class files, and folders of them; the main method is that of the first file";
+/// What class files are of which one has the main method.
+pub(crate) const FILES_HELP: &str =
+    "The class files, and folders of them; a file in front has the main method";
 
 /// What class files are that are listed.
 pub(crate) const LISTED_HELP: &str = "The class files, and folders of them";
@@ -38,7 +35,10 @@ pub(crate) const LISTED_HELP: &str = "The class files, and folders of them";
 /// What stands below the options of `run`.
 pub(crate) const RUN_PAGE: &str = "\
 What it does:
-  Links and verifies the class files, and runs the main method of the first one.
+  Links and verifies the class files, and runs the main method of the first one;
+  a folder stands for those in it and below it. Where a folder comes first, it is
+  that of the one class that has a main method, and with --main that of the class
+  which is named.
   The threads take turns by a policy; each event that is done is one more of the
   schedule, which --record keeps for `jvm replay`. The report has the printed
   numbers, how each thread stands, how many events there were, and why no more.
@@ -131,9 +131,10 @@ Example:
 pub(crate) const VERIFY_PAGE: &str = "\
 What it does:
   Links the class files and verifies the code of their methods; nothing is run.
-  A folder stands for the class files in it, sorted by their names. Each class
-  that they need has to be among them, or to be a built-in one. It prints how
-  many classes there are, or tells why they are refused.
+  A folder stands for the class files in it and below it, sorted by their paths.
+  Each class that they need has to be among them, or to be a built-in one. One
+  has to have a main method, which is found as by `jvm run`. It prints how many
+  classes there are, or tells why they are refused.
 
 Statuses:
   0  the class files are verified
@@ -149,8 +150,8 @@ pub(crate) const DISASM_PAGE: &str = "\
 What it does:
   Lists each class file: its class, fields and methods, and the instructions by
   their offsets, bytes, mnemonics and operands. A folder stands for the class
-  files in it, sorted by their names. A class file that is listed need not be one
-  that can be run.
+  files in it and below it, sorted by their paths. A class file that is listed
+  need not be one that can be run.
 
 Statuses:
   0  the class files are listed

@@ -17,5 +17,6 @@ pub use options::{
     Verify,
 };
 pub use parse::command;
+pub use paths::is_same_path;
 pub use run_options::{PolicyName, RunOptions};
 pub use usage::Usage;

@@ -187,7 +187,8 @@ impl NumberOption {
 
     /// The numbers that texts spell.
     fn each_of(self, alloc: Global, texts: &[&str]) -> Result<Vec<u32>, Usage>
-        ensures numbers { IfOk result (λ numbers. AreNumerals self.least self.most (map (λ text. text.now) texts.now) numbers.items) }
+        ensures numbers { IfOk result (λ numbers.
+            AreNumerals self.least self.most (map (λ text. text.now) texts.now) numbers.items) }
         ensures none { IfErr result (λ usage. Refuses usage ((numbers : _)
             → AreNumerals self.least self.most (map (λ text. text.now) texts.now) numbers → ⊥)) }
     {

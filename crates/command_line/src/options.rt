@@ -33,7 +33,9 @@ pub struct Run {
     /// The path of the file that the schedule of the run is written to, if any.
     pub record: Option<String>,
     pub limits: LimitOptions,
-    /// The paths of the class files. The first holds the class whose `main` is run.
+    /// The name of the class whose `main` is run, with dots or slashes, if it is given.
+    pub main: Option<String>,
+    /// The paths of the class files, and of folders of them.
     pub files: Vec<String>,
     /// Whether a refusal is explained, and what threads are about, whatever that costs.
     pub explain: bool,
@@ -49,7 +51,9 @@ pub struct Replay {
     /// How the run goes on where the schedule ends, if it does.
     pub then_run: Option<ThenRun>,
     pub limits: LimitOptions,
-    /// The paths of the class files. The first holds the class whose `main` is run.
+    /// The name of the class whose `main` is run, with dots or slashes, if it is given.
+    pub main: Option<String>,
+    /// The paths of the class files, and of folders of them.
     pub files: Vec<String>,
     /// Whether a refusal is explained, and what threads are about, whatever that costs.
     pub explain: bool,
@@ -72,7 +76,9 @@ pub struct Trace {
     /// Whether a run of local instructions is told in one line.
     pub summary: bool,
     pub limits: LimitOptions,
-    /// The paths of the class files. The first holds the class whose `main` is run.
+    /// The name of the class whose `main` is run, with dots or slashes, if it is given.
+    pub main: Option<String>,
+    /// The paths of the class files, and of folders of them.
     pub files: Vec<String>,
     /// Whether a refusal is explained, and what threads are about, whatever that costs.
     pub explain: bool,
@@ -103,7 +109,9 @@ pub struct Search {
     /// The path of the file that the schedule that is found is written to, if any.
     pub record: Option<String>,
     pub limits: LimitOptions,
-    /// The paths of the class files. The first holds the class whose `main` is run.
+    /// The name of the class whose `main` is run, with dots or slashes, if it is given.
+    pub main: Option<String>,
+    /// The paths of the class files, and of folders of them.
     pub files: Vec<String>,
     /// Whether a refusal is explained.
     pub explain: bool,
@@ -161,7 +169,9 @@ impl ThenRun {
 /// `jvm verify`: class files are linked and verified, and nothing is run.
 #[derive(Drop)]
 pub struct Verify {
-    /// The paths of the class files, and of folders of them. The first file holds the class that has to have a `main`.
+    /// The name of the class that has to have a `main`, with dots or slashes, if it is given.
+    pub main: Option<String>,
+    /// The paths of the class files, and of folders of them.
     pub files: Vec<String>,
     /// Whether no class has to have a `main`.
     pub library: bool,

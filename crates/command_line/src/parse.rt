@@ -118,12 +118,14 @@ fn run_of(alloc: Global, matches: &ArgMatches<'_>) -> Result<Run, Usage>
     let options = run_options_of(alloc, matches)?;
     let record = path_of(alloc, matches, "record")?;
     let limits = limits_of(alloc, matches)?;
+    let main = path_of(alloc, matches, "main")?;
     let files = files_of(alloc, matches)?;
     check_files(alloc, matches, &files)?;
     Ok(Run {
         options,
         record,
         limits,
+        main,
         files,
         explain: is_set(matches, "explain"),
         quiet: is_set(matches, "quiet"),
@@ -138,6 +140,7 @@ fn replay_of(alloc: Global, matches: &ArgMatches<'_>) -> Result<Replay, Usage>
     let schedule = required_path_of(alloc, matches, "schedule")?;
     let then_run = then_run_of(alloc, matches)?;
     let limits = limits_of(alloc, matches)?;
+    let main = path_of(alloc, matches, "main")?;
     let files = files_of(alloc, matches)?;
     check_file(alloc, matches, schedule.as_str())?;
     check_files(alloc, matches, &files)?;
@@ -145,6 +148,7 @@ fn replay_of(alloc: Global, matches: &ArgMatches<'_>) -> Result<Replay, Usage>
         schedule,
         then_run,
         limits,
+        main,
         files,
         explain: is_set(matches, "explain"),
         quiet: is_set(matches, "quiet"),
@@ -162,6 +166,7 @@ fn trace_of(alloc: Global, matches: &ArgMatches<'_>) -> Result<Trace, Usage>
     let only = ONLY.numbers(alloc, matches)?;
     let form = form_of(alloc, matches)?;
     let limits = limits_of(alloc, matches)?;
+    let main = path_of(alloc, matches, "main")?;
     let files = files_of(alloc, matches)?;
     Ok(Trace {
         schedule,
@@ -171,6 +176,7 @@ fn trace_of(alloc: Global, matches: &ArgMatches<'_>) -> Result<Trace, Usage>
         form,
         summary: is_set(matches, "summary"),
         limits,
+        main,
         files,
         explain: is_set(matches, "explain"),
         quiet: is_set(matches, "quiet"),
@@ -187,6 +193,7 @@ fn search_of(alloc: Global, matches: &ArgMatches<'_>) -> Result<Search, Usage>
     let memory = MEMORY.number(alloc, matches)?;
     let record = path_of(alloc, matches, "record")?;
     let limits = limits_of(alloc, matches)?;
+    let main = path_of(alloc, matches, "main")?;
     let files = files_of(alloc, matches)?;
     check_goal(alloc, matches, &goal)?;
     check_files(alloc, matches, &files)?;
@@ -196,6 +203,7 @@ fn search_of(alloc: Global, matches: &ArgMatches<'_>) -> Result<Search, Usage>
         memory,
         record,
         limits,
+        main,
         files,
         explain: is_set(matches, "explain"),
         quiet: is_set(matches, "quiet"),
@@ -220,7 +228,9 @@ fn verify_of(alloc: Global, matches: &ArgMatches<'_>) -> Result<Verify, Usage>
         → AreVerifyValues (rows_of (found_of matches.now)) verify → ⊥)) }
 {
     let files = files_of(alloc, matches)?;
+    let main = path_of(alloc, matches, "main")?;
     Ok(Verify {
+        main,
         files,
         library: is_set(matches, "library"),
         explain: is_set(matches, "explain"),
@@ -330,7 +340,8 @@ fn required_path_of(
     matches: &ArgMatches<'_>,
     argument: &str,
 ) -> Result<String, Usage>
-    ensures path { IfOk result (λ path. first_of argument.now (rows_of (found_of matches.now)) ≡ Some (string_bytes path)) }
+    ensures path { IfOk result (λ path.
+        first_of argument.now (rows_of (found_of matches.now)) ≡ Some (string_bytes path)) }
     ensures none { IfErr result (λ usage. Refuses usage ((path : _)
         → first_of argument.now (rows_of (found_of matches.now)) ≡ Some path → ⊥)) }
 {
@@ -340,13 +351,14 @@ fn required_path_of(
     }
 }
 
-/// The path that an option has, where it is there.
+/// The text that an option has, as a path or a name, where it is there.
 fn path_of(
     alloc: Global,
     matches: &ArgMatches<'_>,
     option: &str,
 ) -> Result<Option<String>, AllocError>
-    ensures { IfOk result (λ path. first_of option.now (rows_of (found_of matches.now)) ≡ option_map string_bytes path) }
+    ensures { IfOk result (λ path.
+        first_of option.now (rows_of (found_of matches.now)) ≡ option_map string_bytes path) }
 {
     match matches.get_str(option) {
         Some(path) => Ok(Some(String::from_str(alloc, path)?)),

@@ -3,11 +3,11 @@
 ghost use Rattle.std.specs.Prelude.{◌≡◌, false, IfOk, IfErr};
 ghost use Rattle.clap.specs.Words.{App, app_of, kind_of, new_app, rule_of, with_subcommand};
 ghost use Rattle.clap.specs.declared.error.kind.ErrorKind.TheVariants.{OutOfMemory as no_memory};
-ghost use Rattle.command_line.specs.CommandLine.{IsLocal, class_files, flag, goal_option, jvm, jvm_disasm, jvm_replay, jvm_run, jvm_schedule, jvm_search, jvm_trace, jvm_verify, one_file, path_option, record_option, schedule_option, with_files as over_files, with_limits as limited};
+ghost use Rattle.command_line.specs.CommandLine.{IsLocal, class_files, flag, goal_option, jvm, jvm_disasm, jvm_replay, jvm_run, jvm_schedule, jvm_search, jvm_trace, jvm_verify, main_option, one_file, path_option, record_option, schedule_option, with_files as over_files, with_limits as limited, with_program as programmed};
 
 use crate::help::{
     ABOUT, AFTER, DISASM_PAGE, FILES_HELP, LISTED_HELP, REPLAY_PAGE, RUN_PAGE, SCHEDULE_PAGE,
-    SEARCH_PAGE, TRACE_PAGE, VERIFIED_HELP, VERIFY_PAGE, VERSION,
+    SEARCH_PAGE, TRACE_PAGE, VERIFY_PAGE, VERSION,
 };
 use crate::numbers::{
     BUDGET, CELLS, FRAMES, FROM, MEMORY, MONITORS, OBJECTS, ONLY, QUANTUM, STATES, THREADS, TO,
@@ -78,7 +78,7 @@ fn run_parser<'a>(alloc: Global) -> Result<clap::Command<'a>, AllocError>
     .arg(record_argument(alloc))?;
     with_files(
         alloc,
-        with_limits(alloc, run)?,
+        with_program(alloc, run)?,
         files_argument(alloc, FILES_HELP),
     )
 }
@@ -102,7 +102,7 @@ fn replay_parser<'a>(alloc: Global) -> Result<clap::Command<'a>, AllocError>
     .arg(record_argument(alloc))?;
     with_files(
         alloc,
-        with_limits(alloc, replay)?,
+        with_program(alloc, replay)?,
         files_argument(alloc, FILES_HELP),
     )
 }
@@ -129,7 +129,7 @@ fn trace_parser<'a>(alloc: Global) -> Result<clap::Command<'a>, AllocError>
     ))?;
     with_files(
         alloc,
-        with_limits(alloc, trace)?,
+        with_program(alloc, trace)?,
         files_argument(alloc, FILES_HELP),
     )
 }
@@ -149,7 +149,7 @@ fn search_parser<'a>(alloc: Global) -> Result<clap::Command<'a>, AllocError>
     .arg(record_argument(alloc))?;
     with_files(
         alloc,
-        with_limits(alloc, search)?,
+        with_program(alloc, search)?,
         files_argument(alloc, FILES_HELP),
     )
 }
@@ -164,8 +164,9 @@ fn verify_parser<'a>(alloc: Global) -> Result<clap::Command<'a>, AllocError>
         "Links and verifies class files",
         VERIFY_PAGE,
     )
-    .arg(library)?;
-    with_files(alloc, verify, files_argument(alloc, VERIFIED_HELP))
+    .arg(library)?
+    .arg(main_argument(alloc))?;
+    with_files(alloc, verify, files_argument(alloc, FILES_HELP))
 }
 
 fn disasm_parser<'a>(alloc: Global) -> Result<clap::Command<'a>, AllocError>
@@ -216,6 +217,18 @@ fn record_argument<'a>(alloc: Global) -> Arg<'a>
         "record",
         "The file that the schedule of the run is written to",
     )
+}
+
+/// The class whose main is run.
+fn main_argument<'a>(alloc: Global) -> Arg<'a>
+    ensures rule { rule_of result ≡ main_option }
+    ensures local { result.global ≡ false }
+{
+    Arg::new(alloc, "main")
+        .long("main")
+        .value_name("NAME")
+        .action(ArgAction::Set)
+        .help("The class whose main method is run, as bank.Main or bank/Main")
 }
 
 /// The outcome that a search is to find.
@@ -294,6 +307,17 @@ fn with_limits<'a>(
         .arg(FRAMES.argument(alloc))
 }
 
+/// The command with the options of the limits, and with the one that names the class whose main is run.
+fn with_program<'a>(
+    alloc: Global,
+    command: clap::Command<'a>,
+) -> Result<clap::Command<'a>, AllocError>
+    ensures app { IfOk result (λ program. app_of program ≡ programmed (app_of command.entry)) }
+    ensures local { IsLocal command.entry → IfOk result IsLocal }
+{
+    with_limits(alloc, command)?.arg(main_argument(alloc))
+}
+
 /// The command with the flags that say how much standard error tells, and with files behind all options.
 fn with_files<'a>(
     alloc: Global,
@@ -301,7 +325,8 @@ fn with_files<'a>(
     files: Arg<'a>,
 ) -> Result<clap::Command<'a>, AllocError>
     ensures { IsLocal command.entry → files.entry.global ≡ false
-        → IfOk result (λ whole. (app_of whole ≡ over_files (app_of command.entry) (rule_of files.entry)) × IsLocal whole) }
+        → IfOk result (λ whole. (app_of whole ≡ over_files (app_of command.entry) (rule_of files.entry))
+        × IsLocal whole) }
 {
     let explain = flag_argument(
         alloc,

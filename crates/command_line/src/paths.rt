@@ -71,8 +71,9 @@ fn check_path(alloc: Global, written: &str, read: &str) -> Result<(), Usage>
 }
 
 /// Whether two words are one path, but for what leads nowhere.
-fn is_same_path(alloc: Global, one: &str, other: &str) -> Result<bool, AllocError>
-    ensures { IfOk result (λ same. IsTrue same ↔ IsSamePath one.now other.now) }
+pub fn is_same_path(alloc: Global, one: &str, other: &str) -> Result<bool, AllocError>
+    ensures path { IfOk result (λ same. IsTrue same ↔ IsSamePath one.now other.now) }
+    ensures is { IfOk result (λ same. same ≡ spec.is_same_path one.now other.now) }
 {
     let steps = steps_of(alloc, one)?;
     let others = steps_of(alloc, other)?;

@@ -122,7 +122,8 @@ impl RunOptions {
 
     /// An option that doesn't go with the policy of one worker.
     fn clash_with_policy(&self) -> Option<Clash>
-        ensures { MatchOption result (IsOfPolicy (policy_of self.now.quantum self.now.policy) self.now.quantum self.now.seed)
+        ensures { MatchOption result
+            (IsOfPolicy (policy_of self.now.quantum self.now.policy) self.now.quantum self.now.seed)
             (λ _. IsOfPolicy (policy_of self.now.quantum self.now.policy) self.now.quantum self.now.seed → ⊥) }
     {
         match self.policy() {

@@ -17,8 +17,8 @@ const MORE: &str = "For more information, try '--help'.";
 pub enum Usage {
     /// The words are no command. Its text is for the user.
     Parser(clap::Error),
-    /// A number of an option has a sign, or an outcome is none; or an option doesn't go with the others, or not without one that is missing.
-    /// This is the text for the user.
+    /// A number of an option has a sign, or an outcome is none; or an option doesn't go with the others, or not
+    /// without one that is missing. This is the text for the user.
     Number(String),
     /// The words ask for help or for the version, and this is it.
     Asked(clap::Error),
@@ -26,8 +26,8 @@ pub enum Usage {
 }
 
 impl Usage {
-    /// That a text with a sign isn't a number of the option of this name, in the parser's words for every other text that
-    /// is none. The parser takes a plus, and takes a minus for an option.
+    /// That a text with a sign isn't a number of the option of this name, in the parser's words for every other text
+    /// that is none. The parser takes a plus, and takes a minus for an option.
     pub(crate) fn no_number(alloc: Global, name: &str, text: &str) -> Usage
         ensures { Asks result → ⊥ }
     {
@@ -73,7 +73,7 @@ impl Usage {
     }
 
     /// That a file is to be written which is read, too, in the parser's words for a value that it refuses.
-    pub(crate) fn read_too(alloc: Global, path: &str) -> Usage
+    pub fn read_too(alloc: Global, path: &str) -> Usage
         ensures { Asks result → ⊥ }
     {
         Usage::told(format!(in alloc;

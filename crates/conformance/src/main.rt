@@ -1,5 +1,5 @@
-//! The program `conformance`, which tries what `jvm` does: by cases, whose answers are known, and by trials of files that it may not be
-//! ready for. The first word says what is done:
+//! The program `conformance`, which tries what `jvm` does: by cases, whose answers are known, and by trials of files
+//! that it may not be ready for. The first word says what is done:
 //!
 //! - `cases TEXT..` runs the cases of texts, and prints what each writes, says and ends with;
 //! - `fronts`, `bytes EVERY` and `events`, with the words of a replay behind them, `--schedule FILE [LIMITS] FILE..`, try other forms of
@@ -7,8 +7,8 @@
 //! - `sets SEED COUNT` tries sets of class files that are made by chance;
 //! - `each FILE` does what each line of the file says.
 //!
-//! Of trials it prints how many forms or sets were tried, and where something is wrong, what. Then its status is 1. With `--counts` before
-//! their word, it prints also what came of them, each with how often.
+//! Of trials it prints how many forms or sets were tried, and where something is wrong, what. Then its status is 1.
+//! With `--counts` before their word, it prints also what came of them, each with how often.
 #![tactic(auto)]
 
 mod cases;

@@ -38,7 +38,8 @@ fn place_of<'a>(
     text: &'a [u8],
     here: usize,
 ) -> Result<usize, AllocError>
-    ensures { (all : List (List ℕ)) → here < length all → slice_index_or all here [] ≡ text.now → HasPlaces all here seen.old
+    ensures { (all : List (List ℕ)) → here < length all → slice_index_or all here [] ≡ text.now
+        → HasPlaces all here seen.old
         → IfOk result (λ place. (place ≡ first_place all text.now) × HasPlaces all (here + 1) seen.new) }
 {
     match seen.get(text).copied() {
@@ -89,7 +90,8 @@ impl<'a> FirstIndices<'a> {
     pub fn first(&self, index: u16) -> usize
         ensures value { result ≡ first_index self.now index }
         // Two indices have the same exactly where they have one text.
-        ensures same { (other : ℕ) → (result == first_index self.now other) ≡ bytes_eq (text_at self.now index) (text_at self.now other) }
+        ensures same { (other : ℕ)
+            → (result == first_index self.now other) ≡ bytes_eq (text_at self.now index) (text_at self.now other) }
     {
         first_at(&self.firsts, index)
     }

@@ -55,7 +55,8 @@ fn utf8(pool: &Pool, index: u16, at: usize) -> Result<(), Malformed>
 
 /// The indices of a Class and of a NameAndType.
 fn reference(pool: &Pool, class: u16, name_and_type: u16, at: usize) -> Result<(), Malformed>
-    ensures { Checks causes.Index result (conditions.names_class pool.now class && conditions.names_name_and_type pool.now name_and_type) }
+    ensures { Checks causes.Index result (conditions.names_class pool.now class
+        && conditions.names_name_and_type pool.now name_and_type) }
 {
     require(pool.names_class(class), Cause::Index, at)?;
     require(
@@ -67,7 +68,8 @@ fn reference(pool: &Pool, class: u16, name_and_type: u16, at: usize) -> Result<(
 
 /// The indices of two Utf8.
 fn name_and_descriptor(pool: &Pool, name: u16, descriptor: u16, at: usize) -> Result<(), Malformed>
-    ensures { Checks causes.Index result (conditions.names_utf8 pool.now name && conditions.names_utf8 pool.now descriptor) }
+    ensures { Checks causes.Index result (conditions.names_utf8 pool.now name
+        && conditions.names_utf8 pool.now descriptor) }
 {
     utf8(pool, name, at)?;
     utf8(pool, descriptor, at.saturating_add(2))

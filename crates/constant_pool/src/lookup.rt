@@ -27,7 +27,8 @@ pub struct Reference<'a> {
 
 /// The entry of an index, which counts from 1.
 fn constant_in(constants: &[Constant], index: u16) -> Option<&Constant>
-    ensures entry { unwrap_or (option_map (λ c. entry_of c.now) result) Unusable ≡ entry_at (entries_of constants.now) index }
+    ensures entry { unwrap_or (option_map (λ c. entry_of c.now) result) Unusable
+        ≡ entry_at (entries_of constants.now) index }
     ensures there { is_some result ≡ (nat_lt 0 index && nat_le index (length constants.now)) }
 {
     if index == 0 {

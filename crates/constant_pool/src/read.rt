@@ -49,7 +49,8 @@ fn read_body(
     tag: u8,
     reader: &mut Reader<'_>,
 ) -> Result<Constant, Stop>
-    ensures read { (i : Input) → i.at ≡ start → Gives (λ x. (entry_of x, reader.new)) result (body_at i tag reader.old) }
+    ensures read { (i : Input) → i.at ≡ start
+        → Gives (λ x. (entry_of x, reader.new)) result (body_at i tag reader.old) }
     ensures wide { IfOk result (λ x. is_wide (entry_of x) ≡ is_wide_tag tag) }
 {
     match tag {

@@ -1,9 +1,9 @@
 pub mod AdviceLemmas
+pub mod CommandLemmas
 pub mod DeviceLemmas
 pub mod EngineLemmas
 pub mod FailureLemmas
 pub mod FileLemmas
-pub mod GivenLemmas
 pub mod LibraryLemmas
 pub mod ListingLemmas
 pub mod OpeningLemmas

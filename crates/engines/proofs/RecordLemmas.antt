@@ -11,7 +11,8 @@ use Rattle.command_line.specs.declared.options.Search.{Search}
 use Rattle.command_line.specs.declared.options.ThenRun.{ThenRun}
 use Rattle.command_line.specs.declared.run_options.RunOptions.{RunOptions}
 use Rattle.search.specs.declared.run_outcomes.wanted.Wanted.{Wanted}
-use Rattle.engines.specs.Commands.{Held, IsContinuationUndone, IsRunUndone, IsSearchUndone, IsUnrecorded, LeavesAt, files_at}
+use Rattle.program_files.specs.Folders.{Held}
+use Rattle.engines.specs.Commands.{IsContinuationUndone, IsRunUndone, IsSearchUndone, IsUnrecorded, LeavesAt}
 use Rattle.engines.specs.Continuations.{Continues, IsUncontinued}
 use Rattle.engines.specs.Devices.{IsUnable}
 use Rattle.engines.specs.Files.{written_at}
@@ -57,19 +58,19 @@ whole_is_unsearched lefts asked want most recorded old new made (faults.Text fau
 
 -- ---- a fault of the command, or of the record
 
-module _ (held holds : Held) (old new made : Option (List ℕ)) (outcome : Result Status Fault) (fault : Fault) where
+module _ (held holds : Held) (lefts : List (Option (List ℕ))) (old new made : Option (List ℕ)) (outcome : Result Status Fault) (fault : Fault) where
   module _ (run : Run) where
     abbrev RunDone : Status → Type 0
-    RunDone status = (text : List ℕ) × Runs (files_at held run.files.items) run.limits run.options text made status × Appends old new text
+    RunDone status = (text : List ℕ) × Runs lefts run.limits run.options text made status × Appends old new text
 
     abbrev RunUndone : Fault → Type 0
-    RunUndone told = IsUnrun (files_at held run.files.items) run.limits run.options old new None made told
+    RunUndone told = IsUnrun lefts run.limits run.options old new None made told
 
     run_whole : (status : Status) → IsUnable fault → RunDone status → RunUndone fault
     run_whole status unable (text, runs, all) = whole_is_unrun _ _ _ old new made fault unable (text, status, runs, all)
 
     pub run_undone : IsUnrecorded outcome held holds (written_at run.record made) fault → IfOk outcome RunDone → IfErr outcome RunUndone
-        → LeavesAt (IsRunUndone held run old new) held holds fault
+        → LeavesAt (IsRunUndone lefts run old new) held holds fault
     run_undone (inl (is, inl with)) done undone =
         (None, record { file = made; unrun = subst (λ (o : Result Status Fault). IfErr o RunUndone) is undone; recorded = inl refl }, with)
     run_undone (inl (is, inr with)) done undone =
@@ -80,18 +81,18 @@ module _ (held holds : Held) (old new made : Option (List ℕ)) (outcome : Resul
 
   module _ (replay : Replay) (then_run : ThenRun) where
     abbrev ReplayDone : Status → Type 0
-    ReplayDone status = (text : List ℕ) × Continues (held (string_bytes replay.schedule)) (files_at held replay.files.items) replay.limits
+    ReplayDone status = (text : List ℕ) × Continues (held (string_bytes replay.schedule)) lefts replay.limits
         (unwrap_or then_run.budget 10000000) text made status × Appends old new text
 
     abbrev ReplayUndone : Fault → Type 0
-    ReplayUndone told = IsUncontinued (held (string_bytes replay.schedule)) (files_at held replay.files.items) replay.limits
+    ReplayUndone told = IsUncontinued (held (string_bytes replay.schedule)) lefts replay.limits
         (unwrap_or then_run.budget 10000000) old new None made told
 
     replay_whole : (status : Status) → IsUnable fault → ReplayDone status → ReplayUndone fault
     replay_whole status unable (text, continues, all) = whole_is_uncontinued _ _ _ _ old new made fault unable (text, status, continues, all)
 
     pub replay_undone : IsUnrecorded outcome held holds (written_at then_run.record made) fault → IfOk outcome ReplayDone
-        → IfErr outcome ReplayUndone → LeavesAt (IsContinuationUndone held replay then_run old new) held holds fault
+        → IfErr outcome ReplayUndone → LeavesAt (IsContinuationUndone held lefts replay then_run old new) held holds fault
     replay_undone (inl (is, inl with)) done undone =
         (None, record { file = made; uncontinued = subst (λ (o : Result Status Fault). IfErr o ReplayUndone) is undone; recorded = inl refl }, with)
     replay_undone (inl (is, inr with)) done undone =
@@ -102,18 +103,18 @@ module _ (held holds : Held) (old new made : Option (List ℕ)) (outcome : Resul
 
   module _ (search : Search) (want : Wanted) (asked : IsAskedFor held search.goal want) where
     abbrev SearchDone : Status → Type 0
-    SearchDone status = (text : List ℕ) × Searches (files_at held search.files.items) search.limits want (most_states search)
+    SearchDone status = (text : List ℕ) × Searches lefts search.limits want (most_states search)
         (is_some search.record) text made status × Appends old new text
 
     abbrev SearchUndone : Fault → Type 0
-    SearchUndone told = IsUnsearched (files_at held search.files.items) search.limits want (most_states search)
+    SearchUndone told = IsUnsearched lefts search.limits want (most_states search)
         (is_some search.record) old new None made told
 
     search_whole : (status : Status) → IsUnable fault → SearchDone status → SearchUndone fault
     search_whole status unable (text, searches, all) = whole_is_unsearched _ _ _ _ _ old new made fault unable (text, status, searches, all)
 
     pub search_undone : IsUnrecorded outcome held holds (written_at search.record made) fault → IfOk outcome SearchDone
-        → IfErr outcome SearchUndone → LeavesAt (IsSearchUndone held search old new) held holds fault
+        → IfErr outcome SearchUndone → LeavesAt (IsSearchUndone held lefts search old new) held holds fault
     search_undone (inl (is, inl with)) done undone =
         (None, record { want = want; asked = asked; file = made; unsearched = subst (λ (o : Result Status Fault). IfErr o SearchUndone) is undone; recorded = inl refl }, with)
     search_undone (inl (is, inr with)) done undone =
@@ -123,12 +124,12 @@ module _ (held holds : Held) (old new made : Option (List ℕ)) (outcome : Resul
         (None, record { want = want; asked = asked; file = made; unsearched = search_whole status unable whole; recorded = inl refl }, with)
 
 -- the same of what is answered, whatever that is
-pub search_undone_of : (held holds : Held) (old new made : Option (List ℕ)) (outcome result : Result Status Fault) (search : Search) (want : Wanted)
+pub search_undone_of : (held holds : Held) (lefts : List (Option (List ℕ))) (old new made : Option (List ℕ)) (outcome result : Result Status Fault) (search : Search) (want : Wanted)
     → IsAskedFor held search.goal want → IfErr result (IsUnrecorded outcome held holds (written_at search.record made))
-    → IfOk outcome (λ status. (text : List ℕ) × Searches (files_at held search.files.items) search.limits want (most_states search)
+    → IfOk outcome (λ status. (text : List ℕ) × Searches lefts search.limits want (most_states search)
     (is_some search.record) text made status × Appends old new text)
-    → IfErr outcome (IsUnsearched (files_at held search.files.items) search.limits want (most_states search) (is_some search.record) old new None made)
-    → IfErr result (LeavesAt (IsSearchUndone held search old new) held holds)
-search_undone_of held holds old new made outcome (Ok status) search want asked unrecorded done undone = tt
-search_undone_of held holds old new made outcome (Err fault) search want asked unrecorded done undone =
-    search_undone held holds old new made outcome fault search want asked unrecorded done undone
+    → IfErr outcome (IsUnsearched lefts search.limits want (most_states search) (is_some search.record) old new None made)
+    → IfErr result (LeavesAt (IsSearchUndone held lefts search old new) held holds)
+search_undone_of held holds lefts old new made outcome (Ok status) search want asked unrecorded done undone = tt
+search_undone_of held holds lefts old new made outcome (Err fault) search want asked unrecorded done undone =
+    search_undone held holds lefts old new made outcome fault search want asked unrecorded done undone

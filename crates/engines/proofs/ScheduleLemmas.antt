@@ -4,7 +4,8 @@ use Rattle.std.specs.Prelude.{IfOk, Result, Ok, Err, string_bytes}
 use Rattle.std.specs.Io.KnownBytes.{Appends}
 use Rattle.std.proofs.lemmas.List.{append-nil}
 use Rattle.command_line.specs.declared.options.Schedule.{Schedule}
-use Rattle.engines.specs.Commands.{Held, IsScheduleDone, Leaves}
+use Rattle.program_files.specs.Folders.{Held}
+use Rattle.engines.specs.Commands.{IsScheduleDone, Leaves}
 use Rattle.engines.specs.Files.{IsWith}
 use Rattle.engines.specs.Transcriptions.{Transcribes}
 use Rattle.engines.specs.declared.fault.Fault.{Fault}

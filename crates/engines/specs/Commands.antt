@@ -1,16 +1,14 @@
--- What a command does, by what the files hold that its words name: the text that it writes to the output, the file that it writes, and its
--- status (own). Each does what its engine does, with these files in their order.
+-- What a command does, by what the files hold that its words stand for: the text that it writes to the output, the file that it writes, and
+-- its status (own). Each does what its engine does, with these files in their order.
 use Rattle.std.specs.Prelude.{◌≡◌, ◌⊎◌, ℕ, ◌-◌, ◌^◌, Bool, true, false, List, [], map, Option, Some, None, IsTrue, is_some, string_bytes, unwrap_or, vec_items, Result, Ok, Err}
-use Rattle.std.specs.Option.{option_map}
+use Rattle.std.specs.Option.{option_and_then, option_map}
 use Rattle.std.specs.Io.KnownBytes.{Appends}
-use Rattle.std.specs.declared.string.String.{String}
-use Rattle.std.specs.Global.{Global}
 use Rattle.model.specs.Devices.{AppendsFront}
 use Rattle.program_runs.specs.declared.traced_runs.window.Window.{Window}
 use Rattle.search.specs.declared.run_outcomes.wanted.Wanted.{Wanted}
 use Rattle.traces.specs.declared.form.Form.{Form}
 use Rattle.traces.specs.declared.form.Form.TheVariants as lines
-use Rattle.command_line.specs.CommandLine.{Asks, Fails, Spells}
+use Rattle.command_line.specs.CommandLine.{Asks, Fails, Refuses, Spells}
 use Rattle.command_line.specs.declared.options.Command.{Command}
 use Rattle.command_line.specs.declared.options.Command.TheVariants as commands
 use Rattle.command_line.specs.declared.options.Replay.{Replay}
@@ -24,7 +22,10 @@ use Rattle.command_line.specs.declared.options.TraceForm.TheVariants as forms
 use Rattle.command_line.specs.declared.usage.Usage.{Usage}
 use Rattle.engines.specs.Continuations.{Continues, IsUncontinued}
 use Rattle.engines.specs.Devices.{IsUnable}
-use Rattle.engines.specs.Files.{AreGiven, IsWith, Written, held_at, written_at}
+use Rattle.engines.specs.Files.{Held, IsWith, Listed, Path, Written, held_at, written_at}
+use Rattle.program_files.specs.Given.{AreGiven, IsUnable as IsUnableFor, IsUngiven, is_given}
+use Rattle.program_files.specs.Handed.{AreHandedOn, IsUnhanded}
+use Rattle.program_files.specs.declared.files_fault.FilesFault.{FilesFault}
 use Rattle.engines.specs.Goals.{IsAskedFor}
 use Rattle.engines.specs.Libraries.{IsUnacceptedLibrary, VerifiesLibrary}
 use Rattle.engines.specs.Listings.{AreClassFiles, IsUnlisted, IsUnnamed, Lists}
@@ -40,16 +41,61 @@ use Rattle.engines.specs.declared.fault.Fault.{Fault}
 use Rattle.engines.specs.declared.status.Status.{Status}
 use Rattle.engines.specs.declared.status.Status.TheVariants.{Returned}
 
--- what files hold, and what lies in folders, by their paths
-abbrev pub Held : Type 0
-Held = List ℕ → Option (List ℕ)
+-- ---- the files of a command
 
-abbrev pub Listed : Type 0
-Listed = List ℕ → Option (Option (List (String Global)))
+-- of a library no class has to come first
+abbrev pub AreVerified : Held → Listed → (library : Bool) → (main : Option (List ℕ)) → (words files : List Path) → Type 0
+AreVerified held listed true None words files = AreGiven listed words files
+AreVerified held listed library main words files = AreHandedOn held listed main words files
 
--- the files at the paths of a command line
-abbrev pub files_at : Held → List (String Global) → List (Option (List ℕ))
-files_at held paths = held_at held (map string_bytes paths)
+-- why there are none
+abbrev pub IsUnverified : Held → Listed → (library : Bool) → (main : Option (List ℕ)) → (words : List Path) → FilesFault → Type 0
+IsUnverified held listed true None words fault = IsUngiven listed words fault
+IsUnverified held listed library main words fault = IsUnhanded held listed main words fault
+
+-- the class files that the words of a command stand for, in the order in which they are handed on
+abbrev pub AreFiles : Held → Listed → Command → List Path → Type 0
+AreFiles held listed (commands.Run run) files = AreHandedOn held listed (option_map string_bytes run.main) (map string_bytes run.files.items) files
+AreFiles held listed (commands.Replay replay) files = AreHandedOn held listed (option_map string_bytes replay.main) (map string_bytes replay.files.items) files
+AreFiles held listed (commands.Trace trace) files = AreHandedOn held listed (option_map string_bytes trace.main) (map string_bytes trace.files.items) files
+AreFiles held listed (commands.Search search) files = AreHandedOn held listed (option_map string_bytes search.main) (map string_bytes search.files.items) files
+AreFiles held listed (commands.Verify verify) files = AreVerified held listed verify.library (option_map string_bytes verify.main) (map string_bytes verify.files.items) files
+AreFiles held listed (commands.Disasm disasm) files = AreGiven listed (map string_bytes disasm.files.items) files
+AreFiles held listed (commands.Schedule schedule) files = files ≡ []
+
+-- why there are none
+abbrev pub HasNoFiles : Held → Listed → Command → FilesFault → Type 0
+HasNoFiles held listed (commands.Run run) fault = IsUnhanded held listed (option_map string_bytes run.main) (map string_bytes run.files.items) fault
+HasNoFiles held listed (commands.Replay replay) fault = IsUnhanded held listed (option_map string_bytes replay.main) (map string_bytes replay.files.items) fault
+HasNoFiles held listed (commands.Trace trace) fault = IsUnhanded held listed (option_map string_bytes trace.main) (map string_bytes trace.files.items) fault
+HasNoFiles held listed (commands.Search search) fault = IsUnhanded held listed (option_map string_bytes search.main) (map string_bytes search.files.items) fault
+HasNoFiles held listed (commands.Verify verify) fault = IsUnverified held listed verify.library (option_map string_bytes verify.main) (map string_bytes verify.files.items) fault
+HasNoFiles held listed (commands.Disasm disasm) fault = IsUngiven listed (map string_bytes disasm.files.items) fault
+HasNoFiles held listed (commands.Schedule schedule) fault = IsUnableFor fault
+
+-- where the schedule of a run is written
+abbrev pub record_path : Command → Option Path
+record_path (commands.Run run) = option_map string_bytes run.record
+record_path (commands.Replay replay) = option_and_then (λ (then_run : ThenRun). option_map string_bytes then_run.record) replay.then_run
+record_path (commands.Trace trace) = None
+record_path (commands.Search search) = option_map string_bytes search.record
+record_path (commands.Verify verify) = None
+record_path (commands.Disasm disasm) = None
+record_path (commands.Schedule schedule) = None
+
+-- it is none of these files
+abbrev pub IsUnread : (written : Option Path) → (files : List Path) → Type 0
+IsUnread None files = Unit {0}
+IsUnread (Some path) files = is_given files path ≡ false
+
+-- it is one of them
+abbrev pub IsReadToo : (written : Option Path) → (files : List Path) → Type 0
+IsReadToo None files = ⊥
+IsReadToo (Some path) files = is_given files path ≡ true
+
+-- this is so of the files of a command, by what they hold
+abbrev pub OfFiles : Held → Listed → Command → (List (Option (List ℕ)) → Type 0) → Type 0
+OfFiles held listed command P = (files : List Path) × AreFiles held listed command files × P (held_at held files)
 
 -- ---- what is recorded
 
@@ -60,42 +106,42 @@ IsUnrecorded outcome held holds written fault = ((outcome ≡ Err fault) × (IsW
 
 -- ---- run
 
-pub record IsRunDone (held : Held) (run : Run) (text : List ℕ) (written : Written) (status : Status) : Type 0 where
+pub record IsRunDone (lefts : List (Option (List ℕ))) (run : Run) (text : List ℕ) (written : Written) (status : Status) : Type 0 where
   pub file : Option (List ℕ)
-  pub runs : Runs (files_at held run.files.items) run.limits run.options text file status
+  pub runs : Runs lefts run.limits run.options text file status
   pub made : IsTrue (is_some run.record) → IsTrue (is_some file)
   pub recorded : written ≡ written_at run.record file
 
 -- what was made may be recorded though the output failed
-pub record IsRunUndone (held : Held) (run : Run) (old new : Option (List ℕ)) (fault : Fault) (written : Written) : Type 0 where
+pub record IsRunUndone (lefts : List (Option (List ℕ))) (run : Run) (old new : Option (List ℕ)) (fault : Fault) (written : Written) : Type 0 where
   pub file : Option (List ℕ)
-  pub unrun : IsUnrun (files_at held run.files.items) run.limits run.options old new None file fault
+  pub unrun : IsUnrun lefts run.limits run.options old new None file fault
   pub recorded : (written ≡ None) ⊎ (written ≡ written_at run.record file)
 
 -- ---- replay
 
-pub record IsContinuationDone (held : Held) (replay : Replay) (then_run : ThenRun) (text : List ℕ) (written : Written) (status : Status) : Type 0 where
+pub record IsContinuationDone (held : Held) (lefts : List (Option (List ℕ))) (replay : Replay) (then_run : ThenRun) (text : List ℕ) (written : Written) (status : Status) : Type 0 where
   pub file : Option (List ℕ)
-  pub continues : Continues (held (string_bytes replay.schedule)) (files_at held replay.files.items) replay.limits
+  pub continues : Continues (held (string_bytes replay.schedule)) lefts replay.limits
       (unwrap_or then_run.budget 10000000) text file status
   pub made : IsTrue (is_some then_run.record) → IsTrue (is_some file)
   pub recorded : written ≡ written_at then_run.record file
 
-pub record IsContinuationUndone (held : Held) (replay : Replay) (then_run : ThenRun) (old new : Option (List ℕ)) (fault : Fault) (written : Written) : Type 0 where
+pub record IsContinuationUndone (held : Held) (lefts : List (Option (List ℕ))) (replay : Replay) (then_run : ThenRun) (old new : Option (List ℕ)) (fault : Fault) (written : Written) : Type 0 where
   pub file : Option (List ℕ)
-  pub uncontinued : IsUncontinued (held (string_bytes replay.schedule)) (files_at held replay.files.items) replay.limits
+  pub uncontinued : IsUncontinued (held (string_bytes replay.schedule)) lefts replay.limits
       (unwrap_or then_run.budget 10000000) old new None file fault
   pub recorded : (written ≡ None) ⊎ (written ≡ written_at then_run.record file)
 
-abbrev pub IsReplayDone : Held → Replay → Option ThenRun → List ℕ → Written → Status → Type 0
-IsReplayDone held replay None text written status =
-    Replays (held (string_bytes replay.schedule)) (files_at held replay.files.items) replay.limits text status × (written ≡ None)
-IsReplayDone held replay (Some then_run) text written status = IsContinuationDone held replay then_run text written status
+abbrev pub IsReplayDone : Held → (lefts : List (Option (List ℕ))) → Replay → Option ThenRun → List ℕ → Written → Status → Type 0
+IsReplayDone held lefts replay None text written status =
+    Replays (held (string_bytes replay.schedule)) lefts replay.limits text status × (written ≡ None)
+IsReplayDone held lefts replay (Some then_run) text written status = IsContinuationDone held lefts replay then_run text written status
 
-abbrev pub IsReplayUndone : Held → Replay → Option ThenRun → (old new : Option (List ℕ)) → Fault → Written → Type 0
-IsReplayUndone held replay None old new fault written =
-    IsFaulty (held (string_bytes replay.schedule)) (files_at held replay.files.items) replay.limits old new fault × (written ≡ None)
-IsReplayUndone held replay (Some then_run) old new fault written = IsContinuationUndone held replay then_run old new fault written
+abbrev pub IsReplayUndone : Held → (lefts : List (Option (List ℕ))) → Replay → Option ThenRun → (old new : Option (List ℕ)) → Fault → Written → Type 0
+IsReplayUndone held lefts replay None old new fault written =
+    IsFaulty (held (string_bytes replay.schedule)) lefts replay.limits old new fault × (written ≡ None)
+IsReplayUndone held lefts replay (Some then_run) old new fault written = IsContinuationUndone held lefts replay then_run old new fault written
 
 -- ---- trace
 
@@ -113,31 +159,31 @@ pub record IsWindow (trace : Trace) (window : Window) : Type 0 where
   pub form : window.form ≡ form_of trace.form
   pub summary : window.summary ≡ trace.summary
 
-abbrev pub IsTraceDone : Held → Trace → List ℕ → Written → Status → Type 0
-IsTraceDone held trace text written status = (window : Window) × IsWindow trace window
-    × Traces (held (string_bytes trace.schedule)) (files_at held trace.files.items) trace.limits window text status × (written ≡ None)
+abbrev pub IsTraceDone : Held → (lefts : List (Option (List ℕ))) → Trace → List ℕ → Written → Status → Type 0
+IsTraceDone held lefts trace text written status = (window : Window) × IsWindow trace window
+    × Traces (held (string_bytes trace.schedule)) lefts trace.limits window text status × (written ≡ None)
 
-abbrev pub IsTraceUndone : Held → Trace → (old new : Option (List ℕ)) → Fault → Written → Type 0
-IsTraceUndone held trace old new fault written = (window : Window) × IsWindow trace window
-    × IsUntraced (held (string_bytes trace.schedule)) (files_at held trace.files.items) trace.limits window old new fault × (written ≡ None)
+abbrev pub IsTraceUndone : Held → (lefts : List (Option (List ℕ))) → Trace → (old new : Option (List ℕ)) → Fault → Written → Type 0
+IsTraceUndone held lefts trace old new fault written = (window : Window) × IsWindow trace window
+    × IsUntraced (held (string_bytes trace.schedule)) lefts trace.limits window old new fault × (written ≡ None)
 
 -- ---- search
 
-pub record IsSearchDone (held : Held) (search : Search) (text : List ℕ) (written : Written) (status : Status) : Type 0 where
+pub record IsSearchDone (held : Held) (lefts : List (Option (List ℕ))) (search : Search) (text : List ℕ) (written : Written) (status : Status) : Type 0 where
   pub want : Wanted
   pub asked : IsAskedFor held search.goal want
   pub file : Option (List ℕ)
-  pub searches : Searches (files_at held search.files.items) search.limits want (most_states search) (is_some search.record) text file status
+  pub searches : Searches lefts search.limits want (most_states search) (is_some search.record) text file status
   pub recorded : written ≡ written_at search.record file
 
-pub record IsSearchUndone (held : Held) (search : Search) (old new : Option (List ℕ)) (fault : Fault) (written : Written) : Type 0 where
+pub record IsSearchUndone (held : Held) (lefts : List (Option (List ℕ))) (search : Search) (old new : Option (List ℕ)) (fault : Fault) (written : Written) : Type 0 where
   pub want : Wanted
   pub asked : IsAskedFor held search.goal want
   pub file : Option (List ℕ)
-  pub unsearched : IsUnsearched (files_at held search.files.items) search.limits want (most_states search) (is_some search.record) old new None file fault
+  pub unsearched : IsUnsearched lefts search.limits want (most_states search) (is_some search.record) old new None file fault
   pub recorded : (written ≡ None) ⊎ (written ≡ written_at search.record file)
 
--- ---- verify and disasm, which take folders of class files, too
+-- ---- verify and disasm
 
 abbrev pub VerifiesAs : (library : Bool) → List (Option (List ℕ)) → List ℕ → Type 0
 VerifiesAs true lefts text = VerifiesLibrary lefts text
@@ -156,14 +202,6 @@ abbrev pub IsUnlistedAs : (names : Bool) → List (Option (List ℕ)) → (old n
 IsUnlistedAs true lefts old new fault = IsUnnamed lefts old new fault
 IsUnlistedAs false lefts old new fault = IsUnlisted lefts old new fault
 
--- of the files that are given this is so
-abbrev pub OfGiven : Held → Listed → List (String Global) → (List (Option (List ℕ)) → Type 0) → Type 0
-OfGiven held listed paths P = (given : List (List ℕ)) × AreGiven listed (map string_bytes paths) given × P (held_at held given)
-
--- or a folder can't be read, or memory is wanted for the paths
-abbrev pub OfGivenOrUnable : Held → Listed → List (String Global) → (old new : Option (List ℕ)) → Fault → (List (Option (List ℕ)) → Type 0) → Type 0
-OfGivenOrUnable held listed paths old new fault P = (IsUnable fault × (new ≡ old)) ⊎ OfGiven held listed paths P
-
 -- ---- schedule
 
 abbrev pub IsScheduleDone : Held → (input : Option (List ℕ)) → Schedule → (write : Bool) → List ℕ → Written → Status → Type 0
@@ -179,30 +217,45 @@ IsScheduleUndone held input schedule false old new fault written = IsUnprinted (
 
 -- ---- any command
 
--- What a command does where it has a status.
-abbrev pub IsDone : Held → Listed → (input : Option (List ℕ)) → Command → List ℕ → Written → Status → Type 0
-IsDone held listed input (commands.Run run) text written status = IsRunDone held run text written status
-IsDone held listed input (commands.Replay replay) text written status = IsReplayDone held replay replay.then_run text written status
-IsDone held listed input (commands.Trace trace) text written status = IsTraceDone held trace text written status
-IsDone held listed input (commands.Search search) text written status = IsSearchDone held search text written status
-IsDone held listed input (commands.Verify verify) text written status =
-    OfGiven held listed verify.files.items (λ lefts. VerifiesAs verify.library lefts text) × (written ≡ None) × (status ≡ Returned)
-IsDone held listed input (commands.Disasm disasm) text written status =
-    OfGiven held listed disasm.files.items (λ lefts. ListsAs disasm.names lefts text) × (written ≡ None) × (status ≡ Returned)
-IsDone held listed input (commands.Schedule schedule) text written status = IsScheduleDone held input schedule schedule.write text written status
+-- What a command does where it has a status, by what its class files hold.
+abbrev pub IsDoneOver : Held → (lefts : List (Option (List ℕ))) → (input : Option (List ℕ)) → Command → List ℕ → Written → Status → Type 0
+IsDoneOver held lefts input (commands.Run run) text written status = IsRunDone lefts run text written status
+IsDoneOver held lefts input (commands.Replay replay) text written status = IsReplayDone held lefts replay replay.then_run text written status
+IsDoneOver held lefts input (commands.Trace trace) text written status = IsTraceDone held lefts trace text written status
+IsDoneOver held lefts input (commands.Search search) text written status = IsSearchDone held lefts search text written status
+IsDoneOver held lefts input (commands.Verify verify) text written status =
+    VerifiesAs verify.library lefts text × (written ≡ None) × (status ≡ Returned)
+IsDoneOver held lefts input (commands.Disasm disasm) text written status =
+    ListsAs disasm.names lefts text × (written ≡ None) × (status ≡ Returned)
+IsDoneOver held lefts input (commands.Schedule schedule) text written status = IsScheduleDone held input schedule schedule.write text written status
 
 -- What keeps a command from a status, what is on the output then, and what is written.
-abbrev pub IsUndone : Held → Listed → (input : Option (List ℕ)) → Command → (old new : Option (List ℕ)) → Fault → Written → Type 0
-IsUndone held listed input (commands.Run run) old new fault written = IsRunUndone held run old new fault written
-IsUndone held listed input (commands.Replay replay) old new fault written = IsReplayUndone held replay replay.then_run old new fault written
-IsUndone held listed input (commands.Trace trace) old new fault written = IsTraceUndone held trace old new fault written
-IsUndone held listed input (commands.Search search) old new fault written =
-    (IsUnable fault × (new ≡ old) × (written ≡ None)) ⊎ IsSearchUndone held search old new fault written
-IsUndone held listed input (commands.Verify verify) old new fault written =
-    OfGivenOrUnable held listed verify.files.items old new fault (λ lefts. IsUnacceptedAs verify.library lefts old new fault) × (written ≡ None)
-IsUndone held listed input (commands.Disasm disasm) old new fault written =
-    OfGivenOrUnable held listed disasm.files.items old new fault (λ lefts. IsUnlistedAs disasm.names lefts old new fault) × (written ≡ None)
-IsUndone held listed input (commands.Schedule schedule) old new fault written = IsScheduleUndone held input schedule schedule.write old new fault written
+abbrev pub IsUndoneOver : Held → (lefts : List (Option (List ℕ))) → (input : Option (List ℕ)) → Command → (old new : Option (List ℕ)) → Fault → Written → Type 0
+IsUndoneOver held lefts input (commands.Run run) old new fault written = IsRunUndone lefts run old new fault written
+IsUndoneOver held lefts input (commands.Replay replay) old new fault written = IsReplayUndone held lefts replay replay.then_run old new fault written
+IsUndoneOver held lefts input (commands.Trace trace) old new fault written = IsTraceUndone held lefts trace old new fault written
+IsUndoneOver held lefts input (commands.Search search) old new fault written =
+    (IsUnable fault × (new ≡ old) × (written ≡ None)) ⊎ IsSearchUndone held lefts search old new fault written
+IsUndoneOver held lefts input (commands.Verify verify) old new fault written =
+    ((IsUnable fault × (new ≡ old)) ⊎ IsUnacceptedAs verify.library lefts old new fault) × (written ≡ None)
+IsUndoneOver held lefts input (commands.Disasm disasm) old new fault written =
+    ((IsUnable fault × (new ≡ old)) ⊎ IsUnlistedAs disasm.names lefts old new fault) × (written ≡ None)
+IsUndoneOver held lefts input (commands.Schedule schedule) old new fault written = IsScheduleUndone held input schedule schedule.write old new fault written
+
+-- the same over the files that its words stand for, none of which is written
+abbrev pub IsDone : Held → Listed → (input : Option (List ℕ)) → Command → List ℕ → Written → Status → Type 0
+IsDone held listed input command text written status = (files : List Path) × AreFiles held listed command files
+    × IsUnread (record_path command) files × IsDoneOver held (held_at held files) input command text written status
+
+-- and what keeps it from a status: one of them is to be written, or its words stand for none, and nothing is done; or there is a fault
+abbrev pub IsUndone : Held → Listed → (input : Option (List ℕ)) → Command → (old new : Option (List ℕ)) → Complaint → Written → Type 0
+IsUndone held listed input command old new (complaints.Usage usage) written =
+    Refuses usage ((files : List Path) × AreFiles held listed command files × IsReadToo (record_path command) files)
+    × (new ≡ old) × (written ≡ None)
+IsUndone held listed input command old new (complaints.Files fault) written = HasNoFiles held listed command fault × (new ≡ old) × (written ≡ None)
+IsUndone held listed input command old new (complaints.Fault fault) written = (IsUnable fault × (new ≡ old) × (written ≡ None))
+    ⊎ ((files : List Path) × AreFiles held listed command files × IsUnread (record_path command) files
+    × IsUndoneOver held (held_at held files) input command old new fault written)
 
 -- ---- the words of a command line
 
@@ -218,14 +271,18 @@ Does held listed input words text written status = (AskForHelp words × (written
 -- The words are no command, and nothing is written; or help can't be written; or they spell a command, and it isn't done.
 abbrev pub Stops : Held → Listed → (input : Option (List ℕ)) → (words : List (List ℕ)) → (old new : Option (List ℕ)) → Complaint → Written → Type 0
 Stops held listed input words old new (complaints.Usage usage) written =
-    Fails words usage × (Asks usage → ⊥) × (new ≡ old) × (written ≡ None)
+    (Fails words usage × (Asks usage → ⊥) × (new ≡ old) × (written ≡ None))
+    ⊎ ((command : Command) × Spells words command × IsUndone held listed input command old new (complaints.Usage usage) written)
+Stops held listed input words old new (complaints.Files fault) written =
+    (command : Command) × Spells words command × IsUndone held listed input command old new (complaints.Files fault) written
 Stops held listed input words old new (complaints.Fault fault) written =
     (AskForHelp words × IsUnable fault × ((text : List ℕ) × AppendsFront old new text) × (written ≡ None))
-    ⊎ ((command : Command) × Spells words command × IsUndone held listed input command old new fault written)
+    ⊎ ((command : Command) × Spells words command × IsUndone held listed input command old new (complaints.Fault fault) written)
 
 -- what comes of words that are no command, where it is no help
 abbrev pub IsUntold : Usage → (old new : Option (List ℕ)) → Complaint → Type 0
 IsUntold usage old new (complaints.Usage told) = (told ≡ usage) × (Asks usage → ⊥) × (new ≡ old)
+IsUntold usage old new (complaints.Files fault) = ⊥
 IsUntold usage old new (complaints.Fault fault) = Asks usage × IsUnable fault × ((text : List ℕ) × AppendsFront old new text)
 
 -- ---- what a call leaves

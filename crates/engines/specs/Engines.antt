@@ -1,14 +1,11 @@
 -- What engines read, and how they answer a fault. Where a device says nothing of its bytes, they are any that it may have
 -- handed over.
-use Rattle.std.specs.Prelude.{◌≡◌, ℕ, ◌+◌, List, [], ◌∷◌, Option, Some, None, IfSome, Result, Ok, Err}
+use Rattle.std.specs.Prelude.{◌≡◌, ℕ, ◌+◌, List, [], ◌∷◌, Option, Some, None, Result, Ok, Err}
+pub use Rattle.program_files.specs.Folders.{Reads}
 use Rattle.link_conditions.specs.declared.refusal.why.Refusal.{Refusal}
 use Rattle.link_conditions.specs.declared.refusal.why.RefusalKind.TheVariants as kinds
 use Rattle.engines.specs.declared.fault.Fault.{Fault}
 use Rattle.engines.specs.declared.fault.Fault.TheVariants as faults
-
--- these bytes are those of a source that has these left
-abbrev pub Reads : Option (List ℕ) → List ℕ → Type 0
-Reads left bytes = IfSome left (λ known. bytes ≡ known)
 
 -- the bytes of each of the sources, in order
 abbrev pub ReadsEach : List (Option (List ℕ)) → List (List ℕ) → Type 0

@@ -1,24 +1,15 @@
 -- When it is told that a device failed (own): where one did.
-use Rattle.std.specs.Prelude.{◌≡◌, ◌⊎◌, ◌+◌, ◌≤◌, ℕ, Bool, IsTrue, List, Result, Ok, Err}
+use Rattle.std.specs.Prelude.{◌≡◌, ◌⊎◌, ◌+◌, ◌≤◌, ℕ, Result, Ok, Err}
 use Rattle.std.specs.IoError.{error_kind}
 use Rattle.std.specs.declared.io.Error.{Error}
 use Rattle.std.specs.declared.io.ErrorKind.TheVariants.{OutOfMemory}
+pub use Rattle.program_files.specs.Folders.{FolderMayFail}
 use Rattle.model.specs.declared.device.DeviceFault.{DeviceFault}
 use Rattle.model.specs.declared.device.DeviceFault.TheVariants as devices
 use Rattle.engines.specs.declared.complaint.Complaint.{Complaint}
 use Rattle.engines.specs.declared.complaint.Complaint.TheVariants as complaints
 use Rattle.engines.specs.declared.fault.Fault.{Fault}
 use Rattle.engines.specs.declared.fault.Fault.TheVariants as faults
-
--- ---- of a folder
-
--- an error is a want of memory, or of what may fail
-abbrev pub IsFailure : (may_fail : Bool) → Error → Type 0
-IsFailure may_fail error = (error_kind error ≡ OutOfMemory) ⊎ IsTrue may_fail
-
--- a folder may fail at a path
-abbrev pub FolderMayFail : {F : Type 0} → (F → List ℕ → Bool) → Type 0
-FolderMayFail {F} may_fail = (folder : F) × (path : List ℕ) × IsTrue (may_fail folder path)
 
 -- ---- of what a system answers
 
@@ -31,13 +22,6 @@ IsOfKind error devices.Memory = error_kind error ≡ OutOfMemory
 abbrev pub IsKept : {A : Type 0} → Result A Error → Result A DeviceFault → Type 0
 IsKept (Ok value) kept = kept ≡ Ok value
 IsKept (Err error) kept = (fault : DeviceFault) × (kept ≡ Err fault) × IsOfKind error fault
-
-abbrev pub IsOfError : Error → Fault → Type 0
-IsOfError error faults.Device = error_kind error ≡ OutOfMemory → ⊥
-IsOfError error faults.Memory = error_kind error ≡ OutOfMemory
-IsOfError error (faults.Refusal refusal) = ⊥
-IsOfError error (faults.Schedule fault) = ⊥
-IsOfError error (faults.Text fault) = ⊥
 
 -- ---- of a command
 
@@ -57,4 +41,5 @@ TellsFailures elsewhere (Err fault) old new = TellsFailure elsewhere fault old n
 -- the same where words have no status
 abbrev pub TellsComplaint : (elsewhere : Type 0) → Complaint → (old new : ℕ) → Type 0
 TellsComplaint elsewhere (complaints.Usage usage) old new = new ≤ old
+TellsComplaint elsewhere (complaints.Files fault) old new = new ≤ old
 TellsComplaint elsewhere (complaints.Fault fault) old new = TellsFailure elsewhere fault old new

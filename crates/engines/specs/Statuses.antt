@@ -9,6 +9,8 @@ use Rattle.command_line.specs.declared.usage.Usage.{Usage}
 use Rattle.command_line.specs.declared.usage.Usage.TheVariants as usages
 use Rattle.search.specs.declared.search_reports.answers.Answer.{Answer}
 use Rattle.search.specs.declared.search_reports.answers.Answer.TheVariants as answers
+use Rattle.program_files.specs.declared.files_fault.FilesFault.{FilesFault}
+use Rattle.program_files.specs.declared.files_fault.FilesFault.TheVariants as files
 use Rattle.engines.specs.declared.complaint.Complaint.{Complaint}
 use Rattle.engines.specs.declared.complaint.Complaint.TheVariants as complaints
 use Rattle.engines.specs.declared.fault.Fault.{Fault}
@@ -68,9 +70,20 @@ usage_status (usages.Number text) = statuses.Unusable
 usage_status (usages.Asked error) = statuses.Returned
 usage_status usages.OutOfMemory = statuses.Stopped
 
+-- the status where words stand for no files
+abbrev pub files_status : FilesFault → Status
+files_status files.Device = statuses.Unusable
+files_status files.Memory = statuses.Stopped
+files_status (files.Empty path) = statuses.Unusable
+files_status (files.TooDeep path) = statuses.Unusable
+files_status (files.Mains names) = statuses.Unusable
+files_status (files.NoClass name) = statuses.Unusable
+files_status (files.NoMain name) = statuses.Unusable
+
 -- the status where words have none of their own
 abbrev pub complaint_status : Complaint → Status
 complaint_status (complaints.Usage usage) = usage_status usage
+complaint_status (complaints.Files fault) = files_status fault
 complaint_status (complaints.Fault fault) = fault_status fault
 
 -- the number by which the caller of the program sees it

@@ -1,11 +1,12 @@
 //! What is said where the words of a command line have no status.
 
 ghost use Rattle.std.specs.Prelude.{◌≡◌, OnOk};
-ghost use Rattle.engines.specs.Complaints.{Tells};
+ghost use Rattle.engines.specs.Complaints.{Tells, complaint_of};
 ghost use Rattle.engines.specs.declared.complaint.Complaint.TheVariants as complaints;
 
 use crate::fault::Fault;
 use command_line::Usage;
+use program_files::FilesFault;
 use std::io;
 use std::io::Write;
 
@@ -14,6 +15,8 @@ use std::io::Write;
 pub enum Complaint {
     /// The words are no command.
     Usage(Usage),
+    /// They are one, and stand for no files that are handed on.
+    Files(FilesFault),
     /// They are one, and something keeps it from its end.
     Fault(Fault),
 }
@@ -26,6 +29,7 @@ impl Complaint {
     {
         match self {
             Complaint::Usage(usage) => write!(to, "{usage}"),
+            Complaint::Files(fault) => fault.write_text(to),
             Complaint::Fault(fault) => {
                 fault.write_line(to)?;
                 to.write_all(b"\n")
@@ -39,6 +43,18 @@ impl From<Usage> for Complaint {
 
     fn from(usage: Usage) -> Complaint {
         Complaint::Usage(usage)
+    }
+}
+
+impl From<FilesFault> for Complaint {
+    ghost from_gives = { λ fault complaint. complaint ≡ complaint_of fault };
+
+    fn from(fault: FilesFault) -> Complaint {
+        match fault {
+            FilesFault::Device => Complaint::Fault(Fault::Device),
+            FilesFault::Memory => Complaint::Fault(Fault::Memory),
+            other => Complaint::Files(other),
+        }
     }
 }
 

@@ -21,13 +21,14 @@ use std::alloc::{AllocError, Global};
 use std::sync::Arc;
 use verifier::Verified;
 
-/// Runs the class files under the schedule and goes on where it ends; makes the schedule file of the whole where it is asked
-/// for, and where the run does not end normally; writes the report, and answers its status.
+/// Runs the class files under the schedule and goes on where it ends; makes the schedule file of the whole where it
+/// is asked for, and where the run does not end normally; writes the report, and answers its status.
 ///
-/// Behind the events of the schedule each further event is that of the next thread in turn which has an enabled one, from
-/// thread 0 on, and picks the first waiter. All together are at most as many as the budget. Where an event of the schedule
-/// that the budget allows is not enabled, or a limit refuses it, the report is that of its replay, and the schedule is the
-/// whole that is recorded. What comes before the run, and its faults, are those of `replay_engine`.
+/// Behind the events of the schedule each further event is that of the next thread in turn which has an enabled one,
+/// from thread 0 on, and picks the first waiter. All together are at most as many as the budget. Where an event of
+/// the schedule that the budget allows is not enabled, or a limit refuses it, the report is that of its replay, and
+/// the schedule is the whole that is recorded. What comes before the run, and its faults, are those of
+/// `replay_engine`.
 pub fn continue_engine<S: Source, W: Sink>(
     alloc: Global,
     schedule: &mut S,
@@ -39,7 +40,8 @@ pub fn continue_engine<S: Source, W: Sink>(
 ) -> Result<Status, Fault>
     // What the run says is written, and nothing else; and the file is that of its schedule.
     ensures continued { IfOk result (λ status. (text : _)
-        × Continues (S.remaining schedule.old) (map S.remaining files.old) limits.now (unwrap_or then_run.now.budget 10000000)
+        × Continues (S.remaining schedule.old) (map S.remaining files.old) limits.now
+        (unwrap_or then_run.now.budget 10000000)
         text (option_map vec_items file.new) status
         × Appends (W.contents report.old) (W.contents report.new) text) }
     ensures asked { IfOk result (λ _. IsTrue (is_some then_run.now.record) → IsTrue (is_some file.new)) }
@@ -80,7 +82,8 @@ fn ran_on(
     requires { IsAccepted (map vec_items files.now) verified }
     ensures run { IfOk result (λ ran. (bytes : _) (options : _)
         → IsOpened bytes (map vec_items files.now) options verified (events_of schedule.now) limits
-        → IsContinued bytes (map vec_items files.now) options budget ran.text.items (option_map vec_items ran.file) ran.status) }
+        → IsContinued bytes (map vec_items files.now) options budget ran.text.items
+        (option_map vec_items ran.file) ran.status) }
     ensures asked { IfOk result (λ ran. IsTrue is_recorded → IsTrue (is_some ran.file)) }
 {
     let verified = Arc::new(alloc, verified)?;

@@ -13,8 +13,8 @@ const MOST_EVENTS: u64 = 100_000_000;
 /// How many times they are done where an exception ended a thread, at the most.
 const MOST_TIMES: u64 = 3;
 
-/// What is told to a person: as lines, each ended. It is wanted where the words ask for it, and it may be wanted anyway. Contracts see
-/// the lines.
+/// What is told to a person: as lines, each ended. It is wanted where the words ask for it, and it may be wanted
+/// anyway. Contracts see the lines.
 #[derive(Drop)]
 pub struct Explanation {
     is_wanted: bool,

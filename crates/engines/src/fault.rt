@@ -4,7 +4,7 @@ ghost use Rattle.std.specs.Prelude.{◌≡◌, OnOk};
 ghost use Rattle.std.specs.Io.KnownBytes.{Appends};
 ghost use Rattle.engines.specs.declared.fault.Fault.TheVariants.{Memory, Refusal, Schedule, Text};
 ghost use Rattle.engines.specs.Devices.{either_fault, fault_of};
-ghost use Rattle.engines.specs.Failures.{IsOfError, IsOfKind};
+ghost use Rattle.engines.specs.Failures.{IsOfKind};
 ghost use Rattle.engines.specs.Complaints.{fault_line};
 
 use model::DeviceFault;
@@ -87,15 +87,6 @@ impl From<DeviceFault> for Fault {
             DeviceFault::Device => Fault::Device,
             DeviceFault::Memory => Fault::Memory,
         }
-    }
-}
-
-/// Where a folder can't be read.
-impl From<io::Error> for Fault {
-    ghost from_gives = { λ error fault. IsOfError error fault };
-
-    fn from(error: io::Error) -> Fault {
-        Fault::from(device_fault(&error))
     }
 }
 

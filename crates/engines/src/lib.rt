@@ -1,10 +1,10 @@
-//! What the words of a command line ask for, done over any files and any output: runs, replays, searches, verifications, listings,
-//! and schedules as text.
+//! What the words of a command line ask for, done over any files and any output: runs, replays, searches,
+//! verifications, listings, and schedules as text.
 #![tactic(auto)]
 
 mod advised;
 mod class_files;
-pub mod class_paths;
+mod command_files;
 mod commands;
 mod complaint;
 mod continuing;
@@ -12,12 +12,11 @@ mod device;
 mod explaining;
 mod explanation;
 mod fault;
-mod folder;
-mod given_paths;
 mod going_on;
 mod library;
 mod listing;
 mod made_file;
+mod main_hints;
 mod named_file;
 mod names;
 mod open;
@@ -43,12 +42,12 @@ pub use device::Counted;
 pub use explaining::{Failures, explain_complaint};
 pub use explanation::Explanation;
 pub use fault::Fault;
-pub use folder::Folder;
 pub use library::verify_library_engine;
 pub use listing::disasm_engine;
 pub use names::names_engine;
 pub use open::Open;
 pub use program::run;
+pub use program_files::{FilesFault, Folder};
 pub use program_runs::workers::Gate;
 pub use replaying::replay_engine;
 pub use running::run_engine;

@@ -22,8 +22,8 @@ const LIBRARY_MAIN: &[u8] = b"\xca\xfe\xba\xbe\x00\x00\x001\x00\x08\
     \x00\x20\x00\x02\x00\x04\x00\x00\x00\x00\x00\x01\x00\x09\x00\x05\x00\x06\x00\x01\
     \x00\x07\x00\x00\x00\x0d\x00\x00\x00\x01\x00\x00\x00\x01\xb1\x00\x00\x00\x00\x00\x00";
 
-/// Links and verifies the class files of a library, of which no class has to have a `main`: they are accepted where they are
-/// behind a class that has one. Writes a line with their number, and answers the status of what is done.
+/// Links and verifies the class files of a library, of which no class has to have a `main`: they are accepted where
+/// they are behind a class that has one. Writes a line with their number, and answers the status of what is done.
 ///
 /// Nothing is written where a file can't be read or the files are refused.
 pub fn verify_library_engine<S: Source, W: Sink>(

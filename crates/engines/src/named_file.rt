@@ -5,8 +5,8 @@ ghost use Rattle.engines.specs.Files.{failures_of, has_failed, held_at, left_of}
 ghost use Rattle.engines.specs.declared.fault.Fault.TheVariants.{Memory};
 
 use crate::fault::{Fault, device_fault};
-use crate::folder::Folder;
 use model::{DeviceFault, Source};
+use program_files::Folder;
 use std::alloc::Global;
 
 /// The file at a path of a folder, which is read at once.

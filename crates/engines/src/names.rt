@@ -13,8 +13,8 @@ use listings::named_listing::named_listings;
 use model::{Sink, Source};
 use std::alloc::Global;
 
-/// Writes the listings of the class files with names and line numbers, one behind the other, and answers the status of what
-/// is done. Of the text nothing is promised.
+/// Writes the listings of the class files with names and line numbers, one behind the other, and answers the status
+/// of what is done. Of the text nothing is promised.
 ///
 /// Nothing is written where a file can't be read or is refused, or where there is no memory for the text.
 pub fn names_engine<S: Source, W: Sink>(

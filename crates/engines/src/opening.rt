@@ -37,7 +37,8 @@ pub(crate) fn open<S: Source>(
 ) -> Result<Opened, Fault>
     ensures opened { IfOk result (λ opened. (bytes : _) × Reads (S.remaining schedule.old) bytes
         × ReadsEach (map S.remaining files.old) (map vec_items opened.files.items)
-        × IsOpened bytes (map vec_items opened.files.items) limits.now opened.verified (events_of opened.schedule) opened.limits) }
+        × IsOpened bytes (map vec_items opened.files.items) limits.now opened.verified
+        (events_of opened.schedule) opened.limits) }
     ensures kept { IfErr result (IsKeptBy (S.remaining schedule.old) (map S.remaining files.old) limits.now) }
     ensures schedule_first { IfErr result (λ fault. IsOfSchedule fault → (files.new ≡ files.old)
         ⊎ IsAfterFiles (S.remaining schedule.old) (map S.remaining files.old) limits.now fault) }

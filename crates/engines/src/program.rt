@@ -4,18 +4,20 @@ ghost use Rattle.std.specs.Prelude.{◌≡◌, ◌≤◌, ◌+◌, IfErr, IfOk, 
 ghost use Rattle.std.specs.Io.KnownBytes.{Appends};
 ghost use Rattle.model.specs.Devices.{AppendsFront, Counts};
 ghost use Rattle.command_line.specs.CommandLine.{Asks};
-ghost use Rattle.engines.specs.Commands.{Does, IsDone, IsUndone, IsUntold, Leaves, LeavesAt, Stops};
+ghost use Rattle.engines.specs.Commands.{Does, IsDone, IsDoneOver, IsUndone, IsUndoneOver, IsUntold, Leaves, LeavesAt, Stops};
+ghost use Rattle.engines.specs.Files.{held_at};
 ghost use Rattle.engines.specs.Failures.{FolderMayFail, TellsComplaint, TellsFailures};
 
+use crate::command_files::{check_record, command_files};
 use crate::commands::{disasm, replay, run_files, schedule, search, trace, verify};
 use crate::complaint::Complaint;
 use crate::explanation::Explanation;
 use crate::fault::Fault;
-use crate::folder::Folder;
 use crate::seeds::Seeds;
 use crate::status::Status;
 use command_line::{Command, Usage, command};
 use model::{DeviceFault, Sink, Source};
+use program_files::Folder;
 use program_runs::workers::Gate;
 use search::Progress;
 use std::alloc::Global;
@@ -25,11 +27,11 @@ use std::thread::Threads;
 /// Does what the words say, the program's name first, and answers the status or why there is none.
 ///
 /// The files that they name are those of the folder; the text of a schedule that is to become a file is read from the
-/// input. A report, a listing, the line of a verification, the text of a schedule, or the help or the version that the words
-/// ask for is written to the output, and nothing else but a schedule file, where one is asked for, to the folder. The gate is
-/// told what the workers of a run do, and how far a run or a search has come; and it draws the seed of a run for which none is
-/// asked. The complaint is for the caller to tell, and so is the explanation, which gets what the threads of a run are about
-/// that did not end normally, where it is due.
+/// input. A report, a listing, the line of a verification, the text of a schedule, or the help or the version that
+/// the words ask for is written to the output, and nothing else but a schedule file, where one is asked for, to the
+/// folder. The gate is told what the workers of a run do, and how far a run or a search has come; and it draws the
+/// seed of a run for which none is asked. The complaint is for the caller to tell, and so is the explanation, which
+/// gets what the threads of a run are about that did not end normally, where it is due.
 pub fn run<
     R: Threads + Wait + Sync,
     G: Gate + Progress + Seeds + Sync,
@@ -60,19 +62,16 @@ pub fn run<
         (I.failures input.old + W.failures output.old) (I.failures input.new + W.failures output.new)) }
 {
     match command(alloc, words) {
-        Ok(command) => {
-            let status = done(
-                rt,
-                alloc,
-                gate,
-                folder,
-                &command,
-                input,
-                output,
-                explanation,
-            )?;
-            Ok(status)
-        }
+        Ok(command) => done(
+            rt,
+            alloc,
+            gate,
+            folder,
+            &command,
+            input,
+            output,
+            explanation,
+        ),
         Err(usage) => told(alloc, usage, output),
     }
 }
@@ -104,7 +103,7 @@ fn write_help<W: Sink>(alloc: Global, usage: &Usage, output: &mut W) -> Result<(
     output.write_all(text.as_bytes())
 }
 
-/// Does what a command says.
+/// Does what a command says, over the files that its words stand for.
 fn done<R: Threads + Wait + Sync, G: Gate + Progress + Seeds + Sync, F: Folder, I: Source, W: Sink>(
     rt: &R,
     alloc: Global,
@@ -114,22 +113,87 @@ fn done<R: Threads + Wait + Sync, G: Gate + Progress + Seeds + Sync, F: Folder, 
     input: &mut I,
     output: &mut W,
     explanation: &mut Explanation,
-) -> Result<Status, Fault>
+) -> Result<Status, Complaint>
     ensures done { IfOk result (Leaves
         (IsDone (F.held folder.old) (F.listed folder.old) (I.remaining input.old) command.now)
         (W.contents output.old) (W.contents output.new) (F.held folder.old) (F.held folder.new)) }
     ensures faulty { IfErr result (LeavesAt (IsUndone (F.held folder.old) (F.listed folder.old) (I.remaining input.old)
         command.now (W.contents output.old) (W.contents output.new)) (F.held folder.old) (F.held folder.new)) }
+    ensures told { MatchResult result
+        (λ _. I.failures input.new + W.failures output.new ≤ I.failures input.old + W.failures output.old)
+        (λ complaint. TellsComplaint (FolderMayFail F.may_fail) complaint
+        (I.failures input.old + W.failures output.old) (I.failures input.new + W.failures output.new)) }
+{
+    let files = command_files(alloc, folder, command)?;
+    let paths = files.as_slice();
+    check_record(alloc, command, paths)?;
+    let status = done_over(
+        rt,
+        alloc,
+        gate,
+        folder,
+        paths,
+        command,
+        input,
+        output,
+        explanation,
+    )?;
+    Ok(status)
+}
+
+/// Does what a command says, over the files at these paths.
+fn done_over<
+    R: Threads + Wait + Sync,
+    G: Gate + Progress + Seeds + Sync,
+    F: Folder,
+    I: Source,
+    W: Sink,
+>(
+    rt: &R,
+    alloc: Global,
+    gate: &G,
+    folder: &mut F,
+    files: &[String],
+    command: &Command,
+    input: &mut I,
+    output: &mut W,
+    explanation: &mut Explanation,
+) -> Result<Status, Fault>
+    ensures done { IfOk result (Leaves
+        (IsDoneOver (F.held folder.old) (held_at (F.held folder.old) (map string_bytes files.now))
+        (I.remaining input.old) command.now)
+        (W.contents output.old) (W.contents output.new) (F.held folder.old) (F.held folder.new)) }
+    ensures faulty { IfErr result
+        (LeavesAt (IsUndoneOver (F.held folder.old) (held_at (F.held folder.old) (map string_bytes files.now))
+        (I.remaining input.old)
+        command.now (W.contents output.old) (W.contents output.new)) (F.held folder.old) (F.held folder.new)) }
     ensures told { TellsFailures (FolderMayFail F.may_fail) result
         (I.failures input.old + W.failures output.old) (I.failures input.new + W.failures output.new) }
 {
     match command {
-        Command::Run(options) => run_files(rt, alloc, gate, folder, options, output, explanation),
-        Command::Replay(options) => replay(alloc, folder, options, output, explanation),
-        Command::Trace(options) => trace(alloc, folder, options, output, explanation),
-        Command::Search(options) => search(alloc, gate, folder, options, output, explanation),
-        Command::Verify(options) => verify(alloc, folder, options, output),
-        Command::Disasm(options) => disasm(alloc, folder, options, output),
+        Command::Run(options) => run_files(
+            rt,
+            alloc,
+            gate,
+            folder,
+            files,
+            options,
+            output,
+            explanation,
+        ),
+        Command::Replay(options) => replay(alloc, folder, files, options, output, explanation),
+        Command::Trace(options) => trace(alloc, folder, files, options, output, explanation),
+        Command::Search(options) => search(
+            alloc,
+            gate,
+            folder,
+            files,
+            options,
+            output,
+            explanation,
+        ),
+        Command::Verify(options) => verify(alloc, folder, files, options, output),
+        Command::Disasm(options) => disasm(alloc, folder, files, options, output),
         Command::Schedule(options) => schedule(alloc, folder, options, input, output, explanation),
     }
 }

@@ -18,11 +18,11 @@ use std::alloc::{AllocError, Global};
 
 /// Runs the class files under the schedule, writes the report and answers its status.
 ///
-/// The schedule is read as text where its first byte is a digit, `#`, or white space, and else as a schedule file. A fault
-/// of it is answered before a class file is read, and one of the class files before anything runs. It may say with which
-/// limits it was recorded, and over how many class files, how long each: where they are others, or another limit is asked
-/// for, that is its fault, and it is answered once the class files are read and before one is decoded. The run has its
-/// limits. Where the schedule or a class file is refused, nothing is written.
+/// The schedule is read as text where its first byte is a digit, `#`, or white space, and else as a schedule file. A
+/// fault of it is answered before a class file is read, and one of the class files before anything runs. It may say
+/// with which limits it was recorded, and over how many class files, how long each: where they are others, or another
+/// limit is asked for, that is its fault, and it is answered once the class files are read and before one is decoded.
+/// The run has its limits. Where the schedule or a class file is refused, nothing is written.
 pub fn replay_engine<S: Source, W: Sink>(
     alloc: Global,
     schedule: &mut S,

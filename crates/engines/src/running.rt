@@ -27,12 +27,13 @@ use std::sync::{Arc, Wait};
 use std::thread::Threads;
 use verifier::Verified;
 
-/// Runs the class files, by workers or, by a policy, by one; makes the schedule file where it is asked for, and where the run
-/// does not end normally; writes the report, and answers its status. The gate is told what the workers do, and where a policy
-/// wants a seed for which the options don't ask, it draws one, and is told so unless the options have it quiet.
+/// Runs the class files, by workers or, by a policy, by one; makes the schedule file where it is asked for, and where
+/// the run does not end normally; writes the report, and answers its status. The gate is told what the workers do,
+/// and where a policy wants a seed for which the options don't ask, it draws one, and is told so unless the options
+/// have it quiet.
 ///
-/// A fault of the class files is answered before anything runs, and nothing is written or made then; nor is anything after
-/// a want of memory in the run. The file is there before the report is written.
+/// A fault of the class files is answered before anything runs, and nothing is written or made then; nor is anything
+/// after a want of memory in the run. The file is there before the report is written.
 pub fn run_engine<R: Threads + Wait + Sync, G: Gate + Seeds + Sync, S: Source, W: Sink>(
     rt: &R,
     alloc: Global,
@@ -44,11 +45,13 @@ pub fn run_engine<R: Threads + Wait + Sync, G: Gate + Seeds + Sync, S: Source, W
 ) -> Result<Status, Fault>
     // The report of a run is written, and nothing else; and the file is that of its schedule.
     ensures ran { IfOk result (λ status. (text : _)
-        × Runs (map S.remaining files.old) options.now.limits options.now.options text (option_map vec_items file.new) status
+        × Runs (map S.remaining files.old) options.now.limits options.now.options text
+        (option_map vec_items file.new) status
         × Appends (W.contents report.old) (W.contents report.new) text) }
     ensures asked { IfOk result (λ _. IsTrue (is_some options.now.record) → IsTrue (is_some file.new)) }
     ensures faulty { IfErr result (IsUnrun (map S.remaining files.old) options.now.limits options.now.options
-        (W.contents report.old) (W.contents report.new) (option_map vec_items file.old) (option_map vec_items file.new)) }
+        (W.contents report.old) (W.contents report.new) (option_map vec_items file.old)
+        (option_map vec_items file.new)) }
     ensures counted { CountsFailure result
         (sum_by S.failures files.old + W.failures report.old)
         (sum_by S.failures files.new + W.failures report.new) }
@@ -124,7 +127,8 @@ pub(crate) fn outcome_of(
     Ok(Outcome { text, file, status })
 }
 
-/// The schedule file of a run of the class files, by which it can be told why it ended so; none where memory is wanted for it.
+/// The schedule file of a run of the class files, by which it can be told why it ended so; none where memory is
+/// wanted for it.
 fn told_file(
     alloc: Global,
     files: &[Vec<u8>],

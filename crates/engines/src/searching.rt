@@ -22,12 +22,13 @@ use search::{Progress, states_within};
 use std::alloc::{AllocError, Global};
 use verifier::Verified;
 
-/// Searches all schedules of the class files, as far as the options say, for a run whose outcome is wanted. Makes the schedule
-/// file of the run that was found, where one is asked for; writes what comes of the search, and answers the status.
+/// Searches all schedules of the class files, as far as the options say, for a run whose outcome is wanted. Makes the
+/// schedule file of the run that was found, where one is asked for; writes what comes of the search, and answers the
+/// status.
 ///
-/// A fault of the class files is answered before anything runs, and nothing is written or made then; nor is anything after
-/// a want of memory in the search. The file is there before the report is written. The progress is told how far the search
-/// has come.
+/// A fault of the class files is answered before anything runs, and nothing is written or made then; nor is anything
+/// after a want of memory in the search. The file is there before the report is written. The progress is told how far
+/// the search has come.
 pub fn search_engine<P: Progress, S: Source, W: Sink>(
     alloc: Global,
     progress: &P,
@@ -37,13 +38,15 @@ pub fn search_engine<P: Progress, S: Source, W: Sink>(
     report: &mut W,
     file: &mut Option<Vec<u8>>,
 ) -> Result<Status, Fault>
-    // What can come of the class files is written, or a run whose outcome is wanted, and nothing else; and the file is that of the
-    // run's schedule, where it is asked for.
+    // What can come of the class files is written, or a run whose outcome is wanted, and nothing else; and the file
+    // is that of the run's schedule, where it is asked for.
     ensures searched { IfOk result (λ status. (text : _)
-        × Searches (map S.remaining files.old) options.now.limits wanted.now (most_states options.now) (is_some options.now.record)
+        × Searches (map S.remaining files.old) options.now.limits wanted.now (most_states options.now)
+        (is_some options.now.record)
         text (option_map vec_items file.new) status
         × Appends (W.contents report.old) (W.contents report.new) text) }
-    ensures faulty { IfErr result (IsUnsearched (map S.remaining files.old) options.now.limits wanted.now (most_states options.now)
+    ensures faulty { IfErr result
+        (IsUnsearched (map S.remaining files.old) options.now.limits wanted.now (most_states options.now)
         (is_some options.now.record) (W.contents report.old) (W.contents report.new)
         (option_map vec_items file.old) (option_map vec_items file.new)) }
     ensures counted { CountsFailure result
@@ -69,7 +72,8 @@ fn searched<P: Progress>(
     wanted: &Wanted,
 ) -> Result<Outcome, AllocError>
     requires { IsAccepted (map vec_items files.now) verified }
-    ensures { IfOk result (λ searched. IsSearched (map vec_items files.now) options.now.limits wanted.now (most_states options.now)
+    ensures { IfOk result (λ searched.
+        IsSearched (map vec_items files.now) options.now.limits wanted.now (most_states options.now)
         (is_some options.now.record) searched.text.items (option_map vec_items searched.file) searched.status) }
 {
     search_of(alloc, progress, &verified, files, options, wanted)
@@ -85,7 +89,8 @@ fn search_of<P: Progress>(
     wanted: &Wanted,
 ) -> Result<Outcome, AllocError>
     requires { IsAccepted (map vec_items files.now) verified.now }
-    ensures { IfOk result (λ searched. IsSearched (map vec_items files.now) options.now.limits wanted.now (most_states options.now)
+    ensures { IfOk result (λ searched.
+        IsSearched (map vec_items files.now) options.now.limits wanted.now (most_states options.now)
         (is_some options.now.record) searched.text.items (option_map vec_items searched.file) searched.status) }
 {
     let limits = options.limits.limits();

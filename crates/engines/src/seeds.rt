@@ -16,7 +16,8 @@ pub trait Seeds {
     fn tell(&self, seed: u32);
 }
 
-/// The policy that the options of a run ask for. A seed for which they don't ask is drawn, and told unless that is to be quiet.
+/// The policy that the options of a run ask for. A seed for which they don't ask is drawn, and told unless that is to
+/// be quiet.
 pub(crate) fn policy_for<S: Seeds>(seeds: &S, options: &RunOptions, is_quiet: bool) -> Policy
     ensures turns { HasTurns result }
     ensures asked { IsAskedFor options.now result }

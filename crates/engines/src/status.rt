@@ -2,19 +2,21 @@
 
 ghost use Rattle.std.specs.Prelude.{◌≡◌};
 ghost use Rattle.std.specs.List.{list_all};
-ghost use Rattle.engines.specs.Statuses.{has_ended, has_returned, code_of, complaint_status, fault_status, usage_status, search_status, status_of};
+ghost use Rattle.engines.specs.Statuses.{has_ended, has_returned, code_of, complaint_status, fault_status, files_status, usage_status, search_status, status_of};
 
 use crate::complaint::Complaint;
 use crate::fault::Fault;
 use command_line::Usage;
 use model::{End, EndState, Report};
+use program_files::FilesFault;
 use search::search_reports::Answer;
 
 #[derive(Clone, Copy)]
 pub enum Status {
     /// No thread can go on, and all have ended, none with an exception. Of what runs nothing: it is done.
     Returned,
-    /// No thread can go on, and all have ended, some with an exception. Of a search: it found a run whose outcome is wanted.
+    /// No thread can go on, and all have ended, some with an exception. Of a search: it found a run whose outcome is
+    /// wanted.
     Threw,
     /// A class file or the schedule is refused.
     Refused,
@@ -70,6 +72,7 @@ impl Status {
     {
         match complaint {
             Complaint::Usage(usage) => Status::of_usage(usage),
+            Complaint::Files(fault) => Status::of_files(fault),
             Complaint::Fault(fault) => Status::of_fault(fault),
         }
     }
@@ -82,6 +85,16 @@ impl Status {
             Fault::Device => Status::Unusable,
             Fault::Memory => Status::Stopped,
             Fault::Refusal(_) | Fault::Schedule(_) | Fault::Text(_) => Status::Refused,
+        }
+    }
+
+    /// That of words that stand for no files.
+    pub fn of_files(fault: &FilesFault) -> Status
+        ensures { result ≡ files_status fault.now }
+    {
+        match fault {
+            FilesFault::Memory => Status::Stopped,
+            _ => Status::Unusable,
         }
     }
 

@@ -2,7 +2,7 @@
 
 ghost use Rattle.std.specs.Prelude.{None};
 
-use crate::folder::Folder;
+use program_files::Folder;
 use std::alloc::Global;
 use std::fs::{OpenFile, OpenOptions, Permissions};
 use std::io::{ErrorKind, Read, Write};
@@ -39,12 +39,14 @@ impl<R: Files> Folder for SystemFolder<'_, R> {
     fn names(&self, alloc: Global, path: &str) -> io::Result<Option<Vec<String>>> {
         match fs::metadata(self.files, path) {
             Ok(found) if found.is_dir() => Ok(Some(names_in(alloc, self.files, path)?)),
-            _ => Ok(None),
+            Ok(_) => Ok(None),
+            Err(error) if error.kind() == ErrorKind::NotFound => Ok(None),
+            Err(error) => Err(error),
         }
     }
 
-    /// A file that is there is opened, and one is made for a moment beside a name that is free. A device or a named pipe is
-    /// not tried, since who reads it would take notice.
+    /// A file that is there is opened, and one is made for a moment beside a name that is free. A device or a named
+    /// pipe is not tried, since who reads it would take notice.
     fn try_write(&self, alloc: Global, path: &str) -> io::Result<()> {
         match fs::metadata(self.files, path) {
             Ok(found) if found.is_file() || found.is_dir() => open_there(self.files, path),
@@ -55,8 +57,8 @@ impl<R: Files> Folder for SystemFolder<'_, R> {
         }
     }
 
-    /// A regular file is made beside the one that is there, and then takes its place, so that a full disk leaves that as it
-    /// was. What is no regular file, as `/dev/null`, is written to.
+    /// A regular file is made beside the one that is there, and then takes its place, so that a full disk leaves that
+    /// as it was. What is no regular file, as `/dev/null`, is written to.
     fn write(&mut self, alloc: Global, path: &str, bytes: &[u8]) -> io::Result<()> {
         match fs::metadata(self.files, path) {
             Ok(found) if found.is_file() => replace(alloc, self.files, path, bytes),

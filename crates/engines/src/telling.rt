@@ -2,20 +2,21 @@
 
 use crate::class_files::read_class_files;
 use crate::fault::Fault;
-use crate::folder::Folder;
 use crate::named_file::sources;
 use crate::recording::limits_of;
 use crate::verification::accepted;
 use command_line::LimitOptions;
 use explanations::thread_explanations::explain_threads;
 use model::Limits;
+use program_files::Folder;
 use program_runs::verified_programs::verified_program;
 use schedule::Schedule;
 use schedule::schedule_text::read_either;
 use std::alloc::{AllocError, Global};
 use verifier::Verified;
 
-/// What the threads are about that did not end normally, after the events of the schedule at a path, if they are not too many.
+/// What the threads are about that did not end normally, after the events of the schedule at a path, if they are not
+/// too many.
 pub(crate) fn told_schedule<F: Folder>(
     alloc: Global,
     folder: &F,

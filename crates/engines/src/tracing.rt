@@ -17,14 +17,15 @@ use program_runs::traced_runs::{Window, trace};
 use schedule::report::text;
 use std::alloc::Global;
 
-/// Runs the class files under the schedule, writes a line for each event that is to be told, in a summary one for a run of
-/// local ones, and then the report. Answers the status of the report.
+/// Runs the class files under the schedule, writes a line for each event that is to be told, in a summary one for a
+/// run of local ones, and then the report. Answers the status of the report.
 ///
-/// A line says where the event's thread stood before it, in the state to which the events before it led: the method and the
-/// offset of its instruction, and the instruction; or the class that it initialised. Of the source's line, and of what
-/// the event did, nothing is promised. The line of a run says which events they are, each of them local in the state to which
-/// those before it led, and between which offsets of which method. What comes before the run, and its faults, are those of
-/// `replay_engine`. Where a device fails or memory is wanted later, a beginning of what is to be written may be.
+/// A line says where the event's thread stood before it, in the state to which the events before it led: the method
+/// and the offset of its instruction, and the instruction; or the class that it initialised. Of the source's line,
+/// and of what the event did, nothing is promised. The line of a run says which events they are, each of them local
+/// in the state to which those before it led, and between which offsets of which method. What comes before the run,
+/// and its faults, are those of `replay_engine`. Where a device fails or memory is wanted later, a beginning of what
+/// is to be written may be.
 pub fn trace_engine<S: Source, W: Sink>(
     alloc: Global,
     schedule: &mut S,
@@ -37,7 +38,8 @@ pub fn trace_engine<S: Source, W: Sink>(
     ensures traced { IfOk result (λ status. (text : _)
         × Traces (S.remaining schedule.old) (map S.remaining files.old) limits.now window.entry text status
         × Appends (W.contents output.old) (W.contents output.new) text) }
-    ensures faulty { IfErr result (IsUntraced (S.remaining schedule.old) (map S.remaining files.old) limits.now window.entry
+    ensures faulty { IfErr result
+        (IsUntraced (S.remaining schedule.old) (map S.remaining files.old) limits.now window.entry
         (W.contents output.old) (W.contents output.new)) }
     ensures schedule_first { IfErr result (λ fault. IsOfSchedule fault → (files.new ≡ files.old)
         ⊎ IsAfterFiles (S.remaining schedule.old) (map S.remaining files.old) limits.now fault) }
@@ -66,7 +68,8 @@ fn traced<W: Sink>(
     ensures part { OnErr result ((bytes : _) (options : _)
         → IsOpened bytes (map vec_items opened.files.items) options opened.verified
         (events_of opened.schedule) opened.limits
-        → TracesFront bytes (map vec_items opened.files.items) options window.entry (W.contents output.old) (W.contents output.new)) }
+        → TracesFront bytes (map vec_items opened.files.items) options window.entry (W.contents output.old)
+        (W.contents output.new)) }
     ensures counted { Counts result (W.failures output.old) (W.failures output.new) }
 {
     trace_of(alloc, &opened, window, output)
@@ -87,7 +90,8 @@ fn trace_of<W: Sink>(
     ensures part { OnErr result ((bytes : _) (options : _)
         → IsOpened bytes (map vec_items opened.now.files.items) options opened.now.verified
         (events_of opened.now.schedule) opened.now.limits
-        → TracesFront bytes (map vec_items opened.now.files.items) options window.entry (W.contents output.old) (W.contents output.new)) }
+        → TracesFront bytes (map vec_items opened.now.files.items) options window.entry (W.contents output.old)
+        (W.contents output.new)) }
     ensures counted { Counts result (W.failures output.old) (W.failures output.new) }
 {
     let (report, end) = trace(

@@ -27,7 +27,8 @@ pub fn schedule_engine<S: Source, W: Sink>(
         × Prints (S.remaining file.old) printed
         × Appends (W.contents text.old) (W.contents text.new) printed) }
     ensures faulty { IfErr result (IsUnprinted (S.remaining file.old) (W.contents text.old) (W.contents text.new)) }
-    ensures counted { CountsFailure result (S.failures file.old + W.failures text.old) (S.failures file.new + W.failures text.new) }
+    ensures counted { CountsFailure result (S.failures file.old + W.failures text.old)
+        (S.failures file.new + W.failures text.new) }
 {
     let (schedule, recorded) = read_given(alloc, file)?;
     let printed = print(alloc, &schedule, recorded.as_ref())?;
@@ -35,8 +36,8 @@ pub fn schedule_engine<S: Source, W: Sink>(
     Ok(Status::Returned)
 }
 
-/// Writes the schedule file of a text, and answers the status of what is done. The file is of version 2 where the text says
-/// with what the schedule was recorded, and else of version 1.
+/// Writes the schedule file of a text, and answers the status of what is done. The file is of version 2 where the
+/// text says with what the schedule was recorded, and else of version 1.
 ///
 /// Nothing is written where the text can't be read or is refused.
 pub fn write_schedule_engine<S: Source, W: Sink>(
@@ -49,7 +50,8 @@ pub fn write_schedule_engine<S: Source, W: Sink>(
         × Transcribes (S.remaining text.old) bytes
         × Appends (W.contents file.old) (W.contents file.new) bytes) }
     ensures faulty { IfErr result (IsUntranscribed (S.remaining text.old) (W.contents file.old) (W.contents file.new)) }
-    ensures counted { CountsFailure result (S.failures text.old + W.failures file.old) (S.failures text.new + W.failures file.new) }
+    ensures counted { CountsFailure result (S.failures text.old + W.failures file.old)
+        (S.failures text.new + W.failures file.new) }
 {
     let read = read_text(alloc, text)?;
     let (schedule, recorded) = parse(alloc, read.as_slice())?;

@@ -1,5 +1,5 @@
-//! Readers and writers whose failures are counted. When they fail is in no contract of theirs: what is counted is what they
-//! answer, call by call.
+//! Readers and writers whose failures are counted. When they fail is in no contract of theirs: what is counted is
+//! what they answer, call by call.
 
 ghost use Rattle.std.specs.Prelude.{◌≡◌, ◌≤◌, ◌<◌, IfOk, IfSome, OnErr, OnOk, length, take, vec_len};
 ghost use Rattle.std.specs.Io.KnownBytes.{Appends, IsAtEnd, Keeps};
@@ -74,7 +74,8 @@ impl<W: Write> Watched<W> {
     /// Writes some of the bytes, at least one where there are some, and answers how many.
     pub(crate) fn write(&mut self, bytes: &[u8]) -> Result<usize, DeviceFault>
         ensures some { IfOk result (λ written. (written ≤ length bytes.now) × (0 < length bytes.now → 0 < written)) }
-        ensures written { IfOk result (λ written. Appends (W.contents self.old.device) (W.contents self.new.device) (take written bytes.now)) }
+        ensures written { IfOk result (λ written.
+            Appends (W.contents self.old.device) (W.contents self.new.device) (take written bytes.now)) }
         ensures none { OnErr result (Keeps (W.contents self.old.device) (W.contents self.new.device)) }
         ensures counted { Counts result (vec_len self.old.failures) (vec_len self.new.failures) }
     {

@@ -13,14 +13,14 @@ use model::{Limits, MonitorAnswer};
 use std::alloc::{AllocError, Global};
 use std::marker::Model;
 
-/// How many objects the opening state may have. With 4,000,000,000 more, which is the highest limit, each reference r has a
-/// word r + 1 of 32 bits.
+/// How many objects the opening state may have. With 4,000,000,000 more, which is the highest limit, each reference r
+/// has a word r + 1 of 32 bits.
 pub const MOST_OPENING: u32 = 294_967_295;
 
 /// The objects of a run by their references, with their monitors.
 ///
-/// Words are read and written by their number in the object, from 0. A word that is not there, or one of an object that is
-/// not there, is read as 0 and not written.
+/// Words are read and written by their number in the object, from 0. A word that is not there, or one of an object
+/// that is not there, is read as 0 and not written.
 #[derive(Drop)]
 pub struct Heap {
     table: Vec<Entry>,
@@ -275,7 +275,8 @@ impl Heap {
         self.monitors.exit(object, thread)
     }
 
-    /// The thread joins the wait set with its entries, and the monitor has no owner, if the thread is the owner (JLS 17.2.1).
+    /// The thread joins the wait set with its entries, and the monitor has no owner, if the thread is the owner (JLS
+    /// 17.2.1).
     pub fn wait(&mut self, object: u32, thread: u16) -> Result<MonitorAnswer, MonitorRefusal>
         requires { IsAllowed (Call.Wait object thread) self.old.locks }
         ensures { HandsOn result (Call.Wait object thread) self.old self.new }

@@ -41,7 +41,8 @@ pub fn kind(table: &[Entry], object: usize) -> Option<ObjectKind>
 /// How many words this object has.
 pub fn word_count(table: &[Entry], cells: &[u32], object: u32) -> u32
     requires { AreLaid table.now (length cells.now) }
-    ensures { result + start_at table.now (length cells.now) object ≡ start_at table.now (length cells.now) (object + 1) }
+    ensures { result + start_at table.now (length cells.now) object
+        ≡ start_at table.now (length cells.now) (object + 1) }
 {
     let object = object as usize;
     let next = start(table, cells, object + 1);
@@ -93,10 +94,12 @@ pub fn add(
     kind: ObjectKind,
     count: u32,
 ) -> Result<(), AllocError>
-    ensures entry { OnOk result (table.new.items ≡ table.old.items ++ record { kind = kind; start = length cells.old.items } ∷ []) }
+    ensures entry { OnOk result (table.new.items
+        ≡ table.old.items ++ record { kind = kind; start = length cells.old.items } ∷ []) }
     ensures words { OnOk result (cells.new.items ≡ cells.old.items ++ replicate count 0) }
     ensures monitor { OnOk result (monitors.new ≡ with_lock monitors.old) }
-    ensures err { OnErr result ((table.new.items ≡ table.old.items) × (cells.new.items ≡ cells.old.items) × (monitors.new ≡ monitors.old)) }
+    ensures err { OnErr result ((table.new.items ≡ table.old.items) × (cells.new.items ≡ cells.old.items)
+        × (monitors.new ≡ monitors.old)) }
 {
     let count = count as usize;
     let start = cells.len();

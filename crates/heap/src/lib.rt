@@ -1,7 +1,8 @@
 //! The objects of a run, with their fields or elements and their monitors. Nothing is ever freed.
 //!
-//! The words of all objects lie in one list of cells; a table says for each object what it is and where its words begin,
-//! and the monitors keep one lock word for each. Callers see a list of objects, each with the list of its words.
+//! The words of all objects lie in one list of cells; a table says for each object what it is and where its words
+//! begin, and the monitors keep one lock word for each. Callers see a list of objects, each with the list of its
+//! words.
 #![tactic(auto)]
 
 mod heap;

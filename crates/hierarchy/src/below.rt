@@ -12,7 +12,8 @@ use class_tree::superclass_name;
 impl ClassSet {
     /// Whether the class at a place names this direct superclass.
     fn names_superclass(&self, class: usize, name: &[u8]) -> bool
-        ensures { result ≡ option_map_or (λ s. name_eq s name.now) (option_and_then super_name_of (class_at self.now class)) false }
+        ensures { result ≡ option_map_or (λ s.
+            name_eq s name.now) (option_and_then super_name_of (class_at self.now class)) false }
     {
         let Some(class) = self.class_at(class) else {
             return false;

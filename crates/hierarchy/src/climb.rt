@@ -22,8 +22,8 @@ pub(crate) fn superclass_by(set: &ClassSet, table: &[Lineage], place: usize) -> 
     Some(superclass_in(table, place))
 }
 
-/// One of the superclasses of a class that has more than so many, that has no fewer: the one that its skip leads to, or else the
-/// direct superclass.
+/// One of the superclasses of a class that has more than so many, that has no fewer: the one that its skip leads to,
+/// or else the direct superclass.
 fn class_toward(set: &ClassSet, table: &[Lineage], place: usize, depth: usize) -> usize
     requires told { HasLineages set.now table.now }
     requires within { place < length table.now }
@@ -62,7 +62,8 @@ struct Level {
     second: usize,
 }
 
-/// Two classes above two others: those that their skips lead to, unless these are one class, or else the direct superclasses.
+/// Two classes above two others: those that their skips lead to, unless these are one class, or else the direct
+/// superclasses.
 fn level_above(set: &ClassSet, table: &[Lineage], level: Level) -> Level
     requires told { HasLineages set.now table.now }
     requires level { IsLevel table.now level.first level.second }
@@ -87,7 +88,8 @@ fn level_above(set: &ClassSet, table: &[Lineage], level: Level) -> Level
 fn meeting(set: &ClassSet, table: &[Lineage], c: usize, d: usize) -> Option<usize>
     requires told { HasLineages set.now table.now }
     requires level { IsLevel table.now c d }
-    ensures { IfSome result (λ p. class_join set.now (name_at set.now c) (name_at set.now d) ≡ Some (name_at set.now p)) }
+    ensures { IfSome result (λ p.
+        class_join set.now (name_at set.now c) (name_at set.now d) ≡ Some (name_at set.now p)) }
 {
     let mut level = Level {
         first: c,
@@ -113,7 +115,8 @@ pub(crate) fn common_superclass(
     d: usize,
 ) -> Option<usize>
     requires told { HasLineages set.now table.now }
-    ensures { IfSome result (λ p. class_join set.now (name_at set.now c) (name_at set.now d) ≡ Some (name_at set.now p)) }
+    ensures { IfSome result (λ p.
+        class_join set.now (name_at set.now c) (name_at set.now d) ≡ Some (name_at set.now p)) }
 {
     if c >= table.len() || d >= table.len() {
         return None;

@@ -1,5 +1,5 @@
-//! A search for the classes of a set that are above themselves. It only spares time: nothing is proved of what it finds, and
-//! what rests on that is checked.
+//! A search for the classes of a set that are above themselves. It only spares time: nothing is proved of what it
+//! finds, and what rests on that is checked.
 
 use crate::order::{is_first_visit, supertypes_first};
 use crate::set::ClassSet;
@@ -62,8 +62,8 @@ fn come_down(
     Ok(())
 }
 
-/// A class and all below it that weren't come to; it is come to itself where it is below itself. In `ways` stands for each
-/// the class above it from which it was come to.
+/// A class and all below it that weren't come to; it is come to itself where it is below itself. In `ways` stands for
+/// each the class above it from which it was come to.
 fn come_to_all_below(
     alloc: Global,
     below: &[Vec<usize>],
@@ -101,9 +101,9 @@ fn set_all(ranks: &mut [usize], places: &[usize], rank: usize) {
     }
 }
 
-/// A rank for each class, counted from 1, by those below each: classes that are above each other have the same, and else what is
-/// above a class has a smaller one. Classes go with those that are both above and below them: they are found from the lowest
-/// on, which the order has last.
+/// A rank for each class, counted from 1, by those below each: classes that are above each other have the same, and
+/// else what is above a class has a smaller one. Classes go with those that are both above and below them: they are
+/// found from the lowest on, which the order has last.
 pub(crate) fn ranks_with_cycles(
     alloc: Global,
     set: &ClassSet,

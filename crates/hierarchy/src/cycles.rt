@@ -29,7 +29,8 @@ fn has_above(
     class: &[u8],
     other: &[u8],
 ) -> bool
-    requires { named_rows names.now supertypes.now ≡ rows_of set.now above.Supertypes (length (classes_of set.now) - 1) }
+    requires { named_rows names.now supertypes.now
+        ≡ rows_of set.now above.Supertypes (length (classes_of set.now) - 1) }
     ensures { result ≡ is_above set.now (length (classes_of set.now) - 1) class.now other.now }
 {
     match row_of(set, supertypes, class) {
@@ -46,7 +47,8 @@ fn leads_to(
     name: Option<&[u8]>,
     other: &[u8],
 ) -> bool
-    requires { named_rows names.now supertypes.now ≡ rows_of set.now above.Supertypes (length (classes_of set.now) - 1) }
+    requires { named_rows names.now supertypes.now
+        ≡ rows_of set.now above.Supertypes (length (classes_of set.now) - 1) }
     ensures { result ≡ list_any (leads_to set.now other.now) (option_to_list (option_map (λ t. t.now) name.entry)) }
 {
     match name {
@@ -62,7 +64,8 @@ fn an_interface_leads_to(
     file: &ClassFile,
     other: &[u8],
 ) -> bool
-    requires { named_rows names.now supertypes.now ≡ rows_of set.now above.Supertypes (length (classes_of set.now) - 1) }
+    requires { named_rows names.now supertypes.now
+        ≡ rows_of set.now above.Supertypes (length (classes_of set.now) - 1) }
     ensures { result ≡ list_any (leads_to set.now other.now) (interface_names (file_of file.now)) }
 {
     for index in &file.interfaces {
@@ -75,7 +78,8 @@ fn an_interface_leads_to(
 
 /// Whether the class of a name is above itself.
 fn is_above_itself(set: &ClassSet, names: &NameTable, supertypes: &[Row], class: &[u8]) -> bool
-    requires { named_rows names.now supertypes.now ≡ rows_of set.now above.Supertypes (length (classes_of set.now) - 1) }
+    requires { named_rows names.now supertypes.now
+        ≡ rows_of set.now above.Supertypes (length (classes_of set.now) - 1) }
     ensures { result ≡ is_above set.now (length (classes_of set.now)) class.now class.now }
 {
     let Some(file) = set.class_of(class) else {
@@ -87,7 +91,8 @@ fn is_above_itself(set: &ClassSet, names: &NameTable, supertypes: &[Row], class:
 
 /// The number of the first file whose class is above itself, by the rows of all that is above classes.
 fn first_above_itself(set: &ClassSet, names: &NameTable, supertypes: &[Row]) -> Option<usize>
-    requires { named_rows names.now supertypes.now ≡ rows_of set.now above.Supertypes (length (classes_of set.now) - 1) }
+    requires { named_rows names.now supertypes.now
+        ≡ rows_of set.now above.Supertypes (length (classes_of set.now) - 1) }
     ensures { result ≡ position (in_cycle set.now) set.now }
 {
     for number in 0..set.count().saturating_sub(BUILT_IN_CLASSES) {
@@ -158,8 +163,8 @@ fn leads_back(set: &ClassSet, ways: &[usize], place: usize, class: &[u8]) -> boo
     false
 }
 
-/// The number of the first file whose class is above itself, where ranks show that none before it is and a way leads back to
-/// its class. None says nothing.
+/// The number of the first file whose class is above itself, where ranks show that none before it is and a way leads
+/// back to its class. None says nothing.
 fn first_led_back(alloc: Global, set: &ClassSet) -> Result<Option<usize>, AllocError>
     ensures { IfOk result (λ found. IfSome found (λ number. position (in_cycle set.now) set.now ≡ Some number)) }
 {
@@ -189,8 +194,8 @@ fn first_led_back(alloc: Global, set: &ClassSet) -> Result<Option<usize>, AllocE
 
 /// The number of the first file whose class is above itself (JVMS 5.3.5). Files are counted from 0.
 ///
-/// Ranks and ways only spare the time to write down all that is above each class. What they show is checked, and where they show
-/// nothing, that is done.
+/// Ranks and ways only spare the time to write down all that is above each class. What they show is checked, and
+/// where they show nothing, that is done.
 pub fn first_in_cycle(alloc: Global, set: &ClassSet) -> Result<Option<usize>, AllocError>
     ensures { IfOk result (λ found. found ≡ position (in_cycle set.now) set.now) }
 {

@@ -142,7 +142,8 @@ fn field_near(
     requires places { places.now ≡ map (place_of sought.now.files) names.now }
     requires stood { place_of sought.now.files (name_at sought.now.files class) ≡ Some class }
     ensures found { option_map (λ p. member_in sought.now.files sought.now.member p) result
-        ≡ first_near (field_in_class sought.now.files sought.now.member) sought.now.files (name_at sought.now.files class) }
+        ≡ first_near (field_in_class sought.now.files sought.now.member) sought.now.files
+        (name_at sought.now.files class) }
     ensures place { IfSome result (IsFieldAt sought.now.files sought.now.member) }
 {
     if let Some(found) = sought.field_at(class) {
@@ -162,7 +163,8 @@ pub(crate) fn field_along_superclasses(
     interfaces: &[Row],
     field: Reference<'_>,
 ) -> Option<MemberPlace>
-    requires rows { named_rows names.now interfaces.now ≡ rows_of set.now above.Interfaces (suc (length (classes_of set.now))) }
+    requires rows { named_rows names.now interfaces.now
+        ≡ rows_of set.now above.Interfaces (suc (length (classes_of set.now))) }
     requires places { places.now ≡ map (place_of set.now) names.now }
     requires along { SuperinterfacesAreFlat set.now }
     ensures found { option_map (λ p. member_in set.now (reference_of field.entry) p) result
@@ -195,7 +197,8 @@ pub(crate) fn field_among_supertypes(
     field: Reference<'_>,
 ) -> Option<MemberPlace>
     requires places { places.now ≡ map (place_of set.now) names.now }
-    requires rows { named_rows names.now supertypes.now ≡ rows_of set.now above.Supertypes (length (classes_of set.now) - 1) }
+    requires rows { named_rows names.now supertypes.now
+        ≡ rows_of set.now above.Supertypes (length (classes_of set.now) - 1) }
     ensures found { option_map (λ p. member_in set.now (reference_of field.entry) p) result
         ≡ find_field set.now (reference_of field.entry) }
     ensures place { IfSome result (IsFieldAt set.now (reference_of field.entry)) }

@@ -35,7 +35,8 @@ pub struct Hierarchy {
     names: NameTable,
     /// The places of the classes of these names, by their numbers.
     places: Vec<Option<usize>>,
-    /// For each class its direct superinterfaces and what is above these, without the superinterfaces of its superclass.
+    /// For each class its direct superinterfaces and what is above these, without the superinterfaces of its
+    /// superclass.
     interfaces: Vec<Row>,
     /// For each class all that is above it. Empty where look-ups go along superclasses.
     supertypes: Vec<Row>,
@@ -103,10 +104,13 @@ fn row_with_superinterfaces<'a>(
     class: &[u8],
     method: Reference<'_>,
 ) -> Option<&'a Row>
-    requires rows { named_rows names.now supertypes.now ≡ rows_of set.now above.Supertypes (length (classes_of set.now) - 1) }
+    requires rows { named_rows names.now supertypes.now
+        ≡ rows_of set.now above.Supertypes (length (classes_of set.now) - 1) }
     requires flat { SuperinterfacesAreFlat set.now }
-    ensures { IfSome result (λ row. first_found (method_in_class set.now any_method (reference_of method.entry)) (names_of names.now row.now)
-        ≡ first_found (method_in_class set.now any_method (reference_of method.entry)) (all_superinterfaces set.now class.now)) }
+    ensures { IfSome result (λ row.
+        first_found (method_in_class set.now any_method (reference_of method.entry)) (names_of names.now row.now)
+        ≡ first_found (method_in_class set.now any_method (reference_of method.entry))
+        (all_superinterfaces set.now class.now)) }
 {
     let object = b"java/lang/Object";
     if let Some(_declared) = set.method_in(object, method, Wanted::Any) {
@@ -179,7 +183,8 @@ impl Hierarchy {
     fn method_in_interfaces_above(&self, class: &[u8], sought: &Sought<'_>) -> Option<MemberPlace>
         requires { sought.now.files ≡ self.now }
         ensures found { option_map (λ p. member_in self.now sought.now.member p) result
-            ≡ first_found (method_in_class self.now any_method sought.now.member) (interfaces_above self.now class.now) }
+            ≡ first_found (method_in_class self.now any_method sought.now.member)
+            (interfaces_above self.now class.now) }
         ensures place { IfSome result (IsMethodAt self.now sought.now.member) }
     {
         match row_of(&self.set, &self.interfaces, class) {
@@ -188,10 +193,12 @@ impl Hierarchy {
         }
     }
 
-    /// The method that one of all superinterfaces of a class declares, sought in the rows of the class and of its superclasses.
+    /// The method that one of all superinterfaces of a class declares, sought in the rows of the class and of its
+    /// superclasses.
     fn method_along_superclasses(&self, class: &[u8], method: Reference<'_>) -> Option<MemberPlace>
         ensures found { option_map (λ p. member_in self.now (reference_of method.entry) p) result
-            ≡ first_found (method_in_class self.now any_method (reference_of method.entry)) (all_superinterfaces self.now class.now) }
+            ≡ first_found (method_in_class self.now any_method (reference_of method.entry))
+            (all_superinterfaces self.now class.now) }
         ensures place { IfSome result (IsMethodAt self.now (reference_of method.entry)) }
     {
         let sought = self.set.sought(method);
@@ -211,7 +218,8 @@ impl Hierarchy {
     /// The method that one of all superinterfaces of a class declares, the first of several.
     fn method_in_superinterfaces(&self, class: &[u8], method: Reference<'_>) -> Option<MemberPlace>
         ensures found { option_map (λ p. member_in self.now (reference_of method.entry) p) result
-            ≡ first_found (method_in_class self.now any_method (reference_of method.entry)) (all_superinterfaces self.now class.now) }
+            ≡ first_found (method_in_class self.now any_method (reference_of method.entry))
+            (all_superinterfaces self.now class.now) }
         ensures place { IfSome result (IsMethodAt self.now (reference_of method.entry)) }
     {
         if !self.superinterfaces_are_flat || self.supertypes.is_empty() {

@@ -16,8 +16,8 @@ pub(crate) struct Lineage {
     pub(crate) depth: usize,
     /// The place of the direct superclass; that of the class itself where it has none.
     pub(crate) superclass: usize,
-    /// The place of one of its superclasses, to which a skip leads past those between; that of the class itself where it has
-    /// none.
+    /// The place of one of its superclasses, to which a skip leads past those between; that of the class itself where
+    /// it has none.
     pub(crate) skip: usize,
 }
 
@@ -51,8 +51,9 @@ pub(crate) fn skip_in(table: &[Lineage], place: usize) -> usize
     }
 }
 
-/// Where the skip of a class leads to, by its direct superclass: over the two skips from there on, where both pass as many
-/// classes. So from any class some twice as many steps lead to any of its superclasses as the binary logarithm of their number.
+/// Where the skip of a class leads to, by its direct superclass: over the two skips from there on, where both pass as
+/// many classes. So from any class some twice as many steps lead to any of its superclasses as the binary logarithm
+/// of their number.
 fn next_skip(table: &[Lineage], superclass: usize) -> usize {
     let first = skip_in(table, superclass);
     let second = skip_in(table, first);
@@ -91,8 +92,8 @@ fn next_lineage(set: &ClassSet, table: &[Lineage], place: usize) -> Lineage {
     }
 }
 
-/// A table that is made in an order of the classes, each after its superclass. The order only spares time: nothing is proved of
-/// this table, and it is checked.
+/// A table that is made in an order of the classes, each after its superclass. The order only spares time: nothing is
+/// proved of this table, and it is checked.
 fn table_in_order(
     alloc: Global,
     set: &ClassSet,

@@ -20,7 +20,8 @@ fn passed_above(set: &ClassSet, passed: &[usize], file: &ClassFile) -> usize {
     }
 }
 
-/// How many names a walk from a class passes: the class, its superclasses, and the rows of superinterfaces of all these.
+/// How many names a walk from a class passes: the class, its superclasses, and the rows of superinterfaces of all
+/// these.
 fn passed_from(set: &ClassSet, interfaces: &[Row], passed: &[usize], file: &ClassFile) -> usize {
     let near = match row_of(set, interfaces, class_name(file)) {
         Some(row) => row.count(),

@@ -54,7 +54,8 @@ impl ClassSet {
         wanted: Wanted,
     ) -> Option<MemberPlace>
         ensures found { option_map (λ p. member_in self.now (reference_of method.entry) p) result
-            ≡ first_found (method_in_class self.now (wants wanted) (reference_of method.entry)) (lineage self.now class.now) }
+            ≡ first_found (method_in_class self.now (wants wanted) (reference_of method.entry))
+            (lineage self.now class.now) }
         ensures place { IfSome result (IsMethodAt self.now (reference_of method.entry)) }
     {
         let Some(start) = self.place_of(class) else {
@@ -74,7 +75,8 @@ impl ClassSet {
         None
     }
 
-    /// The method of this name and descriptor that the class of a reference itself declares (JVMS 4.6). Takes no memory.
+    /// The method of this name and descriptor that the class of a reference itself declares (JVMS 4.6). Takes no
+    /// memory.
     pub fn declared_method(&self, method: Reference<'_>) -> Option<MemberPlace>
         ensures found { option_map (λ p. member_in self.now (reference_of method.entry) p) result
             ≡ method_in_class self.now any_method (reference_of method.entry) method.entry.class.now }

@@ -140,13 +140,15 @@ fn number_of_entry(texts: &MemberTexts, constant: &Constant) -> Option<usize>
     }
 }
 
-/// The numbers of the texts of the entries of a constant pool. So each text is looked up once, however many members name it.
+/// The numbers of the texts of the entries of a constant pool. So each text is looked up once, however many members
+/// name it.
 fn numbers_of(
     alloc: Global,
     texts: &MemberTexts,
     constants: &[Constant],
 ) -> Result<Vec<Option<usize>>, AllocError>
-    ensures { IfOk result (λ numbers. numbers.items ≡ map (λ c. number_of texts.now (utf8_of (entry_of c))) constants.now) }
+    ensures { IfOk result (λ numbers.
+        numbers.items ≡ map (λ c. number_of texts.now (utf8_of (entry_of c))) constants.now) }
 {
     let mut numbers = Vec::new(alloc);
     for constant in constants {

@@ -101,8 +101,8 @@ pub(crate) fn place_by(places: &[Option<usize>], number: u32) -> Option<usize>
 }
 
 impl NameTable {
-    /// The names of the classes of a set, in their order, and then those of what stands directly above them. No number is above
-    /// 0xffff_ffff: so many names are answered as a want of memory.
+    /// The names of the classes of a set, in their order, and then those of what stands directly above them. No
+    /// number is above 0xffff_ffff: so many names are answered as a want of memory.
     pub(crate) fn of_set(alloc: Global, set: &ClassSet) -> Result<NameTable, AllocError>
         ensures { IfOk result (λ names. HasNames set.now names) }
     {

@@ -25,7 +25,8 @@ pub(crate) struct NamedRows {
 impl NamedRows {
     /// Those of a set in which a class is above itself.
     fn by_steps(alloc: Global, set: &ClassSet) -> Result<NamedRows, AllocError>
-        ensures { IfOk result (λ rows. HasNamedRows set.now rows.names rows.places.items rows.interfaces.items rows.supertypes.items
+        ensures { IfOk result (λ rows.
+            HasNamedRows set.now rows.names rows.places.items rows.interfaces.items rows.supertypes.items
             rows.superinterfaces_are_flat) }
     {
         let names = NameTable::of_set(alloc, set)?;
@@ -43,7 +44,8 @@ impl NamedRows {
 
     /// Those of a set of classes.
     pub(crate) fn of_set(alloc: Global, set: &ClassSet) -> Result<NamedRows, AllocError>
-        ensures { IfOk result (λ rows. HasNamedRows set.now rows.names rows.places.items rows.interfaces.items rows.supertypes.items
+        ensures { IfOk result (λ rows.
+            HasNamedRows set.now rows.names rows.places.items rows.interfaces.items rows.supertypes.items
             rows.superinterfaces_are_flat) }
     {
         let Some(order) = ranked_order(alloc, set)? else {

@@ -63,8 +63,8 @@ fn first_steps(alloc: Global, set: &ClassSet) -> Result<Vec<Step>, AllocError> {
     Ok(steps)
 }
 
-/// The places of the classes, each after those of the classes above it, where no class is above itself. The order only spares
-/// time: nothing is proved of it, and what rests on it is checked.
+/// The places of the classes, each after those of the classes above it, where no class is above itself. The order
+/// only spares time: nothing is proved of it, and what rests on it is checked.
 pub(crate) fn supertypes_first(alloc: Global, set: &ClassSet) -> Result<Vec<usize>, AllocError> {
     let mut entered = Vec::new(alloc);
     entered.resize(set.count(), false)?;

@@ -142,8 +142,8 @@ fn ranks_by(alloc: Global, set: &ClassSet, order: &[usize]) -> Result<Vec<usize>
     Ok(ranks)
 }
 
-/// The places of the classes, each after those of the classes above it. None where a class is above itself. The order only
-/// spares time; that there are ranks is proved.
+/// The places of the classes, each after those of the classes above it. None where a class is above itself. The order
+/// only spares time; that there are ranks is proved.
 pub(crate) fn ranked_order(alloc: Global, set: &ClassSet) -> Result<Option<Vec<usize>>, AllocError>
     ensures { IfOk result (λ order. OnSome order (HasRanks set.now)) }
 {

@@ -126,7 +126,8 @@ pub(crate) fn row_above(
     class: &[u8],
 ) -> Result<Row, AllocError>
     requires { HasNames set.now names.now }
-    ensures { IfOk result (λ row. names_of names.now row ≡ next_row set.now kind (named_rows names.now rows.now) class.now) }
+    ensures { IfOk result (λ row.
+        names_of names.now row ≡ next_row set.now kind (named_rows names.now rows.now) class.now) }
 {
     row.clear();
     let Some(file) = set.class_of(class) else {
@@ -151,7 +152,8 @@ pub(crate) fn rows_above(
     kind: Above,
 ) -> Result<Vec<Row>, AllocError>
     requires { HasNames set.now names.now }
-    ensures { IfOk result (λ next. named_rows names.now next.items ≡ next_rows set.now kind (named_rows names.now rows.now)) }
+    ensures { IfOk result (λ next.
+        named_rows names.now next.items ≡ next_rows set.now kind (named_rows names.now rows.now)) }
 {
     let mut next = Vec::new(alloc);
     let mut numbers = NumberSet::new(alloc, names.count())?;

@@ -218,11 +218,12 @@ impl ClassSet {
         Sought::new(self, &self.member_keys, member)
     }
 
-    /// The first of the superclasses of a class, or that class, of which another class is a subclass, or which is that. Takes no
-    /// memory, and a few steps more where the superclasses are twice as many. None, too, where a superclass isn't found or a
-    /// class is above itself.
+    /// The first of the superclasses of a class, or that class, of which another class is a subclass, or which is
+    /// that. Takes no memory, and a few steps more where the superclasses are twice as many. None, too, where a
+    /// superclass isn't found or a class is above itself.
     pub fn common_superclass(&self, c: usize, d: usize) -> Option<usize>
-        ensures { IfSome result (λ p. class_join self.now (name_at self.now c) (name_at self.now d) ≡ Some (name_at self.now p)) }
+        ensures { IfSome result (λ p.
+            class_join self.now (name_at self.now c) (name_at self.now d) ≡ Some (name_at self.now p)) }
     {
         common_superclass(self, &self.lineages, c, d)
     }

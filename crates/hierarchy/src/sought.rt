@@ -16,8 +16,8 @@ use crate::set::ClassSet;
 use class_tree::Reference;
 use std::marker::Model;
 
-/// A member that is sought in classes of a set, by the numbers of its name and descriptor. The class that its reference names
-/// doesn't matter.
+/// A member that is sought in classes of a set, by the numbers of its name and descriptor. The class that its
+/// reference names doesn't matter.
 #[derive(Drop)]
 pub(crate) struct Sought<'a> {
     set: &'a ClassSet,

@@ -32,7 +32,8 @@ const SHORTS: Want = Want::AReference(ReferenceType {
 
 /// `arraylength`.
 pub(crate) fn array_length(alloc: Global) -> Result<Meaning, NoMeaning>
-    ensures means { IfOk result (λ m. (files : Program) (site : Site) → Means files site m (array_length_meaning values site)) }
+    ensures means { IfOk result (λ m. (files : Program) (site : Site)
+        → Means files site m (array_length_meaning values site)) }
     ensures memory { IfErr result (λ e. e ≡ NoMeaning.OutOfMemory) }
 {
     let length = Leads::Pushes(VerificationType::Int);
@@ -42,7 +43,8 @@ pub(crate) fn array_length(alloc: Global) -> Result<Meaning, NoMeaning>
 /// `iaload`, `aaload`, `baload`, `caload` and `saload`.
 #[tactic(auto, unfolding(model::specs::BuiltIn::built_in_classes))]
 pub(crate) fn load_element(alloc: Global, kind: ArrayKind) -> Result<Meaning, NoMeaning>
-    ensures means { IfOk result (λ m. (files : Program) (site : Site) → Means files site m (load_of values files site kind)) }
+    ensures means { IfOk result (λ m. (files : Program) (site : Site)
+        → Means files site m (load_of values files site kind)) }
     ensures memory { IfErr result (λ e. e ≡ NoMeaning.OutOfMemory) }
 {
     let int = Leads::Pushes(VerificationType::Int);
@@ -63,7 +65,8 @@ pub(crate) fn load_element(alloc: Global, kind: ArrayKind) -> Result<Meaning, No
 /// `iastore`, `aastore`, `bastore`, `castore` and `sastore`.
 #[tactic(auto, unfolding(model::specs::BuiltIn::built_in_classes))]
 pub(crate) fn store_element(alloc: Global, kind: ArrayKind) -> Result<Meaning, NoMeaning>
-    ensures means { IfOk result (λ m. (files : Program) (site : Site) → Means files site m (store_of values files site kind)) }
+    ensures means { IfOk result (λ m. (files : Program) (site : Site)
+        → Means files site m (store_of values files site kind)) }
     ensures memory { IfErr result (λ e. e ≡ NoMeaning.OutOfMemory) }
 {
     let int = Want::AnInt;

@@ -41,15 +41,16 @@ fn is_system_out(field: Reference<'_>) -> bool
 /// `getstatic` of System.out.
 #[tactic(auto, unfolding(model::specs::BuiltIn::built_in_classes))]
 fn system_out(alloc: Global) -> Result<Meaning, NoMeaning>
-    ensures means { IfOk result (λ m. (files : Program) (site : Site) → Means files site m (system_out_meaning values site.next)) }
+    ensures means { IfOk result (λ m. (files : Program) (site : Site)
+        → Means files site m (system_out_meaning values site.next)) }
     ensures memory { IfErr result (λ e. e ≡ NoMeaning.OutOfMemory) }
 {
     let stream = VerificationType::Object(class_type(PRINT_STREAM));
     popping(alloc, &[], 1, Leads::Pushes(stream))
 }
 
-/// The object whose field is put: of the class that the instruction names, or `this` in a constructor of that class, where
-/// it is the class that declares the field.
+/// The object whose field is put: of the class that the instruction names, or `this` in a constructor of that class,
+/// where it is the class that declares the field.
 fn owner(set: &ClassSet, field: Reference<'_>, found: MemberPlace) -> Option<Want>
     ensures { Gives (want_in set.now) (is_missing set.now field.entry.class.now)
         (owner_want set.now field.entry.class.now (member_in set.now (reference_of field.entry) found)) result }
@@ -72,8 +73,10 @@ fn on_found(
     found: MemberPlace,
 ) -> Result<Meaning, NoMeaning>
     ensures { (site : Site) (others : Bool)
-        → Answers set.now site (list_any (is_missing set.now) (member_classes (Some (reference_of field.entry))) || others)
-        (Some (accessed set.now site access (reference_of field.entry) (member_in set.now (reference_of field.entry) found))) result }
+        → Answers set.now site (list_any (is_missing set.now) (member_classes (Some (reference_of field.entry)))
+        || others)
+        (Some (accessed set.now site access (reference_of field.entry)
+        (member_in set.now (reference_of field.entry) found))) result }
 {
     let Some(t) = field_type(set, field.descriptor) else {
         return Err(NoMeaning::NotLinked);
@@ -127,7 +130,8 @@ pub(crate) fn on_field(
 ) -> Result<Meaning, NoMeaning>
     requires differ { IsFalse (stands hierarchy.now DuplicateClass) }
     ensures { (site : Site) (others : Bool)
-        → Answers hierarchy.now site (list_any (is_missing hierarchy.now) (member_classes (Some (reference_of field.entry))) || others)
+        → Answers hierarchy.now site
+        (list_any (is_missing hierarchy.now) (member_classes (Some (reference_of field.entry))) || others)
         (field_meaning values hierarchy.now site.next access (reference_of field.entry)) result }
 {
     if gets_system_out(access, field) {

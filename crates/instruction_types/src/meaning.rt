@@ -34,7 +34,8 @@ pub fn popping(
     grows: usize,
     leads: Leads,
 ) -> Result<Meaning, NoMeaning>
-    ensures wants { IfOk result (λ m. (files : Program) → wants_in files m.wants ≡ wants_of (map (want_in files) pops.now) grows) }
+    ensures wants { IfOk result (λ m. (files : Program)
+        → wants_in files m.wants ≡ wants_of (map (want_in files) pops.now) grows) }
     ensures reads { IfOk result (λ m. m.wants.reads ≡ None) }
     ensures leads { IfOk result (λ m. m.leads ≡ leads) }
     ensures memory { IfErr result (λ e. e ≡ NoMeaning.OutOfMemory) }

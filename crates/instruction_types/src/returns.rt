@@ -54,7 +54,8 @@ fn returns_as(kind: Returned, returned: Returned) -> bool
 /// A return that pops these, where it may stand at all.
 fn leaving(alloc: Global, allowed: bool, pops: &[Want]) -> Result<Meaning, NoMeaning>
     ensures wants { IfOk result (λ m. (files : Program)
-        → wants_in files m.wants ≡ record { allowed = allowed; reads = []; pops = map (want_in files) pops.now; grows = 0 }) }
+        → wants_in files m.wants
+        ≡ record { allowed = allowed; reads = []; pops = map (want_in files) pops.now; grows = 0 }) }
     ensures reads { IfOk result (λ m. m.wants.reads ≡ None) }
     ensures leads { IfOk result (λ m. m.leads ≡ Leads.Nowhere) }
     ensures memory { IfErr result (λ e. e ≡ NoMeaning.OutOfMemory) }

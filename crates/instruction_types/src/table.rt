@@ -114,8 +114,8 @@ fn instance_of_at(alloc: Global, site: &Site<'_>, index: u16) -> Result<Meaning,
     }
 }
 
-/// What the instruction of a site wants and where it leads, if it is not local (JVMS 4.10.1.9). No two classes of the set
-/// may have one name.
+/// What the instruction of a site wants and where it leads, if it is not local (JVMS 4.10.1.9). No two classes of the
+/// set may have one name.
 pub fn meaning_of(alloc: Global, site: &Site<'_>) -> Result<Meaning, NoMeaning>
     requires differ { IsFalse (stands (files_of site.now.method) DuplicateClass) }
     ensures { AnswersAt (files_of site.now.method) (site_of site.now) result }

@@ -56,8 +56,8 @@ fn is_closed(failure: Option<&io::Error>) -> bool {
     }
 }
 
-/// Does what the words say over the files of the system, the standard input and the standard output. The standard error shows
-/// how far a run or a search is, if it is a terminal.
+/// Does what the words say over the files of the system, the standard input and the standard output. The standard
+/// error shows how far a run or a search is, if it is a terminal.
 fn done<
     R: Files + Input + Print + Eprint + Clock + RandomSource + AllocGlobal + Threads + Wait + Sync,
 >(rt: &R, words: &[String], is_terminal: bool) -> Ending {
@@ -113,8 +113,8 @@ fn without_words(rt: &HostRuntime, error: &io::Error) -> Status {
     Status::Unusable
 }
 
-/// The status, after a complaint has been told, and the lines of the explanation. Where the standard error fails, the status
-/// alone tells the complaint.
+/// The status, after a complaint has been told, and the lines of the explanation. Where the standard error fails, the
+/// status alone tells the complaint.
 fn told(rt: &HostRuntime, outcome: Result<Status, Complaint>, explanation: &[u8]) -> Status
     ensures { MatchResult outcome (λ status. result ≡ status) (λ complaint. result ≡ complaint_status complaint) }
 {

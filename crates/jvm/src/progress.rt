@@ -24,7 +24,8 @@ pub struct Progress<'a, R> {
 }
 
 impl<'a, R: Clock + Eprint> Progress<'a, R> {
-    /// The progress of a run or a search that begins now. Nothing is told unless it is wanted, and the clock can be read.
+    /// The progress of a run or a search that begins now. Nothing is told unless it is wanted, and the clock can be
+    /// read.
     pub fn new(rt: &'a R, is_wanted: bool) -> Progress<'a, R> {
         let start = if is_wanted {
             Instant::now(rt).ok()
@@ -39,8 +40,8 @@ impl<'a, R: Clock + Eprint> Progress<'a, R> {
         }
     }
 
-    /// Looks at the clock, where enough more are done since the last look, and tells how many of them there are, where another
-    /// second has passed.
+    /// Looks at the clock, where enough more are done since the last look, and tells how many of them there are,
+    /// where another second has passed.
     fn look(&self, number: u32, of: &str) {
         if let Some(start) = self.start {
             if rises(&self.looks, u64::from(number / BETWEEN)) {

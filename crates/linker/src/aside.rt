@@ -1,4 +1,5 @@
-//! Which methods an invokespecial may not name (JVMS 4.9.1): those of a class that is neither the file's own nor above it.
+//! Which methods an invokespecial may not name (JVMS 4.9.1): those of a class that is neither the file's own nor
+//! above it.
 
 ghost use Rattle.std.specs.Prelude.{◌≡◌, false, IfOk};
 ghost use Rattle.std.specs.List.{slice_index_or};
@@ -77,9 +78,9 @@ fn methods_aside(alloc: Global, file: &ClassFile, others: &[bool]) -> Result<Vec
     Ok(rows)
 }
 
-/// For each index of a file's constant pool whether it is that of a Methodref to another method than a constructor, of a
-/// class that is neither the file's own nor, by the names along the chain, a superclass of it. Asks once for each Class of
-/// the pool.
+/// For each index of a file's constant pool whether it is that of a Methodref to another method than a constructor,
+/// of a class that is neither the file's own nor, by the names along the chain, a superclass of it. Asks once for
+/// each Class of the pool.
 pub(crate) fn class_aside(
     alloc: Global,
     set: &ClassSet,

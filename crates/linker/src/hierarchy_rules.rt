@@ -52,7 +52,8 @@ fn check_file(
     requires declared { AreDeclaredIn set.now methods.now }
     requires acyclic { in_cycle set.now (file_of file.now) ≡ false }
     ensures passed { OnOk result (has_bad_hierarchy set.now (file_of file.now) ≡ false) }
-    ensures refused { IfErr result (λ r. RefusesFor RefusalKind.BadHierarchy (has_bad_hierarchy set.now (file_of file.now)) number r.kind
+    ensures refused { IfErr result (λ r.
+        RefusesFor RefusalKind.BadHierarchy (has_bad_hierarchy set.now (file_of file.now)) number r.kind
         r.file) }
     ensures line { IfErr result (TellsRuleOf set.now number (file_of file.now)) }
 {

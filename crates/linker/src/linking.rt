@@ -48,19 +48,19 @@ fn link_classes(alloc: Global, classes: Vec<ClassFile>) -> Result<Hierarchy, Ref
 
 /// Links class files. The first of them holds the initial class (JVMS 5.2, own).
 ///
-/// A refusal is the first of these, want of memory aside. For each file in order: `Malformed`, where it is no class file.
-/// Then of all files: `TooLarge`, for more than 65,000 files or 200,000,000 texts of string constants; `DuplicateClass`.
-/// Then in one walk over the files: `OutsideProfile`, and `Malformed` with the cause `Code`. Then, each for all files in
-/// order: `BadHierarchy`, cycles before all else; `Unresolved`; `TooLarge`, for a class with more than 65,535 instance
-/// fields; and last `NoMain`.
+/// A refusal is the first of these, want of memory aside. For each file in order: `Malformed`, where it is no class
+/// file. Then of all files: `TooLarge`, for more than 65,000 files or 200,000,000 texts of string constants;
+/// `DuplicateClass`. Then in one walk over the files: `OutsideProfile`, and `Malformed` with the cause `Code`. Then,
+/// each for all files in order: `BadHierarchy`, cycles before all else; `Unresolved`; `TooLarge`, for a class with
+/// more than 65,535 instance fields; and last `NoMain`.
 pub fn link(alloc: Global, files: &[Vec<u8>]) -> Result<Linked, Refusal>
     // What is answered are the trees that the files spell, and no condition stands in them.
     ensures linked { IfOk result (λ linked. IsLinkable (map vec_items files.now) linked) }
     // Files that may be linked are answered, unless memory runs out.
     ensures only { (trees : Program) → IsLinkable (map vec_items files.now) trees
         → MatchResult result (λ linked. linked ≡ trees) (λ r. r.kind ≡ kinds.OutOfMemory) }
-    // A refusal is answered only where it stands, and none stands that comes before it. Of a file that is no class file the
-    // cause stands at the offset.
+    // A refusal is answered only where it stands, and none stands that comes before it. Of a file that is no class
+    // file the cause stands at the offset.
     ensures refused { IfErr result (λ r. MayRefuse (map vec_items files.now) r.kind r.file r.offset r.cause) }
     // Of the files in which the condition stands the first is named, but for DuplicateClass; and of the fault in it the
     // method and the offset, where it has them. Want of memory names no more than a file that was being read.

@@ -66,7 +66,8 @@ fn check_file(
 ) -> Result<(), Refusal>
     requires { IsFalse (stands hierarchy.now DuplicateClass) }
     ensures passed { OnOk result (is_unresolved hierarchy.now (file_of file.now) ≡ false) }
-    ensures refused { IfErr result (λ r. RefusesFor RefusalKind.Unresolved (is_unresolved hierarchy.now (file_of file.now)) number r.kind
+    ensures refused { IfErr result (λ r.
+        RefusesFor RefusalKind.Unresolved (is_unresolved hierarchy.now (file_of file.now)) number r.kind
         r.file) }
     ensures line { IfErr result (TellsNameOf hierarchy.now number (file_of file.now)) }
 {

@@ -10,7 +10,8 @@ use std::alloc::{AllocError, Global};
 
 /// The name of a method with its descriptor behind it.
 fn text_of(alloc: Global, file: &ClassFile, method: &Method) -> Result<Vec<u8>, AllocError>
-    ensures { IfOk result (λ t. t.items ≡ text_at file.now.pool method.now.name ++ text_at file.now.pool method.now.descriptor) }
+    ensures { IfOk result (λ t.
+        t.items ≡ text_at file.now.pool method.now.name ++ text_at file.now.pool method.now.descriptor) }
 {
     let mut text = Vec::from_slice(alloc, file.pool.text(method.name))?;
     text.extend_from_slice(file.pool.text(method.descriptor))?;

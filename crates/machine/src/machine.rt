@@ -28,8 +28,8 @@ pub enum Stopped {
     Refused(EventRefusal),
 }
 
-/// A Java Virtual Machine that runs a linked program (JVMS 2.5): always in a state that the program's files can reach by
-/// what types allow.
+/// A Java Virtual Machine that runs a linked program (JVMS 2.5): always in a state that the program's files can reach
+/// by what types allow.
 #[derive(Drop)]
 pub struct Machine {
     pub(crate) program: Arc<LinkedProgram>,
@@ -51,8 +51,8 @@ impl Model for Machine {
 }
 
 impl Machine {
-    /// The machine of a program before any event: the main thread alone is there, and has not begun. The only error is a want of
-    /// memory.
+    /// The machine of a program before any event: the main thread alone is there, and has not begun. The only error
+    /// is a want of memory.
     pub fn open(
         alloc: Global,
         program: Arc<LinkedProgram>,
@@ -99,8 +99,8 @@ impl Machine {
         self.shared
     }
 
-    /// Does an event, if it is enabled. `NotEnabled` where it isn't; an error where a limit forbids it, or where it takes memory that
-    /// isn't there. In both cases nothing has changed.
+    /// Does an event, if it is enabled. `NotEnabled` where it isn't; an error where a limit forbids it, or where it
+    /// takes memory that isn't there. In both cases nothing has changed.
     pub fn step(&mut self, event: Event) -> Result<Answer, EventRefusal>
         ensures { Steps result event self.old self.new }
     {
@@ -139,8 +139,8 @@ impl Machine {
         (most, Stopped::Most)
     }
 
-    /// Does up to so many events of a thread, one after another, none of which picks a waiter. Returns how many were done, and why
-    /// no more.
+    /// Does up to so many events of a thread, one after another, none of which picks a waiter. Returns how many were
+    /// done, and why no more.
     pub fn steps(&mut self, thread: u16, most: u32) -> (u32, Stopped)
         ensures { Repeats result (record { thread = thread; pick = 0 }) most self.old self.new }
     {

@@ -6,8 +6,8 @@ ghost use Rattle.machine.specs.Machines.{Lends};
 use linked_code::thread_stacks::ThreadStack;
 use std::mem::swap;
 
-/// Takes the stack of a thread out, leaves another one in its place, and answers true. Where there is no such thread it answers
-/// false, and nothing changes.
+/// Takes the stack of a thread out, leaves another one in its place, and answers true. Where there is no such thread
+/// it answers false, and nothing changes.
 pub(crate) fn lend(stacks: &mut Vec<ThreadStack>, thread: u16, stack: &mut ThreadStack) -> bool
     ensures { Lends thread result stack.old stack.new stacks.old.items stacks.new.items }
 {

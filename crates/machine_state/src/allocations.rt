@@ -1,5 +1,5 @@
-//! A new object on the heap of a machine is a new object of the world that it shows. Each function here is a theorem, and
-//! does nothing.
+//! A new object on the heap of a machine is a new object of the world that it shows. Each function here is a theorem,
+//! and does nothing.
 
 ghost use Rattle.machine_state.specs.allocations.Allocated.{AreMade, AreRefused};
 

@@ -1,5 +1,5 @@
-//! What becomes of the monitors and the threads of a machine becomes of those of the world that it shows, and a monitor is
-//! refused at a limit that stands. Each function here is a theorem, and does nothing.
+//! What becomes of the monitors and the threads of a machine becomes of those of the world that it shows, and a
+//! monitor is refused at a limit that stands. Each function here is a theorem, and does nothing.
 
 ghost use Rattle.machine_state.specs.entries.Changes.{AreMonitorsShown, AreThreadsShown, AreBothShown};
 ghost use Rattle.machine_state.specs.entries.Entered.{AreEntered, AreWaiting};
@@ -19,8 +19,8 @@ pub fn both_are_shown()
     ensures holds { AreBothShown }
 {}
 
-/// An entry of a monitor is that of the world, where no limit stands; one that is refused is at a limit that stands, or for want of
-/// memory.
+/// An entry of a monitor is that of the world, where no limit stands; one that is refused is at a limit that stands,
+/// or for want of memory.
 pub fn entries_are_shown()
     ensures holds { AreEntered }
 {}

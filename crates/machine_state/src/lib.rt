@@ -1,5 +1,5 @@
-//! What a machine of many threads keeps over untagged words, what its events answer, and of which world and which step of
-//! the definitions both are.
+//! What a machine of many threads keeps over untagged words, what its events answer, and of which world and which
+//! step of the definitions both are.
 #![tactic(auto)]
 
 pub mod allocations;

@@ -21,7 +21,8 @@ pub fn limits_stand_at_words()
     ensures holds { AreLimitsStanding }
 {}
 
-/// One more event at words of the state of a run leads to words of the next state, and the run goes on by what it takes.
+/// One more event at words of the state of a run leads to words of the next state, and the run goes on by what it
+/// takes.
 pub fn runs_go_on_at_words()
     ensures holds { AreRunsLongerAtWords }
 {}
@@ -31,13 +32,14 @@ pub fn flags_are_kept()
     ensures holds { AreFlagsKept }
 {}
 
-/// Where counts of monitors are right, the calls of `monitor` set flags as events do by what they take, and are refused at their
-/// limits; a thread that is to enter a monitor again may.
+/// Where counts of monitors are right, the calls of `monitor` set flags as events do by what they take, and are
+/// refused at their limits; a thread that is to enter a monitor again may.
 pub fn calls_are_as_taken()
     ensures holds { AreCallsAsTaken }
 {}
 
-/// At words of a well-typed state where counts are right, `relock` may be called for each thread that has left a wait set.
+/// At words of a well-typed state where counts are right, `relock` may be called for each thread that has left a wait
+/// set.
 pub fn relocks_may_be_called()
     ensures holds { AreRelocksAtWordsAllowed }
 {}

@@ -1,4 +1,5 @@
-//! Objects and static fields of a state, by the words of a heap and of slots. Each function here is a theorem, and does nothing.
+//! Objects and static fields of a state, by the words of a heap and of slots. Each function here is a theorem, and
+//! does nothing.
 
 ghost use Rattle.machine_state.specs.shown_objects.Laws.{AreAdded, AreCounted, AreElements, AreFields, AreStatics};
 

@@ -24,8 +24,8 @@ fn class_in(instruction: LinkedInstruction) -> Option<u16>
     }
 }
 
-/// The number of the class that must be initialised before an instruction is done (JVMS 5.5); none where it needs none, or
-/// one that is initialised from the start.
+/// The number of the class that must be initialised before an instruction is done (JVMS 5.5); none where it needs
+/// none, or one that is initialised from the start.
 #[inline]
 pub fn class_needed(instruction: LinkedInstruction) -> Option<u16>
     ensures { Needs instruction result }

@@ -24,7 +24,8 @@ impl Limits {
     /// 8,388,608 monitors, 1 to 32,767 threads and 1 to 65,535 frames.
     pub fn new(objects: u32, cells: u32, monitors: u32, threads: u32, frames: u32) -> Option<Limits>
         ensures in_range { IsSome result ↔ AreLimits objects monitors threads frames }
-        ensures kept { IfSome result (λ l. (l.objects ≡ objects) × (l.cells ≡ cells) × (l.monitors ≡ monitors) × (l.threads ≡ threads)
+        ensures kept { IfSome result (λ l. (l.objects ≡ objects) × (l.cells ≡ cells) × (l.monitors ≡ monitors)
+            × (l.threads ≡ threads)
             × (l.frames ≡ frames)) }
     {
         if objects <= 4_000_000_000

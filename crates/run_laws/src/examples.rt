@@ -252,7 +252,8 @@ pub fn array_store()
     ensures holds { ArrayStore }
 {}
 
-/// A thread that entered a monitor three times waits, and owns it three times again (JLS 17.2.1). Of two waiting threads one is notified and the other is not.
+/// A thread that entered a monitor three times waits, and owns it three times again (JLS 17.2.1). Of two waiting
+/// threads one is notified and the other is not.
 pub fn wait_keeps_count()
     ensures holds { WaitKeepsCount }
 {}

@@ -1,7 +1,8 @@
 //! All schedules of a program: which runs stand for all of them. Each function here is a theorem, and does nothing.
 //!
-//! A local event touches the frame on top of its thread alone, so it may as well come first, whatever the other threads do. A search
-//! that lets only such a thread move, where there is one, comes to each end that any schedule comes to.
+//! A local event touches the frame on top of its thread alone, so it may as well come first, whatever the other
+//! threads do. A search that lets only such a thread move, where there is one, comes to each end that any schedule
+//! comes to.
 
 ghost use Rattle.run_laws.specs.interleavings.Statements.{AreLocalEventsCommuting, AreLocalEventsTheirOwn, AreOthersLeftAlone, IsEachEndExplored, IsEachEndSeen, IsSearchComplete};
 
@@ -30,8 +31,8 @@ pub fn each_end_is_seen()
     ensures holds { IsEachEndSeen }
 {}
 
-/// Where a list of states has the opening state and is closed under reduced steps, the outcomes of its ends are those of all runs that
-/// end.
+/// Where a list of states has the opening state and is closed under reduced steps, the outcomes of its ends are those
+/// of all runs that end.
 pub fn closed_searches_are_complete()
     ensures holds { IsSearchComplete }
 {}

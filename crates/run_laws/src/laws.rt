@@ -1,7 +1,7 @@
 //! What types and linked files give, whatever is run: each function here is a theorem, and does nothing.
 //!
-//! The order of types, what an instruction finds in a typed frame, and what linking gives to that. The lemmas in `proofs/` are
-//! there for a crate above to cite.
+//! The order of types, what an instruction finds in a typed frame, and what linking gives to that. The lemmas in
+//! `proofs/` are there for a crate above to cite.
 
 ghost use Rattle.model.specs.Classes.{Program};
 ghost use Rattle.run_laws.specs.laws.Steps.{HasMain, IsFound, IsKept, IsNeverWrong, IsOrder, IsRight, IsUpward, Rooted};

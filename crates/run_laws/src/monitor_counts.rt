@@ -9,8 +9,9 @@ pub fn openings_are_counted()
     ensures holds { AreOpeningsCounted }
 {}
 
-/// Each event keeps counts, over values and over words, typed or not: an owner has entered at least once, and without one there are
-/// no entries; a thread that is to enter a monitor again enters it at least once, and the lock of that object is fat.
+/// Each event keeps counts, over values and over words, typed or not: an owner has entered at least once, and without
+/// one there are no entries; a thread that is to enter a monitor again enters it at least once, and the lock of that
+/// object is fat.
 pub fn counts_are_kept()
     ensures holds { AreCountsKept }
 {}

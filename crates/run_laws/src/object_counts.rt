@@ -1,4 +1,5 @@
-//! How many objects a run has, and that references to them are words of 32 bits: each function here is a theorem, and does nothing.
+//! How many objects a run has, and that references to them are words of 32 bits: each function here is a theorem, and
+//! does nothing.
 //!
 //! The lemmas in `proofs/` are there for a crate above to cite.
 

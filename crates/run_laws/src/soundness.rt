@@ -10,8 +10,8 @@ pub fn a_step_keeps_types()
     ensures holds { IsStepKept }
 {}
 
-/// Whatever the events, no thread of a state that a run of accepted files reaches meets a missing instruction, or an operand of a
-/// wrong kind.
+/// Whatever the events, no thread of a state that a run of accepted files reaches meets a missing instruction, or an
+/// operand of a wrong kind.
 pub fn no_wrong_kind()
     ensures holds { IsSound }
 {}

@@ -1,9 +1,9 @@
 //! The theory of the search for a typing: each function here is a theorem, and does nothing.
 //!
-//! A verifier (JVMS 4.10.2) looks for frame types by a worklist: it takes an offset off, asks where its instruction leads, and
-//! joins what it leads to with what was found there. Here stands what such a search may rest on, whatever its code is: the join
-//! is the least upper bound, rules go down the order, an invariant that each turn keeps, and a weight that each turn lessens.
-//! The lemmas in `proofs/` are there for a crate above to cite.
+//! A verifier (JVMS 4.10.2) looks for frame types by a worklist: it takes an offset off, asks where its instruction
+//! leads, and joins what it leads to with what was found there. Here stands what such a search may rest on, whatever
+//! its code is: the join is the least upper bound, rules go down the order, an invariant that each turn keeps, and a
+//! weight that each turn lessens. The lemmas in `proofs/` are there for a crate above to cite.
 
 ghost use Rattle.std.specs.Prelude.{ℕ, IsFalse};
 ghost use Rattle.model.specs.Names.{Member};
@@ -21,7 +21,8 @@ pub fn linked_files_are_ordered()
     ensures holds { (files : Program) → IsFalse (some_stands files) → IsOrdered files }
 {}
 
-/// The join of two types or frame types is the least that is above both, and there is none only where nothing is (JVMS 4.10.2.2).
+/// The join of two types or frame types is the least that is above both, and there is none only where nothing is
+/// (JVMS 4.10.2.2).
 pub fn join_is_least()
     ensures holds { (files : Program) → Rooted files → AreJoins files }
 {}
@@ -63,12 +64,15 @@ pub fn tables_hold_a_search()
 
 /// One frame type is merged into a table where it fits, where none is yet, and by the join.
 pub fn a_frame_type_is_merged()
-    ensures holds { (files : Program) → IsOrdered files → (method : Member) (body : Body) → MergesOne files method body }
+    ensures holds { (files : Program) → IsOrdered files → (method : Member) (body : Body)
+        → MergesOne files method body }
 {}
 
-/// No typing has a frame type that has no join with what is there, or is of another size, or stands past the end of the code.
+/// No typing has a frame type that has no join with what is there, or is of another size, or stands past the end of
+/// the code.
 pub fn a_frame_type_clashes()
-    ensures holds { (files : Program) → IsOrdered files → (method : Member) (body : Body) → ClashesOne files method body }
+    ensures holds { (files : Program) → IsOrdered files → (method : Member) (body : Body)
+        → ClashesOne files method body }
 {}
 
 /// Each merge that changes something, and each offset that is taken off, lessens the work of a search; so it ends.
@@ -78,10 +82,12 @@ pub fn a_search_gets_lighter()
 
 /// The ranks of the types of a method are limited, so that weights can be given to them.
 pub fn types_of_a_method_are_limited()
-    ensures holds { (files : Program) (method : Member) (body : Body) → (limit : ℕ) × IsBounded files method body limit }
+    ensures holds { (files : Program) (method : Member) (body : Body) → (limit : ℕ)
+        × IsBounded files method body limit }
 {}
 
 /// A search over a method ends: it finds a typing, or there is none.
 pub fn a_method_is_typed_or_not()
-    ensures holds { (files : Program) → IsOrdered files → (method : Member) (body : Body) → IsDecided files method body }
+    ensures holds { (files : Program) → IsOrdered files → (method : Member) (body : Body)
+        → IsDecided files method body }
 {}

@@ -1,7 +1,8 @@
 //! Runs over words without kinds: each function here is a theorem, and does nothing.
 //!
-//! A machine need not keep the kind of each value. What it may rest on stands here: a step over the words of a well-typed state is
-//! the step over the state, and where frames stand. The lemmas in `proofs/` are there for a crate above to cite.
+//! A machine need not keep the kind of each value. What it may rest on stands here: a step over the words of a
+//! well-typed state is the step over the state, and where frames stand. The lemmas in `proofs/` are there for a crate
+//! above to cite.
 
 ghost use Rattle.model.specs.Classes.{Program};
 ghost use Rattle.run_laws.specs.word_runs.Words.{AreStacksInRoom, IsInCode, IsOpenedAsWords, IsStepCarried};
@@ -11,20 +12,20 @@ pub fn words_of_the_opening()
     ensures holds { (files : Program) → IsOpenedAsWords files }
 {}
 
-/// What becomes of an event at the words of a well-typed state of linked files is what becomes of it at the state: an untagged
-/// machine does what one does whose values have their kinds.
+/// What becomes of an event at the words of a well-typed state of linked files is what becomes of it at the state: an
+/// untagged machine does what one does whose values have their kinds.
 pub fn a_step_is_carried()
     ensures holds { IsStepCarried }
 {}
 
-/// At the words of a well-typed state each frame of a thread that has not ended stands at an instruction of its method, inside
-/// the code, with as many local variables as the method has.
+/// At the words of a well-typed state each frame of a thread that has not ended stands at an instruction of its
+/// method, inside the code, with as many local variables as the method has.
 pub fn frames_stand_in_code()
     ensures holds { IsInCode }
 {}
 
-/// At the words of a well-typed state the operand stack of each frame of a thread that has not ended has at most max_stack words; of
-/// the frame on top of a thread with a pending exception nothing is said.
+/// At the words of a well-typed state the operand stack of each frame of a thread that has not ended has at most
+/// max_stack words; of the frame on top of a thread with a pending exception nothing is said.
 pub fn operand_stacks_fit()
     ensures holds { AreStacksInRoom }
 {}

@@ -148,15 +148,15 @@ fn read_all(
 
 /// The schedule that a file spells, and with what it was recorded, where the file is of version 2.
 ///
-/// All numbers are big-endian. A file of version 1 has the bytes `JSCH`, the version in one byte, the number of entries in
-/// four, and the entries, each a thread and a pick of two bytes and a repeat of four. One of version 2 has between the
-/// version and the number of entries five limits (objects, cells, monitors, threads, frames) and the number of class files
-/// in four bytes each, and the length of each class file in eight.
+/// All numbers are big-endian. A file of version 1 has the bytes `JSCH`, the version in one byte, the number of
+/// entries in four, and the entries, each a thread and a pick of two bytes and a repeat of four. One of version 2 has
+/// between the version and the number of entries five limits (objects, cells, monitors, threads, frames) and the
+/// number of class files in four bytes each, and the length of each class file in eight.
 ///
 /// # Errors
 ///
-/// The first fault in the order of the file: `Truncated` where a field is cut, `Magic` and `Version` where these
-/// are others, `Limits` at a limit outside its range, `Repeat` at an entry with a repeat of 0, or with one above 1 and a
+/// The first fault in the order of the file: `Truncated` where a field is cut, `Magic` and `Version` where these are
+/// others, `Limits` at a limit outside its range, `Repeat` at an entry with a repeat of 0, or with one above 1 and a
 /// pick that isn't 0, `Trailing` where bytes follow the last entry, and `OutOfMemory`.
 pub fn read_schedule(
     alloc: Global,

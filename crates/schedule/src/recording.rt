@@ -6,8 +6,8 @@ ghost use Rattle.model.specs.Schedule.{RecordingFits};
 use model::Limits;
 use std::marker::Model;
 
-/// The limits of the run that recorded a schedule, and the lengths in bytes of its class files, in their order. They are
-/// at most 4,294,967,295 files.
+/// The limits of the run that recorded a schedule, and the lengths in bytes of its class files, in their order. They
+/// are at most 4,294,967,295 files.
 #[derive(Drop)]
 pub struct Recording {
     limits: Limits,

@@ -6,6 +6,7 @@ ghost use Rattle.model.specs.declared.event.Event.{Event};
 
 /// Bytes spell at most one list of events, and at most one recording beside it.
 pub fn bytes_spell_one_list()
-    ensures { (bytes : List ℕ) (p q : Option Recording) (es fs : List Event) → ScheduleFile bytes p es → ScheduleFile bytes q fs
+    ensures { (bytes : List ℕ) (p q : Option Recording) (es fs : List Event) → ScheduleFile bytes p es
+        → ScheduleFile bytes q fs
         → (p ≡ q) × (es ≡ fs) }
 {}

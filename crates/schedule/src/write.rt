@@ -91,7 +91,8 @@ fn push_recording(bytes: &mut Vec<u8>, recording: &Recording) -> Result<(), Allo
 
 fn push_version(bytes: &mut Vec<u8>, recording: Option<&Recording>) -> Result<(), AllocError>
     ensures fits { OnOk result (file.RecordedFits (option_map (λ r. r.now) recording.entry)) }
-    ensures written { OnOk result (bytes.new.items ≡ bytes.old.items ++ file.version (option_map (λ r. r.now) recording.entry)) }
+    ensures written { OnOk result (bytes.new.items
+        ≡ bytes.old.items ++ file.version (option_map (λ r. r.now) recording.entry)) }
 {
     match recording {
         None => bytes.extend_from_slice(&[1]),

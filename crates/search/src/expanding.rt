@@ -12,8 +12,8 @@ use model::Event;
 use std::alloc::{AllocError, Global};
 use std::mem;
 
-/// Adds the state to which an event led from a state, and takes the machine that did the event back to that one. Answers false where there
-/// would be more states than so many. The only error is a want of memory.
+/// Adds the state to which an event led from a state, and takes the machine that did the event back to that one.
+/// Answers false where there would be more states than so many. The only error is a want of memory.
 fn meet(
     alloc: Global,
     states: &mut States,
@@ -24,7 +24,8 @@ fn meet(
 ) -> Result<bool, AllocError>
     requires number { number < length states.old.schedules }
     requires has_gone { HasGoneFrom states.old number event machine.old }
-    ensures { IfOk result (GrowsTo (λ s. IsMetFrom s number event × IsInState s number machine.new) most states.old states.new) }
+    ensures { IfOk result
+        (GrowsTo (λ s. IsMetFrom s number event × IsInState s number machine.new) most states.old states.new) }
 {
     let entry = go_past(alloc, machine, event)?;
     let again = states.machine(number)?;
@@ -32,9 +33,9 @@ fn meet(
     states.add(number, entry, after, most)
 }
 
-/// Adds the states to which the events of a thread lead from a state, in which this machine is, and is again at the end. Answers false where
-/// it gives up: there would be more states than so many, a limit forbids an event, or each of the first 65,535 picks is enabled. The only error
-/// is a want of memory.
+/// Adds the states to which the events of a thread lead from a state, in which this machine is, and is again at the
+/// end. Answers false where it gives up: there would be more states than so many, a limit forbids an event, or each
+/// of the first 65,535 picks is enabled. The only error is a want of memory.
 fn expand_thread(
     alloc: Global,
     states: &mut States,
@@ -45,7 +46,8 @@ fn expand_thread(
 ) -> Result<bool, AllocError>
     requires number { number < length states.old.schedules }
     requires is_in { IsInState states.old number machine.old }
-    ensures { IfOk result (GrowsTo (λ s. AreMetByThread s number thread × IsInState s number machine.new) most states.old states.new) }
+    ensures { IfOk result
+        (GrowsTo (λ s. AreMetByThread s number thread × IsInState s number machine.new) most states.old states.new) }
 {
     higher_picks_are_left();
     met_states_are_kept();
@@ -64,8 +66,8 @@ fn expand_thread(
     Ok(false)
 }
 
-/// Adds the states to which the events of the first threads lead from a state, in which this machine is, of so many threads. Answers false
-/// where it gives up.
+/// Adds the states to which the events of the first threads lead from a state, in which this machine is, of so many
+/// threads. Answers false where it gives up.
 fn expand_threads(
     alloc: Global,
     states: &mut States,

@@ -63,7 +63,8 @@ fn unless_memory(refusal: EventRefusal) -> Result<(), AllocError>
     }
 }
 
-/// Does an event, if it is enabled. Answers none where it is, and a limit forbids it. The only error is a want of memory.
+/// Does an event, if it is enabled. Answers none where it is, and a limit forbids it. The only error is a want of
+/// memory.
 pub(crate) fn go_on(machine: &mut Machine, event: Event) -> Result<Option<Answer>, AllocError>
     ensures { IfOk result (λ answer. GoesOrStops answer event machine.old machine.new) }
 {
@@ -88,7 +89,8 @@ pub(crate) fn do_more(machine: &mut Machine, event: Event, count: u32) -> Result
     }
 }
 
-/// How many events like this one are next in a machine that has done it, each of which is local. The only error is a want of memory.
+/// How many events like this one are next in a machine that has done it, each of which is local. The only error is a
+/// want of memory.
 fn local_behind(alloc: Global, machine: &Machine, event: Event) -> Result<u32, AllocError>
     ensures local { IfOk result (AreLocalBehind machine.now event) }
     ensures alone { IfOk result (λ count. 0 < count → event.pick ≡ 0) }
@@ -101,8 +103,8 @@ fn local_behind(alloc: Global, machine: &Machine, event: Event) -> Result<u32, A
     }
 }
 
-/// Does the local events that come behind an event that was done: those of the same thread. Answers the entry of all these events. The
-/// only error is a want of memory.
+/// Does the local events that come behind an event that was done: those of the same thread. Answers the entry of all
+/// these events. The only error is a want of memory.
 pub(crate) fn go_past(
     alloc: Global,
     machine: &mut Machine,

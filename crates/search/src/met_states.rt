@@ -1,5 +1,5 @@
-//! What a machine that rebuilds states from schedules tells a search: where an event leads on from a schedule, the state has been met.
-//! Each function here is a theorem, and does nothing.
+//! What a machine that rebuilds states from schedules tells a search: where an event leads on from a schedule, the
+//! state has been met. Each function here is a theorem, and does nothing.
 
 ghost use Rattle.search.specs.met_states.Met.{AreAlikeStatesMet, AreNewStatesMet, AreHigherPicksLeft, AreOtherThreadsLeft, AreMetStatesKept, AreSearchesWhole};
 
@@ -35,8 +35,8 @@ pub fn met_states_are_kept()
     ensures holds { AreMetStatesKept }
 {}
 
-/// A search is whole that lists the schedule of no events, has met where each event leads on from each of its schedules, and lists
-/// the outcomes of its quiet states and no others.
+/// A search is whole that lists the schedule of no events, has met where each event leads on from each of its
+/// schedules, and lists the outcomes of its quiet states and no others.
 pub fn searches_are_whole()
     ensures holds { AreSearchesWhole }
 {}

@@ -116,7 +116,8 @@ fn visit_state(
 ) -> Result<Visit, AllocError>
     requires visited { HasVisited classes.now states.old.limits wanted.now states.old outcomes.old number }
     requires number { number < length states.old.schedules }
-    ensures visits { IfOk result (λ v. Visits classes.now states.old.limits wanted.now most number v states.new outcomes.new) }
+    ensures visits { IfOk result (λ v.
+        Visits classes.now states.old.limits wanted.now most number v states.new outcomes.new) }
     ensures few { IfOk result (λ _. length states.old.schedules ≤ most → length states.new.schedules ≤ most) }
 {
     met_states_are_kept();
@@ -165,9 +166,9 @@ fn visit_all<P: Progress>(
     }
 }
 
-/// Searches all schedules of a program (JVMS 2.5, 2.6, 5.5, chapter 6; JLS 17), which is that of the classes, as far as so many states,
-/// for a run whose outcome is wanted. Of runs that never end nothing is said. Meanwhile it tells how far it has come. The only error is a
-/// want of memory.
+/// Searches all schedules of a program (JVMS 2.5, 2.6, 5.5, chapter 6; JLS 17), which is that of the classes, as far
+/// as so many states, for a run whose outcome is wanted. Of runs that never end nothing is said. Meanwhile it tells
+/// how far it has come. The only error is a want of memory.
 pub fn search<P: Progress>(
     alloc: Global,
     progress: &P,

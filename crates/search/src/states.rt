@@ -19,8 +19,9 @@ use std::alloc::{AllocError, Global};
 use std::marker::Model;
 use std::sync::Arc;
 
-/// How many bytes a state takes at most: its event and its place in the tree of schedules, its hash and its place in the index, each in
-/// a list that may have as much room again, and stands twice while it is moved to one with more room.
+/// How many bytes a state takes at most: its event and its place in the tree of schedules, its hash and its place in
+/// the index, each in a list that may have as much room again, and stands twice while it is moved to one with more
+/// room.
 const STATE_BYTES: u32 = 128;
 
 /// How many states there may be, so that they don't take more than so many bytes.
@@ -30,7 +31,8 @@ pub fn states_within(bytes: u32) -> u32
     bytes / STATE_BYTES
 }
 
-/// States by their numbers: number 0 is the opening state, and an event leads to each other one from one with a lower number.
+/// States by their numbers: number 0 is the opening state, and an event leads to each other one from one with a lower
+/// number.
 #[derive(Drop)]
 pub(crate) struct States {
     alloc: Global,
@@ -130,8 +132,8 @@ impl States {
         )
     }
 
-    /// A machine in the state to which an entry leads from a state, whose events were done there before, so that the only error is a want
-    /// of memory.
+    /// A machine in the state to which an entry leads from a state, whose events were done there before, so that the
+    /// only error is a want of memory.
     fn machine_after(&self, number: u32, entry: ScheduleEntry) -> Result<Machine, AllocError>
         requires { number < length self.now.schedules }
         ensures { IfOk result (IsAfter self.now number entry) }
@@ -159,7 +161,8 @@ impl States {
         Ok(are_alike(machine.into_shared(), other.into_shared()))
     }
 
-    /// Whether the state to which an entry leads from a state was met. This machine is in that state, which has this hash.
+    /// Whether the state to which an entry leads from a state was met. This machine is in that state, which has this
+    /// hash.
     fn is_met(
         &self,
         number: u32,
@@ -203,8 +206,8 @@ impl States {
         self.index.push(hash)
     }
 
-    /// Adds the state to which an entry leads from a state, and in which this machine is, unless it was met. Answers false, and adds
-    /// nothing, where there would be more states than so many. The only error is a want of memory.
+    /// Adds the state to which an entry leads from a state, and in which this machine is, unless it was met. Answers
+    /// false, and adds nothing, where there would be more states than so many. The only error is a want of memory.
     pub(crate) fn add(
         &mut self,
         number: u32,

@@ -14,8 +14,8 @@ use crate::places::push_frame;
 use crate::traced_events::FrameBefore;
 use std::alloc::AllocError;
 
-/// What a line is of that tells a run of local instructions of one thread at once: its first event, where the thread stood before
-/// that, the offset at which it stood before the last one, and how many events there are.
+/// What a line is of that tells a run of local instructions of one thread at once: its first event, where the thread
+/// stood before that, the offset at which it stood before the last one, and how many events there are.
 #[derive(Clone, Copy)]
 pub struct Fold {
     pub first: Line,
@@ -49,14 +49,16 @@ fn push_count(text: &mut Vec<u8>, form: Form, count: u64, last: u64) -> Result<(
     push_number(text, last)
 }
 
-/// Writes the line of a run of local instructions behind a text: the numbers of its first event and of its thread, the method, the
-/// offsets of its first and its last instruction, how many they are, and the number of its last event. The only error is a want of
-/// memory.
+/// Writes the line of a run of local instructions behind a text: the numbers of its first event and of its thread,
+/// the method, the offsets of its first and its last instruction, how many they are, and the number of its last
+/// event. The only error is a want of memory.
 pub fn push_fold(text: &mut Vec<u8>, names: &ProgramNames<'_>, fold: Fold) -> Result<(), AllocError>
     requires some { 1 ≤ fold.count }
     requires numbered { fold.first.number + fold.count < 2 ^ 64 }
-    ensures { (method : _) → IsMethodAt names.now.linked.now fold.from.method method → OnOk result (text.new.items ≡ text.old.items
-        ++ fold_words fold.first.form fold.first.number fold.count fold.first.event.thread method fold.from.offset fold.to) }
+    ensures { (method : _) → IsMethodAt names.now.linked.now fold.from.method method
+        → OnOk result (text.new.items ≡ text.old.items
+        ++ fold_words fold.first.form fold.first.number fold.count fold.first.event.thread method fold.from.offset
+        fold.to) }
 {
     let last = fold.first.number + u64::from(fold.count - 1);
     push_head(text, fold.first)?;

@@ -1,5 +1,6 @@
-//! The lines of a trace, each of which tells an event: who did it and where, its instruction, and in words what it did. Further what the
-//! things of a linked program are called: classes, methods, objects, and places in code with the lines of their sources.
+//! The lines of a trace, each of which tells an event: who did it and where, its instruction, and in words what it
+//! did. Further what the things of a linked program are called: classes, methods, objects, and places in code with
+//! the lines of their sources.
 #![tactic(auto)]
 
 mod fold;

@@ -81,9 +81,9 @@ fn push_deed(
     words.push(text, before, told_of(before, shared, names.program, event))
 }
 
-/// Writes the line of an event behind a text, by what was seen before it and the state after it: the event's
-/// number and its thread, where the thread stood, the source, the instruction, and what it did. A spare text is used for it. The
-/// only error is a want of memory.
+/// Writes the line of an event behind a text, by what was seen before it and the state after it: the event's number
+/// and its thread, where the thread stood, the source, the instruction, and what it did. A spare text is used for it.
+/// The only error is a want of memory.
 pub fn push_line(
     text: &mut Vec<u8>,
     spare: &mut Vec<u8>,
@@ -93,7 +93,8 @@ pub fn push_line(
     shared: &Shared,
 ) -> Result<(), AllocError>
     ensures { (stack : _) → Sees names.now.linked.now before.now.frame before.now.class stack
-        → OnOk result (AddsLine line.form names.now.linked.now line.number line.event.thread stack text.old.items text.new.items) }
+        → OnOk result (AddsLine line.form names.now.linked.now line.number line.event.thread stack text.old.items
+        text.new.items) }
 {
     push_head(text, line)?;
     push_place(text, names, line.form, before)?;

@@ -12,8 +12,8 @@ use std::alloc::AllocError;
 /// The number of java.lang.Class: the built-in classes come first in each program.
 const CLASS: u32 = 4;
 
-/// The first of the Class objects, which stand in the order of the classes behind the PrintStream of System.out, the arguments and
-/// the Thread of `main`.
+/// The first of the Class objects, which stand in the order of the classes behind the PrintStream of System.out, the
+/// arguments and the Thread of `main`.
 const FIRST_CLASS_OBJECT: u32 = 3;
 
 /// The type of an array whose elements have fewer than 32 bits.
@@ -93,9 +93,9 @@ impl ProgramNames<'_> {
         push_number(text, u64::from(object))
     }
 
-    /// Writes an object: `Counter.class` where it is the Class object of a class, and else its class, or the type of an array, and its
-    /// number among all objects, which are numbered from 0 in the order in which they were made: `Counter #34`. Nothing is written of
-    /// one that isn't there.
+    /// Writes an object: `Counter.class` where it is the Class object of a class, and else its class, or the type of
+    /// an array, and its number among all objects, which are numbered from 0 in the order in which they were made:
+    /// `Counter #34`. Nothing is written of one that isn't there.
     pub fn push_object(
         &self,
         text: &mut Vec<u8>,

@@ -22,7 +22,8 @@ fn push_line(text: &mut Vec<u8>, method: &MethodCode<'_>, offset: u16) -> Result
 }
 
 impl ProgramNames<'_> {
-    /// The line of the source, `Counter.java:12`, at an offset of a method, by the method's number. Whether the class file tells it.
+    /// The line of the source, `Counter.java:12`, at an offset of a method, by the method's number. Whether the class
+    /// file tells it.
     pub(crate) fn push_source_line(
         &self,
         text: &mut Vec<u8>,
@@ -44,8 +45,9 @@ impl ProgramNames<'_> {
         push_number(text, u64::from(offset))
     }
 
-    /// Writes where a frame stands, by the number of its method and its place in the linked code: `Counter.run(Counter.java:12)`, or
-    /// `Counter.run(offset 7)` where the class file doesn't tell its source and its lines (JVMS 4.7.10, 4.7.12).
+    /// Writes where a frame stands, by the number of its method and its place in the linked code:
+    /// `Counter.run(Counter.java:12)`, or `Counter.run(offset 7)` where the class file doesn't tell its source and
+    /// its lines (JVMS 4.7.10, 4.7.12).
     pub fn push_place(
         &self,
         text: &mut Vec<u8>,

@@ -11,7 +11,8 @@ use heap::java_threads::WakeCause;
 use machine_state::Shared;
 use std::alloc::AllocError;
 
-/// What the words are made of: the names, the state after the event, and of the instruction the field that it names and what its word is.
+/// What the words are made of: the names, the state after the event, and of the instruction the field that it names
+/// and what its word is.
 #[derive(Clone, Copy)]
 pub(crate) struct Words<'t, 'l, 's, 'f> {
     pub(crate) names: &'t ProgramNames<'l>,

@@ -43,8 +43,8 @@ fn superclass_of(set: &ClassSet, class: usize) -> Option<usize>
     set.place_of(name)
 }
 
-/// The join as the definition has it, also where superclasses do not end. Takes up to as many steps as the square of the
-/// number of classes.
+/// The join as the definition has it, also where superclasses do not end. Takes up to as many steps as the square of
+/// the number of classes.
 fn join_by_search(set: &ClassSet, c: usize, d: usize) -> Option<usize>
     requires { HasSuperclasses set.now }
     ensures { option_map (name_at set.now) result ≡ class_join set.now (name_at set.now c) (name_at set.now d) }
@@ -65,8 +65,8 @@ fn join_by_search(set: &ClassSet, c: usize, d: usize) -> Option<usize>
     None
 }
 
-/// The first class, from one upwards, of which another is a subclass. Takes no memory, and where the superclasses of both end,
-/// as in linked files, some steps more where they are twice as many.
+/// The first class, from one upwards, of which another is a subclass. Takes no memory, and where the superclasses of
+/// both end, as in linked files, some steps more where they are twice as many.
 pub(crate) fn class_join(set: &ClassSet, c: usize, d: usize) -> Option<usize>
     requires { HasSuperclasses set.now }
     ensures { option_map (name_at set.now) result ≡ class_join set.now (name_at set.now c) (name_at set.now d) }

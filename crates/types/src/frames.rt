@@ -69,7 +69,8 @@ fn join_locals(
 ) -> Result<Option<Vec<VerificationType>>, AllocError>
     requires { HasSuperclasses set.now }
     ensures { IfOk result (λ o. option_map (λ v. map (type_in set.now) v.items) o
-        ≡ join_pairwise (λ s t. Some (local_join set.now s t)) (map (type_in set.now) a.now) (map (type_in set.now) b.now)) }
+        ≡ join_pairwise (λ s t.
+        Some (local_join set.now s t)) (map (type_in set.now) a.now) (map (type_in set.now) b.now)) }
 {
     if a.len() != b.len() {
         return Ok(None);
@@ -119,7 +120,8 @@ pub fn frame_join(
     b: &FrameType,
 ) -> Result<Option<FrameType>, AllocError>
     requires { HasSuperclasses set.now }
-    ensures { IfOk result (λ o. option_map (frame_in set.now) o ≡ frame_join set.now (frame_in set.now a.now) (frame_in set.now b.now)) }
+    ensures { IfOk result (λ o.
+        option_map (frame_in set.now) o ≡ frame_join set.now (frame_in set.now a.now) (frame_in set.now b.now)) }
 {
     let Some(locals) = join_locals(alloc, set, &a.locals, &b.locals)? else {
         return Ok(None);

@@ -34,7 +34,8 @@ fn object_above_element(set: &ClassSet, element: Element) -> Option<Element>
 
 fn element_join(set: &ClassSet, s: Element, t: Element) -> Option<Element>
     requires { HasSuperclasses set.now }
-    ensures { option_map (element_in set.now) result ≡ reference_join set.now (element_in set.now s) (element_in set.now t) }
+    ensures { option_map (element_in set.now) result
+        ≡ reference_join set.now (element_in set.now s) (element_in set.now t) }
 {
     match s {
         Element::Class(c) => match t {
@@ -57,10 +58,11 @@ fn element_join(set: &ClassSet, s: Element, t: Element) -> Option<Element>
     }
 }
 
-/// The join of two arrays of so many dimensions, by the join of their components: where that is none, the arrays themselves
-/// are still Objects.
+/// The join of two arrays of so many dimensions, by the join of their components: where that is none, the arrays
+/// themselves are still Objects.
 fn array_join(set: &ClassSet, dimensions: u8, component: Option<Element>) -> Option<ReferenceType>
-    ensures { option_map (reference_in set.now) result ≡ array_join dimensions (option_map (element_in set.now) component) }
+    ensures { option_map (reference_in set.now) result
+        ≡ array_join dimensions (option_map (element_in set.now) component) }
 {
     match component {
         Some(element) => Some(ReferenceType {
@@ -82,7 +84,8 @@ fn array_join(set: &ClassSet, dimensions: u8, component: Option<Element>) -> Opt
 /// The least type that is above both.
 pub fn reference_join(set: &ClassSet, s: ReferenceType, t: ReferenceType) -> Option<ReferenceType>
     requires { HasSuperclasses set.now }
-    ensures { option_map (reference_in set.now) result ≡ reference_join set.now (reference_in set.now s) (reference_in set.now t) }
+    ensures { option_map (reference_in set.now) result
+        ≡ reference_join set.now (reference_in set.now s) (reference_in set.now t) }
 {
     if s.dimensions == t.dimensions {
         let component = element_join(set, s.element, t.element);

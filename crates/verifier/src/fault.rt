@@ -8,8 +8,8 @@ use std::alloc::AllocError;
 /// Why a method is not verified.
 #[derive(Clone, Copy)]
 pub(crate) enum MethodFault {
-    /// The instruction at this offset must not find what is found there; or frame types can't be merged there, or the code
-    /// runs off its end behind it (JVMS 4.10.2.2).
+    /// The instruction at this offset must not find what is found there; or frame types can't be merged there, or the
+    /// code runs off its end behind it (JVMS 4.10.2.2).
     Unverified { offset: usize },
     /// The search needs more steps than are left.
     TooLong,

@@ -142,8 +142,8 @@ impl Found {
         }
     }
 
-    /// In which local variables the frame type at an offset differs from another with the same stack, if in few. It is not asked where
-    /// nothing is known of the instruction there.
+    /// In which local variables the frame type at an offset differs from another with the same stack, if in few. It
+    /// is not asked where nothing is known of the instruction there.
     fn changes_at(
         &self,
         alloc: Global,
@@ -281,7 +281,8 @@ impl Found {
     ) -> Result<(), AllocError>
         requires linked { IsLinked (files_of method.now) }
         requires typed { to < length self.old.types.items }
-        ensures types { OnOk result (JoinsAt (files_of method.now) to frame.now changed.now self.old.types.items self.new.types.items) }
+        ensures types { OnOk result
+            (JoinsAt (files_of method.now) to frame.now changed.now self.old.types.items self.new.types.items) }
         ensures waiting { self.new.waiting ≡ self.old.waiting }
         ensures looks { self.new.looks.items ≡ self.old.looks.items }
     {
@@ -350,7 +351,8 @@ impl Found {
     ) -> Result<bool, AllocError>
         requires linked { IsLinked (files_of method.now) }
         requires over { AreOver (body_of method.now) (tables_in (files_of method.now) self.old) }
-        ensures raised { IfOk result (λ near. near ≡ true → IsSomeAnd origin.now.near (λ n. (covers n.offset handler.entry ≡ true)
+        ensures raised { IfOk result (λ near. near ≡ true
+            → IsSomeAnd origin.now.near (λ n. (covers n.offset handler.entry ≡ true)
             × RaisesTo method.now self.old to origin.now.before n.changed.items self.new)) }
         ensures same { IfOk result (λ near. near ≡ false → self.new ≡ self.old) }
     {
@@ -377,8 +379,10 @@ impl Found {
         requires starts { starts.now ≡ starts_of (body_of method.now).code.code }
         requires over { AreOver (body_of method.now) (tables_in (files_of method.now) self.old) }
         requires known { KnowsNear method.now self.old origin.old (lead ∷ []) }
-        ensures merged { OnOk result (MergesInto method.now self.old (leads_in (files_of method.now) origin.old (lead ∷ [])) self.new) }
-        ensures clash { IfErr result (IsClash method.now self.old (leads_in (files_of method.now) origin.old (lead ∷ []))) }
+        ensures merged { OnOk result
+            (MergesInto method.now self.old (leads_in (files_of method.now) origin.old (lead ∷ [])) self.new) }
+        ensures clash { IfErr result
+            (IsClash method.now self.old (leads_in (files_of method.now) origin.old (lead ∷ []))) }
         ensures looks { OnOk result (KeepsLooks method.now self.old self.new) }
         ensures origin { IsSameOrigin origin.old origin.new }
     {
@@ -417,7 +421,8 @@ impl Found {
         requires starts { starts.now ≡ starts_of (body_of method.now).code.code }
         requires over { AreOver (body_of method.now) (tables_in (files_of method.now) self.old) }
         requires known { KnowsNear method.now self.old origin leads.now }
-        ensures merged { OnOk result (MergesInto method.now self.old (leads_in (files_of method.now) origin leads.now) self.new) }
+        ensures merged { OnOk result
+            (MergesInto method.now self.old (leads_in (files_of method.now) origin leads.now) self.new) }
         ensures clash { IfErr result (IsClash method.now self.old (leads_in (files_of method.now) origin leads.now)) }
         ensures looks { OnOk result (KeepsLooks method.now self.old self.new) }
     {

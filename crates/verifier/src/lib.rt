@@ -1,5 +1,5 @@
-//! The verifier (JVMS 4.10.2): a worklist finds frame types at the offsets of a method's code that agree with its instructions,
-//! or shows that there are none.
+//! The verifier (JVMS 4.10.2): a worklist finds frame types at the offsets of a method's code that agree with its
+//! instructions, or shows that there are none.
 #![tactic(auto)]
 
 mod changes;

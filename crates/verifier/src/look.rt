@@ -1,5 +1,5 @@
-//! Instructions that were looked at. While the frame type before one changes in few local variables with which it has nothing to do,
-//! these alone are merged into where it leads.
+//! Instructions that were looked at. While the frame type before one changes in few local variables with which it has
+//! nothing to do, these alone are merged into where it leads.
 
 ghost use Rattle.std.specs.Prelude.{◌≡◌, ◌==◌, ℕ, false, OnOk, IfOk, IfSome};
 ghost use Rattle.verifier.specs.Agreeing.{is_among};

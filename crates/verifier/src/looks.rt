@@ -91,7 +91,8 @@ impl Found {
         Ok(())
     }
 
-    /// What the instruction at an offset led to is merged: to these offsets, its handlers aside. It is known, unless it waits again.
+    /// What the instruction at an offset led to is merged: to these offsets, its handlers aside. It is known, unless
+    /// it waits again.
     pub fn settle(&mut self, alloc: Global, offset: usize, targets: Vec<usize>)
         ensures types { self.new.types.items ≡ self.old.types.items }
         ensures waiting { self.new.waiting ≡ self.old.waiting }

@@ -59,7 +59,8 @@ fn last_after(last: usize, offset: usize, leads: &[Lead]) -> usize {
     if has_handlers(leads) { offset } else { last }
 }
 
-/// The instruction with handlers that was looked at last, if it is near to the one at an offset, which leads to handlers.
+/// The instruction with handlers that was looked at last, if it is near to the one at an offset, which leads to
+/// handlers.
 fn last_if_near(
     alloc: Global,
     found: &Found,
@@ -77,8 +78,8 @@ fn last_if_near(
     near_found(alloc, found, before, last)
 }
 
-/// Merges what changed before the instruction at an offset since it was looked at, which has nothing to do with it: what a
-/// frame type holds in these local variables. Answers how many steps that takes.
+/// Merges what changed before the instruction at an offset since it was looked at, which has nothing to do with it:
+/// what a frame type holds in these local variables. Answers how many steps that takes.
 fn pass_on(
     alloc: Global,
     method: &MethodCode<'_>,
@@ -161,7 +162,8 @@ fn look_at(
         (waiting_again (tables_in (files_of method.now) found.old) offset) }
     requires meanings { AreMeanings method.now meanings.old }
     ensures meanings { OnOk result (AreMeanings method.now meanings.new) }
-    ensures led { IfOk result (λ looked. HasLedTo method.now handlers.now found.old offset looked.targets looked.steps found.new) }
+    ensures led { IfOk result (λ looked.
+        HasLedTo method.now handlers.now found.old offset looked.targets looked.steps found.new) }
     ensures exact { IfErr result (λ fault. OnUnverified
         fault (HasNoTyping (files_of method.now) (member_of method.now) (body_of method.now))) }
 {
@@ -214,7 +216,8 @@ fn turn(
     ensures turned { OnOk result (HasTurned (files_of method.now) (member_of method.now) (body_of method.now)
         (tables_in (files_of method.now) found.old) (tables_in (files_of method.now) found.new)) }
     ensures looks { OnOk result (AreLooks method.now handlers.now found.new) }
-    ensures done { IfOk result (λ steps. DoesTurn (turn_at (files_of method.now) (member_of method.now) (body_of method.now)
+    ensures done { IfOk result (λ steps.
+        DoesTurn (turn_at (files_of method.now) (member_of method.now) (body_of method.now)
         (tables_in (files_of method.now) found.old) offset) steps (tables_in (files_of method.now) found.new)) }
     ensures exact { IfErr result (λ fault. OnUnverified
         fault (HasNoTyping (files_of method.now) (member_of method.now) (body_of method.now))) }
@@ -249,7 +252,8 @@ fn turn(
     }
 }
 
-/// Whether there are frame types at the offsets of a method's code that agree with its instructions. The search takes steps.
+/// Whether there are frame types at the offsets of a method's code that agree with its instructions. The search takes
+/// steps.
 pub(crate) fn verify_method(
     alloc: Global,
     method: &MethodCode<'_>,
@@ -257,7 +261,8 @@ pub(crate) fn verify_method(
 ) -> Result<(), MethodFault>
     requires { IsLinked (files_of method.now) }
     ensures typed { OnOk result (HasTyping (files_of method.now) (member_of method.now) (body_of method.now)) }
-    ensures taken { OnOk result (TakesAtMost (files_of method.now) (method_steps (member_of method.now) (body_of method.now))
+    ensures taken { OnOk result
+        (TakesAtMost (files_of method.now) (method_steps (member_of method.now) (body_of method.now))
         steps.old.left steps.new.left) }
     ensures exact { IfErr result (λ fault. OnFault
         fault (HasNoTyping (files_of method.now) (member_of method.now) (body_of method.now))

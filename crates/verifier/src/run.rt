@@ -173,7 +173,8 @@ fn push_with(
     of: VerificationType,
 ) -> Result<(), AllocError>
     requires { place < run.count }
-    ensures { OnOk result (unpacked runs.new.items ≡ unpacked runs.old.items ++ slice_set (replicate run.count run.of) place of) }
+    ensures { OnOk result (unpacked runs.new.items
+        ≡ unpacked runs.old.items ++ slice_set (replicate run.count run.of) place of) }
 {
     push_run(
         runs,

@@ -1,5 +1,5 @@
-//! How many steps verification takes. A search ends in any case, but the longest of all take a time that grows faster than
-//! their code: so steps are counted, each of which is about what it takes to merge one type, and are limited.
+//! How many steps verification takes. A search ends in any case, but the longest of all take a time that grows faster
+//! than their code: so steps are counted, each of which is about what it takes to merge one type, and are limited.
 
 ghost use Rattle.std.specs.Prelude.{◌≡◌, suc, ◌+◌, ◌*◌, ◌<◌, ◌≤◌, min, length, option_map, OnOk, IfErr};
 ghost use Rattle.constant_pool.specs.View.{reference_of};
@@ -89,8 +89,8 @@ fn member_bytes(member: Option<Reference<'_>>) -> usize
     }
 }
 
-/// How many bytes the texts have that an instruction names: a class, or a member with its descriptor. They are read and sought
-/// for what it means.
+/// How many bytes the texts have that an instruction names: a class, or a member with its descriptor. They are read
+/// and sought for what it means.
 fn bytes_named(file: &ClassFile, instruction: Instr) -> usize
     ensures { result ≤ bytes_named file.now.pool instruction }
 {
@@ -122,8 +122,8 @@ pub(crate) fn bytes_read(method: &MethodCode<'_>, meanings: &Meanings, offset: u
     }
 }
 
-/// How many steps a look as a whole takes at an instruction that leads to so many offsets, beside what each turn takes: what
-/// it merges, one for each byte of texts that it reads, and some more.
+/// How many steps a look as a whole takes at an instruction that leads to so many offsets, beside what each turn
+/// takes: what it merges, one for each byte of texts that it reads, and some more.
 pub(crate) fn steps_of_look(method: &MethodCode<'_>, leads: usize, read: usize) -> u64
     ensures { result ≤ 64 + read + suc leads * suc (places (body_of method.now)) }
 {
@@ -153,7 +153,8 @@ fn most_a_turn(method: &MethodCode<'_>) -> u64
 
 /// How many steps a turn takes with a look of so many. It also asks each handler whether its range has the offset.
 pub(crate) fn steps_of_turn(method: &MethodCode<'_>, look: u64) -> u64
-    ensures { result ≤ min (32 + length (body_of method.now).code.exceptions + look) (most_a_turn (body_of method.now)) }
+    ensures { result ≤ min (32 + length (body_of method.now).code.exceptions + look)
+        (most_a_turn (body_of method.now)) }
 {
     let asked = method.code.exceptions.len() as u64;
     look.saturating_add(asked)

@@ -74,7 +74,8 @@ fn refusal_of(
     kind: RefusalKind,
     offset: Option<usize>,
 ) -> Refusal
-    ensures { (result.kind ≡ kinds.OutOfMemory) ⊎ (IsRefusalOf kind class (member_of method.now) result × (result.offset ≡ offset)) }
+    ensures { (result.kind ≡ kinds.OutOfMemory)
+        ⊎ (IsRefusalOf kind class (member_of method.now) result × (result.offset ≡ offset)) }
 {
     match text_of(alloc, method) {
         Err(error) => Refusal::from(error),
@@ -113,7 +114,8 @@ fn verify_at(
 ) -> Result<(), Refusal>
     requires { IsLinked hierarchy.now }
     ensures typed { OnOk result (IsTypedAt hierarchy.now class member) }
-    ensures taken { OnOk result (TakesAtMost hierarchy.now (steps_at hierarchy.now class member) steps.old.left steps.new.left) }
+    ensures taken { OnOk result
+        (TakesAtMost hierarchy.now (steps_at hierarchy.now class member) steps.old.left steps.new.left) }
     ensures refused { IfErr result (RefusesPart hierarchy.now (steps_at hierarchy.now class member) steps.old.left) }
 {
     let Some(method) = MethodCode::new(hierarchy, class, member) else {
@@ -136,7 +138,8 @@ fn verify_class(
 ) -> Result<(), Refusal>
     requires { IsLinked hierarchy.now }
     ensures typed { OnOk result (AreTypedIn hierarchy.now class) }
-    ensures taken { OnOk result (TakesAtMost hierarchy.now (steps_of_class hierarchy.now class) steps.old.left steps.new.left) }
+    ensures taken { OnOk result
+        (TakesAtMost hierarchy.now (steps_of_class hierarchy.now class) steps.old.left steps.new.left) }
     ensures refused { IfErr result (RefusesPart hierarchy.now (steps_of_class hierarchy.now class) steps.old.left) }
 {
     let Some(file) = hierarchy.set().class_at(class) else {
@@ -164,12 +167,13 @@ fn verify_classes(alloc: Global, hierarchy: &Hierarchy, steps: &mut Steps) -> Re
     Ok(())
 }
 
-/// Verifies the methods with code of linked classes, the built-in ones too, in the order of the classes and of their methods
-/// (JVMS 4.10). It takes so many steps at most, all methods together.
+/// Verifies the methods with code of linked classes, the built-in ones too, in the order of the classes and of their
+/// methods (JVMS 4.10). It takes so many steps at most, all methods together.
 ///
-/// `Unverified` names the file, if the class is of one, the method, and the offset of the instruction whose rule fails, or where
-/// frame types can't be merged, or from which the code runs off its end; of several offsets that which a worklist meets
-/// that takes the lowest first. `TooLarge` names the method in whose search the steps end, with its file, and no offset.
+/// `Unverified` names the file, if the class is of one, the method, and the offset of the instruction whose rule
+/// fails, or where frame types can't be merged, or from which the code runs off its end; of several offsets that
+/// which a worklist meets that takes the lowest first. `TooLarge` names the method in whose search the steps end,
+/// with its file, and no offset.
 pub fn verify_within(alloc: Global, linked: Linked, most: u64) -> Result<Verified, Refusal>
     ensures verified { IfOk result (λ verified. verified ≡ linked) }
     // A method is refused only where it has no typing, or where the searches over all take more steps.

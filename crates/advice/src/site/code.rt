@@ -124,8 +124,8 @@ impl CodeSite<'_> {
         }
     }
 
-    /// The call behind an instruction that this machine has not, which needs what that one makes: it is on the same line, and has the
-    /// same type.
+    /// The call behind an instruction that this machine has not, which needs what that one makes: it is on the same
+    /// line, and has the same type.
     fn call_behind(
         &self,
         beyond: Beyond,
@@ -141,8 +141,8 @@ impl CodeSite<'_> {
         }
     }
 
-    /// What is told where no instruction of this machine begins: of a type that is left out, rather what is told of the call that needs
-    /// it, or what was told on that line before.
+    /// What is told where no instruction of this machine begins: of a type that is left out, rather what is told of
+    /// the call that needs it, or what was told on that line before.
     fn beyond_words(&self, pc: usize, told: &[Told]) -> Result<Vec<u8>, AllocError> {
         let Some(beyond) = beyond_at(self.site.facts.file(), &self.code.code, pc) else {
             return self.own_words(pc);
@@ -184,7 +184,8 @@ impl CodeSite<'_> {
         instr: Instr,
         told: &mut Vec<Told>,
     ) -> Result<(), AllocError>
-        ensures { OnOk result (Tells told.old.items told.new.items self.now.site.now.number (places.Instruction self.now.number pc)
+        ensures { OnOk result
+            (Tells told.old.items told.new.items self.now.site.now.number (places.Instruction self.now.number pc)
             (is_instruction_wrong self.now.site.now.facts.0 self.now.site.now.facts.1 instr)) }
     {
         if !self.site.facts.is_instruction_wrong(instr) {
@@ -196,7 +197,8 @@ impl CodeSite<'_> {
 
     /// Tells what is wrong at an offset, and answers whether an instruction of this machine begins there.
     fn push_offset(&self, pc: usize, told: &mut Vec<Told>) -> Result<bool, AllocError>
-        ensures told { OnOk result (Tells told.old.items told.new.items self.now.site.now.number (places.Instruction self.now.number pc)
+        ensures told { OnOk result
+            (Tells told.old.items told.new.items self.now.site.now.number (places.Instruction self.now.number pc)
             (option_map_or (is_instruction_wrong self.now.site.now.facts.0 self.now.site.now.facts.1)
             (instr_at (code_of self.now.code.now).code pc) true)) }
         ensures begins { IfOk result (λ begins. begins ≡ not (begins_none (code_of self.now.code.now).code pc)) }
@@ -210,17 +212,20 @@ impl CodeSite<'_> {
         Ok(true)
     }
 
-    /// Tells what is wrong at an offset, if it is an instruction boundary, and answers whether decoding goes on behind it.
+    /// Tells what is wrong at an offset, if it is an instruction boundary, and answers whether decoding goes on
+    /// behind it.
     fn push_boundary(
         &self,
         pc: usize,
         is_start: bool,
         told: &mut Vec<Told>,
     ) -> Result<bool, AllocError>
-        ensures told { OnOk result (Tells told.old.items told.new.items self.now.site.now.number (places.Instruction self.now.number pc)
+        ensures told { OnOk result
+            (Tells told.old.items told.new.items self.now.site.now.number (places.Instruction self.now.number pc)
             (is_start && option_map_or (is_instruction_wrong self.now.site.now.facts.0 self.now.site.now.facts.1)
             (instr_at (code_of self.now.code.now).code pc) true)) }
-        ensures goes_on { IfOk result (λ goes_on. goes_on ≡ not (is_start && begins_none (code_of self.now.code.now).code pc)) }
+        ensures goes_on { IfOk result (λ goes_on.
+            goes_on ≡ not (is_start && begins_none (code_of self.now.code.now).code pc)) }
     {
         if is_start {
             self.push_offset(pc, told)
@@ -292,7 +297,8 @@ impl CodeSite<'_> {
         entry: ExceptionEntry,
         told: &mut Vec<Told>,
     ) -> Result<(), AllocError>
-        ensures { OnOk result (Tells told.old.items told.new.items self.now.site.now.number (places.Exception self.now.number number)
+        ensures { OnOk result
+            (Tells told.old.items told.new.items self.now.site.now.number (places.Exception self.now.number number)
             (exception_stands self.now.site.now.facts.0 self.now.site.now.facts.1 entry)) }
     {
         if !self.site.facts.is_exception_wrong(entry) {
@@ -308,7 +314,8 @@ impl CodeSite<'_> {
 
     /// Tells each exception entry whose catch type is not found.
     fn push_entries(&self, told: &mut Vec<Told>) -> Result<(), AllocError>
-        ensures { OnOk result (TellsEach told.old.items told.new.items self.now.site.now.number (λ k. places.Exception self.now.number k)
+        ensures { OnOk result
+            (TellsEach told.old.items told.new.items self.now.site.now.number (λ k. places.Exception self.now.number k)
             (is_entry_wrong self.now.site.now.facts.0 self.now.site.now.facts.1 (code_of self.now.code.now))) }
     {
         for (number, entry) in self.code.exceptions.iter().enumerate() {
@@ -319,7 +326,8 @@ impl CodeSite<'_> {
 
     /// Tells what is wrong with the code.
     pub(crate) fn push_all(&self, told: &mut Vec<Told>) -> Result<(), AllocError>
-        ensures { OnOk result (TellsCode self.now.site.now.facts.0 self.now.site.now.facts.1 told.old.items told.new.items
+        ensures { OnOk result
+            (TellsCode self.now.site.now.facts.0 self.now.site.now.facts.1 told.old.items told.new.items
             self.now.site.now.number self.now.number (code_of self.now.code.now)) }
     {
         self.push_offsets(told)?;

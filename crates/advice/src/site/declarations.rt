@@ -160,7 +160,8 @@ impl Site<'_> {
 
     /// Tells each place of the class file at which something is wrong.
     pub(crate) fn push_all(&self, told: &mut Vec<Told>) -> Result<(), AllocError>
-        ensures { OnOk result (TellsFile self.now.facts.0 self.now.facts.1 told.old.items told.new.items self.now.number) }
+        ensures { OnOk result
+            (TellsFile self.now.facts.0 self.now.facts.1 told.old.items told.new.items self.now.number) }
     {
         self.push_class(told)?;
         self.push_fields(told)?;

@@ -56,7 +56,8 @@ impl Site<'_> {
         method: &Method,
         told: &mut Vec<Told>,
     ) -> Result<(), AllocError>
-        ensures { OnOk result (TellsMethod self.now.facts.0 self.now.facts.1 told.old.items told.new.items self.now.number number
+        ensures { OnOk result
+            (TellsMethod self.now.facts.0 self.now.facts.1 told.old.items told.new.items self.now.number number
             (method_of method.now)) }
     {
         self.push_declaration(number, method, told)?;
@@ -78,7 +79,8 @@ impl Site<'_> {
 
     /// Tells what is wrong with each method.
     pub(crate) fn push_methods(&self, told: &mut Vec<Told>) -> Result<(), AllocError>
-        ensures { OnOk result (TellsMethods self.now.facts.0 self.now.facts.1 told.old.items told.new.items self.now.number
+        ensures { OnOk result
+            (TellsMethods self.now.facts.0 self.now.facts.1 told.old.items told.new.items self.now.number
             (length self.now.facts.1.methods)) }
     {
         let file = self.facts.file();

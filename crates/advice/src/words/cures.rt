@@ -1,7 +1,7 @@
 //! What to write in the place of a class that is not there, by its name.
 
-/// A class of the Java library, or all whose names begin so, and what is told behind the name: what in Java needs it, and what to write
-/// instead.
+/// A class of the Java library, or all whose names begin so, and what is told behind the name: what in Java needs it,
+/// and what to write instead.
 type Cure = (&'static str, &'static str);
 
 const BOXED: &str =

@@ -197,7 +197,8 @@ pub(crate) fn say_wrong_instruction(
     }
 }
 
-/// The method of an interface that an instruction names as one of a class, as it calls a static one (JVMS 4.9.1 forbids it in version
+/// The method of an interface that an instruction names as one of a class, as it calls a static one (JVMS 4.9.1
+/// forbids it in version
 /// 49.0).
 pub(crate) fn interface_method_of(file: &ClassFile, instr: Instr) -> Option<Named<'_>> {
     let Instr::Invoke { index, .. } = instr else {

@@ -82,7 +82,8 @@ fn last_name(class: &[u8]) -> &[u8] {
     last
 }
 
-/// Adds a method that a class declares: `deposit(int)`, `Account(int)` for a constructor, or that it is the initialiser.
+/// Adds a method that a class declares: `deposit(int)`, `Account(int)` for a constructor, or that it is the
+/// initialiser.
 pub(crate) fn say_own_method(
     line: &mut Line,
     class: &[u8],

@@ -47,8 +47,8 @@ impl Origin {
     }
 }
 
-/// What begins at an offset of a code where no instruction of this machine does: how many bytes it has, and what it comes from. `None`
-/// where the JVMS has no such instruction, or it is not whole.
+/// What begins at an offset of a code where no instruction of this machine does: how many bytes it has, and what it
+/// comes from. `None` where the JVMS has no such instruction, or it is not whole.
 #[derive(Clone, Copy)]
 pub(crate) struct Beyond {
     pub(crate) pc: usize,
@@ -92,8 +92,8 @@ fn dynamic(file: &ClassFile, operands: Operands) -> Option<NameAndDescriptor<'_>
     }
 }
 
-/// Adds what an `invokedynamic` comes from: a lambda or a method reference, and for which interface; or a concatenation, in class files
-/// of later versions.
+/// Adds what an `invokedynamic` comes from: a lambda or a method reference, and for which interface; or a
+/// concatenation, in class files of later versions.
 fn say_dynamic(line: &mut Line, file: &ClassFile, operands: Operands) -> Result<(), AllocError> {
     if let Some(named) = dynamic(file, operands) {
         if named.name.starts_with(b"makeConcat") {

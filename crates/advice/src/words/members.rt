@@ -2,8 +2,8 @@
 
 use hierarchy::ClassSet;
 
-/// A class, a member of it and of those below it, by its name, which they have not here, and what is told behind it. With no name it is
-/// each other member.
+/// A class, a member of it and of those below it, by its name, which they have not here, and what is told behind it.
+/// With no name it is each other member.
 type Cure = (&'static str, &'static str, &'static str);
 
 const STRING: &str = "java/lang/String";

@@ -18,8 +18,8 @@ fn folder_of(name: &[u8]) -> &[u8] {
     name.get(..end).unwrap_or(&[])
 }
 
-/// Adds the source of a class, in the folder of its package, and a line of it; or the name of the class file, where it doesn't tell its
-/// source.
+/// Adds the source of a class, in the folder of its package, and a line of it; or the name of the class file, where
+/// it doesn't tell its source.
 fn say_source(
     line: &mut Line,
     given: &str,

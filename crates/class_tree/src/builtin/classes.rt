@@ -46,7 +46,8 @@ fn push_name_and_type(
     at: u16,
 ) -> Result<(), AllocError>
     requires { at < 2 ^ 15 }
-    ensures { OnOk result (entries_of pool.new.items ≡ entries_of pool.old.items ++ named_at name.now descriptor.now at) }
+    ensures { OnOk result (entries_of pool.new.items
+        ≡ entries_of pool.old.items ++ named_at name.now descriptor.now at) }
 {
     push_text(pool, alloc, name)?;
     push_text(pool, alloc, descriptor)?;

@@ -23,8 +23,8 @@ fn is_start(marks: &[bool], pc: u16) -> bool
     marks.get(pc as usize).copied().unwrap_or(false)
 }
 
-/// What is wrong with an exception entry: an empty range, a range that begins or ends off an instruction boundary, where
-/// it may end with the code, or such a handler (JVMS 4.7.3).
+/// What is wrong with an exception entry: an empty range, a range that begins or ends off an instruction boundary,
+/// where it may end with the code, or such a handler (JVMS 4.7.3).
 fn entry_fault(code: &Code, marks: &[bool], entry: ExceptionEntry) -> Option<ExceptionField>
     requires { marks.now ≡ starts code.now.code.items }
     ensures { FindsField (code_of code.now) entry result }
@@ -72,7 +72,8 @@ pub(crate) fn first_in_code(
     code: &Code,
 ) -> Result<Option<MethodFault>, AllocError>
     requires { rows.now ≡ rows_of file.now.pool }
-    ensures { IfOk result (λ found. FindsInCode (row_of aside.now) (file_of file.now) (method_of method.now) (code_of code.now) found) }
+    ensures { IfOk result (λ found.
+        FindsInCode (row_of aside.now) (file_of file.now) (method_of method.now) (code_of code.now) found) }
 {
     if code.max_locals < entry_slots(file, rows, method) {
         return Ok(Some(MethodFault {

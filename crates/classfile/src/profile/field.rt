@@ -49,10 +49,13 @@ pub(crate) fn is_outside(file: &ClassFile, rows: &[Described], field: &Field) ->
 /// The first field that is outside of the profile.
 pub(crate) fn first_field(file: &ClassFile, rows: &[Described]) -> Option<usize>
     requires { rows.now ≡ rows_of file.now.pool }
-    ensures none { IfNone result (list_any (field_outside_profile (file_of file.now)) (file_of file.now).fields ≡ false) }
-    ensures some { IfSome result (λ k. option_map_or (field_outside_profile (file_of file.now)) (slice_get (file_of file.now).fields k)
+    ensures none { IfNone result (list_any (field_outside_profile (file_of file.now)) (file_of file.now).fields
+        ≡ false) }
+    ensures some { IfSome result (λ k.
+        option_map_or (field_outside_profile (file_of file.now)) (slice_get (file_of file.now).fields k)
         false ≡ true) }
-    ensures first { IfSome result (λ k. list_any (field_outside_profile (file_of file.now)) (take k (file_of file.now).fields) ≡ false) }
+    ensures first { IfSome result (λ k.
+        list_any (field_outside_profile (file_of file.now)) (take k (file_of file.now).fields) ≡ false) }
 {
     for (place, field) in file.fields.iter().enumerate() {
         if is_outside(file, rows, field) {

@@ -73,7 +73,8 @@ pub(crate) fn end_of_decoding(code: &Code, marks: &[bool]) -> Option<usize>
 pub(crate) fn missing_flaw(code: &Code, pc: usize) -> Flaw
     requires here { pc < length code.now.code.items }
     requires missing { is_some (sized_at code.now.code.items pc) ≡ false }
-    ensures { Says (Some result) (not (is_known_opcode code.now.code.items pc)) (malformed_offset (code_of code.now) pc) }
+    ensures { Says (Some result) (not (is_known_opcode code.now.code.items pc))
+        (malformed_offset (code_of code.now) pc) }
 {
     if is_known_opcode(&code.code, pc) {
         Flaw::MalformedCode

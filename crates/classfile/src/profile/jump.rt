@@ -68,7 +68,8 @@ fn table_jumps_off(code: &[u8], marks: &[bool], pc: usize, at: usize, count: usi
 /// Whether one of the jumps of a `lookupswitch` leads to no instruction boundary.
 fn pairs_jump_off(code: &[u8], marks: &[bool], pc: usize, at: usize, count: usize) -> bool
     requires { marks.now ≡ starts code.now }
-    ensures { result ≡ list_any (λ by. not (lands code.now pc by)) (map (λ k. (lookup_pair code.now at k).1) (count_from 0 count)) }
+    ensures { result ≡ list_any (λ by.
+        not (lands code.now pc by)) (map (λ k. (lookup_pair code.now at k).1) (count_from 0 count)) }
 {
     for k in 0..count {
         let (_, by) = lookup_pair(code, at, k);

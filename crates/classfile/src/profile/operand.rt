@@ -1,5 +1,5 @@
-//! What the operands of an instruction name, by the constant pool: what is outside of the profile, and what is malformed
-//! (JVMS 4.9.1).
+//! What the operands of an instruction name, by the constant pool: what is outside of the profile, and what is
+//! malformed (JVMS 4.9.1).
 
 ghost use Rattle.std.specs.Prelude.{◌≡◌, ◌||◌, false, option_map};
 ghost use Rattle.std.specs.List.{list_any};

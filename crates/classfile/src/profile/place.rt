@@ -47,9 +47,9 @@ fn method_code(file: &ClassFile, method: usize) -> Option<&Code>
 }
 
 impl Place {
-    /// The offset in the file of the max_locals, of the instruction's opcode, or of the exception entry's field. `None` for
-    /// another place, and where the file has no such method with code. No file in memory is so long that the highest
-    /// `usize` is answered in its place.
+    /// The offset in the file of the max_locals, of the instruction's opcode, or of the exception entry's field.
+    /// `None` for another place, and where the file has no such method with code. No file in memory is so long that
+    /// the highest `usize` is answered in its place.
     pub fn code_offset(&self, file: &ClassFile) -> Option<usize>
         ensures { result ≡ place_offset (file_of file.now) self.now }
     {

@@ -75,12 +75,12 @@ fn walk(alloc: Global, file: &ClassFile, aside: &[bool]) -> Result<Option<Fault>
     first_in_methods(alloc, file, &rows, aside)
 }
 
-/// The first fault of a class file: where it is outside of the profile, or where the code of a method is malformed. `None`
-/// where it is neither. `AllocError` for want of memory.
+/// The first fault of a class file: where it is outside of the profile, or where the code of a method is malformed.
+/// `None` where it is neither. `AllocError` for want of memory.
 ///
-/// Fields come before methods. In a method come its descriptor and its flags, then max_locals, then its instructions (each
-/// whether it is whole and its opcode known, and then its operands), and then the exception entries. Of one place
-/// `OutsideProfile` comes before `MalformedCode`.
+/// Fields come before methods. In a method come its descriptor and its flags, then max_locals, then its instructions
+/// (each whether it is whole and its opcode known, and then its operands), and then the exception entries. Of one
+/// place `OutsideProfile` comes before `MalformedCode`.
 ///
 /// What an `invokespecial` may name goes beyond the file, so it is told by the caller: `class_aside` has a row for each
 /// index of the constant pool, true where the index is that of a Methodref to another method than a constructor, of a

@@ -41,8 +41,8 @@ fn last_in(table: &[u8], offset: u16, from: Option<LineStart>) -> Option<LineSta
     best
 }
 
-/// The number of the line to which the instruction at an offset of a method's code belongs (JVMS 4.7.12), if the class file tells it:
-/// that of the entry which begins last, at the offset or before it.
+/// The number of the line to which the instruction at an offset of a method's code belongs (JVMS 4.7.12), if the
+/// class file tells it: that of the entry which begins last, at the offset or before it.
 pub fn line_at(file: &ClassFile, code: &Code, offset: u16) -> Option<u16> {
     let mut best = None;
     for attribute in &code.attributes {

@@ -1,4 +1,5 @@
-//! Where code comes from, as class files tell it: the name of a source file, and the numbers of its lines (JVMS 4.7.10, 4.7.12).
+//! Where code comes from, as class files tell it: the name of a source file, and the numbers of its lines (JVMS
+//! 4.7.10, 4.7.12).
 
 mod bytes;
 mod lines;

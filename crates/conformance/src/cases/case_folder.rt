@@ -50,12 +50,17 @@ impl<F: Folder> Folder for CaseFolder<'_, F> {
         }
     }
 
-    /// The names of the files of the text whose names begin with the path and a slash.
+    /// The first parts of what stands behind the path and a slash in names of files of the text, each once.
     fn names(&self, alloc: Global, path: &str) -> io::Result<Option<Vec<String>>> {
+        if self.given.get(path).is_some() || self.recorded.get(path).is_some() {
+            return Ok(None);
+        }
         let mut names = Vec::new(alloc);
         for (name, _) in self.given {
             if let Some(name) = name_in(name.as_str(), path) {
-                names.push(String::from_str(alloc, name)?)?;
+                if !is_among(name, &names) {
+                    names.push(String::from_str(alloc, name)?)?;
+                }
             }
         }
         if names.is_empty() {
@@ -83,9 +88,22 @@ impl<F: Folder> Folder for CaseFolder<'_, F> {
     }
 }
 
-/// The part of a name behind the folder of this path, where that has no folder in it.
+/// The part of a name behind the folder of this path: of a file in it, or of a folder in it.
 fn name_in<'a>(name: &'a str, path: &str) -> Option<&'a str> {
     let path = path.strip_suffix('/').unwrap_or(path);
     let rest = name.strip_prefix(path)?.strip_prefix('/')?;
-    if rest.contains('/') { None } else { Some(rest) }
+    match rest.split_once('/') {
+        Some((first, _)) => Some(first),
+        None => Some(rest),
+    }
+}
+
+/// Whether a name is one of these.
+fn is_among(name: &str, names: &[String]) -> bool {
+    for other in names {
+        if other.as_str() == name {
+            return true;
+        }
+    }
+    false
 }

@@ -13,7 +13,8 @@ use std::{io, str};
 const SCHEDULE: &str = "recorded.schedule";
 
 /// Runs class files in each of the ways, as often as it says, and replays each time what was recorded. Writes `equal`
-/// where each replay says what its run said, which began as it may; else the first run and replay of which that is not so.
+/// where each replay says what its run said, which began as it may; else the first run and replay of which that is
+/// not so.
 pub fn write_comparison<R: Threads + Wait + Sync, F: Folder, W: Write>(
     rt: &R,
     alloc: Global,
@@ -88,8 +89,8 @@ fn is_expected(ran: &[u8], beginnings: &[String]) -> bool {
     beginnings.is_empty()
 }
 
-/// Whether a replay says what the run said: the same report; and the same end where no thread could go on, and else that
-/// the schedule is used up.
+/// Whether a replay says what the run said: the same report; and the same end where no thread could go on, and else
+/// that the schedule is used up.
 fn is_replay(ran: &[u8], replayed: &[u8]) -> bool {
     let (Some((report, end)), Some((again, end_again))) = (parted(ran), parted(replayed)) else {
         return false;

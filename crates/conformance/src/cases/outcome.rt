@@ -51,8 +51,8 @@ fn write_command<R: Threads + Wait + Sync, F: Folder, W: Write>(
     Ok(())
 }
 
-/// Does what the words say over the folder and the standard input, and writes what it writes to its output, what it says
-/// on standard error, and its status. It may tell a person more than the words ask for.
+/// Does what the words say over the folder and the standard input, and writes what it writes to its output, what it
+/// says on standard error, and its status. It may tell a person more than the words ask for.
 pub fn write_outcome<R: Threads + Wait + Sync, F: Folder, W: Write>(
     rt: &R,
     alloc: Global,

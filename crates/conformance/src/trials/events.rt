@@ -1,9 +1,10 @@
-//! `events WORDS..` does each front of the schedule's events, and behind it one event of each thread 0 to 3 with the picks 0, 1 and
-//! 65,535. It counts for each pick how often that event was done, how often it was not enabled or was refused.
+//! `events WORDS..` does each front of the schedule's events, and behind it one event of each thread 0 to 3 with the
+//! picks 0, 1 and 65,535. It counts for each pick how often that event was done, how often it was not enabled or was
+//! refused.
 //!
-//! Wrong is: a replay without a report; an event that is not enabled and leaves another report than that of the front, or that is done
-//! where the report of the front says that its thread can't go on; one of pick 0 that is not done where it can; and one of pick
-//! 65,535 that is done.
+//! Wrong is: a replay without a report; an event that is not enabled and leaves another report than that of the
+//! front, or that is done where the report of the front says that its thread can't go on; one of pick 0 that is not
+//! done where it can; and one of pick 65,535 that is done.
 
 use crate::trials::counts::Counts;
 use crate::trials::outcome::Outcome;
@@ -22,7 +23,8 @@ const THREADS: u16 = 4;
 /// The picks with which one is tried.
 const PICKS: [u16; 3] = [0, 1, u16::MAX];
 
-/// A report: what it says of the printed numbers and the threads, how many events were done, and why there were no more.
+/// A report: what it says of the printed numbers and the threads, how many events were done, and why there were no
+/// more.
 #[derive(Clone, Copy)]
 struct ReportParts<'a> {
     states: &'a str,

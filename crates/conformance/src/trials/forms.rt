@@ -1,10 +1,10 @@
-//! `fronts WORDS..` tries each front of each file. `bytes N WORDS..` tries, of all changes of one byte of each file to another
-//! value, each N-th.
+//! `fronts WORDS..` tries each front of each file. `bytes N WORDS..` tries, of all changes of one byte of each file
+//! to another value, each N-th.
 //!
-//! With a class file of another form, it is listed, verified and replayed, and replayed once more where it is accepted. Wrong is:
-//! bytes that decode to a tree which is spelled otherwise; a listing of what doesn't decode, or none of what does; a replay that is
-//! refused otherwise than the verification; a second replay that says something else. With a schedule file of another form only the
-//! replays are done.
+//! With a class file of another form, it is listed, verified and replayed, and replayed once more where it is
+//! accepted. Wrong is: bytes that decode to a tree which is spelled otherwise; a listing of what doesn't decode, or
+//! none of what does; a replay that is refused otherwise than the verification; a second replay that says something
+//! else. With a schedule file of another form only the replays are done.
 
 use crate::trials::form_trials::FormTrials;
 use anyhow::Result;

@@ -1,5 +1,6 @@
-//! Trials: `jvm` is handed files that it may not be ready for, files in other forms than they have, and sets of class files that are made
-//! by chance. It must answer whatever they are. What each word tries stands at the head of its module.
+//! Trials: `jvm` is handed files that it may not be ready for, files in other forms than they have, and sets of class
+//! files that are made by chance. It must answer whatever they are. What each word tries stands at the head of its
+//! module.
 
 mod changed;
 mod counts;

@@ -28,8 +28,8 @@ impl Outcome {
             && self.said.as_slice() == other.said.as_slice()
     }
 
-    /// Whether a replay of what this run recorded says what the run said: the same report; and the same end where no thread
-    /// could go on, and else that the schedule is used up.
+    /// Whether a replay of what this run recorded says what the run said: the same report; and the same end where no
+    /// thread could go on, and else that the schedule is used up.
     pub fn is_replayed_by(&self, replay: &Outcome) -> bool {
         let (report, end) = parted(&self.written);
         let (again, end_again) = parted(&replay.written);

@@ -173,8 +173,8 @@ impl SetTrial {
         })
     }
 
-    /// Changes the schedule file, and replays the files under it; and then changes a file, again and again, and tries the set each
-    /// time. Answers what is wrong.
+    /// Changes the schedule file, and replays the files under it; and then changes a file, again and again, and tries
+    /// the set each time. Answers what is wrong.
     pub fn try_changes<R: Threads + Wait + Sync>(
         &mut self,
         rt: &R,

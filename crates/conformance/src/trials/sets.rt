@@ -1,9 +1,11 @@
-//! `sets SEED COUNT` makes so many sets of class files by chance, each from a seed of its own: SEED, SEED + 1 .. Each set has
-//! threads, monitors, wait sets, exceptions and initialisers, and has to be accepted. It is run by one worker with a seed, within
-//! limits that it may meet, and recorded; and the replay has to say what the run said. Then the schedule file is changed and
-//! replayed; and at last a class file is changed, twice, and each time the set is listed, verified, run and replayed again.
+//! `sets SEED COUNT` makes so many sets of class files by chance, each from a seed of its own: SEED, SEED + 1 .. Each
+//! set has threads, monitors, wait sets, exceptions and initialisers, and has to be accepted. It is run by one worker
+//! with a seed, within limits that it may meet, and recorded; and the replay has to say what the run said. Then the
+//! schedule file is changed and replayed; and at last a class file is changed, twice, and each time the set is
+//! listed, verified, run and replayed again.
 //!
-//! Where something is wrong, the seed of the set is printed, what is wrong, and the files as a case of `conformance` has them.
+//! Where something is wrong, the seed of the set is printed, what is wrong, and the files as a case of `conformance`
+//! has them.
 
 use crate::trials::counts::Counts;
 use crate::trials::set_trial::SetTrial;

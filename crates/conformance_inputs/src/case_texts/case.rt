@@ -42,8 +42,8 @@ impl CommandLine {
     }
 }
 
-/// Class files that are run in all the ways of the text, recorded and replayed. It is shown whether the replays say what
-/// the runs said.
+/// Class files that are run in all the ways of the text, recorded and replayed. It is shown whether the replays say
+/// what the runs said.
 #[derive(Drop)]
 pub struct RecordedRuns {
     /// The names of the class files.

@@ -44,8 +44,8 @@ enum Section {
     Case,
 }
 
-/// Reads a text, and the files of the texts that it names, which lie beside it. A file of which another is a changed copy
-/// may be one that the text doesn't give.
+/// Reads a text, and the files of the texts that it names, which lie beside it. A file of which another is a changed
+/// copy may be one that the text doesn't give.
 pub fn read_cases<F: OtherFiles>(
     alloc: Global,
     others: &F,

@@ -38,8 +38,8 @@ pub const MAX_LOCALS: u16 = 13;
 /// No statement has more on the operand stack.
 pub const MAX_STACK: u16 = 8;
 
-/// A body that grows. Each statement begins and ends with an empty operand stack, and leaves the local variables with values of the
-/// same types; so each body of statements has a typing.
+/// A body that grows. Each statement begins and ends with an empty operand stack, and leaves the local variables with
+/// values of the same types; so each body of statements has a typing.
 #[derive(Drop)]
 pub struct Body<'a> {
     pub alloc: Global,

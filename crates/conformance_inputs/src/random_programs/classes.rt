@@ -1,5 +1,5 @@
-//! Sets of class files: A with `main` and static methods, B and C below it with fields and methods that C overrides, E to be
-//! thrown, the interface I that B implements, and T, a Thread. C is a Runnable.
+//! Sets of class files: A with `main` and static methods, B and C below it with fields and methods that C overrides,
+//! E to be thrown, the interface I that B implements, and T, a Thread. C is a Runnable.
 
 use crate::random_programs::body::{
     ARRAY, BOX, Body, CAUGHT, COUNTERS, DEPTH, MAX_LOCALS, MAX_STACK, OBJECT, THREAD,

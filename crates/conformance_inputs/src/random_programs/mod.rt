@@ -1,5 +1,5 @@
-//! Sets of class files that are made by chance, for a program that tries `jvm`: with threads, monitors, wait sets, exceptions and
-//! initialisers. The same numbers that are drawn make the same files.
+//! Sets of class files that are made by chance, for a program that tries `jvm`: with threads, monitors, wait sets,
+//! exceptions and initialisers. The same numbers that are drawn make the same files.
 
 mod blocks;
 mod body;

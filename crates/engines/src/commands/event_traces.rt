@@ -1,19 +1,20 @@
 //! `trace`.
 
-ghost use Rattle.std.specs.Prelude.{◌≡◌, IfErr, IfOk, None};
+ghost use Rattle.std.specs.Prelude.{◌≡◌, IfErr, IfOk, None, map, string_bytes};
 ghost use Rattle.std.specs.Io.KnownBytes.{Appends};
 ghost use Rattle.engines.specs.Commands.{IsTraceDone, IsTraceUndone, IsWindow, form_of};
+ghost use Rattle.engines.specs.Files.{held_at};
 ghost use Rattle.engines.specs.Failures.{FolderMayFail, TellsFailures};
 
 use crate::explanation::Explanation;
 use crate::fault::Fault;
-use crate::folder::Folder;
 use crate::named_file::{source, sources};
 use crate::status::Status;
 use crate::telling::told_schedule;
 use crate::tracing::trace_engine;
 use command_line::{Trace, TraceForm};
 use model::Sink;
+use program_files::Folder;
 use program_runs::traced_runs::{Form, Window};
 use std::alloc::Global;
 
@@ -21,23 +22,27 @@ use std::alloc::Global;
 pub(crate) fn trace<F: Folder, W: Sink>(
     alloc: Global,
     folder: &F,
+    files: &[String],
     options: &Trace,
     output: &mut W,
     explanation: &mut Explanation,
 ) -> Result<Status, Fault>
-    ensures traced { IfOk result (λ status. (text : _) × IsTraceDone (F.held folder.now) options.now text None status
+    ensures traced { IfOk result (λ status. (text : _)
+        × IsTraceDone (F.held folder.now)
+        (held_at (F.held folder.now) (map string_bytes files.now)) options.now text None status
         × Appends (W.contents output.old) (W.contents output.new) text) }
-    ensures faulty { IfErr result (λ fault. IsTraceUndone (F.held folder.now) options.now
+    ensures faulty { IfErr result (λ fault.
+        IsTraceUndone (F.held folder.now) (held_at (F.held folder.now) (map string_bytes files.now)) options.now
         (W.contents output.old) (W.contents output.new) fault None) }
     ensures told { TellsFailures (FolderMayFail F.may_fail) result (W.failures output.old) (W.failures output.new) }
 {
-    let status = traced(alloc, folder, options, output)?;
+    let status = traced(alloc, folder, files, options, output)?;
     if let Some(most) = explanation.most_events(status, options.explain, options.quiet) {
         let lines = told_schedule(
             alloc,
             folder,
             &options.schedule,
-            &options.files,
+            files,
             &options.limits,
             most,
         );
@@ -47,33 +52,38 @@ pub(crate) fn trace<F: Folder, W: Sink>(
 }
 
 /// Tells a run of the class files of a folder under its schedule.
-fn traced<F: Folder, W: Sink>(
+fn traced<'a, F: Folder, W: Sink>(
     alloc: Global,
-    folder: &F,
-    options: &Trace,
+    folder: &'a F,
+    files: &'a [String],
+    options: &'a Trace,
     output: &mut W,
 ) -> Result<Status, Fault>
-    ensures traced { IfOk result (λ status. (text : _) × IsTraceDone (F.held folder.now) options.now text None status
+    ensures traced { IfOk result (λ status. (text : _)
+        × IsTraceDone (F.held folder.now)
+        (held_at (F.held folder.now) (map string_bytes files.now)) options.now text None status
         × Appends (W.contents output.old) (W.contents output.new) text) }
-    ensures faulty { IfErr result (λ fault. IsTraceUndone (F.held folder.now) options.now
+    ensures faulty { IfErr result (λ fault.
+        IsTraceUndone (F.held folder.now) (held_at (F.held folder.now) (map string_bytes files.now)) options.now
         (W.contents output.old) (W.contents output.new) fault None) }
     ensures told { TellsFailures (FolderMayFail F.may_fail) result (W.failures output.old) (W.failures output.new) }
 {
     let limits = &options.limits;
     let window = window_of(options);
     let mut schedule = source(folder, options.schedule.as_str());
-    let mut files = sources(alloc, folder, &options.files)?;
+    let mut sources = sources(alloc, folder, files)?;
     trace_engine(
         alloc,
         &mut schedule,
-        files.as_mut_slice(),
+        sources.as_mut_slice(),
         limits,
         window,
         output,
     )
 }
 
-/// Which events are told, and in which form: from the first one on, to the last one, and of all threads, where the words don't say.
+/// Which events are told, and in which form: from the first one on, to the last one, and of all threads, where the
+/// words don't say.
 fn window_of(options: &Trace) -> Window<'_>
     ensures { IsWindow options.now result }
 {

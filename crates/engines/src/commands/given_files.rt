@@ -1,14 +1,14 @@
-//! `verify` and `disasm`, which take folders of class files, too.
+//! `verify` and `disasm`.
 
-ghost use Rattle.std.specs.Prelude.{◌≡◌, ◌+◌, IfErr, IfOk, map, sum_by};
+ghost use Rattle.std.specs.Prelude.{◌≡◌, ◌⊎◌, ◌+◌, IfErr, IfOk, map, string_bytes, sum_by};
 ghost use Rattle.std.specs.Io.KnownBytes.{Appends};
-ghost use Rattle.engines.specs.Commands.{IsUnacceptedAs, IsUnlistedAs, ListsAs, OfGiven, OfGivenOrUnable, VerifiesAs};
+ghost use Rattle.engines.specs.Commands.{IsUnacceptedAs, IsUnlistedAs, ListsAs, VerifiesAs};
+ghost use Rattle.engines.specs.Devices.{IsUnable};
+ghost use Rattle.engines.specs.Files.{held_at};
 ghost use Rattle.engines.specs.Engines.{CountsFailure};
 ghost use Rattle.engines.specs.Failures.{FolderMayFail, TellsFailures};
 
 use crate::fault::Fault;
-use crate::folder::Folder;
-use crate::given_paths::given_paths;
 use crate::library::verify_library_engine;
 use crate::listing::disasm_engine;
 use crate::named_file::sources;
@@ -17,26 +17,27 @@ use crate::status::Status;
 use crate::verification::verify_engine;
 use command_line::{Disasm, Verify};
 use model::{Sink, Source};
+use program_files::Folder;
 use std::alloc::Global;
 
 /// `verify`.
 pub(crate) fn verify<F: Folder, W: Sink>(
     alloc: Global,
     folder: &F,
+    files: &[String],
     options: &Verify,
     output: &mut W,
 ) -> Result<Status, Fault>
     ensures verified { IfOk result (λ status. (text : _) × (status ≡ Status.Returned)
-        × OfGiven (F.held folder.now) (F.listed folder.now) options.now.files.items (λ lefts. VerifiesAs options.now.library lefts text)
+        × VerifiesAs options.now.library (held_at (F.held folder.now) (map string_bytes files.now)) text
         × Appends (W.contents output.old) (W.contents output.new) text) }
-    ensures faulty { IfErr result (λ fault. OfGivenOrUnable (F.held folder.now) (F.listed folder.now) options.now.files.items
-        (W.contents output.old) (W.contents output.new) fault
-        (λ lefts. IsUnacceptedAs options.now.library lefts (W.contents output.old) (W.contents output.new) fault)) }
+    ensures faulty { IfErr result (λ fault. (IsUnable fault × (W.contents output.new ≡ W.contents output.old))
+        ⊎ IsUnacceptedAs options.now.library (held_at (F.held folder.now) (map string_bytes files.now))
+        (W.contents output.old) (W.contents output.new) fault) }
     ensures told { TellsFailures (FolderMayFail F.may_fail) result (W.failures output.old) (W.failures output.new) }
 {
-    let paths = given_paths(alloc, folder, &options.files)?;
-    let mut files = sources(alloc, folder, &paths)?;
-    verified(alloc, options.library, files.as_mut_slice(), output)
+    let mut sources = sources(alloc, folder, files)?;
+    verified(alloc, options.library, sources.as_mut_slice(), output)
 }
 
 /// Verifies class files, as a library or as a program.
@@ -66,20 +67,20 @@ fn verified<S: Source, W: Sink>(
 pub(crate) fn disasm<F: Folder, W: Sink>(
     alloc: Global,
     folder: &F,
+    files: &[String],
     options: &Disasm,
     output: &mut W,
 ) -> Result<Status, Fault>
     ensures listed { IfOk result (λ status. (text : _) × (status ≡ Status.Returned)
-        × OfGiven (F.held folder.now) (F.listed folder.now) options.now.files.items (λ lefts. ListsAs options.now.names lefts text)
+        × ListsAs options.now.names (held_at (F.held folder.now) (map string_bytes files.now)) text
         × Appends (W.contents output.old) (W.contents output.new) text) }
-    ensures faulty { IfErr result (λ fault. OfGivenOrUnable (F.held folder.now) (F.listed folder.now) options.now.files.items
-        (W.contents output.old) (W.contents output.new) fault
-        (λ lefts. IsUnlistedAs options.now.names lefts (W.contents output.old) (W.contents output.new) fault)) }
+    ensures faulty { IfErr result (λ fault. (IsUnable fault × (W.contents output.new ≡ W.contents output.old))
+        ⊎ IsUnlistedAs options.now.names (held_at (F.held folder.now) (map string_bytes files.now))
+        (W.contents output.old) (W.contents output.new) fault) }
     ensures told { TellsFailures (FolderMayFail F.may_fail) result (W.failures output.old) (W.failures output.new) }
 {
-    let paths = given_paths(alloc, folder, &options.files)?;
-    let mut files = sources(alloc, folder, &paths)?;
-    listed(alloc, options.names, files.as_mut_slice(), output)
+    let mut sources = sources(alloc, folder, files)?;
+    listed(alloc, options.names, sources.as_mut_slice(), output)
 }
 
 /// Lists class files, with names or without.

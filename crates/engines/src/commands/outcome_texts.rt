@@ -11,7 +11,8 @@ const LINE_END: &[u8] = b"\n";
 /// The same, and what may stand before it.
 const RETURN_AND_END: &[u8] = b"\r\n";
 
-/// The text of a file: a carriage return before a line feed doesn't count, and the last line has a line feed at its end.
+/// The text of a file: a carriage return before a line feed doesn't count, and the last line has a line feed at its
+/// end.
 pub(crate) fn text_of_file(alloc: Global, bytes: &[u8]) -> Result<Vec<u8>, AllocError>
     ensures { IfOk result (λ text. text.items ≡ text_of_file bytes.now) }
 {

@@ -1,10 +1,11 @@
 //! `replay`, also one that goes on.
 
-ghost use Rattle.std.specs.Prelude.{IfErr, IfOk, IsTrue, Some, is_some, string_bytes, unwrap_or, vec_items};
+ghost use Rattle.std.specs.Prelude.{IfErr, IfOk, IsTrue, Some, is_some, string_bytes, unwrap_or, vec_items, map};
 ghost use Rattle.std.specs.Option.{option_map};
 ghost use Rattle.std.specs.Io.KnownBytes.{Appends};
-ghost use Rattle.engines.specs.Commands.{IsContinuationDone, IsContinuationUndone, IsReplayDone, IsReplayUndone, Leaves, LeavesAt, files_at};
+ghost use Rattle.engines.specs.Commands.{IsContinuationDone, IsContinuationUndone, IsReplayDone, IsReplayUndone, Leaves, LeavesAt};
 ghost use Rattle.engines.specs.Continuations.{Continues, IsUncontinued};
+ghost use Rattle.engines.specs.Files.{held_at};
 ghost use Rattle.engines.specs.Failures.{FolderMayFail, TellsFailures};
 ghost use Rattle.engines.specs.Replays.{IsFaulty, Replays};
 
@@ -12,39 +13,44 @@ use crate::commands::storing::{recorded, try_record};
 use crate::continuing::continue_engine;
 use crate::explanation::Explanation;
 use crate::fault::Fault;
-use crate::folder::Folder;
 use crate::named_file::{source, sources};
 use crate::replaying::replay_engine;
 use crate::status::Status;
 use crate::telling::{told_record, told_schedule};
 use command_line::{Replay, ThenRun};
 use model::Sink;
+use program_files::Folder;
 use std::alloc::Global;
 
 /// `replay`.
 pub(crate) fn replay<F: Folder, W: Sink>(
     alloc: Global,
     folder: &mut F,
+    files: &[String],
     options: &Replay,
     output: &mut W,
     explanation: &mut Explanation,
 ) -> Result<Status, Fault>
-    ensures done { IfOk result (Leaves (IsReplayDone (F.held folder.old) options.now options.now.then_run)
+    ensures done { IfOk result
+        (Leaves (IsReplayDone (F.held folder.old)
+        (held_at (F.held folder.old) (map string_bytes files.now)) options.now options.now.then_run)
         (W.contents output.old) (W.contents output.new) (F.held folder.old) (F.held folder.new)) }
-    ensures faulty { IfErr result (LeavesAt (IsReplayUndone (F.held folder.old) options.now options.now.then_run
+    ensures faulty { IfErr result
+        (LeavesAt (IsReplayUndone (F.held folder.old)
+        (held_at (F.held folder.old) (map string_bytes files.now)) options.now options.now.then_run
         (W.contents output.old) (W.contents output.new)) (F.held folder.old) (F.held folder.new)) }
     ensures told { TellsFailures (FolderMayFail F.may_fail) result (W.failures output.old) (W.failures output.new) }
 {
     if let Some(then_run) = &options.then_run {
-        return replay_on(alloc, folder, options, then_run, output, explanation);
+        return replay_on(alloc, folder, files, options, then_run, output, explanation);
     }
-    let status = replayed(alloc, folder, options, output)?;
+    let status = replayed(alloc, folder, files, options, output)?;
     if let Some(most) = explanation.most_events(status, options.explain, options.quiet) {
         let lines = told_schedule(
             alloc,
             folder,
             &options.schedule,
-            &options.files,
+            files,
             &options.limits,
             most,
         );
@@ -54,26 +60,29 @@ pub(crate) fn replay<F: Folder, W: Sink>(
 }
 
 /// Replays a schedule of a folder over its class files, and writes the report.
-fn replayed<F: Folder, W: Sink>(
+fn replayed<'a, F: Folder, W: Sink>(
     alloc: Global,
-    folder: &F,
-    options: &Replay,
+    folder: &'a F,
+    files: &'a [String],
+    options: &'a Replay,
     output: &mut W,
 ) -> Result<Status, Fault>
     ensures replayed { IfOk result (λ status. (text : _)
-        × Replays (F.held folder.now (string_bytes options.now.schedule)) (files_at (F.held folder.now) options.now.files.items)
+        × Replays (F.held folder.now (string_bytes options.now.schedule))
+        (held_at (F.held folder.now) (map string_bytes files.now))
         options.now.limits text status
         × Appends (W.contents output.old) (W.contents output.new) text) }
     ensures faulty { IfErr result (IsFaulty (F.held folder.now (string_bytes options.now.schedule))
-        (files_at (F.held folder.now) options.now.files.items) options.now.limits (W.contents output.old) (W.contents output.new)) }
+        (held_at (F.held folder.now) (map string_bytes files.now)) options.now.limits (W.contents output.old)
+        (W.contents output.new)) }
     ensures told { TellsFailures (FolderMayFail F.may_fail) result (W.failures output.old) (W.failures output.new) }
 {
     let mut schedule = source(folder, options.schedule.as_str());
-    let mut files = sources(alloc, folder, &options.files)?;
+    let mut sources = sources(alloc, folder, files)?;
     replay_engine(
         alloc,
         &mut schedule,
-        files.as_mut_slice(),
+        sources.as_mut_slice(),
         &options.limits,
         output,
     )
@@ -83,53 +92,62 @@ fn replayed<F: Folder, W: Sink>(
 fn replay_on<F: Folder, W: Sink>(
     alloc: Global,
     folder: &mut F,
+    files: &[String],
     options: &Replay,
     then_run: &ThenRun,
     output: &mut W,
     explanation: &mut Explanation,
 ) -> Result<Status, Fault>
-    ensures done { IfOk result (Leaves (IsContinuationDone (F.held folder.old) options.now then_run.now)
+    ensures done { IfOk result
+        (Leaves (IsContinuationDone (F.held folder.old)
+        (held_at (F.held folder.old) (map string_bytes files.now)) options.now then_run.now)
         (W.contents output.old) (W.contents output.new) (F.held folder.old) (F.held folder.new)) }
-    ensures faulty { IfErr result (LeavesAt (IsContinuationUndone (F.held folder.old) options.now then_run.now
+    ensures faulty { IfErr result
+        (LeavesAt (IsContinuationUndone (F.held folder.old)
+        (held_at (F.held folder.old) (map string_bytes files.now)) options.now then_run.now
         (W.contents output.old) (W.contents output.new)) (F.held folder.old) (F.held folder.new)) }
     ensures told { TellsFailures (FolderMayFail F.may_fail) result (W.failures output.old) (W.failures output.new) }
 {
     try_record(alloc, folder, &then_run.record, explanation)?;
     let mut file = None;
-    let outcome = continued(alloc, folder, options, then_run, output, &mut file);
+    let outcome = continued(alloc, folder, files, options, then_run, output, &mut file);
     let status = recorded(alloc, folder, &then_run.record, &file, outcome, explanation)?;
     if let Some(most) = explanation.most_events(status, options.explain, options.quiet) {
-        let lines = told_record(alloc, folder, &file, &options.files, &options.limits, most);
+        let lines = told_record(alloc, folder, &file, files, &options.limits, most);
         explanation.tell(lines);
     }
     Ok(status)
 }
 
 /// Replays a schedule of a folder over its class files and goes on, writes the report, and makes the schedule file.
-fn continued<F: Folder, W: Sink>(
+fn continued<'a, F: Folder, W: Sink>(
     alloc: Global,
-    folder: &F,
-    options: &Replay,
+    folder: &'a F,
+    files: &'a [String],
+    options: &'a Replay,
     then_run: &ThenRun,
     output: &mut W,
     file: &mut Option<Vec<u8>>,
 ) -> Result<Status, Fault>
     ensures continued { IfOk result (λ status. (text : _)
-        × Continues (F.held folder.now (string_bytes options.now.schedule)) (files_at (F.held folder.now) options.now.files.items)
+        × Continues (F.held folder.now (string_bytes options.now.schedule))
+        (held_at (F.held folder.now) (map string_bytes files.now))
         options.now.limits (unwrap_or then_run.now.budget 10000000) text (option_map vec_items file.new) status
         × Appends (W.contents output.old) (W.contents output.new) text) }
     ensures asked { IfOk result (λ _. IsTrue (is_some then_run.now.record) → IsTrue (is_some file.new)) }
     ensures faulty { IfErr result (IsUncontinued (F.held folder.now (string_bytes options.now.schedule))
-        (files_at (F.held folder.now) options.now.files.items) options.now.limits (unwrap_or then_run.now.budget 10000000)
-        (W.contents output.old) (W.contents output.new) (option_map vec_items file.old) (option_map vec_items file.new)) }
+        (held_at (F.held folder.now) (map string_bytes files.now)) options.now.limits
+        (unwrap_or then_run.now.budget 10000000)
+        (W.contents output.old) (W.contents output.new) (option_map vec_items file.old)
+        (option_map vec_items file.new)) }
     ensures told { TellsFailures (FolderMayFail F.may_fail) result (W.failures output.old) (W.failures output.new) }
 {
     let mut schedule = source(folder, options.schedule.as_str());
-    let mut files = sources(alloc, folder, &options.files)?;
+    let mut sources = sources(alloc, folder, files)?;
     continue_engine(
         alloc,
         &mut schedule,
-        files.as_mut_slice(),
+        sources.as_mut_slice(),
         &options.limits,
         then_run,
         output,

@@ -1,16 +1,16 @@
 //! `run`.
 
-ghost use Rattle.std.specs.Prelude.{IfErr, IfOk, IsTrue, is_some, vec_items};
+ghost use Rattle.std.specs.Prelude.{IfErr, IfOk, IsTrue, is_some, vec_items, map, string_bytes};
 ghost use Rattle.std.specs.Option.{option_map};
 ghost use Rattle.std.specs.Io.KnownBytes.{Appends};
-ghost use Rattle.engines.specs.Commands.{IsRunDone, IsRunUndone, Leaves, LeavesAt, files_at};
+ghost use Rattle.engines.specs.Commands.{IsRunDone, IsRunUndone, Leaves, LeavesAt};
+ghost use Rattle.engines.specs.Files.{held_at};
 ghost use Rattle.engines.specs.Failures.{FolderMayFail, TellsFailures};
 ghost use Rattle.engines.specs.Runs.{IsUnrun, Runs};
 
 use crate::commands::storing::{recorded, try_record};
 use crate::explanation::Explanation;
 use crate::fault::Fault;
-use crate::folder::Folder;
 use crate::going_on::how_to_go_on;
 use crate::named_file::sources;
 use crate::running::run_engine;
@@ -19,6 +19,7 @@ use crate::status::Status;
 use crate::telling::told_record;
 use command_line::Run;
 use model::Sink;
+use program_files::Folder;
 use program_runs::workers::Gate;
 use std::alloc::Global;
 use std::sync::Wait;
@@ -30,21 +31,24 @@ pub(crate) fn run_files<R: Threads + Wait + Sync, G: Gate + Seeds + Sync, F: Fol
     alloc: Global,
     gate: &G,
     folder: &mut F,
+    files: &[String],
     options: &Run,
     output: &mut W,
     explanation: &mut Explanation,
 ) -> Result<Status, Fault>
-    ensures done { IfOk result (Leaves (IsRunDone (F.held folder.old) options.now)
+    ensures done { IfOk result
+        (Leaves (IsRunDone (held_at (F.held folder.old) (map string_bytes files.now)) options.now)
         (W.contents output.old) (W.contents output.new) (F.held folder.old) (F.held folder.new)) }
-    ensures faulty { IfErr result (LeavesAt (IsRunUndone (F.held folder.old) options.now
+    ensures faulty { IfErr result
+        (LeavesAt (IsRunUndone (held_at (F.held folder.old) (map string_bytes files.now)) options.now
         (W.contents output.old) (W.contents output.new)) (F.held folder.old) (F.held folder.new)) }
     ensures told { TellsFailures (FolderMayFail F.may_fail) result (W.failures output.old) (W.failures output.new) }
 {
     try_record(alloc, folder, &options.record, explanation)?;
     let mut file = None;
-    let outcome = ran(rt, alloc, gate, folder, options, output, &mut file);
+    let outcome = ran(rt, alloc, gate, folder, files, options, output, &mut file);
     let status = recorded(alloc, folder, &options.record, &file, outcome, explanation)?;
-    tell(alloc, folder, options, status, &file, explanation);
+    tell(alloc, folder, files, options, status, &file, explanation);
     Ok(status)
 }
 
@@ -52,6 +56,7 @@ pub(crate) fn run_files<R: Threads + Wait + Sync, G: Gate + Seeds + Sync, F: Fol
 fn tell<F: Folder>(
     alloc: Global,
     folder: &F,
+    files: &[String],
     options: &Run,
     status: Status,
     file: &Option<Vec<u8>>,
@@ -60,7 +65,7 @@ fn tell<F: Folder>(
     let Some(most) = explanation.most_events(status, options.explain, options.quiet) else {
         return;
     };
-    let lines = told_record(alloc, folder, file, &options.files, &options.limits, most);
+    let lines = told_record(alloc, folder, file, files, &options.limits, most);
     explanation.tell(lines);
     if status == Status::UsedUp {
         explanation.tell_more(how_to_go_on(alloc, options));
@@ -73,20 +78,29 @@ fn ran<R: Threads + Wait + Sync, G: Gate + Seeds + Sync, F: Folder, W: Sink>(
     alloc: Global,
     gate: &G,
     folder: &F,
+    files: &[String],
     options: &Run,
     output: &mut W,
     file: &mut Option<Vec<u8>>,
 ) -> Result<Status, Fault>
     ensures ran { IfOk result (λ status. (text : _)
-        × Runs (files_at (F.held folder.now) options.now.files.items) options.now.limits options.now.options
+        × Runs (held_at (F.held folder.now) (map string_bytes files.now)) options.now.limits options.now.options
         text (option_map vec_items file.new) status
         × Appends (W.contents output.old) (W.contents output.new) text) }
     ensures asked { IfOk result (λ _. IsTrue (is_some options.now.record) → IsTrue (is_some file.new)) }
-    ensures faulty { IfErr result (IsUnrun (files_at (F.held folder.now) options.now.files.items)
+    ensures faulty { IfErr result (IsUnrun (held_at (F.held folder.now) (map string_bytes files.now))
         options.now.limits options.now.options (W.contents output.old) (W.contents output.new)
         (option_map vec_items file.old) (option_map vec_items file.new)) }
     ensures told { TellsFailures (FolderMayFail F.may_fail) result (W.failures output.old) (W.failures output.new) }
 {
-    let mut files = sources(alloc, folder, &options.files)?;
-    run_engine(rt, alloc, gate, files.as_mut_slice(), options, output, file)
+    let mut sources = sources(alloc, folder, files)?;
+    run_engine(
+        rt,
+        alloc,
+        gate,
+        sources.as_mut_slice(),
+        options,
+        output,
+        file,
+    )
 }

@@ -9,13 +9,13 @@ ghost use Rattle.engines.specs.Transcriptions.{IsUntranscribed, Transcribes};
 use crate::commands::storing::store;
 use crate::explanation::Explanation;
 use crate::fault::Fault;
-use crate::folder::Folder;
 use crate::made_file::MadeFile;
 use crate::named_file::source;
 use crate::status::Status;
 use crate::transcribing::{schedule_engine, write_schedule_engine};
 use command_line::Schedule;
 use model::{Sink, Source};
+use program_files::Folder;
 use std::alloc::Global;
 
 /// `schedule`.
@@ -27,7 +27,8 @@ pub(crate) fn schedule<F: Folder, I: Source, W: Sink>(
     output: &mut W,
     explanation: &mut Explanation,
 ) -> Result<Status, Fault>
-    ensures done { IfOk result (Leaves (IsScheduleDone (F.held folder.old) (I.remaining input.old) options.now options.now.write)
+    ensures done { IfOk result
+        (Leaves (IsScheduleDone (F.held folder.old) (I.remaining input.old) options.now options.now.write)
         (W.contents output.old) (W.contents output.new) (F.held folder.old) (F.held folder.new)) }
     ensures faulty { IfErr result (LeavesAt (IsScheduleUndone (F.held folder.old) (I.remaining input.old) options.now
         options.now.write (W.contents output.old) (W.contents output.new)) (F.held folder.old) (F.held folder.new)) }
@@ -49,9 +50,11 @@ fn write_schedule<F: Folder, I: Source>(
     input: &mut I,
     explanation: &mut Explanation,
 ) -> Result<Status, Fault>
-    ensures done { IfOk result (λ status. (bytes : _) × Transcribes (I.remaining input.old) bytes × (status ≡ Status.Returned)
+    ensures done { IfOk result (λ status. (bytes : _) × Transcribes (I.remaining input.old) bytes
+        × (status ≡ Status.Returned)
         × IsWith (F.held folder.old) (F.held folder.new) (Some (string_bytes options.now.file, bytes))) }
-    ensures faulty { IfErr result (λ fault. ((kept : _) × (made : _) × IsUntranscribed (I.remaining input.old) kept made fault)
+    ensures faulty { IfErr result (λ fault.
+        ((kept : _) × (made : _) × IsUntranscribed (I.remaining input.old) kept made fault)
         × IsWith (F.held folder.old) (F.held folder.new) None) }
     ensures told { TellsFailures (FolderMayFail F.may_fail) result (I.failures input.old) (I.failures input.new) }
 {

@@ -1,10 +1,11 @@
 //! `search`.
 
-ghost use Rattle.std.specs.Prelude.{◌≡◌, ◌⊎◌, IfErr, IfOk, None, Some, is_some, vec_items};
+ghost use Rattle.std.specs.Prelude.{◌≡◌, ◌⊎◌, IfErr, IfOk, None, Some, is_some, vec_items, map, string_bytes};
 ghost use Rattle.std.specs.Option.{option_map};
 ghost use Rattle.std.specs.Io.KnownBytes.{Appends};
-ghost use Rattle.engines.specs.Commands.{IsSearchDone, IsSearchUndone, Leaves, LeavesAt, files_at};
+ghost use Rattle.engines.specs.Commands.{IsSearchDone, IsSearchUndone, Leaves, LeavesAt};
 ghost use Rattle.engines.specs.Devices.{IsUnable};
+ghost use Rattle.engines.specs.Files.{held_at};
 ghost use Rattle.engines.specs.Failures.{FolderMayFail, TellsFailures};
 ghost use Rattle.engines.specs.Goals.{IsAskedFor};
 ghost use Rattle.engines.specs.declared.fault.Fault.TheVariants.{Device};
@@ -14,12 +15,12 @@ use crate::commands::outcome_texts::text_of_file;
 use crate::commands::storing::{recorded, try_record};
 use crate::explanation::Explanation;
 use crate::fault::Fault;
-use crate::folder::Folder;
 use crate::named_file::{source, sources};
 use crate::searching::search_engine;
 use crate::status::Status;
 use command_line::{Goal, Search};
 use model::{Sink, Source};
+use program_files::Folder;
 use search::Progress;
 use search::run_outcomes::{Wanted, printed_lines};
 use std::alloc::Global;
@@ -29,15 +30,19 @@ pub(crate) fn search<P: Progress, F: Folder, W: Sink>(
     alloc: Global,
     progress: &P,
     folder: &mut F,
+    files: &[String],
     options: &Search,
     output: &mut W,
     explanation: &mut Explanation,
 ) -> Result<Status, Fault>
-    ensures done { IfOk result (Leaves (IsSearchDone (F.held folder.old) options.now)
+    ensures done { IfOk result
+        (Leaves (IsSearchDone (F.held folder.old)
+        (held_at (F.held folder.old) (map string_bytes files.now)) options.now)
         (W.contents output.old) (W.contents output.new) (F.held folder.old) (F.held folder.new)) }
     ensures faulty { IfErr result (LeavesAt (λ fault written.
         (IsUnable fault × (W.contents output.new ≡ W.contents output.old) × (written ≡ None))
-        ⊎ IsSearchUndone (F.held folder.old) options.now (W.contents output.old) (W.contents output.new) fault written)
+        ⊎ IsSearchUndone (F.held folder.old) (held_at (F.held folder.old) (map string_bytes files.now)) options.now
+        (W.contents output.old) (W.contents output.new) fault written)
         (F.held folder.old) (F.held folder.new)) }
     ensures told { TellsFailures (FolderMayFail F.may_fail) result (W.failures output.old) (W.failures output.new) }
 {
@@ -47,6 +52,7 @@ pub(crate) fn search<P: Progress, F: Folder, W: Sink>(
         alloc,
         progress,
         folder,
+        files,
         options,
         &wanted,
         output,
@@ -59,21 +65,26 @@ fn search_for<P: Progress, F: Folder, W: Sink>(
     alloc: Global,
     progress: &P,
     folder: &mut F,
+    files: &[String],
     options: &Search,
     wanted: &Wanted,
     output: &mut W,
     explanation: &mut Explanation,
 ) -> Result<Status, Fault>
     ensures done { IsAskedFor (F.held folder.old) options.now.goal wanted.now
-        → IfOk result (Leaves (IsSearchDone (F.held folder.old) options.now)
+        → IfOk result (Leaves
+        (IsSearchDone (F.held folder.old) (held_at (F.held folder.old) (map string_bytes files.now)) options.now)
         (W.contents output.old) (W.contents output.new) (F.held folder.old) (F.held folder.new)) }
     ensures faulty { IsAskedFor (F.held folder.old) options.now.goal wanted.now
-        → IfErr result (LeavesAt (IsSearchUndone (F.held folder.old) options.now
+        → IfErr result (LeavesAt
+        (IsSearchUndone (F.held folder.old) (held_at (F.held folder.old) (map string_bytes files.now)) options.now
         (W.contents output.old) (W.contents output.new)) (F.held folder.old) (F.held folder.new)) }
     ensures told { TellsFailures (FolderMayFail F.may_fail) result (W.failures output.old) (W.failures output.new) }
 {
     let mut file = None;
-    let outcome = searched(alloc, progress, folder, options, wanted, output, &mut file);
+    let outcome = searched(
+        alloc, progress, folder, files, options, wanted, output, &mut file,
+    );
     recorded(alloc, folder, &options.record, &file, outcome, explanation)
 }
 
@@ -82,25 +93,28 @@ fn searched<P: Progress, F: Folder, W: Sink>(
     alloc: Global,
     progress: &P,
     folder: &F,
+    files: &[String],
     options: &Search,
     wanted: &Wanted,
     output: &mut W,
     file: &mut Option<Vec<u8>>,
 ) -> Result<Status, Fault>
     ensures searched { IfOk result (λ status. (text : _)
-        × Searches (files_at (F.held folder.now) options.now.files.items) options.now.limits wanted.now (most_states options.now)
+        × Searches (held_at (F.held folder.now) (map string_bytes files.now)) options.now.limits wanted.now
+        (most_states options.now)
         (is_some options.now.record) text (option_map vec_items file.new) status
         × Appends (W.contents output.old) (W.contents output.new) text) }
-    ensures faulty { IfErr result (IsUnsearched (files_at (F.held folder.now) options.now.files.items)
-        options.now.limits wanted.now (most_states options.now) (is_some options.now.record) (W.contents output.old) (W.contents output.new)
+    ensures faulty { IfErr result (IsUnsearched (held_at (F.held folder.now) (map string_bytes files.now))
+        options.now.limits wanted.now (most_states options.now) (is_some options.now.record) (W.contents output.old)
+        (W.contents output.new)
         (option_map vec_items file.old) (option_map vec_items file.new)) }
     ensures told { TellsFailures (FolderMayFail F.may_fail) result (W.failures output.old) (W.failures output.new) }
 {
-    let mut files = sources(alloc, folder, &options.files)?;
+    let mut sources = sources(alloc, folder, files)?;
     search_engine(
         alloc,
         progress,
-        files.as_mut_slice(),
+        sources.as_mut_slice(),
         options,
         wanted,
         output,

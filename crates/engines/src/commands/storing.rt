@@ -9,9 +9,9 @@ ghost use Rattle.engines.specs.Files.{IsWith, written_at};
 
 use crate::explanation::Explanation;
 use crate::fault::{Fault, device_fault};
-use crate::folder::Folder;
 use crate::status::Status;
 use model::DeviceFault;
+use program_files::Folder;
 use std::alloc::Global;
 use std::io;
 

@@ -111,7 +111,8 @@ fn say_in_code(
     line.say(" names it")
 }
 
-/// Adds which class isn't found that a method or a class names, and where it names it. The sort of the two stands before its name.
+/// Adds which class isn't found that a method or a class names, and where it names it. The sort of the two stands
+/// before its name.
 fn say_lacking(
     line: &mut Line,
     lacking: Option<(&[u8], &'static str)>,

@@ -86,7 +86,8 @@ fn instruction_on_top(program: &LinkedProgram, stack: &ThreadStack) -> Option<Li
     }
 }
 
-/// The object whose monitor an instruction enters, if it enters one: `monitorenter`, or the call of a synchronized method.
+/// The object whose monitor an instruction enters, if it enters one: `monitorenter`, or the call of a synchronized
+/// method.
 fn entered_by(
     program: &LinkedProgram,
     stack: &ThreadStack,
@@ -234,8 +235,8 @@ fn superclass_of(program: &LinkedProgram, class: u16) -> Option<u16>
     }
 }
 
-/// The class that a thread needs initialised: that of `main` first, that of its instruction, or the superclass of the one that it
-/// initialises.
+/// The class that a thread needs initialised: that of `main` first, that of its instruction, or the superclass of the
+/// one that it initialises.
 fn class_of_next(program: &LinkedProgram, stack: &ThreadStack) -> Option<u16>
     ensures { result ≡ waits.class_of_next program.now stack.now }
 {
@@ -264,7 +265,8 @@ fn awaited_with(
     thread: u16,
     end: &EndState,
 ) -> Awaited
-    ensures { result ≡ waits.awaited_with program.now shared.now.threads.threads thread stack.now (end_state_of end.now) }
+    ensures { result ≡ waits.awaited_with program.now shared.now.threads.threads thread stack.now
+        (end_state_of end.now) }
 {
     let status = shared.threads.status(thread);
     match end {
@@ -314,7 +316,8 @@ fn initiator_by(status: ClassStatus) -> Option<u16>
     }
 }
 
-/// The thread that initialises a class. The classes of the files come behind the built-in ones, which are initialised from the start.
+/// The thread that initialises a class. The classes of the files come behind the built-in ones, which are initialised
+/// from the start.
 fn initiator_of(shared: &Shared, program: &LinkedProgram, class: u16) -> Option<u16>
     ensures { result ≡ waits.initiator_of program.now shared.now class }
 {

@@ -17,7 +17,8 @@ pub(crate) fn next_of(waits: &[Wait], thread: u16) -> Option<u16>
     }
 }
 
-/// The cycle of threads, each of which waits for the next one and the last for the first, whose least thread is this, if it is in one.
+/// The cycle of threads, each of which waits for the next one and the last for the first, whose least thread is this,
+/// if it is in one.
 fn cycle_from(alloc: Global, waits: &[Wait], least: u16) -> Result<Option<Vec<u16>>, AllocError>
     ensures { IfOk result (IsFoundFrom waits.now least) }
 {
@@ -39,7 +40,8 @@ fn cycle_from(alloc: Global, waits: &[Wait], least: u16) -> Result<Option<Vec<u1
     Ok(None)
 }
 
-/// The cycles of threads, each of which waits for the next one and the last for the first: each cycle once, from its least thread on.
+/// The cycles of threads, each of which waits for the next one and the last for the first: each cycle once, from its
+/// least thread on.
 pub(crate) fn cycles(alloc: Global, waits: &[Wait]) -> Result<Vec<Vec<u16>>, AllocError>
     requires { length waits.now ≤ 2 ^ 16 }
     ensures { IfOk result (λ found. AreCycles waits.now (map vec_items found.items)) }

@@ -116,7 +116,8 @@ fn push_cycle(line: &mut Vec<u8>, waits: &[Wait], cycle: &[u16]) -> Result<(), A
 
 /// ` that an interrupt may end`, where it may.
 fn push_end(line: &mut Vec<u8>, may_be_ended: bool) -> Result<(), AllocError>
-    ensures { OnOk result (line.new.items ≡ line.old.items ++ (if may_be_ended then codes " that an interrupt may end" else [])) }
+    ensures { OnOk result (line.new.items
+        ≡ line.old.items ++ (if may_be_ended then codes " that an interrupt may end" else [])) }
 {
     if may_be_ended {
         push_words(line, " that an interrupt may end")?;
@@ -131,7 +132,8 @@ fn push_deadlock(
     ends: &[EndState],
     cycle: &[u16],
 ) -> Result<(), AllocError>
-    ensures { OnOk result (text.new.items ≡ text.old.items ++ line (words.deadlock_words waits.now ends.now cycle.now)) }
+    ensures { OnOk result (text.new.items
+        ≡ text.old.items ++ line (words.deadlock_words waits.now ends.now cycle.now)) }
 {
     push_words(text, "deadlock")?;
     push_end(text, may_be_ended(waits, ends, cycle))?;

@@ -128,8 +128,8 @@ fn details_in(
     })
 }
 
-/// What is told of threads that share this after the events of the schedule, and that stand so. The events are done again where an
-/// exception ended a thread.
+/// What is told of threads that share this after the events of the schedule, and that stand so. The events are done
+/// again where an exception ended a thread.
 pub(crate) fn details_of(
     alloc: Global,
     linked: &Linked,

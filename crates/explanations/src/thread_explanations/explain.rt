@@ -55,7 +55,8 @@ fn push_told(
     end: &EndState,
     lines: &[Vec<u8>],
 ) -> Result<(), AllocError>
-    ensures { OnOk result (text.new.items ≡ text.old.items ++ told_of thread (end_state_of end.now) (map vec_items lines.now)) }
+    ensures { OnOk result (text.new.items
+        ≡ text.old.items ++ told_of thread (end_state_of end.now) (map vec_items lines.now)) }
 {
     if let EndState::Ended = end {
         return Ok(());
@@ -81,7 +82,8 @@ fn push_threads(
     ends: &[EndState],
     details: &Details,
 ) -> Result<(), AllocError>
-    ensures { OnOk result (text.new.items ≡ text.old.items ++ told_of_all 0 (map end_state_of ends.now) (lines_at details.now)) }
+    ensures { OnOk result (text.new.items
+        ≡ text.old.items ++ told_of_all 0 (map end_state_of ends.now) (lines_at details.now)) }
 {
     for (thread, end) in ends.iter().enumerate() {
         push_told(alloc, text, thread, end, lines_at(details, thread))?;
@@ -92,7 +94,8 @@ fn push_threads(
 /// The text of threads that stand so.
 fn text_of(alloc: Global, ends: &[EndState], details: &Details) -> Result<Vec<u8>, AllocError>
     ensures { IfOk result (λ text. text.items ≡ told_of_all 0 (map end_state_of ends.now) (lines_at details.now)
-        ++ flat_map (λ cycle. line (deadlock_words details.now.waits.items ends.now cycle)) (map vec_items details.now.cycles.items)) }
+        ++ flat_map (λ cycle.
+        line (deadlock_words details.now.waits.items ends.now cycle)) (map vec_items details.now.cycles.items)) }
 {
     let mut text = Vec::new(alloc);
     push_threads(alloc, &mut text, ends, details)?;
@@ -112,11 +115,11 @@ fn open_machine(
     Machine::open(alloc, Arc::try_clone(program)?, limits)
 }
 
-/// What the threads are about that did not end normally, after the events of a schedule, as far as they go, under the limits of the run
-/// (JVMS 2.10, 5.5; JLS 17). The program is that of the linked class files, which are accepted. Of each thread stands its line of the
-/// report, and below it indented lines: where its frames stand, or stood when it threw the exception that ended it, and what it waits
-/// for. A line for each deadlock stands behind them. Of a run in which all threads ended normally nothing is told. The only error is a
-/// want of memory.
+/// What the threads are about that did not end normally, after the events of a schedule, as far as they go, under the
+/// limits of the run (JVMS 2.10, 5.5; JLS 17). The program is that of the linked class files, which are accepted. Of
+/// each thread stands its line of the report, and below it indented lines: where its frames stand, or stood when it
+/// threw the exception that ended it, and what it waits for. A line for each deadlock stands behind them. Of a run in
+/// which all threads ended normally nothing is told. The only error is a want of memory.
 pub fn explain_threads(
     alloc: Global,
     linked: &Linked,

@@ -7,7 +7,8 @@ use model::ScheduleEntry;
 use schedule::Schedule;
 use std::alloc::{AllocError, Global};
 
-/// Does the events of an entry, one by one, and looks at the thread before and after each. Returns whether all were done.
+/// Does the events of an entry, one by one, and looks at the thread before and after each. Returns whether all were
+/// done.
 fn follow_watched(
     alloc: Global,
     machine: &mut Machine,

@@ -59,7 +59,8 @@ fn causes_of(alloc: Global, watches: &[Watch]) -> Result<Vec<Watch>, AllocError>
     Ok(causes)
 }
 
-/// Does the events of the schedule once more, and looks at those that the watches are for. Does none where no watch is for one.
+/// Does the events of the schedule once more, and looks at those that the watches are for. Does none where no watch
+/// is for one.
 fn watch(
     alloc: Global,
     program: &Arc<LinkedProgram>,
@@ -123,8 +124,8 @@ fn all_thrown(
     Ok(throws)
 }
 
-/// Of each thread, by its number, from where the exception was thrown that ended it. Where there is one, the run is done once more for
-/// it, and once again where one of them has a cause.
+/// Of each thread, by its number, from where the exception was thrown that ended it. Where there is one, the run is
+/// done once more for it, and once again where one of them has a cause.
 pub(crate) fn throws_of(
     alloc: Global,
     program: &Arc<LinkedProgram>,

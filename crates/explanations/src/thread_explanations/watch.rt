@@ -11,7 +11,8 @@ use traces::traced_events::class_on_top;
 pub(crate) struct Throw {
     /// Where the frames of the thread stood before it.
     pub(crate) stack: StackPlaces,
-    /// The class whose initialisation failed in that event, by its number, and the exception on account of which it did.
+    /// The class whose initialisation failed in that event, by its number, and the exception on account of which it
+    /// did.
     pub(crate) failed: Option<(u16, u32)>,
 }
 

@@ -141,21 +141,24 @@ impl Threads {
     }
 
     pub fn set_begun(&mut self, thread: u16, begun: bool)
-        ensures { self.new ≡ with_thread self.old thread (record (thread_at self.old.threads thread) { begun = begun }) }
+        ensures { self.new ≡ with_thread self.old thread
+            (record (thread_at self.old.threads thread) { begun = begun }) }
     {
         let value = thread_of(self.threads.as_slice(), thread);
         self.set(thread, Thread { begun, ..value });
     }
 
     pub fn set_pending(&mut self, thread: u16, pending: Option<u32>)
-        ensures { self.new ≡ with_thread self.old thread (record (thread_at self.old.threads thread) { pending = pending }) }
+        ensures { self.new ≡ with_thread self.old thread
+            (record (thread_at self.old.threads thread) { pending = pending }) }
     {
         let value = thread_of(self.threads.as_slice(), thread);
         self.set(thread, Thread { pending, ..value });
     }
 
     pub fn set_interrupted(&mut self, thread: u16, interrupted: bool)
-        ensures { self.new ≡ with_thread self.old thread (record (thread_at self.old.threads thread) { interrupted = interrupted }) }
+        ensures { self.new ≡ with_thread self.old thread
+            (record (thread_at self.old.threads thread) { interrupted = interrupted }) }
     {
         let value = thread_of(self.threads.as_slice(), thread);
         self.set(
@@ -168,7 +171,8 @@ impl Threads {
     }
 
     pub fn set_status(&mut self, thread: u16, status: ThreadStatus)
-        ensures { self.new ≡ with_thread self.old thread (record (thread_at self.old.threads thread) { status = status_of status }) }
+        ensures { self.new ≡ with_thread self.old thread
+            (record (thread_at self.old.threads thread) { status = status_of status }) }
     {
         let value = thread_of(self.threads.as_slice(), thread);
         self.set(thread, Thread { status, ..value });

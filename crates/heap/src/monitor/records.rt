@@ -158,14 +158,16 @@ impl Records {
 
     pub fn set_owner(&mut self, index: u32, owner: Option<u16>, count: u32)
         requires { index < length self.old }
-        ensures { self.new ≡ slice_set self.old index (record (monitor_at self.old index) { owner = owner; count = count }) }
+        ensures { self.new ≡ slice_set self.old index
+            (record (monitor_at self.old index) { owner = owner; count = count }) }
     {
         self.listings[index as usize].set_owner(owner, count);
     }
 
     /// One more record, without an owner, in whose wait set this thread is alone.
     pub fn add_waiting(&mut self, waiter: Waiter) -> Result<(), AllocError>
-        ensures ok { OnOk result (self.new ≡ self.old ++ record { owner = None; count = 0; waiters = waiter ∷ [] } ∷ []) }
+        ensures ok { OnOk result (self.new
+            ≡ self.old ++ record { owner = None; count = 0; waiters = waiter ∷ [] } ∷ []) }
         ensures err { OnErr result (self.new ≡ self.old) }
     {
         self.waiters.reserve(1)?;
@@ -185,7 +187,10 @@ impl Records {
     pub fn join(&mut self, index: u32, waiter: Waiter) -> Result<(), AllocError>
         requires { index < length self.old }
         ensures ok { OnOk result (self.new ≡ slice_set self.old
-            index (record (monitor_at self.old index) { waiters = (monitor_at self.old index).waiters ++ waiter ∷ [] })) }
+            index (record (monitor_at self.old index) {
+              waiters = (monitor_at self.old index).waiters
+                  ++ waiter ∷ [];
+            })) }
         ensures err { OnErr result (self.new ≡ self.old) }
     {
         self.waiters.reserve(1)?;

@@ -87,7 +87,8 @@ impl Table {
 
     /// One more monitor without an owner, in whose wait set this thread is alone.
     pub fn add_waiting(&mut self, waiter: Waiter) -> Result<(), AllocError>
-        ensures ok { OnOk result (self.new ≡ self.old ++ record { owner = None; count = 0; waiters = waiter ∷ [] } ∷ []) }
+        ensures ok { OnOk result (self.new
+            ≡ self.old ++ record { owner = None; count = 0; waiters = waiter ∷ [] } ∷ []) }
         ensures err { OnErr result (self.new ≡ self.old) }
     {
         self.records.add_waiting(waiter)
@@ -139,9 +140,11 @@ impl Table {
     pub fn enter(&mut self, index: u32, thread: u16) -> Result<MonitorAnswer, MonitorRefusal>
         requires { index < length self.old }
         ensures answer { IfOk result (λ a. a ≡ (monitor_enter thread (monitor_at self.old index)).answer) }
-        ensures after { OnOk result (self.new ≡ slice_set self.old index (monitor_enter thread (monitor_at self.old index)).after) }
+        ensures after { OnOk result (self.new
+            ≡ slice_set self.old index (monitor_enter thread (monitor_at self.old index)).after) }
         ensures counted { OnOk result (is_at_most_entries thread (monitor_at self.old index) ≡ false) }
-        ensures refused { IfErr result (λ e. (e ≡ MonitorRefusal.LockCount) × (is_at_most_entries thread (monitor_at self.old index) ≡ true)
+        ensures refused { IfErr result (λ e. (e ≡ MonitorRefusal.LockCount)
+            × (is_at_most_entries thread (monitor_at self.old index) ≡ true)
             × (self.new ≡ self.old)) }
     {
         match self.records.owner(index) {
@@ -178,7 +181,8 @@ impl Table {
     pub fn wait(&mut self, index: u32, thread: u16) -> Result<MonitorAnswer, AllocError>
         requires { index < length self.old }
         ensures answer { IfOk result (λ a. a ≡ (monitor_wait thread (monitor_at self.old index)).answer) }
-        ensures after { OnOk result (self.new ≡ slice_set self.old index (monitor_wait thread (monitor_at self.old index)).after) }
+        ensures after { OnOk result (self.new
+            ≡ slice_set self.old index (monitor_wait thread (monitor_at self.old index)).after) }
         ensures joins { OnErr result (owns thread (monitor_at self.old index).owner ≡ true) }
         ensures refused { OnErr result (self.new ≡ self.old) }
     {
@@ -194,7 +198,8 @@ impl Table {
     pub fn notify(&mut self, index: u32, thread: u16, pick: u16) -> MonitorAnswer
         requires { index < length self.old }
         ensures answer { result ≡ (monitor_notify thread pick (monitor_at self.old index)).answer }
-        ensures after { self.new ≡ slice_set self.old index (monitor_notify thread pick (monitor_at self.old index)).after }
+        ensures after { self.new
+            ≡ slice_set self.old index (monitor_notify thread pick (monitor_at self.old index)).after }
     {
         if !is_owner(&self.records, index, thread) {
             return MonitorAnswer::NotOwner;
@@ -209,7 +214,8 @@ impl Table {
     pub fn notify_all(&mut self, index: u32, thread: u16) -> MonitorAnswer
         requires { index < length self.old }
         ensures answer { result ≡ (monitor_notify_all thread (monitor_at self.old index)).answer }
-        ensures after { self.new ≡ slice_set self.old index (monitor_notify_all thread (monitor_at self.old index)).after }
+        ensures after { self.new
+            ≡ slice_set self.old index (monitor_notify_all thread (monitor_at self.old index)).after }
     {
         if !is_owner(&self.records, index, thread) {
             return MonitorAnswer::NotOwner;
@@ -237,7 +243,8 @@ impl Table {
     pub fn relock(&mut self, index: u32, thread: u16, count: u32) -> MonitorAnswer
         requires { index < length self.old }
         ensures answer { result ≡ (monitor_relock thread count (monitor_at self.old index)).answer }
-        ensures after { self.new ≡ slice_set self.old index (monitor_relock thread count (monitor_at self.old index)).after }
+        ensures after { self.new
+            ≡ slice_set self.old index (monitor_relock thread count (monitor_at self.old index)).after }
     {
         if self.records.owner(index).is_some() {
             return MonitorAnswer::Held;

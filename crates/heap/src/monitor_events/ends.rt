@@ -13,22 +13,25 @@ use crate::monitor_events::waking::wake_members;
 /// A thread has ended, with the exception that was pending in it or without one.
 fn set_ended(threads: &mut Threads, thread: u16)
     requires { thread < length threads.old.threads }
-    ensures { ThreadsBecome (λ world. with_thread world thread (ended (thread_at world thread))) threads.old threads.new }
+    ensures { ThreadsBecome (λ world.
+        with_thread world thread (ended (thread_at world thread))) threads.old threads.new }
 {
     let pending = threads.pending(thread);
     threads.set_pending(thread, None);
     threads.set_status(thread, ThreadStatus::Ended(pending));
 }
 
-/// The end of a thread, by an exception that is pending or without: all that wait on its Thread object are woken,
-/// and what it owns stays owned. A thread that joins it may go on from here, since it isn't alive any more. It takes no memory.
+/// The end of a thread, by an exception that is pending or without: all that wait on its Thread object are woken, and
+/// what it owns stays owned. A thread that joins it may go on from here, since it isn't alive any more. It takes no
+/// memory.
 ///
 /// That the Thread object is there follows from the table of threads of a well-typed state (`references_have_room` of
 /// `limits_at_words`).
 pub fn end(heap: &mut Heap, threads: &mut Threads, thread: u16)
     requires there { thread < length threads.old.threads }
     requires object { (row_at threads.old.threads thread).object < length heap.old.locks.monitors }
-    ensures { BothBecome (λ world. with_end world thread true) heap.old.locks.fat heap.old heap.new threads.old threads.new }
+    ensures { BothBecome (λ world.
+        with_end world thread true) heap.old.locks.fat heap.old heap.new threads.old threads.new }
 {
     let object = threads.object(thread);
     set_ended(threads, thread);

@@ -46,8 +46,8 @@ pub fn is_owner(heap: &Heap, object: u32, thread: u16) -> bool
 ///
 /// # Errors
 ///
-/// Where the lock would become one of too many fat locks, the owner has entered 4,294,967,295 times, or there is no memory.
-/// Nothing has changed then.
+/// Where the lock would become one of too many fat locks, the owner has entered 4,294,967,295 times, or there is no
+/// memory. Nothing has changed then.
 pub fn enter(heap: &mut Heap, object: u32, thread: u16) -> Result<bool, MonitorRefusal>
     requires there { object < length heap.old.locks.monitors }
     requires numbered { thread < 32767 }

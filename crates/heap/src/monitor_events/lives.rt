@@ -18,7 +18,8 @@ pub fn is_started(threads: &Threads, object: u32) -> bool
     threads.number(object).is_some()
 }
 
-/// Starts a thread of a Thread object, and says whether it did: a second one is never started, and nothing changes then.
+/// Starts a thread of a Thread object, and says whether it did: a second one is never started, and nothing changes
+/// then.
 ///
 /// # Errors
 ///
@@ -40,14 +41,15 @@ pub fn set_interrupted(threads: &mut Threads, thread: u16, interrupted: bool)
     threads.set_interrupted(thread, interrupted);
 }
 
-/// A thread is interrupted (JLS 17.2.3): one in a wait set leaves it, and is to enter the monitor again; nothing becomes of
-/// one that has ended.
+/// A thread is interrupted (JLS 17.2.3): one in a wait set leaves it, and is to enter the monitor again; nothing
+/// becomes of one that has ended.
 ///
 /// That the object on which it waits is there follows from the status of each thread of a well-typed state
 /// (`references_have_room` of `limits_at_words`).
 pub fn interrupt(heap: &mut Heap, threads: &mut Threads, thread: u16)
     requires { IsStatusWithin (length heap.old.locks.monitors) (row_at threads.old.threads thread).status }
-    ensures { BothBecome (λ world. interrupted_in world thread (thread_at world thread).status) heap.old.locks.fat heap.old heap.new
+    ensures { BothBecome (λ world.
+        interrupted_in world thread (thread_at world thread).status) heap.old.locks.fat heap.old heap.new
         threads.old threads.new }
 {
     match threads.status(thread) {

@@ -36,12 +36,14 @@ pub fn wait(
     Ok(true)
 }
 
-/// The member of this number, in joining order from 0, leaves the wait set of an object, if there is one and the thread is
-/// the owner of the monitor (JLS 17.2.2). It says whether the thread is the owner; nothing changes where it isn't.
+/// The member of this number, in joining order from 0, leaves the wait set of an object, if there is one and the
+/// thread is the owner of the monitor (JLS 17.2.2). It says whether the thread is the owner; nothing changes where it
+/// isn't.
 pub fn notify(heap: &mut Heap, threads: &mut Threads, object: u32, thread: u16, pick: u16) -> bool
     requires { object < length heap.old.locks.monitors }
     ensures owner { SaysOwner result object thread heap.old }
-    ensures after { OwnerMakes result (λ world. notified world thread object pick) heap.old heap.new threads.old threads.new }
+    ensures after { OwnerMakes result (λ world.
+        notified world thread object pick) heap.old heap.new threads.old threads.new }
 {
     let owner = is_owner(heap, object, thread);
     if owner {
@@ -54,8 +56,8 @@ pub fn notify(heap: &mut Heap, threads: &mut Threads, object: u32, thread: u16, 
     owner
 }
 
-/// A thread that has left a wait set enters the monitor again as often as it had entered it, and runs (JLS 17.2.1), where no
-/// thread owns the monitor. It says whether that is so; nothing changes where it isn't.
+/// A thread that has left a wait set enters the monitor again as often as it had entered it, and runs (JLS 17.2.1),
+/// where no thread owns the monitor. It says whether that is so; nothing changes where it isn't.
 ///
 /// That the call is allowed for each thread to which a status gives that object and count is `relocks_may_be_called` of
 /// `limits_at_words`.

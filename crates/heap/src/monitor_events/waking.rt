@@ -37,12 +37,13 @@ pub fn wake_members(heap: &Heap, threads: &mut Threads, object: u32, cause: Wake
     }
 }
 
-/// All members leave the wait set of an object (JLS 17.2.2), if the thread is the owner of its monitor, and it says whether
-/// it is. It takes no memory.
+/// All members leave the wait set of an object (JLS 17.2.2), if the thread is the owner of its monitor, and it says
+/// whether it is. It takes no memory.
 pub fn notify_all(heap: &mut Heap, threads: &mut Threads, object: u32, thread: u16) -> bool
     requires { object < length heap.old.locks.monitors }
     ensures owner { SaysOwner result object thread heap.old }
-    ensures after { OwnerMakes result (λ world. notified_all world thread object) heap.old heap.new threads.old threads.new }
+    ensures after { OwnerMakes result (λ world.
+        notified_all world thread object) heap.old heap.new threads.old threads.new }
 {
     let owner = is_owner(heap, object, thread);
     if owner {

@@ -109,9 +109,9 @@ fn run(row: &TypeRow, frame: &mut FrameType) -> Result<(), AllocError>
     Ok(())
 }
 
-/// Where the instruction of a site leads from a frame type, if it is local (JVMS 4.10.1.9), in a method whose stack is never
-/// deeper than `max_stack` words. The frame type becomes the one that it leads on with; unless it leads on, it stays as it
-/// was.
+/// Where the instruction of a site leads from a frame type, if it is local (JVMS 4.10.1.9), in a method whose stack
+/// is never deeper than `max_stack` words. The frame type becomes the one that it leads on with; unless it leads on,
+/// it stays as it was.
 pub fn local_flow(
     alloc: Global,
     set: &ClassSet,
@@ -120,7 +120,8 @@ pub fn local_flow(
     frame: &mut FrameType,
 ) -> Result<LocalFlow, AllocError>
     requires { site.offset < 2 ^ 63 }
-    ensures { FlowsLocally set.now max_stack (frame_in set.now frame.old) (frame_in set.now frame.new) result (row_at site.entry) }
+    ensures { FlowsLocally set.now max_stack (frame_in set.now frame.old) (frame_in set.now frame.new) result
+        (row_at site.entry) }
 {
     let Some(row) = row_of(site) else {
         return Ok(LocalFlow::NotLocal);

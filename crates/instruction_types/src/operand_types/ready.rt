@@ -36,7 +36,8 @@ fn stack_type(frame: &FrameType, depth: usize) -> VerificationType
 
 /// Whether the local variable that is read is as wanted.
 fn reads_meet(set: &ClassSet, reads: Option<LocalRead>, frame: &FrameType) -> bool
-    ensures { result ≡ reads_meet (type_meets set.now) over_types (reads_in set.now reads) (frame_in set.now frame.now).slots.locals }
+    ensures { result ≡ reads_meet (type_meets set.now) over_types (reads_in set.now reads)
+        (frame_in set.now frame.now).slots.locals }
 {
     match reads {
         Some(read) => type_meets(set, read.want, local_type(frame, read.local)),
@@ -46,7 +47,8 @@ fn reads_meet(set: &ClassSet, reads: Option<LocalRead>, frame: &FrameType) -> bo
 
 /// Whether the types on top of the operand stack are as wanted.
 fn pops_meet(set: &ClassSet, pops: &[Want], frame: &FrameType) -> bool
-    ensures { result ≡ pops_meet (type_meets set.now) (map (want_in set.now) pops.now) (frame_in set.now frame.now).slots.stack }
+    ensures { result ≡ pops_meet (type_meets set.now) (map (want_in set.now) pops.now)
+        (frame_in set.now frame.now).slots.stack }
 {
     for i in 0..pops.len() {
         if i >= frame.stack.len() {
@@ -81,7 +83,8 @@ pub(crate) fn is_met(set: &ClassSet, asked: Asked<'_>, max_stack: u16, frame: &F
 
 /// Whether an instruction finds the operands that it wants, and room for what it pushes (JVMS 4.7.3, 4.10.1.4).
 pub fn is_ready(set: &ClassSet, wants: &Wants, max_stack: u16, frame: &FrameType) -> bool
-    ensures { result ≡ is_ready (type_meets set.now) over_types (wants_in set.now wants.now) max_stack (frame_in set.now frame.now).slots }
+    ensures { result ≡ is_ready (type_meets set.now) over_types (wants_in set.now wants.now) max_stack
+        (frame_in set.now frame.now).slots }
 {
     is_met(set, wants.asked(), max_stack, frame)
 }
@@ -100,7 +103,8 @@ fn popped_type(frame: &FrameType, pops: usize, k: usize) -> VerificationType
 /// The type of the operand of a number.
 pub(crate) fn operand_of(asked: Asked<'_>, frame: &FrameType, k: usize) -> VerificationType
     ensures { (files : Program) → type_in files result
-        ≡ slice_index_or (operands over_types (asked_in files asked.entry) (frame_in files frame.now).slots) k Unusable }
+        ≡ slice_index_or (operands over_types (asked_in files asked.entry) (frame_in files frame.now).slots) k
+        Unusable }
 {
     let pops = asked.pops.len();
     match asked.reads {

@@ -24,7 +24,8 @@ const AN_OBJECT: Want = Want::AReference(ReferenceType {
 fn plain(pops: &'static [Want], pushes: &'static [Out], next: usize) -> TypeRow
     requires { length pushes.now ≤ 6 }
     ensures { (files : Program) (code : List ℕ) (offset : ℕ)
-        → row_in files code offset result ≡ rows.plain [] (map (want_in files) pops.now) (map out_in pushes.now) [] next }
+        → row_in files code offset result
+        ≡ rows.plain [] (map (want_in files) pops.now) (map out_in pushes.now) [] next }
 {
     TypeRow {
         reads: None,
@@ -51,7 +52,8 @@ fn popping(pops: &'static [Want], targets: Targets) -> TypeRow
 
 /// Instructions that move words of the operand stack, whatever they are (JVMS 2.11.6).
 fn move_row(how: StackMove, next: usize) -> TypeRow
-    ensures { (files : Program) (code : List ℕ) (offset : ℕ) → row_in files code offset result ≡ typed (rows.move_row how next) }
+    ensures { (files : Program) (code : List ℕ) (offset : ℕ)
+        → row_in files code offset result ≡ typed (rows.move_row how next) }
 {
     const A: Out = Out::Copy(0);
     const B: Out = Out::Copy(1);
@@ -100,7 +102,8 @@ fn load_row(kind: Kind, local: u16, next: usize) -> TypeRow
 /// What stores what it pops.
 fn storing(pops: &'static [Want], local: u16, next: usize) -> TypeRow
     ensures { (files : Program) (code : List ℕ) (offset : ℕ)
-        → row_in files code offset result ≡ rows.plain [] (map (want_in files) pops.now) [] ((local, rows.Copy 0) ∷ []) next }
+        → row_in files code offset result
+        ≡ rows.plain [] (map (want_in files) pops.now) [] ((local, rows.Copy 0) ∷ []) next }
 {
     TypeRow {
         reads: None,

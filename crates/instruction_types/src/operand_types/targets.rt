@@ -33,7 +33,8 @@ fn table_targets(
     at: usize,
 ) -> Result<SmallVec<usize, 2>, AllocError>
     requires { offset < 2 ^ 63 }
-    ensures { IfOk result (λ all. all.items ≡ default ∷ map (λ k. target offset (table_jump code.now at k)) (counting 0 count)) }
+    ensures { IfOk result (λ all.
+        all.items ≡ default ∷ map (λ k. target offset (table_jump code.now at k)) (counting 0 count)) }
 {
     let mut all = SmallVec::new(alloc);
     all.push(default)?;
@@ -53,7 +54,8 @@ fn pair_targets(
     at: usize,
 ) -> Result<SmallVec<usize, 2>, AllocError>
     requires { offset < 2 ^ 63 }
-    ensures { IfOk result (λ all. all.items ≡ default ∷ map (λ k. target offset (lookup_pair code.now at k).1) (counting 0 pairs)) }
+    ensures { IfOk result (λ all.
+        all.items ≡ default ∷ map (λ k. target offset (lookup_pair code.now at k).1) (counting 0 pairs)) }
 {
     let mut all = SmallVec::new(alloc);
     all.push(default)?;

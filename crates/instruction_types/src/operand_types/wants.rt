@@ -7,8 +7,8 @@ ghost use Rattle.instruction_types.specs.operand_types.View.{asked_in, wants_in}
 use smallvec::SmallVec;
 use types::ReferenceType;
 
-/// What an instruction wants of a local variable or of a place of the operand stack (JVMS 4.10.1.2). A class is the place
-/// that it has in the set of classes.
+/// What an instruction wants of a local variable or of a place of the operand stack (JVMS 4.10.1.2). A class is the
+/// place that it has in the set of classes.
 #[derive(Clone, Copy, Default)]
 pub enum Want {
     /// Any word of the stack.

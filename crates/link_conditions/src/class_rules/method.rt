@@ -44,7 +44,8 @@ fn declared_method<'a>(set: &'a ClassSet, method: Reference<'_>) -> Option<&'a M
 /// Whether a method of a class redeclares one of a superclass as it must not. A private one is not redeclared.
 fn redeclares_in(set: &ClassSet, file: &ClassFile, again: &Method, superclass: &[u8]) -> bool
     requires { IsFalse (stands set.now DuplicateClass) }
-    ensures { result ≡ redeclares_in is_bad_redeclaration set.now (file_of file.now) (method_of again.now) superclass.now }
+    ensures { result ≡ redeclares_in is_bad_redeclaration set.now (file_of file.now)
+        (method_of again.now) superclass.now }
 {
     let above = Reference {
         class: superclass,
@@ -69,7 +70,8 @@ fn redeclares_suspect(
 ) -> bool
     requires differ { IsFalse (stands set.now DuplicateClass) }
     requires suspects { AreSuspects set.now methods.now (file_of file.now) (method_of again.now) suspects }
-    ensures { result ≡ redeclares_in is_bad_redeclaration set.now (file_of file.now) (method_of again.now) superclass.now }
+    ensures { result ≡ redeclares_in is_bad_redeclaration set.now (file_of file.now)
+        (method_of again.now) superclass.now }
 {
     is_suspect(set, methods, suspects, file, again, superclass)
         && redeclares_in(set, file, again, superclass)

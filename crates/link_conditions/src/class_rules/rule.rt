@@ -25,9 +25,9 @@ use hierarchy::ClassSet;
 /// - then an exception entry, method by method, whose catch type is found and is neither Throwable nor below it, or is an
 ///   array class (JVMS 4.7.3).
 ///
-/// `None` where there is none. A superclass, a superinterface or a catch type that is not found breaks no rule, but that an
-/// interface has to be below Object. Nor does a cycle, which has to be asked for apart. The file need not be one of the set.
-/// Takes no memory.
+/// `None` where there is none. A superclass, a superinterface or a catch type that is not found breaks no rule, but
+/// that an interface has to be below Object. Nor does a cycle, which has to be asked for apart. The file need not be
+/// one of the set. Takes no memory.
 pub fn first_broken_rule(
     set: &ClassSet,
     methods: &DeclaredMethods,
@@ -39,7 +39,8 @@ pub fn first_broken_rule(
     requires declared { AreDeclaredIn set.now methods.now }
     ensures found { is_some result ≡ breaks_rules set.now (file_of file.now) }
     ensures first { IfSome result (IsFirstBroken set.now (file_of file.now)) }
-    ensures refused { has_bad_hierarchy set.now (file_of file.now) ≡ (in_cycle set.now (file_of file.now) || is_some result) }
+    ensures refused { has_bad_hierarchy set.now (file_of file.now)
+        ≡ (in_cycle set.now (file_of file.now) || is_some result) }
 {
     if class_breaks_rule(set, file) {
         return Some(RulePlace::Class);

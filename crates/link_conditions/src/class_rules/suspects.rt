@@ -82,7 +82,8 @@ pub(crate) fn is_suspect(
     superclass: &[u8],
 ) -> bool
     requires { AreSuspects set.now methods.now (file_of file.now) (method_of again.now) suspects }
-    ensures { result ≡ false → redeclares_in is_bad_redeclaration set.now (file_of file.now) (method_of again.now) superclass.now ≡ false }
+    ensures { result ≡ false
+        → redeclares_in is_bad_redeclaration set.now (file_of file.now) (method_of again.now) superclass.now ≡ false }
 {
     let number = match suspects {
         Suspects::All => return true,

@@ -32,7 +32,8 @@ fn is_main(file: &ClassFile, method: &Method) -> bool
 
 /// Whether a class declares a main that is static.
 fn declares_static_main(file: &ClassFile) -> bool
-    ensures { result ≡ option_map_or is_static_method (declared_in (file_of file.now) (main_of []).name (main_of []).descriptor) false }
+    ensures { result ≡ option_map_or is_static_method
+        (declared_in (file_of file.now) (main_of []).name (main_of []).descriptor) false }
 {
     for method in &file.methods {
         if is_main(file, method) {

@@ -38,8 +38,8 @@ fn text_count(alloc: Global, files: &[ClassFile]) -> Result<usize, AllocError>
     Ok(texts.count())
 }
 
-/// Whether there are more than 65,000 files, or more than 200,000,000 texts of string constants. Takes memory only where
-/// the files have more entries of constant pools than texts are allowed.
+/// Whether there are more than 65,000 files, or more than 200,000,000 texts of string constants. Takes memory only
+/// where the files have more entries of constant pools than texts are allowed.
 pub fn is_too_large(alloc: Global, files: &[ClassFile]) -> Result<bool, AllocError>
     ensures { IfOk result (λ b. b ≡ stands (map file_of files.now) TooLarge) }
 {

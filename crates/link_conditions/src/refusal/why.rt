@@ -28,7 +28,8 @@ pub enum RefusalKind {
     Unverified,
     /// The class of the first file has no main, or there is no file.
     NoMain,
-    /// There are too many files or texts of string constants, a class has too many fields, or verification takes too many steps.
+    /// There are too many files or texts of string constants, a class has too many fields, or verification takes too
+    /// many steps.
     TooLarge,
     OutOfMemory,
 }

@@ -46,7 +46,8 @@ pub(crate) fn is_class_unresolved(set: &ClassSet, file: &ClassFile) -> bool
 pub(crate) fn first_field(set: &ClassSet, file: &ClassFile, lacking: &[bool]) -> Option<usize>
     requires { lacking.now ≡ lacking_texts set.now file.now.pool }
     ensures { MatchOption result (list_any (field_stands set.now (file_of file.now)) (file_of file.now).fields ≡ false)
-        (λ k. option_map_or (field_stands set.now (file_of file.now)) (slice_get (file_of file.now).fields k) false ≡ true) }
+        (λ k. option_map_or (field_stands set.now (file_of file.now)) (slice_get (file_of file.now).fields k) false
+        ≡ true) }
 {
     for (place, field) in file.fields.iter().enumerate() {
         if text_lacks_class(set, file, lacking, field.descriptor) {

@@ -37,8 +37,10 @@ fn first_exception(
     code: &Code,
 ) -> Option<usize>
     requires { Tells hierarchy.now (file_of file.now) rows.now }
-    ensures { MatchOption result (list_any (exception_stands hierarchy.now (file_of file.now)) code.now.exceptions.items ≡ false)
-        (λ k. option_map_or (exception_stands hierarchy.now (file_of file.now)) (slice_get code.now.exceptions.items k) false ≡ true) }
+    ensures { MatchOption result
+        (list_any (exception_stands hierarchy.now (file_of file.now)) code.now.exceptions.items ≡ false)
+        (λ k. option_map_or (exception_stands hierarchy.now (file_of file.now))
+        (slice_get code.now.exceptions.items k) false ≡ true) }
 {
     for (place, entry) in code.exceptions.iter().enumerate() {
         if is_catch_missing(hierarchy, file, rows, *entry) {

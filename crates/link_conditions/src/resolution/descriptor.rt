@@ -47,8 +47,8 @@ fn method_lacks_class(set: &ClassSet, method: &Method<'_>) -> bool
             .is_some_and(|field| names_missing(set, field))
 }
 
-/// Whether a class is not found that a text names as the descriptor of a field or of a method. A text that is none names no
-/// class.
+/// Whether a class is not found that a text names as the descriptor of a field or of a method. A text that is none
+/// names no class.
 fn lacks_class(alloc: Global, set: &ClassSet, text: &[u8]) -> Result<bool, AllocError>
     ensures { IfOk result (λ lacks. lacks ≡ lacks_class set.now text.now) }
 {

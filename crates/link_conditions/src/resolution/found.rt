@@ -14,8 +14,8 @@ use classfile::{ClassFile, Reference};
 use hierarchy::{Hierarchy, MemberPlace};
 use model::Instr;
 
-/// The field that the Fieldref of an index names (JVMS 5.4.3.2), by its place. `None` where the index has no Fieldref, and
-/// where the field is not found.
+/// The field that the Fieldref of an index names (JVMS 5.4.3.2), by its place. `None` where the index has no
+/// Fieldref, and where the field is not found.
 pub fn found_field(hierarchy: &Hierarchy, file: &ClassFile, index: u16) -> Option<MemberPlace>
     ensures { FindsField hierarchy.now (field_at file.now.pool index)
         (option_and_then (find_field hierarchy.now) (field_at file.now.pool index)) result }
@@ -39,9 +39,9 @@ pub(crate) fn found_in_class(hierarchy: &Hierarchy, method: Reference<'_>) -> Op
     }
 }
 
-/// The method that a call names (JVMS 5.4.3.3, 5.4.3.4), by its place: a constructor in the class that is named itself.
-/// `None` for another instruction, where its index has no Methodref or no InterfaceMethodref, as it wants, and where the
-/// method is not found.
+/// The method that a call names (JVMS 5.4.3.3, 5.4.3.4), by its place: a constructor in the class that is named
+/// itself. `None` for another instruction, where its index has no Methodref or no InterfaceMethodref, as it wants,
+/// and where the method is not found.
 pub fn found_method(
     hierarchy: &Hierarchy,
     file: &ClassFile,

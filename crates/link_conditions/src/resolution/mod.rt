@@ -1,5 +1,5 @@
-//! Whether all that a class file names is found among the classes of a program as it is wanted (JVMS 5.4.3, 6.5), and the
-//! field or the method that an instruction's operand names.
+//! Whether all that a class file names is found among the classes of a program as it is wanted (JVMS 5.4.3, 6.5), and
+//! the field or the method that an instruction's operand names.
 
 mod class;
 mod code;

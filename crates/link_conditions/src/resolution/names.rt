@@ -17,8 +17,8 @@ use model::{ExceptionEntry, Instr};
 use std::alloc::{AllocError, Global};
 use std::marker::Model;
 
-/// A class file among the classes of a program, of each part of which can be asked whether what it names is not found as it is
-/// wanted. Contracts see the program and the tree of the file.
+/// A class file among the classes of a program, of each part of which can be asked whether what it names is not found
+/// as it is wanted. Contracts see the program and the tree of the file.
 #[derive(Drop)]
 pub struct UnresolvedNames<'a> {
     hierarchy: &'a Hierarchy,

@@ -1,5 +1,5 @@
-//! Whether the class, the field or the method that an entry of the constant pool names is found as an instruction wants it
-//! (JVMS 6.5).
+//! Whether the class, the field or the method that an entry of the constant pool names is found as an instruction
+//! wants it (JVMS 6.5).
 
 ghost use Rattle.std.specs.Prelude.{◌≡◌, IsFalse, false};
 ghost use Rattle.std.specs.List.{list_any};
@@ -73,7 +73,8 @@ pub(crate) fn is_class_unresolved(
 
 /// Whether the class of an index is an interface or abstract.
 fn is_uninstantiable(set: &ClassSet, file: &ClassFile, index: u16) -> bool
-    ensures { result ≡ option_map_or is_uninstantiable (option_and_then (class_of set.now) (class_name_at file.now.pool index)) false }
+    ensures { result ≡ option_map_or is_uninstantiable
+        (option_and_then (class_of set.now) (class_name_at file.now.pool index)) false }
 {
     let Some(name) = file.class_name(index) else {
         return false;
@@ -190,8 +191,8 @@ fn wants_static_field(access: FieldAccess) -> bool
     }
 }
 
-/// Whether an instruction may not access the field that it finds at a place: it is static where an instance field is wanted
-/// or the reverse, it is put and is System.out, or it is the hidden field of a Thread.
+/// Whether an instruction may not access the field that it finds at a place: it is static where an instance field is
+/// wanted or the reverse, it is put and is System.out, or it is the hidden field of a Thread.
 fn fails_access(
     set: &ClassSet,
     access: FieldAccess,

@@ -3,7 +3,8 @@
 ghost use Rattle.std.specs.Prelude.{◌≡◌};
 ghost use Rattle.link_conditions.specs.resolution.Unresolved.{place_in};
 
-/// A place in a class file at which a name is not found as it is wanted. Fields, methods and exception entries count from
+/// A place in a class file at which a name is not found as it is wanted. Fields, methods and exception entries count
+/// from
 /// 0.
 #[derive(Clone, Copy)]
 pub enum UnresolvedPlace {

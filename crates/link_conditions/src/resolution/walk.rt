@@ -59,11 +59,12 @@ fn first_in_methods(
     Ok(None)
 }
 
-/// The first place in a class file at which a class, a field or a method is named that is not found among the classes, or
-/// not as it is wanted (JVMS 5.4.3, 6.5). `None` where all is found. `AllocError` for want of memory.
+/// The first place in a class file at which a class, a field or a method is named that is not found among the
+/// classes, or not as it is wanted (JVMS 5.4.3, 6.5). `None` where all is found. `AllocError` for want of memory.
 ///
-/// The superclass and the superinterfaces come first, then the fields, then the methods: of each its descriptor, then its
-/// instructions, then its exception entries. Entries of the constant pool that none of these names are not asked for.
+/// The superclass and the superinterfaces come first, then the fields, then the methods: of each its descriptor, then
+/// its instructions, then its exception entries. Entries of the constant pool that none of these names are not asked
+/// for.
 pub fn first_unresolved(
     alloc: Global,
     hierarchy: &Hierarchy,
@@ -71,7 +72,8 @@ pub fn first_unresolved(
 ) -> Result<Option<UnresolvedPlace>, AllocError>
     requires { IsFalse (stands hierarchy.now DuplicateClass) }
     ensures found { IfOk result (λ found. is_some found ≡ is_unresolved hierarchy.now (file_of file.now)) }
-    ensures place { IfOk result (λ found. IfSome found (λ place. IsTrue (stands_at hierarchy.now (file_of file.now) place))) }
+    ensures place { IfOk result (λ found.
+        IfSome found (λ place. IsTrue (stands_at hierarchy.now (file_of file.now) place))) }
 {
     let set = hierarchy.set();
     if is_class_unresolved(set, file) {

@@ -30,7 +30,8 @@ fn is_code_among(attributes: &[MethodAttribute]) -> bool
 
 /// Whether the method at a place among those of a class has code.
 fn has_code(file: &ClassFile, member: usize) -> bool
-    ensures { result ≡ option_map_or (λ m. is_some (code_in m.parts)) (slice_get (file_of file.now).methods member) false }
+    ensures { result ≡ option_map_or (λ m.
+        is_some (code_in m.parts)) (slice_get (file_of file.now).methods member) false }
 {
     match file.methods.get(member) {
         Some(method) => is_code_among(&method.attributes),
@@ -41,7 +42,8 @@ fn has_code(file: &ClassFile, member: usize) -> bool
 /// Where a class declares its initialiser, with code or without.
 fn declared_initialiser(set: &ClassSet, file: &ClassFile) -> Option<MemberPlace>
     ensures found { option_map (λ p. member_in set.now (initialiser_of (name_of (file_of file.now))) p) result
-        ≡ method_in_class set.now any_method (initialiser_of (name_of (file_of file.now))) (name_of (file_of file.now)) }
+        ≡ method_in_class set.now any_method (initialiser_of (name_of (file_of file.now)))
+        (name_of (file_of file.now)) }
     ensures place { IfSome result (IsMethodAt set.now (initialiser_of (name_of (file_of file.now)))) }
 {
     set.declared_method(Reference {

@@ -48,7 +48,8 @@ pub(crate) fn method_number(
 ) -> Option<u32>
     requires linked { IsLinked set.now }
     requires methods { AreNumbersOf set.now methods.now }
-    ensures { (m : Member) → member_at set.now place ≡ Some m → IsSomeAnd result (λ number. IsMethodAt set.now number m) }
+    ensures { (m : Member) → member_at set.now place ≡ Some m
+        → IsSomeAnd result (λ number. IsMethodAt set.now number m) }
 {
     match methods.number_of(place) {
         Some(number) => Some(number as u32),

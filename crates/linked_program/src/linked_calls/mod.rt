@@ -1,6 +1,6 @@
-//! The calls of linked code: for each class file and each index of its constant pool what the invoking instructions that
-//! name it call (JVMS 6.5 invokevirtual, invokespecial, invokestatic, invokeinterface), and the methods that classes
-//! select for these calls.
+//! The calls of linked code: for each class file and each index of its constant pool what the invoking instructions
+//! that name it call (JVMS 6.5 invokevirtual, invokespecial, invokestatic, invokeinterface), and the methods that
+//! classes select for these calls.
 
 mod callee;
 mod entry;

@@ -20,7 +20,8 @@ fn add_row(tested: &mut Vec<u16>, row: &[Option<u16>]) -> Result<(), AllocError>
 
 /// Adds those of rows, each of the indices of a constant pool.
 pub(crate) fn add_caught(tested: &mut Vec<u16>, rows: &[Vec<Option<u16>>]) -> Result<(), AllocError>
-    ensures { OnOk result (tested.new.items ≡ tested.old.items ++ flat_map caught_in (map (λ row. row.items) rows.now)) }
+    ensures { OnOk result (tested.new.items
+        ≡ tested.old.items ++ flat_map caught_in (map (λ row. row.items) rows.now)) }
 {
     for row in rows {
         add_row(tested, row)?;

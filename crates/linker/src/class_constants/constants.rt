@@ -44,7 +44,8 @@ pub fn constants_of(
     requires texts { AreStringNumbers set.now texts.now }
     requires stands { class_at set.now class ≡ Some (file_of file.now) }
     requires begins { slot ≡ slots_before set.now class }
-    ensures { IfOk result (λ constants. AreConstants set.now (constants_of set.now (file_of file.now)) constants.items) }
+    ensures { IfOk result (λ constants.
+        AreConstants set.now (constants_of set.now (file_of file.now)) constants.items) }
 {
     let mut next = slot;
     let mut constants = Vec::new(alloc);

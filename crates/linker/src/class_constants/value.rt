@@ -55,7 +55,8 @@ fn string_word(
     requires linked { IsLinked set.now }
     requires texts { AreStringNumbers set.now texts.now }
     requires stands { class_at set.now class ≡ Some (file_of file.now) }
-    ensures { (text : List ℕ) → string_at (file_of file.now).pool index ≡ Some text → result ≡ suc (string_reference set.now text) }
+    ensures { (text : List ℕ) → string_at (file_of file.now).pool index ≡ Some text
+        → result ≡ suc (string_reference set.now text) }
 {
     (4 + set.count() + number_or_count(texts, class, index)) as u32
 }
@@ -71,7 +72,8 @@ fn string_of(
     requires linked { IsLinked set.now }
     requires texts { AreStringNumbers set.now texts.now }
     requires stands { class_at set.now class ≡ Some (file_of file.now) }
-    ensures { result ≡ option_map (λ text. suc (string_reference set.now text)) (string_at (file_of file.now).pool index) }
+    ensures { result ≡ option_map (λ text.
+        suc (string_reference set.now text)) (string_at (file_of file.now).pool index) }
 {
     match file.pool.string(index) {
         Some(_text) => Some(string_word(set, texts, class, file, index)),

@@ -50,7 +50,8 @@ fn shape_at(shapes: &[Shape], place: usize) -> Option<Shape>
 
 /// How many instance fields the class at a place and those above it declare together.
 pub(crate) fn chain_sum(shapes: &[Shape], place: usize) -> usize
-    ensures { chain_sum shapes.now (length shapes.now) place < 2 ^ 64 → result ≡ chain_sum shapes.now (length shapes.now) place }
+    ensures { chain_sum shapes.now (length shapes.now) place < 2 ^ 64
+        → result ≡ chain_sum shapes.now (length shapes.now) place }
 {
     let mut sum = 0usize;
     let mut place = place;

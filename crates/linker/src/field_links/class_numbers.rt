@@ -13,8 +13,8 @@ use hierarchy::ClassSet;
 use std::alloc::{AllocError, Global};
 use std::marker::Model;
 
-/// For each Class of the constant pools of a program's classes the number of the class that it names. Classes count from 0,
-/// the built-in ones first, then those of the files in their order.
+/// For each Class of the constant pools of a program's classes the number of the class that it names. Classes count
+/// from 0, the built-in ones first, then those of the files in their order.
 #[derive(Drop)]
 pub struct ClassNumbers {
     /// For each class those that its constant pool names, by their index.
@@ -85,8 +85,8 @@ impl ClassNumbers {
         Ok(ClassNumbers { rows })
     }
 
-    /// The number of the class that the Class of an index names, in the constant pool of the class with a number. `None`
-    /// where the index names no Class, and where it names an array type or a class that is not there.
+    /// The number of the class that the Class of an index names, in the constant pool of the class with a number.
+    /// `None` where the index names no Class, and where it names an array type or a class that is not there.
     pub fn class_number(&self, class: usize, index: u16) -> Option<usize>
         ensures { (files : Program) → AreClassNumbers files self.now → result ≡ class_number files class index }
     {

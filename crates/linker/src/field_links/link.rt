@@ -1,7 +1,7 @@
 //! Where a field is.
 
-/// Where the field is that a Fieldref names (JVMS 5.4.3.2). Classes count from 0, the built-in ones first, then those of
-/// the files in their order; slots count from 0.
+/// Where the field is that a Fieldref names (JVMS 5.4.3.2). Classes count from 0, the built-in ones first, then those
+/// of the files in their order; slots count from 0.
 #[derive(Clone, Copy, PartialEq, Eq)]
 pub enum FieldLink {
     /// System.out, which has no slot.

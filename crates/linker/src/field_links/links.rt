@@ -68,8 +68,8 @@ impl FieldLinks {
         links_of(alloc, linked.hierarchy())
     }
 
-    /// Where the field is that the Fieldref of an index names, in the constant pool of the class at a place (JVMS 5.4.3.2).
-    /// `None` where the index names no Fieldref, and where no instruction can name this one.
+    /// Where the field is that the Fieldref of an index names, in the constant pool of the class at a place (JVMS
+    /// 5.4.3.2). `None` where the index names no Fieldref, and where no instruction can name this one.
     pub fn field(&self, class: usize, index: u16) -> Option<FieldLink>
         ensures { (files : Program) → AreFieldLinks files self.now → result ≡ field_link files class index }
     {

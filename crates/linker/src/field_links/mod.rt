@@ -1,5 +1,5 @@
-//! What the entries of constant pools name in linked classes (JVMS 5.1, 5.4.3), by numbers: classes, the slots of fields, and
-//! the texts of string constants. They are made once, so that nothing is looked up by name later.
+//! What the entries of constant pools name in linked classes (JVMS 5.1, 5.4.3), by numbers: classes, the slots of
+//! fields, and the texts of string constants. They are made once, so that nothing is looked up by name later.
 
 mod chain;
 mod class_numbers;

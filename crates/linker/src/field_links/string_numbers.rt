@@ -14,8 +14,8 @@ use link_conditions::limits_of_linking::{TextSet, add_texts};
 use std::alloc::{AllocError, Global};
 use std::marker::Model;
 
-/// For each String of the constant pools of a program's classes the number of its text, and how many texts there are. Equal
-/// texts of all files have one number; they count from 0 in the order of the files.
+/// For each String of the constant pools of a program's classes the number of its text, and how many texts there are.
+/// Equal texts of all files have one number; they count from 0 in the order of the files.
 #[derive(Drop)]
 pub struct StringNumbers {
     /// For each class those that its constant pool has, by their index.
@@ -111,8 +111,8 @@ impl StringNumbers {
         })
     }
 
-    /// The number of the text of the String of an index, in the constant pool of the class with a number. `None` where the
-    /// index names no String.
+    /// The number of the text of the String of an index, in the constant pool of the class with a number. `None`
+    /// where the index names no String.
     pub fn string(&self, class: usize, index: u16) -> Option<usize>
         ensures { (files : Program) → AreStringNumbers files self.now → result ≡ string_number files class index }
     {

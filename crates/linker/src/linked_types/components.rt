@@ -44,7 +44,8 @@ fn add_type(
 ) -> Result<(), AllocError>
     requires linked { IsLinked set.now }
     ensures grows { OnOk result (Grows set.now components.old components.new 1) }
-    ensures there { OnOk result (type_missing set.now (type_named name.now) ≡ false → is_among name.now components.new.names ≡ true) }
+    ensures there { OnOk result (type_missing set.now (type_named name.now) ≡ false
+        → is_among name.now components.new.names ≡ true) }
     ensures only { OnOk result (AddsOnly components.old components.new (λ added. added ≡ name.now)) }
 {
     if components.names.number_of(name).is_some() {
@@ -69,7 +70,8 @@ fn add_named(
     requires linked { IsLinked set.now }
     ensures grows { OnOk result (Grows set.now components.old components.new 1) }
     ensures there { OnOk result (HasNamed set.now (file_of file.now) index components.new) }
-    ensures only { OnOk result (AddsOnly components.old components.new (λ added. class_name_at file.now.pool index ≡ Some added)) }
+    ensures only { OnOk result
+        (AddsOnly components.old components.new (λ added. class_name_at file.now.pool index ≡ Some added)) }
 {
     match file.class_name(index) {
         Some(name) => add_type(components, alloc, set, name),
@@ -86,7 +88,8 @@ fn add_pool(
 ) -> Result<(), AllocError>
     requires linked { IsLinked set.now }
     ensures grows { OnOk result (Grows set.now components.old components.new 0x10000) }
-    ensures there { OnOk result ((index : ℕ) → index < 2 ^ 16 → HasNamed set.now (file_of file.now) index components.new) }
+    ensures there { OnOk result ((index : ℕ) → index < 2 ^ 16
+        → HasNamed set.now (file_of file.now) index components.new) }
     ensures only { OnOk result (AddsOnly components.old components.new (IsInPool (file_of file.now))) }
 {
     let indices = (file.pool.constants().len() + 1).min(0x1_0000);
@@ -100,7 +103,8 @@ fn add_pool(
 fn add_pools(components: &mut Components, alloc: Global, set: &ClassSet) -> Result<(), AllocError>
     requires linked { IsLinked set.now }
     ensures grows { OnOk result (Grows set.now components.old components.new (length (classes_of set.now) * 0x10000)) }
-    ensures there { OnOk result ((class index : ℕ) (file : FileTree) → index < 2 ^ 16 → class_at set.now class ≡ Some file
+    ensures there { OnOk result ((class index : ℕ) (file : FileTree) → index < 2 ^ 16
+        → class_at set.now class ≡ Some file
         → HasNamed set.now file index components.new) }
     ensures only { OnOk result (AddsOnly components.old components.new (IsInProgram set.now)) }
 {
@@ -135,7 +139,8 @@ impl Components {
         requires components { AreComponents linked.now self.now }
         ensures right { (file : FileTree) → class_at linked.now class ≡ Some file
             → IfSome result (IsComponentOperand linked.now self.now.types.items file.pool index) }
-        ensures there { (file : FileTree) (name : Name) → class_at linked.now class ≡ Some file → class_name_at file.pool index ≡ Some name
+        ensures there { (file : FileTree) (name : Name) → class_at linked.now class ≡ Some file
+            → class_name_at file.pool index ≡ Some name
             → type_missing linked.now (type_named name) ≡ false → is_some result ≡ true }
     {
         let file = linked.set().class_at(class)?;

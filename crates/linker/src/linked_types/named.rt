@@ -32,7 +32,8 @@ fn class_type(set: &ClassSet, dimensions: u8, name: &[u8]) -> Option<LinkedType>
 /// An array of so many dimensions of a primitive type; where there are none, a class by the name.
 fn primitive_type(set: &ClassSet, name: &[u8], dimensions: u8, of: Primitive) -> Option<LinkedType>
     requires { IsLinked set.now }
-    ensures { IsNumbered set.now (reference_declared name.now (primitive_declared dimensions (primitive_of of))) result }
+    ensures { IsNumbered set.now
+        (reference_declared name.now (primitive_declared dimensions (primitive_of of))) result }
 {
     if dimensions == 0 {
         return class_type(set, 0, name);

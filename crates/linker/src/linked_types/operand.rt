@@ -17,8 +17,10 @@ use linked_code::LinkedType;
 /// names no Class, and where the class that it names, or that of an array's elements, is not in the program. Takes no
 /// memory.
 pub fn type_operand(linked: &Linked, class: usize, index: u16) -> Option<LinkedType>
-    ensures right { (file : FileTree) → class_at linked.now class ≡ Some file → IfSome result (IsTypeOperand linked.now file.pool index) }
-    ensures there { (file : FileTree) (name : Name) → class_at linked.now class ≡ Some file → class_name_at file.pool index ≡ Some name
+    ensures right { (file : FileTree) → class_at linked.now class ≡ Some file
+        → IfSome result (IsTypeOperand linked.now file.pool index) }
+    ensures there { (file : FileTree) (name : Name) → class_at linked.now class ≡ Some file
+        → class_name_at file.pool index ≡ Some name
         → type_missing linked.now (type_named name) ≡ false → is_some result ≡ true }
 {
     let set = linked.set();

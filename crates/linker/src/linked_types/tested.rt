@@ -50,11 +50,13 @@ pub fn tested_classes(
 ) -> Result<Vec<u16>, AllocError>
     ensures all { IfOk result (λ tested. tested.items
         ≡ flat_map tested_in components.now ++ flat_map tested_in_row (map (λ row. row.items) rows.now)) }
-    ensures rows { IfOk result (λ tested. (files : Program) (table : Subclasses) → IsLinked files → HaveColumns files tested.items table
+    ensures rows { IfOk result (λ tested. (files : Program) (table : Subclasses) → IsLinked files
+        → HaveColumns files tested.items table
         → (class : ℕ) (row : List _) → slice_get (map (λ row. row.items) rows.now) class ≡ Some row
         → EachRow row (λ index t. (type : ReferenceType) → IsType files t type → IsTested table t)) }
     ensures components { IfOk result (λ tested. (files : Program) (table : Subclasses) → IsLinked files
-        → HaveColumns files tested.items table → (number : ℕ) (t : LinkedType) → slice_get components.now number ≡ Some t
+        → HaveColumns files tested.items table → (number : ℕ) (t : LinkedType)
+        → slice_get components.now number ≡ Some t
         → (type : ReferenceType) → IsType files t type → IsTested table t) }
 {
     let mut tested = Vec::new(alloc);

@@ -35,8 +35,8 @@ fn type_kept(field: Field<'_>) -> Primitive
     }
 }
 
-/// The primitive type of which a field of a descriptor keeps as much of a word as one of that type does (JVMS 2.11.1): its own,
-/// where that is narrower than an int, and int for all others, references among them.
+/// The primitive type of which a field of a descriptor keeps as much of a word as one of that type does (JVMS
+/// 2.11.1): its own, where that is narrower than an int, and int for all others, references among them.
 pub fn kept_as(descriptor: &[u8]) -> Primitive
     ensures { (field : Member) → field.descriptor ≡ descriptor.now → Keeps field (primitive_of result) }
 {

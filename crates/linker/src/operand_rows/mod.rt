@@ -1,5 +1,5 @@
-//! What the entries of constant pools are for the instructions that name them, in linked code: fields, the classes of `new`, and
-//! the constants of `ldc`. One entry at a time, from the links of [`field_links`].
+//! What the entries of constant pools are for the instructions that name them, in linked code: fields, the classes of
+//! `new`, and the constants of `ldc`. One entry at a time, from the links of [`field_links`].
 
 mod constant;
 mod field;

@@ -15,7 +15,8 @@ use std::alloc::Global;
 /// wanted for each of them.
 pub fn decode_files(alloc: Global, files: &[Vec<u8>]) -> Result<Vec<ClassFile>, Refusal>
     ensures spelled { IfOk result (λ trees. AreSpelled (map vec_items files.now) (map file_of trees.items)) }
-    ensures refused { IfErr result (λ refusal. ((number : _) × (number < length files.now) × (refusal ≡ no_memory number))
+    ensures refused { IfErr result (λ refusal.
+        ((number : _) × (number < length files.now) × (refusal ≡ no_memory number))
         ⊎ IsFirstMalformed (map vec_items files.now) refusal) }
 {
     let mut trees = Vec::new(alloc);

@@ -18,7 +18,8 @@ pub fn list_files<W: Sink>(
     files: &[ClassFile],
     writer: &mut W,
 ) -> Result<(), DeviceFault>
-    ensures written { Writes result (flat_map (λ file. listing (file_of file)) files.now) (W.contents writer.old) (W.contents writer.new) }
+    ensures written { Writes result (flat_map (λ file. listing (file_of file)) files.now) (W.contents writer.old)
+        (W.contents writer.new) }
     ensures counted { Counts result (W.failures writer.old) (W.failures writer.new) }
 {
     'files: for file in files {

@@ -57,7 +57,8 @@ pub fn push_meaning(
     pc: usize,
 ) -> Result<(), AllocError>
     requires { pc < length code.now }
-    ensures { OnOk result (text.new.items ≡ text.old.items ++ meaning file.now.pool code.now pc (sized_at code.now pc)) }
+    ensures { OnOk result (text.new.items
+        ≡ text.old.items ++ meaning file.now.pool code.now pc (sized_at code.now pc)) }
 {
     let Some((instr, length)) = sized_at(code, pc) else {
         text.extend_from_slice(b"unknown")?;

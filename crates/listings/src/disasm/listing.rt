@@ -36,7 +36,8 @@ fn list_at<W: Sink>(
     writer: &mut W,
 ) -> Result<(), DeviceFault>
     requires { pc < length code.now }
-    ensures written { Writes result (if begins then instruction_line file.now.pool code.now pc else []) (W.contents writer.old)
+    ensures written { Writes result (if begins then instruction_line file.now.pool code.now pc else [])
+        (W.contents writer.old)
         (W.contents writer.new) }
     ensures counted { Counts result (W.failures writer.old) (W.failures writer.new) }
 {
@@ -59,7 +60,8 @@ fn list_instructions<W: Sink>(
     code: &[u8],
     writer: &mut W,
 ) -> Result<(), DeviceFault>
-    ensures written { Writes result (instruction_lines file.now.pool code.now) (W.contents writer.old) (W.contents writer.new) }
+    ensures written { Writes result (instruction_lines file.now.pool code.now) (W.contents writer.old)
+        (W.contents writer.new) }
     ensures counted { Counts result (W.failures writer.old) (W.failures writer.new) }
 {
     let starts = starts(alloc, code)?;
@@ -75,7 +77,8 @@ fn list_handlers<W: Sink>(
     entries: &[ExceptionEntry],
     writer: &mut W,
 ) -> Result<(), DeviceFault>
-    ensures written { Writes result (flat_map (catch_line file.now.pool) entries.now) (W.contents writer.old) (W.contents writer.new) }
+    ensures written { Writes result (flat_map (catch_line file.now.pool) entries.now) (W.contents writer.old)
+        (W.contents writer.new) }
     ensures counted { Counts result (W.failures writer.old) (W.failures writer.new) }
 {
     'entries: for entry in entries {
@@ -90,7 +93,8 @@ fn list_code<W: Sink>(
     code: &Code,
     writer: &mut W,
 ) -> Result<(), DeviceFault>
-    ensures written { Writes result (code_lines file.now.pool (code_of code.now)) (W.contents writer.old) (W.contents writer.new) }
+    ensures written { Writes result (code_lines file.now.pool (code_of code.now)) (W.contents writer.old)
+        (W.contents writer.new) }
     ensures counted { Counts result (W.failures writer.old) (W.failures writer.new) }
 {
     list_instructions(alloc, file, &code.code, writer)?;
@@ -117,7 +121,8 @@ fn list_method<W: Sink>(
     method: &Method,
     writer: &mut W,
 ) -> Result<(), DeviceFault>
-    ensures written { Writes result (method_lines file.now.pool (method_of method.now)) (W.contents writer.old) (W.contents writer.new) }
+    ensures written { Writes result (method_lines file.now.pool (method_of method.now)) (W.contents writer.old)
+        (W.contents writer.new) }
     ensures counted { Counts result (W.failures writer.old) (W.failures writer.new) }
 {
     let Some(code) = code_in(method) else {
@@ -133,7 +138,8 @@ fn list_methods<W: Sink>(
     methods: &[Method],
     writer: &mut W,
 ) -> Result<(), DeviceFault>
-    ensures written { Writes result (flat_map (λ m. method_lines file.now.pool (method_of m)) methods.now) (W.contents writer.old)
+    ensures written { Writes result (flat_map (λ m. method_lines file.now.pool (method_of m)) methods.now)
+        (W.contents writer.old)
         (W.contents writer.new) }
     ensures counted { Counts result (W.failures writer.old) (W.failures writer.new) }
 {
@@ -149,7 +155,8 @@ fn list_fields<W: Sink>(
     fields: &[Field],
     writer: &mut W,
 ) -> Result<(), DeviceFault>
-    ensures written { Writes result (flat_map (λ f. field_line file.now.pool (field_of f)) fields.now) (W.contents writer.old)
+    ensures written { Writes result (flat_map (λ f. field_line file.now.pool (field_of f)) fields.now)
+        (W.contents writer.old)
         (W.contents writer.new) }
     ensures counted { Counts result (W.failures writer.old) (W.failures writer.new) }
 {

@@ -32,7 +32,8 @@ fn kind_word(flags: u16) -> &'static [u8]
 
 /// The names of classes, each behind a space.
 fn push_classes(text: &mut Vec<u8>, file: &ClassFile, classes: &[u16]) -> Result<(), AllocError>
-    ensures { OnOk result (text.new.items ≡ text.old.items ++ flat_map (λ i. operand (class_word file.now.pool i)) classes.now) }
+    ensures { OnOk result (text.new.items
+        ≡ text.old.items ++ flat_map (λ i. operand (class_word file.now.pool i)) classes.now) }
 {
     'classes: for index in classes {
         push_class(text, file, *index)?;
@@ -121,7 +122,8 @@ pub fn method_line(
     method: &Method,
     code: &Code,
 ) -> Result<Vec<u8>, AllocError>
-    ensures { IfOk result (λ text. text.items ≡ line (method_head file.now.pool (method_of method.now) ++ sizes (code_of code.now))) }
+    ensures { IfOk result (λ text.
+        text.items ≡ line (method_head file.now.pool (method_of method.now) ++ sizes (code_of code.now))) }
 {
     let mut text = Vec::new(alloc);
     push_method(&mut text, file, method)?;

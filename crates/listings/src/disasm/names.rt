@@ -19,7 +19,8 @@ pub(crate) fn push_index(text: &mut Vec<u8>, index: u16) -> Result<(), AllocErro
 }
 
 fn push_name(text: &mut Vec<u8>, index: u16, name: Option<&[u8]>) -> Result<(), AllocError>
-    ensures { OnOk result (text.new.items ≡ text.old.items ++ name_or_index index (option_map (λ n. n.now) name.entry)) }
+    ensures { OnOk result (text.new.items
+        ≡ text.old.items ++ name_or_index index (option_map (λ n. n.now) name.entry)) }
 {
     match name {
         Some(name) => Ok(text.extend_from_slice(name)?),
@@ -48,7 +49,8 @@ pub(crate) fn push_member(
     index: u16,
     member: Option<Reference<'_>>,
 ) -> Result<(), AllocError>
-    ensures { OnOk result (text.new.items ≡ text.old.items ++ operand (member_word index (option_map (λ m. reference_of m) member.entry))) }
+    ensures { OnOk result (text.new.items
+        ≡ text.old.items ++ operand (member_word index (option_map (λ m. reference_of m) member.entry))) }
 {
     text.push(b' ')?;
     let Some(member) = member else {
@@ -77,7 +79,8 @@ fn push_class_or_index(
     index: u16,
     name: Option<&[u8]>,
 ) -> Result<(), AllocError>
-    ensures { OnOk result (text.new.items ≡ text.old.items ++ class_or_index index (option_map (λ n. n.now) name.entry)) }
+    ensures { OnOk result (text.new.items
+        ≡ text.old.items ++ class_or_index index (option_map (λ n. n.now) name.entry)) }
 {
     match name {
         Some(name) => {

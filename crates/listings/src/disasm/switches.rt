@@ -62,7 +62,8 @@ fn push_table_cases(
     high: i32,
     at: usize,
 ) -> Result<(), AllocError>
-    ensures { OnOk result (text.new.items ≡ text.old.items ++ each_below (table_case code.now pc low at) (jump_count low high)) }
+    ensures { OnOk result (text.new.items
+        ≡ text.old.items ++ each_below (table_case code.now pc low at) (jump_count low high)) }
 {
     'cases: for k in 0..jump_count(low, high) {
         push_table_case(text, code, pc, low, at, k)?;
@@ -111,7 +112,8 @@ pub(crate) fn push_lookup(
     pairs: u32,
     at: usize,
 ) -> Result<(), AllocError>
-    ensures { OnOk result (text.new.items ≡ text.old.items ++ (default_case pc default ++ each_below (lookup_case code.now pc at) pairs)) }
+    ensures { OnOk result (text.new.items
+        ≡ text.old.items ++ (default_case pc default ++ each_below (lookup_case code.now pc at) pairs)) }
 {
     push_default(text, pc, default)?;
     push_lookup_cases(text, code, pc, at, pairs as usize)

@@ -213,8 +213,8 @@ fn push_index(text: &mut Vec<u8>, index: u16) -> Result<(), AllocError> {
     push_number(text, i64::from(index))
 }
 
-/// Adds the name of its local variable, or its constant. Also what is loaded is sought from the end of the instruction on,
-/// since the ranges of variables begin and end at instructions.
+/// Adds the name of its local variable, or its constant. Also what is loaded is sought from the end of the
+/// instruction on, since the ranges of variables begin and end at instructions.
 fn push_left_out_name(
     comment: &mut Comment<'_>,
     file: &ClassFile,

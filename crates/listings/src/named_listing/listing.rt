@@ -17,9 +17,9 @@ pub fn named_listings(alloc: Global, files: &[ClassFile]) -> Result<Vec<u8>, All
     Ok(text)
 }
 
-/// The listing of a class file, with ` // ` behind a line where more is known: behind the class its source file; behind an
-/// instruction the line that begins there, the name of its local variable, and the constant that it loads. An instruction
-/// that this machine leaves out is told by its mnemonic (JVMS 6.5), over its whole length.
+/// The listing of a class file, with ` // ` behind a line where more is known: behind the class its source file;
+/// behind an instruction the line that begins there, the name of its local variable, and the constant that it loads.
+/// An instruction that this machine leaves out is told by its mnemonic (JVMS 6.5), over its whole length.
 fn named_listing(alloc: Global, file: &ClassFile) -> Result<Vec<u8>, AllocError> {
     let mut text = Vec::new(alloc);
     let line = class_line(alloc, file)?;

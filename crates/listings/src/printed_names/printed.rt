@@ -20,8 +20,9 @@ fn push_printed_byte(text: &mut Vec<u8>, byte: u8) -> Result<(), AllocError>
     Ok(())
 }
 
-/// Writes a name, or another text of a class file, behind a text: byte by byte, but that a backslash is doubled, and a control character
-/// of ASCII is `\x` and its two hexadecimal digits. So no line feed of a file parts a line. The only error is a want of memory.
+/// Writes a name, or another text of a class file, behind a text: byte by byte, but that a backslash is doubled, and
+/// a control character of ASCII is `\x` and its two hexadecimal digits. So no line feed of a file parts a line. The
+/// only error is a want of memory.
 pub fn push_printed(text: &mut Vec<u8>, name: &[u8]) -> Result<(), AllocError>
     ensures { OnOk result (text.new.items ≡ text.old.items ++ printed name.now) }
 {

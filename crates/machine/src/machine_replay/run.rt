@@ -32,8 +32,8 @@ fn end_of(why: Stopped, done: u64, quiet: bool) -> End
     }
 }
 
-/// The report of what a machine shows after so many events, and why no more were done. The classes are those of its files. The only
-/// error is a want of memory.
+/// The report of what a machine shows after so many events, and why no more were done. The classes are those of its
+/// files. The only error is a want of memory.
 pub fn report_after(
     alloc: Global,
     machine: &Machine,
@@ -56,9 +56,10 @@ pub fn report_after(
     Ok((report, end))
 }
 
-/// Does the events of a schedule, as far as they go, under the limits of the run (JVMS 2.5, 2.6, 5.5, chapter 6; JLS 17). The program is
-/// that of the classes, which are accepted. The report is of the events that were done, and the end says why no more were. The only error
-/// is a want of memory for the machine before any event, or for the report; where an event wants memory that isn't there, the end says so.
+/// Does the events of a schedule, as far as they go, under the limits of the run (JVMS 2.5, 2.6, 5.5, chapter 6; JLS
+/// 17). The program is that of the classes, which are accepted. The report is of the events that were done, and the
+/// end says why no more were. The only error is a want of memory for the machine before any event, or for the report;
+/// where an event wants memory that isn't there, the end says so.
 pub fn replay(
     alloc: Global,
     classes: &ClassSet,

@@ -29,8 +29,8 @@ fn end_state(alloc: Global, classes: &ClassSet, standing: Standing) -> Result<En
     })
 }
 
-/// How each thread stands, by its number, where a stack has at most so many frames (JVMS 2.5.2, 2.10, 5.5; JLS 17). The classes are
-/// those of the program's files.
+/// How each thread stands, by its number, where a stack has at most so many frames (JVMS 2.5.2, 2.10, 5.5; JLS 17).
+/// The classes are those of the program's files.
 pub fn thread_ends(
     alloc: Global,
     classes: &ClassSet,

@@ -10,8 +10,8 @@ use machine_state::Shared;
 use model::Report;
 use std::alloc::{AllocError, Global};
 
-/// The report of a run after so many events, where a stack has at most so many frames (JVMS 2.5.2, 2.10, 5.5; JLS 17). The classes
-/// are those of the program's files. The only error is a want of memory.
+/// The report of a run after so many events, where a stack has at most so many frames (JVMS 2.5.2, 2.10, 5.5; JLS
+/// 17). The classes are those of the program's files. The only error is a want of memory.
 pub fn report_of(
     alloc: Global,
     classes: &ClassSet,

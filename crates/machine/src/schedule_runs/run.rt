@@ -15,7 +15,8 @@ fn run_entry(machine: &mut Machine, entry: ScheduleEntry) -> (u32, Stopped)
     machine.repeat(entry.event, entry.repeat)
 }
 
-/// Does the events of a schedule, as far as they go. Returns how many were done, and why no more: `Most` where all were.
+/// Does the events of a schedule, as far as they go. Returns how many were done, and why no more: `Most` where all
+/// were.
 pub fn run_schedule(machine: &mut Machine, schedule: &Schedule) -> (u64, Stopped)
     ensures { GoesThrough result (events_of schedule.now) machine.old machine.new }
 {

@@ -38,7 +38,8 @@ fn initial_class(program: &LinkedProgram) -> Option<u16>
     }
 }
 
-/// Whether the main thread may call `main`, whose class is ready: a synchronized one enters the monitor of the Class object.
+/// Whether the main thread may call `main`, whose class is ready: a synchronized one enters the monitor of the Class
+/// object.
 fn may_call_main(shared: &Shared, program: &LinkedProgram, class: u16, frames: usize) -> bool
     requires { IsInitialClass program.now class }
     ensures { SaysCallsMain program.now shared.now frames result }
@@ -49,7 +50,8 @@ fn may_call_main(shared: &Shared, program: &LinkedProgram, class: u16, frames: u
     }
 }
 
-/// Whether the main thread may begin: no other thread initialises the initial class, and where that is ready, `main` may be called.
+/// Whether the main thread may begin: no other thread initialises the initial class, and where that is ready, `main`
+/// may be called.
 fn main_may_begin(shared: &Shared, program: &LinkedProgram, frames: usize) -> bool
     ensures { SaysMainMayBegin program.now shared.now frames result }
 {
@@ -85,8 +87,8 @@ fn may_begin(shared: &Shared, program: &LinkedProgram, thread: u16, frames: usiz
     }
 }
 
-/// For what a thread with an empty stack waits that may do no event: the main thread for the initial class, where another thread
-/// initialises that, and else for a monitor.
+/// For what a thread with an empty stack waits that may do no event: the main thread for the initial class, where
+/// another thread initialises that, and else for a monitor.
 pub(crate) fn empty_standing(shared: &Shared, program: &LinkedProgram, thread: u16) -> Standing
     ensures { StandsEmpty program.now shared.now thread result }
 {

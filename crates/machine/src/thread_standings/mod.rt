@@ -1,4 +1,5 @@
-//! How a thread stands, and whether it has an event that is enabled, found with no event done (JVMS 2.6, 2.10, 5.2, 5.5; JLS 17).
+//! How a thread stands, and whether it has an event that is enabled, found with no event done (JVMS 2.6, 2.10, 5.2,
+//! 5.5; JLS 17).
 
 mod begins;
 mod callees;

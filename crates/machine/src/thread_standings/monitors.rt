@@ -28,15 +28,16 @@ fn may_enter(heap: &Heap, object: u32, thread: u16) -> bool
     }
 }
 
-/// Whether a thread that has left the wait set of an object may enter its monitor again: no thread owns it (JLS 17.2.1).
+/// Whether a thread that has left the wait set of an object may enter its monitor again: no thread owns it (JLS
+/// 17.2.1).
 pub(crate) fn is_free(heap: &Heap, object: u32) -> bool
     ensures { (thread count : ℕ) → result ≡ is_done (relocks object thread count heap.now.locks.monitors).answer }
 {
     owner_of(heap, object).is_none()
 }
 
-/// Whether the first call of a thread is enabled, where it enters the monitor of an object or none: no frame may stand on the stack, so
-/// that a StackOverflowError is raised (JVMS 2.5.2), or no other thread owns the monitor.
+/// Whether the first call of a thread is enabled, where it enters the monitor of an object or none: no frame may
+/// stand on the stack, so that a StackOverflowError is raised (JVMS 2.5.2), or no other thread owns the monitor.
 pub(crate) fn may_call(heap: &Heap, thread: u16, entered: Option<u32>, frames: usize) -> bool
     ensures { result ≡ call_may_begin heap.now.locks.monitors thread frames entered }
 {

@@ -13,7 +13,8 @@ use machine_state::Shared;
 use machine_state::linked_frames::frames_stand;
 use machine_threads::waiting_instructions::{Standing, instruction_standing};
 
-/// How a thread stands in which an exception is pending (JVMS 2.10): whatever is on top of its stack, it has an event that is enabled.
+/// How a thread stands in which an exception is pending (JVMS 2.10): whatever is on top of its stack, it has an event
+/// that is enabled.
 fn pending_standing(
     shared: &Shared,
     stack: &ThreadStack,

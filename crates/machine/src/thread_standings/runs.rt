@@ -32,8 +32,8 @@ fn run_of(program: &LinkedProgram, heap: &Heap, object: u32) -> Option<Callee>
     }
 }
 
-/// Whether a thread that was started may begin: it calls `run`, which enters the monitor of the Thread object where it is
-/// synchronized. Where it has no code, an AbstractMethodError is raised.
+/// Whether a thread that was started may begin: it calls `run`, which enters the monitor of the Thread object where
+/// it is synchronized. Where it has no code, an AbstractMethodError is raised.
 pub(crate) fn run_may_begin(
     shared: &Shared,
     program: &LinkedProgram,

@@ -80,7 +80,8 @@ fn is_runnable(standing: Standing) -> bool
     matches!(standing, Standing::Runnable)
 }
 
-/// Whether a thread has an event that is enabled, where a stack has at most so many frames. One that is not there has none.
+/// Whether a thread has an event that is enabled, where a stack has at most so many frames. One that is not there has
+/// none.
 pub fn may_step(shared: &Shared, program: &LinkedProgram, thread: u16, frames: usize) -> bool
     ensures { MaySo program.now shared.now thread frames result }
 {

@@ -38,7 +38,8 @@ fn class_object(program: &LinkedProgram, method: u32) -> u32
 ///
 /// # Errors
 ///
-/// At the limits of fat locks, of the entries of an owner and of threads, or where there is no memory. Nothing has changed then.
+/// At the limits of fat locks, of the entries of an owner and of threads, or where there is no memory. Nothing has
+/// changed then.
 pub fn invoke_static(
     shared: &mut Shared,
     stack: &mut ThreadStack,
@@ -49,7 +50,8 @@ pub fn invoke_static(
     method: u32,
     frames: usize,
 ) -> Result<Effect, EventRefusal>
-    requires running { (class : ℕ) × CanRun program.now thread shared.old stack.old (linked.InvokeStatic parameters class method) }
+    requires running { (class : ℕ)
+        × CanRun program.now thread shared.old stack.old (linked.InvokeStatic parameters class method) }
     requires numbered { thread < 32767 }
     ensures { (class : ℕ) → DoesInstruction program.now (linked.InvokeStatic parameters class method)
         frames (record { thread = thread; pick = pick }) result shared.old shared.new stack.old stack.new }
@@ -62,8 +64,8 @@ pub fn invoke_static(
     run_method(shared, stack, program, thread, pick, call, frames)
 }
 
-/// `invokespecial`, and other calls of a method that no receiver's class chooses: the method of a number is called on the object
-/// under so many parameters; null is a NullPointerException.
+/// `invokespecial`, and other calls of a method that no receiver's class chooses: the method of a number is called on
+/// the object under so many parameters; null is a NullPointerException.
 ///
 /// # Errors
 ///
@@ -80,7 +82,8 @@ pub fn invoke_special(
 ) -> Result<Effect, EventRefusal>
     requires running { CanRun program.now thread shared.old stack.old (linked.InvokeSpecial parameters method) }
     requires numbered { thread < 32767 }
-    ensures { DoesInstruction program.now (linked.InvokeSpecial parameters method) frames (record { thread = thread; pick = pick }) result
+    ensures { DoesInstruction program.now (linked.InvokeSpecial parameters method) frames
+        (record { thread = thread; pick = pick }) result
         shared.old shared.new stack.old stack.new }
 {
     let Some(object) = receiver(stack, parameters) else {

@@ -1,5 +1,5 @@
-//! The instructions that call methods (JVMS 6.5 invokestatic, invokespecial, invokevirtual, invokeinterface), as events of a
-//! thread. That the class of a static method is initialised is asked before.
+//! The instructions that call methods (JVMS 6.5 invokestatic, invokespecial, invokevirtual, invokeinterface), as
+//! events of a thread. That the class of a static method is initialised is asked before.
 
 mod calls;
 mod direct_calls;

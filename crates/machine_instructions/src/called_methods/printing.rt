@@ -25,7 +25,8 @@ pub fn println(
     requires running { (p : LinkedProgram) × CanRun p thread shared.old stack.old linked.Println }
     requires numbered { thread < 32767 }
     ensures { (p : LinkedProgram) (frames : ℕ)
-        → DoesInstruction p linked.Println frames (record { thread = thread; pick = pick }) result shared.old shared.new stack.old
+        → DoesInstruction p linked.Println frames
+        (record { thread = thread; pick = pick }) result shared.old shared.new stack.old
         stack.new }
 {
     if receiver(stack, 1).is_none() {

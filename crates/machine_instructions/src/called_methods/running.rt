@@ -11,8 +11,8 @@ use machine_state::invocations::call as call_method;
 use machine_state::method_selection::{method_at, methods_are_run};
 use machine_state::{Effect, EventRefusal, MachineException, Shared};
 
-/// A call: the method that it runs, by its number, the object whose monitor that enters where it is synchronized, and how many
-/// words it takes.
+/// A call: the method that it runs, by its number, the object whose monitor that enters where it is synchronized, and
+/// how many words it takes.
 #[derive(Clone, Copy)]
 pub(crate) struct Call {
     pub(crate) method: u32,
@@ -28,12 +28,13 @@ fn entered(is_synchronized: bool, object: u32) -> Option<u32>
     if is_synchronized { Some(object) } else { None }
 }
 
-/// The frame on top calls a method: one with code gets a frame, a built-in one is done at once, and an abstract one is an
-/// AbstractMethodError.
+/// The frame on top calls a method: one with code gets a frame, a built-in one is done at once, and an abstract one
+/// is an AbstractMethodError.
 ///
 /// # Errors
 ///
-/// At the limits of fat locks, of the entries of an owner and of threads, or where there is no memory. Nothing has changed then.
+/// At the limits of fat locks, of the entries of an owner and of threads, or where there is no memory. Nothing has
+/// changed then.
 pub(crate) fn run_method(
     shared: &mut Shared,
     stack: &mut ThreadStack,
@@ -45,7 +46,8 @@ pub(crate) fn run_method(
 ) -> Result<Effect, EventRefusal>
     requires able { CanInvoke program.now thread shared.old stack.old call }
     requires numbered { thread < 32767 }
-    ensures { Invokes program.now call frames (record { thread = thread; pick = pick }) result shared.old shared.new stack.old stack.new }
+    ensures { Invokes program.now call frames
+        (record { thread = thread; pick = pick }) result shared.old shared.new stack.old stack.new }
 {
     methods_are_run();
     let Some(row) = method_at(program, call.method) else {

@@ -9,15 +9,16 @@ use crate::field_instructions::leaving::{leave, leave_nothing};
 use linked_code::thread_stacks::ThreadStack;
 use machine_state::{Effect, EventRefusal, MachineException, Shared};
 
-/// `iaload`, `aaload`, `baload`, `caload`, `saload`: the element at the index on top, of the array under it, takes their
-/// place.
+/// `iaload`, `aaload`, `baload`, `caload`, `saload`: the element at the index on top, of the array under it, takes
+/// their place.
 ///
 /// # Errors
 ///
 /// Where there is no memory for the word on the stack; nothing has changed then.
 #[inline]
 pub fn load_element(shared: &Shared, stack: &mut ThreadStack) -> Result<Effect, EventRefusal>
-    ensures { (p : LinkedProgram) (t : ℕ) → DoesOwn p linked.LoadElement t result shared.now shared.now stack.old stack.new }
+    ensures { (p : LinkedProgram) (t : ℕ)
+        → DoesOwn p linked.LoadElement t result shared.now shared.now stack.old stack.new }
 {
     let Some(frame) = stack.frame_mut() else {
         return Ok(Effect::NotEnabled);
@@ -38,8 +39,10 @@ pub fn load_element(shared: &Shared, stack: &mut ThreadStack) -> Result<Effect, 
 /// The operand on top goes into the array under the index under it, at that index.
 #[inline]
 fn store(shared: &mut Shared, stack: &mut ThreadStack) -> Effect
-    ensures ints { (p : LinkedProgram) (t : ℕ) → DoesOwn p linked.StoreInt t (Ok result) shared.old shared.new stack.old stack.new }
-    ensures narrow { (p : LinkedProgram) (t : ℕ) → DoesOwn p linked.StoreNarrow t (Ok result) shared.old shared.new stack.old stack.new }
+    ensures ints { (p : LinkedProgram) (t : ℕ)
+        → DoesOwn p linked.StoreInt t (Ok result) shared.old shared.new stack.old stack.new }
+    ensures narrow { (p : LinkedProgram) (t : ℕ)
+        → DoesOwn p linked.StoreNarrow t (Ok result) shared.old shared.new stack.old stack.new }
 {
     let Some(frame) = stack.frame_mut() else {
         return Effect::NotEnabled;
@@ -62,7 +65,8 @@ fn store(shared: &mut Shared, stack: &mut ThreadStack) -> Effect
 /// `iastore`: the operand on top goes into an array of ints.
 #[inline]
 pub fn store_int(shared: &mut Shared, stack: &mut ThreadStack) -> Effect
-    ensures { (p : LinkedProgram) (t : ℕ) → DoesOwn p linked.StoreInt t (Ok result) shared.old shared.new stack.old stack.new }
+    ensures { (p : LinkedProgram) (t : ℕ)
+        → DoesOwn p linked.StoreInt t (Ok result) shared.old shared.new stack.old stack.new }
 {
     store(shared, stack)
 }
@@ -70,7 +74,8 @@ pub fn store_int(shared: &mut Shared, stack: &mut ThreadStack) -> Effect
 /// `bastore`, `castore`, `sastore`: the operand on top goes into an array, narrowed to what the array holds.
 #[inline]
 pub fn store_narrow(shared: &mut Shared, stack: &mut ThreadStack) -> Effect
-    ensures { (p : LinkedProgram) (t : ℕ) → DoesOwn p linked.StoreNarrow t (Ok result) shared.old shared.new stack.old stack.new }
+    ensures { (p : LinkedProgram) (t : ℕ)
+        → DoesOwn p linked.StoreNarrow t (Ok result) shared.old shared.new stack.old stack.new }
 {
     store(shared, stack)
 }
@@ -82,7 +87,8 @@ pub fn store_narrow(shared: &mut Shared, stack: &mut ThreadStack) -> Effect
 /// Where there is no memory for the word on the stack; nothing has changed then.
 #[inline]
 pub fn array_length(shared: &Shared, stack: &mut ThreadStack) -> Result<Effect, EventRefusal>
-    ensures { (p : LinkedProgram) (t : ℕ) → DoesOwn p linked.ArrayLength t result shared.now shared.now stack.old stack.new }
+    ensures { (p : LinkedProgram) (t : ℕ)
+        → DoesOwn p linked.ArrayLength t result shared.now shared.now stack.old stack.new }
 {
     let Some(frame) = stack.frame_mut() else {
         return Ok(Effect::NotEnabled);

@@ -23,7 +23,8 @@ pub fn get_field(
     stack: &mut ThreadStack,
     slot: u16,
 ) -> Result<Effect, EventRefusal>
-    ensures { (p : LinkedProgram) (t : ℕ) → DoesOwn p (linked.GetField slot) t result shared.now shared.now stack.old stack.new }
+    ensures { (p : LinkedProgram) (t : ℕ)
+        → DoesOwn p (linked.GetField slot) t result shared.now shared.now stack.old stack.new }
 {
     let Some(frame) = stack.frame_mut() else {
         return Ok(Effect::NotEnabled);
@@ -34,11 +35,12 @@ pub fn get_field(
     }
 }
 
-/// `putfield` of a field of a type, of a reference as of an int: the operand on top goes into the field in a slot of the
-/// object of the operand under it, narrowed to the type.
+/// `putfield` of a field of a type, of a reference as of an int: the operand on top goes into the field in a slot of
+/// the object of the operand under it, narrowed to the type.
 #[inline]
 pub fn put_field(shared: &mut Shared, stack: &mut ThreadStack, of: Primitive, slot: u16) -> Effect
-    ensures { (p : LinkedProgram) (t : ℕ) → DoesOwn p (put_field_instruction of slot) t (Ok result) shared.old shared.new stack.old
+    ensures { (p : LinkedProgram) (t : ℕ)
+        → DoesOwn p (put_field_instruction of slot) t (Ok result) shared.old shared.new stack.old
         stack.new }
 {
     let Some(frame) = stack.frame_mut() else {

@@ -51,7 +51,8 @@ pub fn get_static(
 /// Where there is no memory for the word on the stack; nothing has changed then.
 #[inline]
 pub fn get_system_out(stack: &mut ThreadStack) -> Result<Effect, EventRefusal>
-    ensures { (p : LinkedProgram) (t : ℕ) (shared : Shared) → DoesOwn p linked.GetSystemOut t result shared shared stack.old stack.new }
+    ensures { (p : LinkedProgram) (t : ℕ) (shared : Shared)
+        → DoesOwn p linked.GetSystemOut t result shared shared stack.old stack.new }
 {
     match stack.frame_mut() {
         Some(frame) => leave(frame, 0, PRINT_STREAM),
@@ -69,8 +70,8 @@ fn set_static(statics: &mut Vec<u32>, slot: u32, word: u32)
     }
 }
 
-/// `putstatic` of a field of a type, of a reference as of an int: the operand on top goes into the static field in a slot,
-/// narrowed to the type.
+/// `putstatic` of a field of a type, of a reference as of an int: the operand on top goes into the static field in a
+/// slot, narrowed to the type.
 #[inline]
 pub fn put_static(shared: &mut Shared, stack: &mut ThreadStack, of: Primitive, slot: u32) -> Effect
     ensures { (p : LinkedProgram) (class t : ℕ)

@@ -14,8 +14,8 @@ use machine_state::{Effect, EventRefusal, MachineException, Shared};
 ///
 /// # Errors
 ///
-/// Where the lock would become one of too many fat locks, the owner has entered 4,294,967,295 times, or there is no memory.
-/// Nothing has changed then.
+/// Where the lock would become one of too many fat locks, the owner has entered 4,294,967,295 times, or there is no
+/// memory. Nothing has changed then.
 #[inline]
 pub fn monitor_enter(
     shared: &mut Shared,
@@ -23,7 +23,8 @@ pub fn monitor_enter(
     thread: u16,
 ) -> Result<Effect, EventRefusal>
     requires { (p : LinkedProgram) × CanRun p thread shared.old stack.old linked.MonitorEnter }
-    ensures { (p : LinkedProgram) → DoesOwn p linked.MonitorEnter thread result shared.old shared.new stack.old stack.new }
+    ensures { (p : LinkedProgram)
+        → DoesOwn p linked.MonitorEnter thread result shared.old shared.new stack.old stack.new }
 {
     let Some(object) = object_on_top(stack) else {
         return Ok(Effect::Raises(MachineException::NullPointer));
@@ -42,7 +43,8 @@ pub fn monitor_enter(
 #[inline]
 pub fn monitor_exit(shared: &mut Shared, stack: &mut ThreadStack, thread: u16) -> Effect
     requires { (p : LinkedProgram) × CanRun p thread shared.old stack.old linked.MonitorExit }
-    ensures { (p : LinkedProgram) → DoesOwn p linked.MonitorExit thread (Ok result) shared.old shared.new stack.old stack.new }
+    ensures { (p : LinkedProgram)
+        → DoesOwn p linked.MonitorExit thread (Ok result) shared.old shared.new stack.old stack.new }
 {
     let Some(object) = object_on_top(stack) else {
         return Effect::Raises(MachineException::NullPointer);

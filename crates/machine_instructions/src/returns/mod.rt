@@ -1,4 +1,5 @@
-//! The end of an invocation, by a return or by an exception (JVMS 2.6.4, 2.6.5, 2.11.10), and where its invoker goes on.
+//! The end of an invocation, by a return or by an exception (JVMS 2.6.4, 2.6.5, 2.11.10), and where its invoker goes
+//! on.
 
 mod leaving;
 mod places;

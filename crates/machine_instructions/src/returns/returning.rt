@@ -42,8 +42,8 @@ fn gives_value(stack: &ThreadStack, returns: Option<u32>) -> bool
     }
 }
 
-/// Ends the frame on top: a frame under it goes on at a place with the result, if there is one. It takes memory only where a value
-/// is returned to an invoker. On an error nothing has changed.
+/// Ends the frame on top: a frame under it goes on at a place with the result, if there is one. It takes memory only
+/// where a value is returned to an invoker. On an error nothing has changed.
 #[inline]
 fn return_under(
     stack: &mut ThreadStack,
@@ -62,9 +62,9 @@ fn return_under(
     Ok(())
 }
 
-/// The frame on top returns, with the value on top of its operands or with none (JVMS 2.6.4): it goes, its invoker goes on with
-/// the result, and the monitor that the invocation entered is left once. Where another thread or none owns that monitor, an
-/// IllegalMonitorStateException is raised, and nothing has changed.
+/// The frame on top returns, with the value on top of its operands or with none (JVMS 2.6.4): it goes, its invoker
+/// goes on with the result, and the monitor that the invocation entered is left once. Where another thread or none
+/// owns that monitor, an IllegalMonitorStateException is raised, and nothing has changed.
 ///
 /// # Errors
 ///
@@ -89,8 +89,8 @@ pub fn return_from(
     Ok(Effect::Done)
 }
 
-/// As `return_from`, of an invocation that entered no monitor: nothing is shared by it. Answers whether the frame has returned;
-/// where it hasn't, for a monitor that it would leave or for want of memory, nothing has changed.
+/// As `return_from`, of an invocation that entered no monitor: nothing is shared by it. Answers whether the frame has
+/// returned; where it hasn't, for a monitor that it would leave or for want of memory, nothing has changed.
 #[inline]
 pub fn return_alone(stack: &mut ThreadStack, program: &LinkedProgram, value: bool) -> bool
     ensures done { result ≡ true → (t : ℕ) (shared : Shared)

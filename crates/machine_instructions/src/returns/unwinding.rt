@@ -7,12 +7,14 @@ use linked_code::thread_stacks::ThreadStack;
 use machine_state::raised_exceptions::raise;
 use machine_state::{Answer, EventRefusal, MachineException, Shared};
 
-/// The exception that is pending ends the frame on top (JVMS 2.10): it goes, and the monitor that the invocation entered is left
-/// once. Where another thread or none owns that monitor, an IllegalMonitorStateException is pending instead.
+/// The exception that is pending ends the frame on top (JVMS 2.10): it goes, and the monitor that the invocation
+/// entered is left once. Where another thread or none owns that monitor, an IllegalMonitorStateException is pending
+/// instead.
 ///
 /// # Errors
 ///
-/// Where that exception can't be made: as many objects as may be were made, or there is no memory. Nothing has changed then.
+/// Where that exception can't be made: as many objects as may be were made, or there is no memory. Nothing has
+/// changed then.
 pub fn unwind(
     shared: &mut Shared,
     stack: &mut ThreadStack,

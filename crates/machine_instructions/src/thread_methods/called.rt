@@ -46,14 +46,15 @@ fn run_unpicked(
     }
 }
 
-/// A thread calls a built-in method, which takes so many words of the stack of its frame, a receiver that is not null among
-/// them; `next` is the place behind the call. The method has no frame: its whole effect is this event (JLS 17.2, the API of
-/// Object and Thread). The pick is the event's: which member of the wait set a `notify` wakes, and else 0.
+/// A thread calls a built-in method, which takes so many words of the stack of its frame, a receiver that is not null
+/// among them; `next` is the place behind the call. The method has no frame: its whole effect is this event (JLS
+/// 17.2, the API of Object and Thread). The pick is the event's: which member of the wait set a `notify` wakes, and
+/// else 0.
 ///
 /// # Errors
 ///
-/// Where a lock would become one of too many fat locks, too many threads would be started, or there is no memory. Nothing
-/// has changed then.
+/// Where a lock would become one of too many fat locks, too many threads would be started, or there is no memory.
+/// Nothing has changed then.
 pub fn run_built_in(
     shared: &mut Shared,
     stack: &mut ThreadStack,
@@ -64,7 +65,8 @@ pub fn run_built_in(
     next: usize,
 ) -> Result<Effect, EventRefusal>
     requires { CanCall thread shared.old stack.old method operands next }
-    ensures { DoesCall method operands next (record { thread = thread; pick = pick }) result shared.old shared.new stack.old stack.new }
+    ensures { DoesCall method operands next
+        (record { thread = thread; pick = pick }) result shared.old shared.new stack.old stack.new }
 {
     if pick == 0 {
         return run_unpicked(shared, stack, thread, method, operands, next);

@@ -39,7 +39,8 @@ pub(crate) fn start(
     operands: usize,
     next: usize,
 ) -> Result<Effect, EventRefusal>
-    ensures { (t : ℕ) → DoesUnpicked method.ThreadStart operands next t result shared.old shared.new stack.old stack.new }
+    ensures { (t : ℕ) → DoesUnpicked method.ThreadStart operands next t result shared.old shared.new stack.old
+        stack.new }
 {
     let spare = spare(&shared.stacks)?;
     let started = events::start(&mut shared.threads, object(stack, 0))?;
@@ -60,7 +61,8 @@ pub(crate) fn interrupt(
     next: usize,
 ) -> Result<Effect, EventRefusal>
     requires { AreStatusesWithin shared.old.heap shared.old.threads }
-    ensures { (t : ℕ) → DoesUnpicked method.ThreadInterrupt operands next t result shared.old shared.new stack.old stack.new }
+    ensures { (t : ℕ) → DoesUnpicked method.ThreadInterrupt operands next t result shared.old shared.new stack.old
+        stack.new }
 {
     if let Some(target) = shared.threads.number(object(stack, 0)) {
         events::interrupt(&mut shared.heap, &mut shared.threads, target);
@@ -86,7 +88,8 @@ pub(crate) fn ask_interrupted(
     operands: usize,
     next: usize,
 ) -> Result<Effect, EventRefusal>
-    ensures { (t : ℕ) → DoesUnpicked method.ThreadIsInterrupted operands next t result shared.now shared.now stack.old stack.new }
+    ensures { (t : ℕ) → DoesUnpicked method.ThreadIsInterrupted operands next t result shared.now shared.now
+        stack.old stack.new }
 {
     let interrupted = is_interrupted(&shared.threads, object(stack, 0));
     answer(stack, operands, next, word_of(interrupted))
@@ -100,7 +103,8 @@ pub(crate) fn take_interrupted(
     operands: usize,
     next: usize,
 ) -> Result<Effect, EventRefusal>
-    ensures { DoesUnpicked method.ThreadInterrupted operands next thread result shared.old shared.new stack.old stack.new }
+    ensures { DoesUnpicked method.ThreadInterrupted operands next thread result shared.old shared.new stack.old
+        stack.new }
 {
     let interrupted = shared.threads.interrupted(thread);
     let done = answer(stack, operands, next, word_of(interrupted))?;
@@ -115,7 +119,8 @@ pub(crate) fn ask_alive(
     operands: usize,
     next: usize,
 ) -> Result<Effect, EventRefusal>
-    ensures { (t : ℕ) → DoesUnpicked method.ThreadIsAlive operands next t result shared.now shared.now stack.old stack.new }
+    ensures { (t : ℕ) → DoesUnpicked method.ThreadIsAlive operands next t result shared.now shared.now stack.old
+        stack.new }
 {
     let alive = events::is_alive(&shared.threads, object(stack, 0));
     answer(stack, operands, next, word_of(alive))
@@ -130,7 +135,8 @@ pub(crate) fn current_thread(
     next: usize,
 ) -> Result<Effect, EventRefusal>
     requires { (row_at shared.now.threads.threads thread).object < length shared.now.heap.objects }
-    ensures { DoesUnpicked method.ThreadCurrentThread operands next thread result shared.now shared.now stack.old stack.new }
+    ensures { DoesUnpicked method.ThreadCurrentThread operands next thread result shared.now shared.now stack.old
+        stack.new }
 {
     let object = shared.threads.object(thread);
     answer(stack, operands, next, reference(&shared.heap, object))

@@ -16,7 +16,8 @@ pub(crate) fn print_line(
     operands: usize,
     next: usize,
 ) -> Result<Effect, EventRefusal>
-    ensures { (t : ℕ) → DoesUnpicked method.PrintStreamPrintln operands next t result shared.old shared.new stack.old stack.new }
+    ensures { (t : ℕ) → DoesUnpicked method.PrintStreamPrintln operands next t result shared.old shared.new
+        stack.old stack.new }
 {
     let spare = spare(&shared.printed)?;
     add(&mut shared.printed, spare, operand(stack, 0).cast_signed());

@@ -18,8 +18,10 @@ pub(crate) fn pass(
     operands: usize,
     next: usize,
 ) -> Result<Effect, EventRefusal>
-    ensures construct { (shared : Shared) (t : ℕ) → DoesUnpicked method.Construct operands next t result shared shared stack.old stack.new }
-    ensures yields { (shared : Shared) (t : ℕ) → DoesUnpicked method.ThreadYield operands next t result shared shared stack.old stack.new }
+    ensures construct { (shared : Shared) (t : ℕ)
+        → DoesUnpicked method.Construct operands next t result shared shared stack.old stack.new }
+    ensures yields { (shared : Shared) (t : ℕ)
+        → DoesUnpicked method.ThreadYield operands next t result shared shared stack.old stack.new }
 {
     go_on(stack, operands, next);
     Ok(Effect::Done)
@@ -32,7 +34,8 @@ pub(crate) fn set_target(
     operands: usize,
     next: usize,
 ) -> Result<Effect, EventRefusal>
-    ensures { (t : ℕ) → DoesUnpicked method.ConstructWithTarget operands next t result shared.old shared.new stack.old stack.new }
+    ensures { (t : ℕ) → DoesUnpicked method.ConstructWithTarget operands next t result shared.old shared.new
+        stack.old stack.new }
 {
     let target = operand(stack, 0);
     shared.heap.put_field(object(stack, 1), TARGET, target);

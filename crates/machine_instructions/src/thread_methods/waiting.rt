@@ -12,7 +12,8 @@ use heap::{Heap, monitor_events as events};
 use linked_code::thread_stacks::ThreadStack;
 use machine_state::{Effect, EventRefusal, MachineException, Shared};
 
-/// `Object.wait` (JLS 17.2.1): the thread joins the wait set, and stays at its call. One that is interrupted doesn't join.
+/// `Object.wait` (JLS 17.2.1): the thread joins the wait set, and stays at its call. One that is interrupted doesn't
+/// join.
 pub(crate) fn wait(
     shared: &mut Shared,
     stack: &mut ThreadStack,
@@ -37,8 +38,8 @@ pub(crate) fn wait(
     Ok(Effect::Done)
 }
 
-/// Whether a notify may pick the member of this number: where there is none, or by a thread that isn't the owner, nothing is
-/// picked.
+/// Whether a notify may pick the member of this number: where there is none, or by a thread that isn't the owner,
+/// nothing is picked.
 fn may_pick(heap: &Heap, object: u32, thread: u16, pick: u16) -> bool
     requires { object < length heap.now.locks.monitors }
     ensures { (world : WorldOf ℕ) → result ≡ may_pick_in (over world heap.now) object thread pick }
@@ -64,7 +65,8 @@ pub(crate) fn notify(
     next: usize,
 ) -> Result<Effect, EventRefusal>
     requires { operand_of 0 stack.old - 1 < length shared.old.heap.locks.monitors }
-    ensures { DoesCall method.ObjectNotify operands next (record { thread = thread; pick = pick }) result shared.old shared.new stack.old
+    ensures { DoesCall method.ObjectNotify operands next
+        (record { thread = thread; pick = pick }) result shared.old shared.new stack.old
         stack.new }
 {
     let object = object(stack, 0);
@@ -87,7 +89,8 @@ pub(crate) fn notify_all(
     next: usize,
 ) -> Result<Effect, EventRefusal>
     requires { operand_of 0 stack.old - 1 < length shared.old.heap.locks.monitors }
-    ensures { DoesUnpicked method.ObjectNotifyAll operands next thread result shared.old shared.new stack.old stack.new }
+    ensures { DoesUnpicked method.ObjectNotifyAll operands next thread result shared.old shared.new stack.old
+        stack.new }
 {
     let object = object(stack, 0);
     if !events::notify_all(&mut shared.heap, &mut shared.threads, object, thread) {

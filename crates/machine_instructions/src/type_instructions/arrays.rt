@@ -59,7 +59,8 @@ pub fn new_array(
     stack: &mut ThreadStack,
     of: Primitive,
 ) -> Result<Effect, EventRefusal>
-    ensures { (p : LinkedProgram) (t : ℕ) → DoesOwn p (linked.NewArray of) t result shared.old shared.new stack.old stack.new }
+    ensures { (p : LinkedProgram) (t : ℕ)
+        → DoesOwn p (linked.NewArray of) t result shared.old shared.new stack.old stack.new }
 {
     make_array(shared, stack, kind_of_array(of))
 }
@@ -75,7 +76,8 @@ pub fn new_reference_array(
     stack: &mut ThreadStack,
     component: u32,
 ) -> Result<Effect, EventRefusal>
-    ensures { (p : LinkedProgram) (t : ℕ) → DoesOwn p (linked.NewReferenceArray component) t result shared.old shared.new stack.old
+    ensures { (p : LinkedProgram) (t : ℕ)
+        → DoesOwn p (linked.NewReferenceArray component) t result shared.old shared.new stack.old
         stack.new }
 {
     make_array(shared, stack, ObjectKind::References { of: component })

@@ -42,7 +42,8 @@ pub fn check_cast(
     program: &LinkedProgram,
     of: LinkedType,
 ) -> Effect
-    ensures { (t : ℕ) → DoesOwn program.now (linked.CheckCast of) t (Ok result) shared.now shared.now stack.old stack.new }
+    ensures { (t : ℕ) → DoesOwn program.now (linked.CheckCast of) t
+        (Ok result) shared.now shared.now stack.old stack.new }
 {
     let Some(frame) = stack.frame_mut() else {
         return Effect::NotEnabled;

@@ -11,7 +11,8 @@ use machine_state::{Effect, EventRefusal};
 /// The frame goes on at the next place.
 #[inline]
 pub(crate) fn go_on(frame: &mut Frame)
-    ensures { frame.old.place < 2 ^ 63 → shown_frame frame.new ≡ at_place (frame.old.place + 1) (shown_frame frame.old) }
+    ensures { frame.old.place < 2 ^ 63
+        → shown_frame frame.new ≡ at_place (frame.old.place + 1) (shown_frame frame.old) }
 {
     let place = frame.place;
     frame.go_to(place.saturating_add(1));
@@ -44,7 +45,8 @@ pub(crate) fn leave_nothing(frame: &mut Frame, count: usize) -> Effect
 /// A word takes the place of the operand on top, if there is one.
 #[inline]
 pub(crate) fn set_top(frame: &mut Frame, word: u32)
-    ensures value { 0 < length (shown_frame frame.old).operands → shown_frame frame.new ≡ replaced 1 (word ∷ []) (shown_frame frame.old) }
+    ensures value { 0 < length (shown_frame frame.old).operands
+        → shown_frame frame.new ≡ replaced 1 (word ∷ []) (shown_frame frame.old) }
     ensures place { frame.new.place ≡ frame.old.place }
 {
     let count = frame.operand_count();

@@ -41,7 +41,8 @@ pub fn new_object(
     class: u16,
     fields: u16,
 ) -> Result<Effect, EventRefusal>
-    ensures { (p : LinkedProgram) (t : ℕ) → DoesOwn p (linked.New class fields) t result shared.old shared.new stack.old stack.new }
+    ensures { (p : LinkedProgram) (t : ℕ)
+        → DoesOwn p (linked.New class fields) t result shared.old shared.new stack.old stack.new }
 {
     let Some(frame) = stack.frame_mut() else {
         return Ok(Effect::NotEnabled);
@@ -52,11 +53,12 @@ pub fn new_object(
     leave_new(&mut shared.heap, frame, kind, u32::from(fields))
 }
 
-/// `athrow`: the object of the operand on top is thrown, or a NullPointerException where that is null. The stack stays as
-/// it is.
+/// `athrow`: the object of the operand on top is thrown, or a NullPointerException where that is null. The stack
+/// stays as it is.
 #[inline]
 pub fn throw(stack: &ThreadStack) -> Effect
-    ensures { (p : LinkedProgram) (t : ℕ) (shared : Shared) → DoesOwn p linked.Throw t (Ok result) shared shared stack.now stack.now }
+    ensures { (p : LinkedProgram) (t : ℕ) (shared : Shared)
+        → DoesOwn p linked.Throw t (Ok result) shared shared stack.now stack.now }
 {
     let Some(frame) = stack.frame() else {
         return Effect::NotEnabled;

@@ -35,16 +35,17 @@ fn may_stand_in(program: &LinkedProgram, heap: &Heap, array: u32, word: u32) -> 
     }
 }
 
-/// `aastore`: the operand on top goes into the array of the third one, at the index of the second. Null in place of the
-/// array is a NullPointerException, an index outside an ArrayIndexOutOfBoundsException, and what may not stand in the array
-/// an ArrayStoreException, in this order.
+/// `aastore`: the operand on top goes into the array of the third one, at the index of the second. Null in place of
+/// the array is a NullPointerException, an index outside an ArrayIndexOutOfBoundsException, and what may not stand in
+/// the array an ArrayStoreException, in this order.
 #[inline]
 pub fn store_reference(
     shared: &mut Shared,
     stack: &mut ThreadStack,
     program: &LinkedProgram,
 ) -> Effect
-    ensures { (t : ℕ) → DoesOwn program.now linked.StoreReference t (Ok result) shared.old shared.new stack.old stack.new }
+    ensures { (t : ℕ) → DoesOwn program.now linked.StoreReference t
+        (Ok result) shared.old shared.new stack.old stack.new }
 {
     let Some(frame) = stack.frame_mut() else {
         return Effect::NotEnabled;

@@ -56,7 +56,8 @@ fn callee_at(program: &LinkedProgram, method: u32) -> Option<Callee>
     }
 }
 
-/// The initialiser of a class as its call needs it, if the class declares one. It enters no monitor, whatever its flags.
+/// The initialiser of a class as its call needs it, if the class declares one. It enters no monitor, whatever its
+/// flags.
 pub(crate) fn initialiser_of(program: &LinkedProgram, class: u16) -> Option<Callee>
     ensures initialiser { IsInitialiserBy program.now class result }
     ensures entered { IfSome result (λ callee. callee.entered ≡ None) }

@@ -1,5 +1,5 @@
-//! The initialisation of classes (JVMS 5.5): what comes first of an event that needs a class, the steps of a thread that
-//! initialises one, and how one fails.
+//! The initialisation of classes (JVMS 5.5): what comes first of an event that needs a class, the steps of a thread
+//! that initialises one, and how one fails.
 
 mod constants;
 mod initialisers;

@@ -10,7 +10,8 @@ use crate::{Answer, ClassStatus, EventRefusal, MachineException, Shared};
 use linked_code::LinkedProgram;
 use linked_code::thread_stacks::{Phase, ThreadStack};
 
-/// A thread marks a class as its own and sets the constants; its entry stands for the steps after that (JVMS 5.5, step 6).
+/// A thread marks a class as its own and sets the constants; its entry stands for the steps after that (JVMS 5.5,
+/// step 6).
 fn begin(
     shared: &mut Shared,
     stack: &mut ThreadStack,

@@ -24,8 +24,8 @@ fn end(shared: &mut Shared, stack: &mut ThreadStack, class: u16, status: ClassSt
     stack.drop_top();
 }
 
-/// The class on top is erroneous, and its entry goes: an exception is pending that no handler took (JVMS 5.5, steps 11 and
-/// 12). An Error stays pending; what is none is replaced by an ExceptionInInitializerError.
+/// The class on top is erroneous, and its entry goes: an exception is pending that no handler took (JVMS 5.5, steps
+/// 11 and 12). An Error stays pending; what is none is replaced by an ExceptionInInitializerError.
 ///
 /// # Errors
 ///
@@ -66,8 +66,8 @@ fn call(
     }
 }
 
-/// Calls the initialiser of the class on top, which is done after that. Where it isn't called, the class stays as it is;
-/// only a StackOverflowError is raised over a class that is done.
+/// Calls the initialiser of the class on top, which is done after that. Where it isn't called, the class stays as it
+/// is; only a StackOverflowError is raised over a class that is done.
 fn call_over(
     shared: &mut Shared,
     stack: &mut ThreadStack,
@@ -114,9 +114,9 @@ fn run_initialiser(
     }
 }
 
-/// The event of a thread with a class on top that it initialises, by its number and its phase (JVMS 5.5): first its superclass
-/// is initialised, unless it is an interface (step 7), then its own initialiser runs (step 9), and then it is initialised and
-/// its entry goes (step 10). A stack has at most so many frames.
+/// The event of a thread with a class on top that it initialises, by its number and its phase (JVMS 5.5): first its
+/// superclass is initialised, unless it is an interface (step 7), then its own initialiser runs (step 9), and then it
+/// is initialised and its entry goes (step 10). A stack has at most so many frames.
 ///
 /// # Errors
 ///

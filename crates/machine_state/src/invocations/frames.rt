@@ -8,10 +8,10 @@ use crate::invocations::entering::{enter_for, may_begin};
 use crate::{Effect, EventRefusal, MachineException, Shared};
 use linked_code::thread_stacks::{Callee, ThreadStack};
 
-/// The frame on top calls a method with code: a new frame stands over it, whose first local variables are its last operands,
-/// so many as the method has parameters and a receiver, and they are taken from it. The thread enters the monitor of a
-/// synchronized method. A stack has at most so many frames; where it has, a StackOverflowError is raised (JVMS 2.5.2), and
-/// where another thread owns the monitor, the event isn't enabled.
+/// The frame on top calls a method with code: a new frame stands over it, whose first local variables are its last
+/// operands, so many as the method has parameters and a receiver, and they are taken from it. The thread enters the
+/// monitor of a synchronized method. A stack has at most so many frames; where it has, a StackOverflowError is raised
+/// (JVMS 2.5.2), and where another thread owns the monitor, the event isn't enabled.
 ///
 /// # Errors
 ///
@@ -47,8 +47,8 @@ pub fn call(
     }
 }
 
-/// A method with code is called by no frame, as an initialiser, `main` or `run`: its frame, with these arguments, stands over
-/// whatever is on the stack. All else is as for `call`.
+/// A method with code is called by no frame, as an initialiser, `main` or `run`: its frame, with these arguments,
+/// stands over whatever is on the stack. All else is as for `call`.
 ///
 /// # Errors
 ///

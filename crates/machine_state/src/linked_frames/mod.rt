@@ -12,8 +12,8 @@ use linked_code::{places_are_filled, places_are_next};
 pub use replacing::replace_operands;
 pub use standing::instruction_at;
 
-/// The frame on top of a thread that runs, with no exception pending, stands at an instruction of the linked code of its
-/// method.
+/// The frame on top of a thread that runs, with no exception pending, stands at an instruction of the linked code of
+/// its method.
 pub fn frames_stand()
     ensures holds { AreFramesStanding }
 {

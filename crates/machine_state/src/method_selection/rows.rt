@@ -30,7 +30,8 @@ pub fn methods_are_read()
     ensures holds { AreMethodsRead }
 {}
 
-/// What a call of a chosen method runs is what the row of its number says: an AbstractMethodError, a built-in method, or code.
+/// What a call of a chosen method runs is what the row of its number says: an AbstractMethodError, a built-in method,
+/// or code.
 pub fn methods_are_run()
     ensures holds { AreMethodsRun }
 {}

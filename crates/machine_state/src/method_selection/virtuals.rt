@@ -16,7 +16,8 @@ fn selection_at(program: &LinkedProgram, class: u32, place: u32) -> Option<u32>
     }
 }
 
-/// The number of the method that `invokevirtual` runs (JVMS 6.5), by the class of the receiver and the place that the call has.
+/// The number of the method that `invokevirtual` runs (JVMS 6.5), by the class of the receiver and the place that the
+/// call has.
 pub fn select_virtual(program: &LinkedProgram, class: u32, place: u32) -> Option<u32>
     ensures { SelectsVirtual program.now class place result }
 {

@@ -16,7 +16,8 @@ fn throw(shared: &mut Shared, thread: u16, exception: u32)
 ///
 /// # Errors
 ///
-/// Where an exception can't be made: as many objects as may be were made, or there is no memory. Nothing has changed then.
+/// Where an exception can't be made: as many objects as may be were made, or there is no memory. Nothing has changed
+/// then.
 pub fn apply(shared: &mut Shared, thread: u16, effect: Effect) -> Result<Answer, EventRefusal>
     ensures { Applies result effect thread shared.old shared.new }
 {

@@ -29,7 +29,8 @@ fn class_of(fault: MachineException) -> u32
     }
 }
 
-/// The machine makes an exception, with no call of a constructor, and it is pending in a thread. It answers that its event is done.
+/// The machine makes an exception, with no call of a constructor, and it is pending in a thread. It answers that its
+/// event is done.
 ///
 /// # Errors
 ///
@@ -46,8 +47,8 @@ pub fn raise(
     Ok(Answer::Done)
 }
 
-/// A thread that waits or joins was interrupted: an InterruptedException is pending, and the interrupt status is cleared
-/// (JLS 17.2.1, 17.2.3).
+/// A thread that waits or joins was interrupted: an InterruptedException is pending, and the interrupt status is
+/// cleared (JLS 17.2.1, 17.2.3).
 ///
 /// # Errors
 ///

@@ -53,7 +53,8 @@ fn same_worlds(one: &Shared, other: &Shared) -> bool
         && same_printed(&one.printed, &other.printed)
 }
 
-/// Whether two states are the same, but for which locks are inflated and how many events led there (JVMS 2.5; JLS 17). Both are used up.
+/// Whether two states are the same, but for which locks are inflated and how many events led there (JVMS 2.5; JLS
+/// 17). Both are used up.
 pub fn are_alike(one: Shared, other: Shared) -> bool
     ensures { IsTrue result ↔ AreAlike one other }
 {

@@ -47,7 +47,8 @@ fn same_waiter(one: Option<Waiter>, other: Option<Waiter>) -> bool
 fn same_waiters(one: &Heap, other: &Heap, object: u32) -> bool
     requires one { object < length one.now.locks.monitors }
     requires other { object < length other.now.locks.monitors }
-    ensures { IsTrue result ↔ ((monitor_at one.now.locks.monitors object).waiters ≡ (monitor_at other.now.locks.monitors object).waiters) }
+    ensures { IsTrue result ↔ ((monitor_at one.now.locks.monitors object).waiters
+        ≡ (monitor_at other.now.locks.monitors object).waiters) }
 {
     let count = one.waiter_count(object);
     if other.waiter_count(object) != count {
@@ -80,7 +81,8 @@ fn same_monitor(one: &Heap, other: &Heap, object: u32) -> bool
 pub(crate) fn same_heap(one: &Heap, other: &Heap) -> bool
     ensures objects { IsTrue result → one.now.objects ≡ other.now.objects }
     ensures monitors { IsTrue result → one.now.locks.monitors ≡ other.now.locks.monitors }
-    ensures told { one.now.objects ≡ other.now.objects → one.now.locks.monitors ≡ other.now.locks.monitors → IsTrue result }
+    ensures told { one.now.objects ≡ other.now.objects → one.now.locks.monitors ≡ other.now.locks.monitors
+        → IsTrue result }
 {
     let count = one.len();
     if other.len() != count {

@@ -1,5 +1,5 @@
-//! When two machines are in the same state: they keep the same objects, monitors, static fields, classes, threads and stacks, and have
-//! printed the same.
+//! When two machines are in the same state: they keep the same objects, monitors, static fields, classes, threads and
+//! stacks, and have printed the same.
 
 mod alike;
 mod heaps;

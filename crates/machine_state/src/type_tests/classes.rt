@@ -16,7 +16,8 @@ fn is_numbered_below(subclasses: &Subclasses, class: u32, above: u32) -> bool
     }
 }
 
-/// Whether a class is another one, a subclass of it, or implements it (JVMS 2.4). Something is tested against the other one.
+/// Whether a class is another one, a subclass of it, or implements it (JVMS 2.4). Something is tested against the
+/// other one.
 #[inline]
 pub fn is_class_below(program: &LinkedProgram, class: u32, above: u32) -> bool
     ensures { TestsClass program.now class above result }

@@ -10,7 +10,8 @@ use model::Primitive;
 
 /// Whether instances of a class are of a type.
 fn is_instance_below(subclasses: &Subclasses, class: u32, of: LinkedType) -> bool
-    ensures { class < 2 ^ 16 → result ≡ is_linked_subtype subclasses.now (record { dimensions = 0; element = Element.Class class }) of }
+    ensures { class < 2 ^ 16
+        → result ≡ is_linked_subtype subclasses.now (record { dimensions = 0; element = Element.Class class }) of }
 {
     match u16::try_from(class) {
         Ok(class) => {
@@ -26,7 +27,8 @@ fn is_instance_below(subclasses: &Subclasses, class: u32, of: LinkedType) -> boo
 
 /// Whether arrays of a primitive type are of a type.
 fn is_primitive_array_below(subclasses: &Subclasses, holds: Primitive, of: LinkedType) -> bool
-    ensures { result ≡ is_linked_subtype subclasses.now (record { dimensions = 1; element = Element.Primitive holds }) of }
+    ensures { result ≡ is_linked_subtype subclasses.now
+        (record { dimensions = 1; element = Element.Primitive holds }) of }
 {
     let own = LinkedType {
         dimensions: 1,
@@ -79,8 +81,8 @@ fn is_below(program: &LinkedProgram, kind: ObjectKind, of: LinkedType) -> bool
     }
 }
 
-/// Whether an object of a kind is an instance of a type (JVMS 6.5 checkcast, instanceof, aastore). The class of the type, if it has
-/// one, is one against which something is tested.
+/// Whether an object of a kind is an instance of a type (JVMS 6.5 checkcast, instanceof, aastore). The class of the
+/// type, if it has one, is one against which something is tested.
 #[inline]
 pub fn is_kind_below(program: &LinkedProgram, kind: ObjectKind, of: LinkedType) -> bool
     ensures { TestsKind program.now kind of result }

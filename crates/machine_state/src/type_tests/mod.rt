@@ -1,5 +1,5 @@
-//! Tests of subtypes by numbers: whether a class is below another one, and whether objects are of a type. Each reads a constant
-//! number of words of the tables of a linked program.
+//! Tests of subtypes by numbers: whether a class is below another one, and whether objects are of a type. Each reads
+//! a constant number of words of the tables of a linked program.
 
 mod classes;
 mod kinds;

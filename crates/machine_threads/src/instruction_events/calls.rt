@@ -23,7 +23,8 @@ pub(crate) fn any_instruction(
 ) -> Result<Effect, EventRefusal>
     requires able { CanRun program.now thread shared.old stack.old instruction }
     requires numbered { thread < 32767 }
-    ensures { DoesInstruction program.now instruction frames (record { thread = thread; pick = pick }) result shared.old shared.new
+    ensures { DoesInstruction program.now instruction frames
+        (record { thread = thread; pick = pick }) result shared.old shared.new
         stack.old stack.new }
 {
     match instruction {

@@ -8,9 +8,9 @@ use linked_code::{LinkedInstruction, LinkedProgram};
 use machine_state::class_initialisation::need_class;
 use machine_state::{Answer, EventRefusal, Shared, instructions_are_done};
 
-/// What comes before the instruction at which a thread stands: the class that it needs (JVMS 5.5). It answers nothing where the
-/// event is what the instruction does, and nothing has changed; else it answers what became of the event. An event that picks
-/// something waits for no class: its instruction doesn't let it, or needs no class of a file.
+/// What comes before the instruction at which a thread stands: the class that it needs (JVMS 5.5). It answers nothing
+/// where the event is what the instruction does, and nothing has changed; else it answers what became of the event.
+/// An event that picks something waits for no class: its instruction doesn't let it, or needs no class of a file.
 ///
 /// # Errors
 ///

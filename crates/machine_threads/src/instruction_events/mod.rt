@@ -1,5 +1,5 @@
-//! The event of a thread that runs, with no exception pending, and has a frame on top: the instruction at which the frame stands
-//! is done, after its class, where it needs one (JVMS 2.11, 5.5).
+//! The event of a thread that runs, with no exception pending, and has a frame on top: the instruction at which the
+//! frame stands is done, after its class, where it needs one (JVMS 2.11, 5.5).
 
 mod at_once;
 mod calls;

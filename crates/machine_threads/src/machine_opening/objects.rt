@@ -61,7 +61,8 @@ fn add_first(heap: &mut Heap, string_component: u32) -> Result<(), AllocError>
     add(heap, ObjectKind::Instance { class: THREAD }, THREAD_FIELDS)
 }
 
-/// The objects of the opening state: behind the first ones a Class for each class, and a String for each text of a constant.
+/// The objects of the opening state: behind the first ones a Class for each class, and a String for each text of a
+/// constant.
 pub(crate) fn opening_heap(
     alloc: Global,
     program: &LinkedProgram,

@@ -33,8 +33,8 @@ fn opening_stacks(alloc: Global) -> Result<Vec<ThreadStack>, AllocError>
     Ok(stacks)
 }
 
-/// The opening state of a linked program (own; JVMS 5.2): the main thread alone, which has not begun, and no class of a file is
-/// initialised. The limits hold for what is made later, and not for the objects that there are here.
+/// The opening state of a linked program (own; JVMS 5.2): the main thread alone, which has not begun, and no class of
+/// a file is initialised. The limits hold for what is made later, and not for the objects that there are here.
 ///
 /// # Errors
 ///

@@ -14,7 +14,8 @@ pub(crate) fn opening_statuses(
     program: &LinkedProgram,
 ) -> Result<Vec<ClassStatus>, AllocError>
     requires { BUILT_IN_CLASSES ≤ length program.now.classes.items }
-    ensures { IfOk result (λ statuses. statuses.items ≡ replicate (length program.now.classes.items - BUILT_IN_CLASSES) ClassStatus.NotInitialised) }
+    ensures { IfOk result (λ statuses.
+        statuses.items ≡ replicate (length program.now.classes.items - BUILT_IN_CLASSES) ClassStatus.NotInitialised) }
 {
     let mut statuses = Vec::new(alloc);
     statuses.resize(
@@ -27,7 +28,9 @@ pub(crate) fn opening_statuses(
 /// The built-in classes are ready from the start, and no others.
 pub(crate) fn opening_ready(alloc: Global, program: &LinkedProgram) -> Result<Vec<bool>, AllocError>
     requires { BUILT_IN_CLASSES ≤ length program.now.classes.items }
-    ensures { IfOk result (λ ready. ready.items ≡ replicate BUILT_IN_CLASSES true ++ replicate (length program.now.classes.items - BUILT_IN_CLASSES) false) }
+    ensures { IfOk result (λ ready.
+        ready.items ≡ replicate BUILT_IN_CLASSES true
+        ++ replicate (length program.now.classes.items - BUILT_IN_CLASSES) false) }
 {
     let mut ready = Vec::new(alloc);
     ready.resize(BUILT_IN_CLASSES, true)?;

@@ -19,8 +19,8 @@ fn word_of(heap: &Heap, object: u32) -> u32
     if object < heap.len() { object + 1 } else { 0 }
 }
 
-/// A frame goes on at a handler, with one word alone on its stack. It takes memory only where it had no operand. On an error nothing has
-/// changed.
+/// A frame goes on at a handler, with one word alone on its stack. It takes memory only where it had no operand. On
+/// an error nothing has changed.
 #[inline]
 #[tactic(auto, using(linked_code::proofs::thread_stacks::Turned::drop_all, crate::proofs::pending_exceptions::NoRoom::no_operand))]
 fn catch_in_frame(frame: &mut Frame, handler: u16, word: u32) -> Result<(), AllocError>
@@ -34,7 +34,8 @@ fn catch_in_frame(frame: &mut Frame, handler: u16, word: u32) -> Result<(), Allo
     Ok(())
 }
 
-/// The frame on top goes on at a handler, with one word alone on its stack. On an error nothing has changed, and it has no operand.
+/// The frame on top goes on at a handler, with one word alone on its stack. On an error nothing has changed, and it
+/// has no operand.
 #[inline]
 fn catch_on_top(stack: &mut ThreadStack, handler: u16, word: u32) -> Result<(), AllocError>
     ensures ok { OnOk result (IsCaughtOnTop handler word stack.old stack.new) }
@@ -55,8 +56,8 @@ fn clear_pending(shared: &mut Shared, thread: u16)
     shared.threads.set_pending(thread, None);
 }
 
-/// The frame on top goes on at a handler, with the reference of the exception alone on its stack (JVMS 2.10), and the exception is
-/// not pending any more.
+/// The frame on top goes on at a handler, with the reference of the exception alone on its stack (JVMS 2.10), and the
+/// exception is not pending any more.
 ///
 /// # Errors
 ///

@@ -42,9 +42,9 @@ fn event_in_class(
     fail(shared, stack, thread, class, is_error)
 }
 
-/// The event of a thread in which an exception is pending (JVMS 2.10): the frame on top goes on at the first of its handlers that
-/// takes the exception, with the exception alone on its stack, or ends; a class on top, which the thread initialises, is erroneous
-/// (JVMS 5.5). With an empty stack the event is not enabled.
+/// The event of a thread in which an exception is pending (JVMS 2.10): the frame on top goes on at the first of its
+/// handlers that takes the exception, with the exception alone on its stack, or ends; a class on top, which the
+/// thread initialises, is erroneous (JVMS 5.5). With an empty stack the event is not enabled.
 ///
 /// # Errors
 ///

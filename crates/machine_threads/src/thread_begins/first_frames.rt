@@ -9,9 +9,9 @@ use linked_code::thread_stacks::{Callee, ThreadStack};
 use machine_state::invocations::first_call;
 use machine_state::{Effect, EventRefusal, MachineException, Shared};
 
-/// A thread calls its first method with one argument, by its word, and has begun then. Where a stack may have no frame, a
-/// StackOverflowError is raised (JVMS 2.5.2), and where another thread owns the monitor that the call enters, the event isn't
-/// enabled. In both cases the thread hasn't begun.
+/// A thread calls its first method with one argument, by its word, and has begun then. Where a stack may have no
+/// frame, a StackOverflowError is raised (JVMS 2.5.2), and where another thread owns the monitor that the call
+/// enters, the event isn't enabled. In both cases the thread hasn't begun.
 ///
 /// # Errors
 ///

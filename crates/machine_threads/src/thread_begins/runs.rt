@@ -43,8 +43,8 @@ fn reference(heap: &Heap, object: u32) -> u32
     object + 1
 }
 
-/// A thread that was started begins: it calls `run` of its Thread object by the rules of `invokevirtual`. Where that has no
-/// code, an AbstractMethodError is raised. All else is as for `push_first`.
+/// A thread that was started begins: it calls `run` of its Thread object by the rules of `invokevirtual`. Where that
+/// has no code, an AbstractMethodError is raised. All else is as for `push_first`.
 ///
 /// # Errors
 ///

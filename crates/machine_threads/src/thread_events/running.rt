@@ -11,8 +11,9 @@ use linked_code::LinkedProgram;
 use linked_code::thread_stacks::{ThreadStack, Top};
 use machine_state::{Answer, EventRefusal, Shared};
 
-/// By what is on top of its stack: with a frame the event is that of its instruction (JVMS 2.6), with a class that the thread
-/// initialises it is the next step of that (JVMS 5.5), and with an empty stack the thread begins (JVMS 5.2; JLS 17).
+/// By what is on top of its stack: with a frame the event is that of its instruction (JVMS 2.6), with a class that
+/// the thread initialises it is the next step of that (JVMS 5.5), and with an empty stack the thread begins (JVMS
+/// 5.2; JLS 17).
 pub(crate) fn running_event(
     shared: &mut Shared,
     stack: &mut ThreadStack,
@@ -25,7 +26,8 @@ pub(crate) fn running_event(
     requires runs { (row_at shared.old.threads.threads thread).status ≡ Running }
     requires goes_on { (row_at shared.old.threads.threads thread).pending ≡ None }
     requires numbered { thread < 32767 }
-    ensures { DoesRunning program.now result (record { thread = thread; pick = pick }) frames shared.old shared.new stack.old stack.new }
+    ensures { DoesRunning program.now result
+        (record { thread = thread; pick = pick }) frames shared.old shared.new stack.old stack.new }
 {
     match stack.top() {
         Top::Empty => begin(shared, stack, program, thread, pick, frames),

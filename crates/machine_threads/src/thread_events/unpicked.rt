@@ -31,7 +31,8 @@ pub(crate) fn relock(
     requires able { HasThread program.now thread shared.old stack.old }
     requires left { (row_at shared.old.threads.threads thread).status ≡ Relock object count (cause_of cause) }
     requires numbered { thread < 32767 }
-    ensures { DoesRelock program.now result (record { thread = thread; pick = pick }) object count (cause_of cause) shared.old shared.new
+    ensures { DoesRelock program.now result (record { thread = thread; pick = pick }) object count
+        (cause_of cause) shared.old shared.new
         stack.old stack.new }
 {
     if pick != 0 {
@@ -51,7 +52,8 @@ pub(crate) fn pending(
 ) -> Result<Answer, EventRefusal>
     requires runs { (row_at shared.old.threads.threads thread).status ≡ Running }
     requires pending { (row_at shared.old.threads.threads thread).pending ≡ Some exception }
-    ensures { DoesPending program.now result (record { thread = thread; pick = pick }) exception shared.old shared.new stack.old stack.new }
+    ensures { DoesPending program.now result
+        (record { thread = thread; pick = pick }) exception shared.old shared.new stack.old stack.new }
 {
     if pick != 0 {
         return Ok(Answer::NotEnabled);
@@ -71,7 +73,8 @@ pub(crate) fn initialisation(
     frames: usize,
 ) -> Result<Answer, EventRefusal>
     requires numbered { thread < 32767 }
-    ensures { DoesInitialisation program.now result (record { thread = thread; pick = pick }) class phase frames shared.old shared.new
+    ensures { DoesInitialisation program.now result
+        (record { thread = thread; pick = pick }) class phase frames shared.old shared.new
         stack.old stack.new }
 {
     if pick != 0 {
@@ -91,7 +94,8 @@ pub(crate) fn begin(
 ) -> Result<Answer, EventRefusal>
     requires able { CanBegin program.now thread shared.old stack.old }
     requires numbered { thread < 32767 }
-    ensures { DoesBegin program.now result (record { thread = thread; pick = pick }) frames shared.old shared.new stack.old stack.new }
+    ensures { DoesBegin program.now result
+        (record { thread = thread; pick = pick }) frames shared.old shared.new stack.old stack.new }
 {
     if pick != 0 {
         return Ok(Answer::NotEnabled);

@@ -23,7 +23,8 @@ fn is_over(threads: &Threads, thread: u16) -> bool
 /// A thread has ended, with the exception that was pending in it or without one.
 fn set_ended(threads: &mut Threads, thread: u16)
     requires { thread < length threads.old.threads }
-    ensures { ThreadsBecome (λ world. with_thread world thread (ended (thread_at world thread))) threads.old threads.new }
+    ensures { ThreadsBecome (λ world.
+        with_thread world thread (ended (thread_at world thread))) threads.old threads.new }
 {
     let pending = threads.pending(thread);
     threads.set_pending(thread, None);
@@ -42,8 +43,8 @@ fn end_and_wake(shared: &mut Shared, thread: u16)
     }
 }
 
-/// After an event of a thread: where its stack is empty, and it has begun or an exception is pending, the thread has ended, by
-/// that exception or without one. All that wait on its Thread object are woken then. It takes no memory.
+/// After an event of a thread: where its stack is empty, and it has begun or an exception is pending, the thread has
+/// ended, by that exception or without one. All that wait on its Thread object are woken then. It takes no memory.
 pub fn settle(shared: &mut Shared, stack: &ThreadStack, thread: u16)
     ensures { Settles thread shared.old shared.new stack.now }
 {

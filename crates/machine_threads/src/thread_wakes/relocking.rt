@@ -24,13 +24,14 @@ fn is_free(heap: &Heap, object: u32) -> bool
     heap.owner(object).is_none()
 }
 
-/// The event of a thread that has left the wait set of an object: it enters the monitor again as often as it had entered it, and
-/// runs. Notified, it goes on behind its call of wait; interrupted, an InterruptedException is pending, and its interrupt
-/// status is cleared. The event is not enabled while a thread owns the monitor.
+/// The event of a thread that has left the wait set of an object: it enters the monitor again as often as it had
+/// entered it, and runs. Notified, it goes on behind its call of wait; interrupted, an InterruptedException is
+/// pending, and its interrupt status is cleared. The event is not enabled while a thread owns the monitor.
 ///
 /// # Errors
 ///
-/// Where the exception can't be made: as many objects as may be were made, or there is no memory. Nothing has changed then.
+/// Where the exception can't be made: as many objects as may be were made, or there is no memory. Nothing has changed
+/// then.
 pub fn relock_event(
     shared: &mut Shared,
     stack: &mut ThreadStack,
@@ -41,7 +42,8 @@ pub fn relock_event(
     cause: WakeCause,
 ) -> Result<Answer, EventRefusal>
     requires { IsToRelock program.now thread object count (cause_of cause) shared.old stack.old }
-    ensures { RelocksIn program.now thread object count (cause_of cause) result shared.old shared.new stack.old stack.new }
+    ensures { RelocksIn program.now thread object count
+        (cause_of cause) result shared.old shared.new stack.old stack.new }
 {
     if !is_free(&shared.heap, object) {
         return Ok(Answer::NotEnabled);

@@ -43,7 +43,8 @@ pub(crate) fn virtual_standing(
     place: u32,
     frames: usize,
 ) -> Standing
-    ensures { StandsInInstruction program.now (linked.InvokeVirtual parameters place) frames thread result shared.now stack.now }
+    ensures { StandsInInstruction program.now
+        (linked.InvokeVirtual parameters place) frames thread result shared.now stack.now }
 {
     let Some(object) = receiver(stack, parameters) else {
         return Standing::Runnable;
@@ -64,7 +65,8 @@ pub(crate) fn interface_standing(
     selector: u32,
     frames: usize,
 ) -> Standing
-    ensures { StandsInInstruction program.now (linked.InvokeInterface parameters selector) frames thread result shared.now stack.now }
+    ensures { StandsInInstruction program.now
+        (linked.InvokeInterface parameters selector) frames thread result shared.now stack.now }
 {
     let Some(object) = receiver(stack, parameters) else {
         return Standing::Runnable;

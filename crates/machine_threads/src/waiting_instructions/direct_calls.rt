@@ -44,7 +44,8 @@ pub(crate) fn static_standing(
     method: u32,
     frames: usize,
 ) -> Standing
-    ensures { (parameters class : ℕ) → StandsInInstruction program.now (linked.InvokeStatic parameters class method) frames thread result
+    ensures { (parameters class : ℕ)
+        → StandsInInstruction program.now (linked.InvokeStatic parameters class method) frames thread result
         shared.now stack.now }
 {
     let object = class_object(program, method);
@@ -61,7 +62,8 @@ pub(crate) fn special_standing(
     method: u32,
     frames: usize,
 ) -> Standing
-    ensures { StandsInInstruction program.now (linked.InvokeSpecial parameters method) frames thread result shared.now stack.now }
+    ensures { StandsInInstruction program.now
+        (linked.InvokeSpecial parameters method) frames thread result shared.now stack.now }
 {
     let Some(object) = receiver(stack, parameters) else {
         return Standing::Runnable;

@@ -12,8 +12,9 @@ use machine_state::class_initialisation::ClassLook;
 use machine_state::linked_frames::instruction_at;
 use machine_state::{Shared, instructions_are_done};
 
-/// How a thread stands at an instruction. Its class comes first: while another thread initialises it, the thread waits (JVMS 5.5);
-/// the event is the begin of its initialisation, where it is new, and a NoClassDefFoundError, where that has failed.
+/// How a thread stands at an instruction. Its class comes first: while another thread initialises it, the thread
+/// waits (JVMS 5.5); the event is the begin of its initialisation, where it is new, and a NoClassDefFoundError, where
+/// that has failed.
 fn standing_at(
     shared: &Shared,
     stack: &ThreadStack,
@@ -32,8 +33,8 @@ fn standing_at(
     }
 }
 
-/// How a thread stands that runs, with no exception pending, and has a frame on top of its stack. A thread has at most so many
-/// frames.
+/// How a thread stands that runs, with no exception pending, and has a frame on top of its stack. A thread has at
+/// most so many frames.
 pub fn instruction_standing(
     shared: &Shared,
     stack: &ThreadStack,

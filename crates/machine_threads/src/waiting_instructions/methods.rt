@@ -59,8 +59,8 @@ fn may_begin(heap: &Heap, thread: u16, entered: Option<u32>) -> bool
     }
 }
 
-/// The call of a method with code waits while another thread owns the monitor that it enters. Where a thread has as many frames as
-/// it may have, the call is a StackOverflowError (JVMS 2.5.2), which does not wait.
+/// The call of a method with code waits while another thread owns the monitor that it enters. Where a thread has as
+/// many frames as it may have, the call is a StackOverflowError (JVMS 2.5.2), which does not wait.
 fn code_standing(
     shared: &Shared,
     stack: &ThreadStack,
@@ -79,7 +79,8 @@ fn code_standing(
     Standing::Blocked
 }
 
-/// How a thread stands at the call of the method of a number, which enters the monitor of the object where it is synchronized.
+/// How a thread stands at the call of the method of a number, which enters the monitor of the object where it is
+/// synchronized.
 pub(crate) fn call_standing(
     shared: &Shared,
     stack: &ThreadStack,

@@ -21,7 +21,8 @@ pub(crate) fn may_enter_there(heap: &Heap, object: u32, thread: u16) -> bool
     }
 }
 
-/// Whether no other thread owns the monitor of the object on top; null does not wait, it throws (JVMS 6.5 monitorenter).
+/// Whether no other thread owns the monitor of the object on top; null does not wait, it throws (JVMS 6.5
+/// monitorenter).
 pub(crate) fn may_enter_top(shared: &Shared, stack: &ThreadStack, thread: u16) -> bool
     ensures { SaysMayEnterTop thread result shared.now stack.now }
 {

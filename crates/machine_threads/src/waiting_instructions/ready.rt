@@ -10,7 +10,8 @@ use linked_code::thread_stacks::ThreadStack;
 use linked_code::{LinkedInstruction, LinkedProgram};
 use machine_state::Shared;
 
-/// How a thread stands at an instruction whose class is ready, where it needs one: only `monitorenter` and calls may wait.
+/// How a thread stands at an instruction whose class is ready, where it needs one: only `monitorenter` and calls may
+/// wait.
 pub(crate) fn ready_standing(
     shared: &Shared,
     stack: &ThreadStack,

@@ -105,8 +105,8 @@ impl CodeBuilder {
         self.op_short(opcode, by)
     }
 
-    /// Adds an entry to the exception table: code from an offset up to the end has a handler, of the class of a constant,
-    /// or of all where that is 0.
+    /// Adds an entry to the exception table: code from an offset up to the end has a handler, of the class of a
+    /// constant, or of all where that is 0.
     pub fn protect(
         &mut self,
         start: u16,

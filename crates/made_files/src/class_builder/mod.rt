@@ -1,5 +1,5 @@
-//! Class files for tests and trials: a constant pool that has each entry once, a class whose parts are given by their texts, code
-//! that grows, and a class file as bytes.
+//! Class files for tests and trials: a constant pool that has each entry once, a class whose parts are given by their
+//! texts, code that grows, and a class file as bytes.
 
 mod bytes;
 mod class;

@@ -11,8 +11,8 @@ pub struct Member<'a> {
     pub descriptor: &'a [u8],
 }
 
-/// A constant pool that grows. Each function gives the index of an entry. Where the entry, or one that it names, isn't there
-/// yet, it is added. An index past 65,535 is given as 65,535.
+/// A constant pool that grows. Each function gives the index of an entry. Where the entry, or one that it names,
+/// isn't there yet, it is added. An index past 65,535 is given as 65,535.
 #[derive(Drop)]
 pub struct PoolBuilder {
     alloc: Global,

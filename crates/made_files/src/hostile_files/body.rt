@@ -124,7 +124,8 @@ impl Body {
         )
     }
 
-    /// Adds a method that has these access flags and this code, with so much room on the stack and so many local variables.
+    /// Adds a method that has these access flags and this code, with so much room on the stack and so many local
+    /// variables.
     pub fn add_method(
         &self,
         class: &mut ClassBuilder,

@@ -29,8 +29,8 @@ fn catch_code(main: &mut Main, alloc: Global, number: u32) -> Result<(), AllocEr
     catch_all(main, alloc, number)
 }
 
-/// So many instructions, each with as many entries of the exception table, which catch the classes of a chain, the lowest
-/// first, at one handler.
+/// So many instructions, each with as many entries of the exception table, which catch the classes of a chain, the
+/// lowest first, at one handler.
 pub fn catch_chain(alloc: Global, number: u32) -> Result<Vec<Vec<u8>>, AllocError> {
     let mut set = Set::new(alloc);
     let mut main = set.main()?;

@@ -77,7 +77,8 @@ fn raised_code(body: &mut Body, number: u32) -> Result<(), AllocError> {
     end_protected(body, start, number)
 }
 
-/// The same over stores that change the type of each local variable, so that each raises the frame types of all handlers.
+/// The same over stores that change the type of each local variable, so that each raises the frame types of all
+/// handlers.
 pub fn raised_handlers(alloc: Global, number: u32) -> Result<Vec<Vec<u8>>, AllocError> {
     let mut set = Set::new(alloc);
     let mut main = set.main()?;
@@ -150,8 +151,9 @@ fn alternating_code(body: &mut Body, number: u32) -> Result<(), AllocError> {
     end_protected(body, start, number)
 }
 
-/// So many handlers over as many places, where two frame types that differ in as many local variables stand by turns. A
-/// switch leads to each second place; its default changes all local variables, and leads to the others by another switch.
+/// So many handlers over as many places, where two frame types that differ in as many local variables stand by turns.
+/// A switch leads to each second place; its default changes all local variables, and leads to the others by another
+/// switch.
 pub fn alternating_handlers(alloc: Global, number: u32) -> Result<Vec<Vec<u8>>, AllocError> {
     let mut set = Set::new(alloc);
     let mut main = set.main()?;

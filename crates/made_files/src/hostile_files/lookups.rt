@@ -79,7 +79,8 @@ fn implementing_class(alloc: Global, place: u32, number: u32) -> Result<ClassBui
     Ok(class)
 }
 
-/// Adds so many abstract classes, each below the one before, and each of which implements the last of so many interfaces.
+/// Adds so many abstract classes, each below the one before, and each of which implements the last of so many
+/// interfaces.
 fn add_implementing_classes(set: &mut Set, number: u32) -> Result<(), AllocError> {
     for place in 0..number {
         let class = implementing_class(set.alloc, place, number)?;
@@ -88,8 +89,8 @@ fn add_implementing_classes(set: &mut Set, number: u32) -> Result<(), AllocError
     Ok(())
 }
 
-/// So many classes below each other, each of which implements the lowest of so many interfaces below each other. The upmost
-/// interface has as many methods, which are called by way of the lowest class.
+/// So many classes below each other, each of which implements the lowest of so many interfaces below each other. The
+/// upmost interface has as many methods, which are called by way of the lowest class.
 pub fn inherited_methods(alloc: Global, number: u32) -> Result<Vec<Vec<u8>>, AllocError> {
     let mut set = Set::new(alloc);
     add_main_with_calls(&mut set, &numbered(b'C', last(number)), number)?;
@@ -148,7 +149,8 @@ fn interface_of_one(alloc: Global, place: u32) -> Result<ClassBuilder, AllocErro
     Ok(interface)
 }
 
-/// An abstract class that implements so many interfaces, each of which has a method; all are called by way of the class.
+/// An abstract class that implements so many interfaces, each of which has a method; all are called by way of the
+/// class.
 pub fn methods_of_interfaces(alloc: Global, number: u32) -> Result<Vec<Vec<u8>>, AllocError> {
     let mut set = Set::new(alloc);
     add_main_with_calls(&mut set, b"C", number)?;

@@ -42,8 +42,8 @@ impl Loop {
         self.body.go_to(self.head)
     }
 
-    /// At its end stands a switch that leads to so many places, each of which puts null as a class of a chain, the lowest first,
-    /// into local variable 1, and goes to the head of the loop.
+    /// At its end stands a switch that leads to so many places, each of which puts null as a class of a chain, the
+    /// lowest first, into local variable 1, and goes to the head of the loop.
     fn finish(
         &mut self,
         alloc: Global,
@@ -180,8 +180,8 @@ fn add_superclasses(set: &mut Set, number: u32) -> Result<(), AllocError> {
     Ok(())
 }
 
-/// In a method of an object, so many calls of a method of its superclass in a loop, which the upmost of as many superclasses
-/// declares.
+/// In a method of an object, so many calls of a method of its superclass in a loop, which the upmost of as many
+/// superclasses declares.
 pub fn calls_up_a_chain(alloc: Global, number: u32) -> Result<Vec<Vec<u8>>, AllocError> {
     let mut set = Set::new(alloc);
     let superclass = numbered(b'S', number.wrapping_sub(1));
@@ -218,8 +218,8 @@ fn main_with_descriptor(set: &Set, name: &[u8], number: u32) -> Result<ClassBuil
     Ok(class)
 }
 
-/// The same, where the method that is called is a private one. Its descriptor names a class whose name is four times as many
-/// bytes long.
+/// The same, where the method that is called is a private one. Its descriptor names a class whose name is four times
+/// as many bytes long.
 pub fn descriptors_up_a_chain(alloc: Global, number: u32) -> Result<Vec<Vec<u8>>, AllocError> {
     let mut set = Set::new(alloc);
     let name = long_name(alloc, number.wrapping_mul(4))?;

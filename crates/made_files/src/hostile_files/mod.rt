@@ -1,5 +1,5 @@
-//! Sets of class files that are hard to link or to verify, by the name of their shape: what is in them of each kind there is
-//! as often as a number says.
+//! Sets of class files that are hard to link or to verify, by the name of their shape: what is in them of each kind
+//! there is as often as a number says.
 
 mod body;
 mod chains;

@@ -117,8 +117,8 @@ fn with_members(
     Ok(Some(files?))
 }
 
-/// The class files of a shape, that with `main` first, in which there is so much of each kind; `None` where no shape has this
-/// name. The number is 1 at least. Where it is too large, they are no class files.
+/// The class files of a shape, that with `main` first, in which there is so much of each kind; `None` where no shape
+/// has this name. The number is 1 at least. Where it is too large, they are no class files.
 pub fn class_files(
     alloc: Global,
     shape: &str,

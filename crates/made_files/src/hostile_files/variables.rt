@@ -44,8 +44,8 @@ fn slow_loop_code(main: &mut Main, number: u32) -> Result<(), AllocError> {
     main.body.go_to(head)
 }
 
-/// A loop over so many local variables, each of which takes what the one before it held: the first holds another type from
-/// the second time on, which each time goes one further.
+/// A loop over so many local variables, each of which takes what the one before it held: the first holds another type
+/// from the second time on, which each time goes one further.
 pub fn slow_loop(alloc: Global, number: u32) -> Result<Vec<Vec<u8>>, AllocError> {
     let mut set = Set::new(alloc);
     let mut main = set.main()?;
@@ -85,7 +85,8 @@ fn deep_stack_code(body: &mut Body, number: u32) -> Result<(), AllocError> {
     body.op(RETURN)
 }
 
-/// So many operands on the stack, of two types by turns, where a switch leads to as many places, all of which go on at one.
+/// So many operands on the stack, of two types by turns, where a switch leads to as many places, all of which go on
+/// at one.
 pub fn deep_stack(alloc: Global, number: u32) -> Result<Vec<Vec<u8>>, AllocError> {
     let mut set = Set::new(alloc);
     let mut main = set.main()?;

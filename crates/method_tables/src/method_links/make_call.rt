@@ -34,7 +34,8 @@ fn shared(alloc: Global, code: &Code) -> Result<FrameCode, AllocError>
 
 /// The code of a method, where it has one.
 fn frame_code(alloc: Global, method: &Method) -> Result<Option<FrameCode>, AllocError>
-    ensures { IfOk result (λ code. option_map frame_needs code ≡ option_map needs_of (code_in (method_of method.now).parts)) }
+    ensures { IfOk result (λ code.
+        option_map frame_needs code ≡ option_map needs_of (code_in (method_of method.now).parts)) }
 {
     match method.code() {
         Some(code) => Ok(Some(shared(alloc, code)?)),
@@ -52,7 +53,8 @@ fn receiver_count(is_static: bool) -> usize
 
 /// How many operands a call takes by the method's descriptor.
 fn operand_count(alloc: Global, descriptor: &[u8], is_static: bool) -> Result<usize, AllocError>
-    ensures { IfOk result (λ count. count ≡ length (parameters_declared descriptor.now) + (if is_static then 0 else 1)) }
+    ensures { IfOk result (λ count.
+        count ≡ length (parameters_declared descriptor.now) + (if is_static then 0 else 1)) }
 {
     let receivers = receiver_count(is_static);
     let Some(method) = parse_method(alloc, descriptor)? else {

@@ -137,13 +137,17 @@ impl NamedMethods {
     /// The number of the method that the entry of an index names in the pool of the class at a place.
     pub fn named(&self, class: usize, index: u16) -> Option<usize>
         // A Methodref names a method of a class (JVMS 5.4.3.3).
-        ensures method { (files : Program) → AreNamedOf files self.now → (file : FileTree) → class_at files class ≡ Some file
+        ensures method { (files : Program) → AreNamedOf files self.now → (file : FileTree)
+            → class_at files class ≡ Some file
             → (m : Member) → method_at file.pool index ≡ Some m → Names files result (find_method files m) }
         // An InterfaceMethodref names a method of an interface (JVMS 5.4.3.4).
-        ensures interface_method { (files : Program) → AreNamedOf files self.now → (file : FileTree) → class_at files class ≡ Some file
-            → (m : Member) → interface_method_at file.pool index ≡ Some m → Names files result (find_interface_method files m) }
+        ensures interface_method { (files : Program) → AreNamedOf files self.now → (file : FileTree)
+            → class_at files class ≡ Some file
+            → (m : Member) → interface_method_at file.pool index ≡ Some m
+            → Names files result (find_interface_method files m) }
         // No other entry names a method.
-        ensures other { (files : Program) → AreNamedOf files self.now → (file : FileTree) → class_at files class ≡ Some file
+        ensures other { (files : Program) → AreNamedOf files self.now → (file : FileTree)
+            → class_at files class ≡ Some file
             → method_at file.pool index ≡ None → interface_method_at file.pool index ≡ None → result ≡ None }
     {
         number_in(self.row(class), index)

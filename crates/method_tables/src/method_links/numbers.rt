@@ -9,8 +9,8 @@ use hierarchy::{ClassSet, MemberPlace};
 use std::alloc::{AllocError, Global};
 use std::marker::Model;
 
-/// The numbers of the methods of a set of classes: class by class, the built-in ones first, in the order in which each class
-/// declares them, from 0 on.
+/// The numbers of the methods of a set of classes: class by class, the built-in ones first, in the order in which
+/// each class declares them, from 0 on.
 #[derive(Drop)]
 pub struct MethodNumbers {
     /// For each class the number of its first method.

@@ -21,8 +21,8 @@ use indexmap::IndexMap;
 use std::alloc::{AllocError, Global};
 use std::marker::Model;
 
-/// For each class the methods that calls on its objects run. A class has what it declares itself, and a look-up goes through
-/// its superclasses, with one search in a hash table for each.
+/// For each class the methods that calls on its objects run. A class has what it declares itself, and a look-up goes
+/// through its superclasses, with one search in a hash table for each.
 #[derive(Drop)]
 pub struct SelectedMethods {
     /// For each method the number of the first of the same name.
@@ -95,8 +95,8 @@ impl SelectedMethods {
         })
     }
 
-    /// The number of the method with the name and the descriptor of the one of a number that the class at a place itself
-    /// declares, static and private ones aside. One search in a hash table; takes no memory.
+    /// The number of the method with the name and the descriptor of the one of a number that the class at a place
+    /// itself declares, static and private ones aside. One search in a hash table; takes no memory.
     pub fn declared_by(&self, class: usize, method: usize) -> Option<usize>
         ensures { result ≡ declared_number self.now class method }
     {
@@ -114,8 +114,9 @@ impl SelectedMethods {
         }
     }
 
-    /// The number of the method that a receiver of the class at a place has in place of the method of a number: the nearest
-    /// declaration from the class upwards that is neither static nor private, abstract or not. Takes no memory.
+    /// The number of the method that a receiver of the class at a place has in place of the method of a number: the
+    /// nearest declaration from the class upwards that is neither static nor private, abstract or not. Takes no
+    /// memory.
     pub fn selected(&self, class: usize, method: usize) -> Option<usize>
         ensures { (files : Program) → AreSelectionsOf files self.now
             → (file : FileTree) → class_at files class ≡ Some file

@@ -72,7 +72,8 @@ fn first_of<'a>(
     text: &'a [u8],
     here: usize,
 ) -> Result<usize, AllocError>
-    ensures { (all : List (List ℕ)) → here < length all → slice_index_or all here [] ≡ text.now → HasPlaces all here seen.old
+    ensures { (all : List (List ℕ)) → here < length all → slice_index_or all here [] ≡ text.now
+        → HasPlaces all here seen.old
         → IfOk result (λ place. (place ≡ first_place all text.now) × HasPlaces all (here + 1) seen.new) }
 {
     match seen.get(text).copied() {
@@ -84,7 +85,8 @@ fn first_of<'a>(
     }
 }
 
-/// For each text the place of the first that is the same. Compares each with as many others as a search in a sorted list needs.
+/// For each text the place of the first that is the same. Compares each with as many others as a search in a sorted
+/// list needs.
 fn places_of_firsts<'a>(alloc: Global, texts: &'a [&'a [u8]]) -> Result<Vec<usize>, AllocError>
     ensures { IfOk result (λ firsts. firsts.items ≡ firsts_of (map (λ t. t.now) texts.now)) }
 {

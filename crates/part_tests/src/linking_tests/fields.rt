@@ -59,7 +59,8 @@ const P: Class = Class {
     ..R
 };
 
-/// P declares x, and Q below it one of its own; R is below Q. The files stand in another order, with the numbers 30 to 33.
+/// P declares x, and Q below it one of its own; R is below Q. The files stand in another order, with the numbers 30
+/// to 33.
 static CLASSES: [Class; 4] = [A, R, Q, P];
 
 /// The fields x of P and of Q.

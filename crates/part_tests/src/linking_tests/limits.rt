@@ -119,8 +119,9 @@ fn told(alloc: Global, files: &[Vec<u8>]) -> Result<Vec<u8>, Fail> {
     Ok(text)
 }
 
-/// Places among five files, and what is told of the files at these places. They are A; W with 65,534 instance fields and a
-/// static one; V and T below W, with one and two instance fields; and U, which stands below a class that is not there.
+/// Places among five files, and what is told of the files at these places. They are A; W with 65,534 instance fields
+/// and a static one; V and T below W, with one and two instance fields; and U, which stands below a class that is not
+/// there.
 const SETS: [(&[usize], &str); 4] = [
     (&[], "refused 7 NoMain"),
     (&[0, 1, 2], "linked 3"),

@@ -8,8 +8,8 @@ use method_tables::method_links::{MethodCalls, MethodNumbers};
 use std::alloc::{AllocError, Global};
 use std::test::Fail;
 
-/// Numbers of methods, with the class that declares each, and how many operands a call takes: one for each argument and one for a
-/// receiver. They are main, P.m, P.n, P.s, J.j, and of Thread the second constructor and currentThread.
+/// Numbers of methods, with the class that declares each, and how many operands a call takes: one for each argument
+/// and one for a receiver. They are main, P.m, P.n, P.s, J.j, and of Thread the second constructor and currentThread.
 const OPERANDS: [(usize, usize, usize); 7] = [
     (40, 30, 1),
     (46, 33, 1),
@@ -20,8 +20,8 @@ const OPERANDS: [(usize, usize, usize); 7] = [
     (13, 2, 0),
 ];
 
-/// Numbers of methods, and whether each is static, private, synchronized, native and abstract: P.m, P.s, P.p, Q.m, P.a, R.n, and
-/// Thread's start and yield.
+/// Numbers of methods, and whether each is static, private, synchronized, native and abstract: P.m, P.s, P.p, Q.m,
+/// P.a, R.n, and Thread's start and yield.
 const FLAGS: [(usize, [bool; 5]); 8] = [
     (46, [false, false, false, false, false]),
     (49, [true, false, false, false, false]),
@@ -78,8 +78,8 @@ fn wrong_operands(calls: &MethodCalls) -> Option<usize> {
     None
 }
 
-/// The place of the first row of `FLAGS` that isn't so, or whose method has code although it is native or abstract, or none
-/// although it is neither.
+/// The place of the first row of `FLAGS` that isn't so, or whose method has code although it is native or abstract,
+/// or none although it is neither.
 fn wrong_flags(calls: &MethodCalls) -> Option<usize> {
     for (place, (number, flags)) in FLAGS.iter().enumerate() {
         let [_, _, _, is_native, is_abstract] = *flags;

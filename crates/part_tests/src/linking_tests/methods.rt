@@ -163,8 +163,8 @@ const J: Class = Class {
     ..I
 };
 
-/// The classes with the numbers from 30 on, behind the built-in ones. Their methods have the numbers from 40 on: A's 40, R's 41,
-/// Q's 42 to 45, P's 46 to 50, I's 51 and J's 52.
+/// The classes with the numbers from 30 on, behind the built-in ones. Their methods have the numbers from 40 on: A's
+/// 40, R's 41, Q's 42 to 45, P's 46 to 50, I's 51 and J's 52.
 pub(crate) static CLASSES: [Class; 6] = [A, R, Q, P, I, J];
 
 static NAMED: [Row<Option<usize>>; 21] = [
@@ -204,9 +204,9 @@ static NAMED: [Row<Option<usize>>; 21] = [
 
 pub(crate) const NO_ROWS: [Row<()>; 0] = [];
 
-/// Numbers of methods, each with the class and the place among its methods. Object declares four methods, Runnable one, Thread
-/// eleven; String, Class and System none; PrintStream one; and each of the 23 classes from Throwable on one. Then come the files, in their
-/// order.
+/// Numbers of methods, each with the class and the place among its methods. Object declares four methods, Runnable
+/// one, Thread eleven; String, Class and System none; PrintStream one; and each of the 23 classes from Throwable on
+/// one. Then come the files, in their order.
 const PLACES: [(usize, usize, usize); 16] = [
     (0, 0, 0),
     (3, 0, 3),
@@ -226,7 +226,8 @@ const PLACES: [(usize, usize, usize); 16] = [
     (41, 31, 0),
 ];
 
-/// Places at which no method stands: behind the last of Thread, in String, behind the last of all, and in one more class.
+/// Places at which no method stands: behind the last of Thread, in String, behind the last of all, and in one more
+/// class.
 const NO_PLACES: [(usize, usize); 5] = [
     (2, 11),
     (3, 0),

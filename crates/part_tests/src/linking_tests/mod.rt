@@ -1,5 +1,5 @@
-//! Tests of sets of classes and of what is made of linked ones: links of fields and of methods, numbers of classes and of
-//! texts, and limits. They go over tables.
+//! Tests of sets of classes and of what is made of linked ones: links of fields and of methods, numbers of classes
+//! and of texts, and limits. They go over tables.
 
 #[cfg(test)]
 mod classes;

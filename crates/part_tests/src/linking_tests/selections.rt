@@ -35,8 +35,8 @@ static TARGETS: [CallTarget; 8] = [
     CallTarget::Place(0),
 ];
 
-/// Rows of Object, Thread, String, A, R, Q, P and I: a class has the places of its superclass. P has no i, and runs the abstract
-/// Runnable.run in its place.
+/// Rows of Object, Thread, String, A, R, Q, P and I: a class has the places of its superclass. P has no i, and runs
+/// the abstract Runnable.run in its place.
 static ROWS: [(usize, &[u32]); 8] = [
     (0, &[1]),
     (2, &[1, 5]),

@@ -140,8 +140,8 @@ fn make_calls<M: MonitorCalls>(
     Ok(replies)
 }
 
-/// Runs the calls by so many at a time on both bodies, which answer alike and show the same after each part. Says whether
-/// one was refused for a full table.
+/// Runs the calls by so many at a time on both bodies, which answer alike and show the same after each part. Says
+/// whether one was refused for a full table.
 fn compare(rt: &impl Abort, alloc: Global, calls: &[Call], at_once: usize) -> Result<bool, Fail>
     requires { 0 < at_once }
 {

@@ -10,8 +10,8 @@ use std::test::Fail;
 
 type Answer = Result<MonitorAnswer, MonitorRefusal>;
 
-/// What a heap shows of a lock that has become fat: its owner, the entries, and the thread and the count of the one that
-/// waits.
+/// What a heap shows of a lock that has become fat: its owner, the entries, and the thread and the count of the one
+/// that waits.
 type Lock = (Option<u16>, u32, Option<(u16, u32)>);
 
 /// What the call answers, or `None` where a caller may not make it.

@@ -1,4 +1,5 @@
-//! Tests of what a machine keeps: lock words, monitors, objects, and the table of threads. They go over tables of calls.
+//! Tests of what a machine keeps: lock words, monitors, objects, and the table of threads. They go over tables of
+//! calls.
 
 #[cfg(test)]
 mod bodies;

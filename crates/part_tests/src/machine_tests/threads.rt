@@ -3,8 +3,8 @@
 use heap::java_threads::{ThreadRefusal, ThreadStatus, Threads, WakeCause};
 use std::test::Fail;
 
-/// What the table shows of a thread: its object, whether it has begun, what is pending, whether it is interrupted, and what it
-/// is about.
+/// What the table shows of a thread: its object, whether it has begun, what is pending, whether it is interrupted,
+/// and what it is about.
 type Row = (u32, bool, Option<u32>, bool, ThreadStatus);
 
 fn row(threads: &Threads, thread: u16) -> Row {

@@ -21,8 +21,8 @@ fn unless_memory(why: Stopped) -> Result<Stopped, AllocError>
     }
 }
 
-/// Does the events of a schedule, as far as they go and the budget allows. Returns why no more were done: `Most` where all were, or
-/// the budget is used up. The only error is a want of memory, to do an event or to record it.
+/// Does the events of a schedule, as far as they go and the budget allows. Returns why no more were done: `Most`
+/// where all were, or the budget is used up. The only error is a want of memory, to do an event or to record it.
 pub(crate) fn follow(world: &mut World, schedule: &Schedule) -> Result<Stopped, AllocError>
     requires { world.old.end ≡ None }
     ensures { IfOk result (λ why. Follows (events_of schedule.now) why world.old world.new) }

@@ -4,8 +4,8 @@ ghost use Rattle.program_runs.specs.continued_runs.Turns.{TakesTurns};
 
 use crate::worlds::World;
 
-/// Does an event of the first thread in rotation that has an enabled one, which picks no waiter, and so on from the thread behind it, until
-/// there is an end.
+/// Does an event of the first thread in rotation that has an enabled one, which picks no waiter, and so on from the
+/// thread behind it, until there is an end.
 pub(crate) fn take_turns(world: &mut World)
     ensures { TakesTurns world.old world.new }
 {

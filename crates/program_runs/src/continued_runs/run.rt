@@ -24,7 +24,8 @@ use verifier::Verified;
 pub enum Continued {
     /// The events of the schedule were done, as far as the budget allows, and then the threads went on in turn.
     Whole(Recorded),
-    /// One of them within the budget is not enabled, or a limit refuses it: the report of those before it, and the end, which says so.
+    /// One of them within the budget is not enabled, or a limit refuses it: the report of those before it, and the
+    /// end, which says so.
     Part(Report, End),
 }
 
@@ -42,9 +43,10 @@ fn report_on(alloc: Global, world: &World, why: Stopped) -> Result<(Report, End)
     )
 }
 
-/// Does the events of a schedule over verified class files, and then goes on until there is an end (JVMS 2.5, 2.6, 5.5, chapter 6; JLS
-/// 17): each further event is that of the next thread in turn which has an enabled one, from thread 0 on, and picks the first waiter. All
-/// together are at most as many as the budget. The only error is a want of memory.
+/// Does the events of a schedule over verified class files, and then goes on until there is an end (JVMS 2.5, 2.6,
+/// 5.5, chapter 6; JLS 17): each further event is that of the next thread in turn which has an enabled one, from
+/// thread 0 on, and picks the first waiter. All together are at most as many as the budget. The only error is a want
+/// of memory.
 pub fn run_on(
     alloc: Global,
     verified: Arc<Verified>,

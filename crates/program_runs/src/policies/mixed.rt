@@ -51,7 +51,8 @@ impl Mixed {
         }
     }
 
-    /// The thread that has the next turn: the first one behind that of the last, in rotation, that has an event which is enabled.
+    /// The thread that has the next turn: the first one behind that of the last, in rotation, that has an event which
+    /// is enabled.
     fn next_thread(&self, machine: &Machine) -> Option<u16> {
         match (self.last, self.direction) {
             (None, _) => first_enabled(machine, 0),
@@ -71,8 +72,9 @@ impl Mixed {
         }
     }
 
-    /// Where several threads wait, draws which waiter the next event of a thread is to wake, and does the event if that isn't the first
-    /// one and the event is enabled. Returns whether it was done. The only error is a want of memory.
+    /// Where several threads wait, draws which waiter the next event of a thread is to wake, and does the event if
+    /// that isn't the first one and the event is enabled. Returns whether it was done. The only error is a want of
+    /// memory.
     fn picks(&mut self, world: &mut World, thread: u16) -> Result<bool, AllocError>
         ensures { OnOk result (IsOfSame world.old world.new) }
     {

@@ -1,5 +1,5 @@
-//! Policies of a run by one worker: which thread has the next turn, how many events the turn has at most, and which waiter is woken.
-//! `docs/FORMATS.md`, "The schedule of a seed", defines them to the bit.
+//! Policies of a run by one worker: which thread has the next turn, how many events the turn has at most, and which
+//! waiter is woken. `docs/FORMATS.md`, "The schedule of a seed", defines them to the bit.
 
 mod draws;
 mod mixed;

@@ -16,17 +16,18 @@ use std::alloc::{AllocError, Global};
 use std::sync::Arc;
 use verifier::Verified;
 
-/// By which rule one worker gives turns to the threads of a run. A seed is that of xoshiro256++, and with it the schedule is the same
-/// each time, where memory is there.
+/// By which rule one worker gives turns to the threads of a run. A seed is that of xoshiro256++, and with it the
+/// schedule is the same each time, where memory is there.
 #[derive(Clone, Copy, Debug, PartialEq, Eq)]
 pub enum Policy {
-    /// Turns of a length that is drawn, in rotation. By the seed turns are short or long at first, the rotation goes up or down, and
-    /// main goes on alone until it has to wait, or not.
+    /// Turns of a length that is drawn, in rotation. By the seed turns are short or long at first, the rotation goes
+    /// up or down, and main goes on alone until it has to wait, or not.
     Mixed { seed: u64 },
-    /// Events of threads that are drawn: each thread that has an event which is enabled is as likely to have the next one, and so is
-    /// each waiter that this may wake to be woken.
+    /// Events of threads that are drawn: each thread that has an event which is enabled is as likely to have the next
+    /// one, and so is each waiter that this may wake to be woken.
     Random { seed: u64 },
-    /// Turns of up to so many events, in the order of the threads' numbers. A `notify` wakes the one that has waited longest.
+    /// Turns of up to so many events, in the order of the threads' numbers. A `notify` wakes the one that has waited
+    /// longest.
     Rotation { quantum: u32 },
 }
 
@@ -57,8 +58,9 @@ fn take_turns<G: Gate>(world: &mut World, policy: Policy, gate: &G) -> Result<()
     }
 }
 
-/// Runs verified class files by a policy until there is an end (JVMS 2.5, 2.6, 5.5, chapter 6; JLS 17), and records the events that
-/// were done. The gate is told how many there are, at the end of each turn. The only error is a want of memory.
+/// Runs verified class files by a policy until there is an end (JVMS 2.5, 2.6, 5.5, chapter 6; JLS 17), and records
+/// the events that were done. The gate is told how many there are, at the end of each turn. The only error is a want
+/// of memory.
 pub fn run_by_policy<G: Gate>(
     alloc: Global,
     verified: Arc<Verified>,

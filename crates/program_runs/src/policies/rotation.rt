@@ -6,8 +6,8 @@ ghost use Rattle.program_runs.specs.worlds.Worlds.{IsOfSame};
 use crate::workers::Gate;
 use crate::worlds::World;
 
-/// Does turns of up to so many events until there is an end: the next one is that of the first thread behind the one of the last, in
-/// rotation, that has an event which is enabled. The gate is told how many events are done.
+/// Does turns of up to so many events until there is an end: the next one is that of the first thread behind the one
+/// of the last, in rotation, that has an event which is enabled. The gate is told how many events are done.
 pub(crate) fn run_rotation<G: Gate>(world: &mut World, quantum: u32, gate: &G)
     requires { 1 ≤ quantum }
     ensures { IsOfSame world.old world.new }

@@ -85,7 +85,8 @@ impl TurnLengths {
 
     /// How many the first turn has.
     fn first_length<R: Rng>(&mut self, random: &mut R) -> u32
-        ensures length { IsFirstLength self.old.is_main_first self.old (R.stream random.old) result self.new (R.stream random.new) }
+        ensures length { IsFirstLength self.old.is_main_first self.old (R.stream random.old) result self.new
+            (R.stream random.new) }
         ensures some { 1 ≤ result }
     {
         if self.is_main_first {

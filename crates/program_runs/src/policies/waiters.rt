@@ -30,7 +30,8 @@ fn class_of(heap: &Heap, object: u32) -> Option<u32> {
     Some(class_of_kind(heap.class_of(object)?))
 }
 
-/// The method that an instruction calls on an object, and the object (JVMS 6.5 invokespecial, invokevirtual, invokeinterface).
+/// The method that an instruction calls on an object, and the object (JVMS 6.5 invokespecial, invokevirtual,
+/// invokeinterface).
 fn called(
     program: &LinkedProgram,
     heap: &Heap,
@@ -83,8 +84,8 @@ fn notified(machine: &Machine, thread: u16) -> Option<u32> {
     }
 }
 
-/// How many waiters the next event of a thread may wake, which picks one of them: those of an object on which the thread calls
-/// `notify`, and whose monitor it owns (JLS 17.2.2); else none.
+/// How many waiters the next event of a thread may wake, which picks one of them: those of an object on which the
+/// thread calls `notify`, and whose monitor it owns (JLS 17.2.2); else none.
 pub(crate) fn waiters_to_pick(machine: &Machine, thread: u16) -> u16 {
     let heap = &machine.shared().heap;
     match notified(machine, thread) {

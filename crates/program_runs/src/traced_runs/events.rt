@@ -44,7 +44,8 @@ pub(crate) fn told_event(
     ensures seen { IfOk result (λ why. IsSeenOf machine.old.program machine.old.shared line.event.thread
         before.new.frame before.new.class) }
     ensures told { IfOk result (λ why. AfterRun names.now.linked.now machine.old line.number (λ done.
-        AddsOne why line.form names.now.linked.now machine.old.limits.frames lines.old.text.items lines.new.text.items done line.event)) }
+        AddsOne why line.form names.now.linked.now machine.old.limits.frames lines.old.text.items
+        lines.new.text.items done line.event)) }
 {
     before.look(machine.shared(), machine.program(), line.event.thread)?;
     match once(machine, line.event) {
@@ -73,7 +74,8 @@ fn event<W: Sink>(
     output: &mut W,
 ) -> Result<Stopped, DeviceFault>
     requires { line.form ≡ telling.window.form }
-    ensures told { IfOk result (λ why. HasToldBy telling.entry machine.old line.number (line.event ∷ []) (times why) why machine.new
+    ensures told { IfOk result (λ why.
+        HasToldBy telling.entry machine.old line.number (line.event ∷ []) (times why) why machine.new
         (W.contents output.old) (W.contents output.new) lines.old.text.items lines.new.text.items) }
     ensures part { OnErr result (StopsShortBy telling.entry machine.old line.number (line.event ∷ [])
         (W.contents output.old) (W.contents output.new) lines.old.text.items) }
@@ -87,8 +89,8 @@ fn event<W: Sink>(
     Ok(why)
 }
 
-/// Does an event again and again, at least once and at most so often, and tells it: each time in a line, or a run of local ones in one.
-/// Returns how many were done, and why no more.
+/// Does an event again and again, at least once and at most so often, and tells it: each time in a line, or a run of
+/// local ones in one. Returns how many were done, and why no more.
 fn some_events<W: Sink>(
     machine: &mut Machine,
     telling: Telling<'_>,
@@ -124,8 +126,8 @@ fn some_events<W: Sink>(
     }
 }
 
-/// Does the events of an entry, of which the first has a number, and tells those that are to be told. Returns how many were done, and
-/// why no more.
+/// Does the events of an entry, of which the first has a number, and tells those that are to be told. Returns how
+/// many were done, and why no more.
 pub(crate) fn entry<W: Sink>(
     machine: &mut Machine,
     telling: Telling<'_>,
@@ -136,7 +138,8 @@ pub(crate) fn entry<W: Sink>(
     output: &mut W,
 ) -> Result<(u32, Stopped), DeviceFault>
     requires { first + entry.repeat < 2 ^ 64 }
-    ensures told { IfOk result (λ r. HasToldBy telling.entry machine.old first (replicate entry.repeat entry.event) r.0 r.1 machine.new
+    ensures told { IfOk result (λ r.
+        HasToldBy telling.entry machine.old first (replicate entry.repeat entry.event) r.0 r.1 machine.new
         (W.contents output.old) (W.contents output.new) lines.old.text.items lines.new.text.items) }
     ensures part { OnErr result (StopsShortBy telling.entry machine.old first (replicate entry.repeat entry.event)
         (W.contents output.old) (W.contents output.new) lines.old.text.items) }

@@ -16,14 +16,16 @@ use std::alloc::AllocError;
 use traces::traced_events::{Before, FrameBefore};
 use traces::{Fold, Line, push_fold};
 
-/// How many events of a run there are behind its first one, and the offset at which the thread stood before the last one.
+/// How many events of a run there are behind its first one, and the offset at which the thread stood before the last
+/// one.
 #[derive(Clone, Copy)]
 struct Run {
     more: u32,
     to: u16,
 }
 
-/// The frame of a thread before its next event, if that is local and is to be told, and the frame is of a method, by its number.
+/// The frame of a thread before its next event, if that is local and is to be told, and the frame is of a method, by
+/// its number.
 fn next_in(
     machine: &Machine,
     window: Window<'_>,
@@ -32,7 +34,8 @@ fn next_in(
     thread: u16,
     method: u32,
 ) -> Result<Option<FrameBefore>, AllocError>
-    ensures { IfOk result (λ found. (frame : _) → found ≡ Some frame → IsNextIn window.entry machine.now number thread method frame) }
+    ensures { IfOk result (λ found. (frame : _) → found ≡ Some frame
+        → IsNextIn window.entry machine.now number thread method frame) }
 {
     if !window.has(number, thread) || !is_next_local(machine, thread) {
         return Ok(None);
@@ -44,8 +47,8 @@ fn next_in(
     }
 }
 
-/// Behind the first local event of a run does further ones that are to be told, in the same method, at most so many. The line has the
-/// number of the first of these. Returns how many there are, and why there are no more.
+/// Behind the first local event of a run does further ones that are to be told, in the same method, at most so many.
+/// The line has the number of the first of these. Returns how many there are, and why there are no more.
 fn run_on(
     machine: &mut Machine,
     window: Window<'_>,
@@ -57,7 +60,8 @@ fn run_on(
     requires { line.number + most < 2 ^ 64 }
     ensures bound { IfOk result (λ r. r.0.more ≤ most) }
     ensures within { IfOk result (λ r. tried r.0.more r.1 ≤ most) }
-    ensures goes { IfOk result (λ r. GoesThrough (r.0.more, r.1) (replicate (tried r.0.more r.1) line.event) machine.old machine.new) }
+    ensures goes { IfOk result (λ r.
+        GoesThrough (r.0.more, r.1) (replicate (tried r.0.more r.1) line.event) machine.old machine.new) }
     ensures runs { IfOk result (λ r. (trees : _)
         → RunsOn trees window.entry machine.old line.number from.method line.event r.0.more from.offset r.0.to) }
 {
@@ -77,8 +81,8 @@ fn run_on(
     Ok((Run { more: most, to }, Stopped::Most))
 }
 
-/// Does a local event that is to be told, and those behind it that are local, too, at most so many in all, and gathers the line of the
-/// one, or one line for them all. Returns how many were done, and why no more.
+/// Does a local event that is to be told, and those behind it that are local, too, at most so many in all, and
+/// gathers the line of the one, or one line for them all. Returns how many were done, and why no more.
 pub(crate) fn run_of_locals(
     machine: &mut Machine,
     telling: Telling<'_>,
@@ -97,7 +101,8 @@ pub(crate) fn run_of_locals(
     ensures bound { IfOk result (λ r. r.0 ≤ most) }
     ensures within { IfOk result (λ r. tried r.0 r.1 ≤ most) }
     ensures told { IfOk result (λ r. (held : _) → HasToldBy telling.entry machine.old line.number
-        (replicate (tried r.0 r.1) line.event) r.0 r.1 machine.new held held lines.old.text.items lines.new.text.items) }
+        (replicate (tried r.0 r.1) line.event) r.0 r.1 machine.new held held lines.old.text.items
+        lines.new.text.items) }
 {
     let start = lines.text.len();
     match told_event(machine, telling.names, before, line, lines)? {

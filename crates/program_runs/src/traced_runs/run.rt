@@ -24,8 +24,8 @@ use traces::ProgramNames;
 use traces::traced_events::Before;
 use verifier::Verified;
 
-/// Does the events of a schedule, as far as they go, and gathers the lines of those that are to be told. Returns how many were done, and
-/// why no more.
+/// Does the events of a schedule, as far as they go, and gathers the lines of those that are to be told. Returns how
+/// many were done, and why no more.
 fn gathered<W: Sink>(
     machine: &mut Machine,
     telling: Telling<'_>,
@@ -52,7 +52,8 @@ fn gathered<W: Sink>(
     Ok((done, Stopped::Most))
 }
 
-/// Does the events of a schedule, as far as they go, and tells those that are to be told. Returns how many were done, and why no more.
+/// Does the events of a schedule, as far as they go, and tells those that are to be told. Returns how many were done,
+/// and why no more.
 fn events<W: Sink>(
     alloc: Global,
     machine: &mut Machine,
@@ -102,8 +103,9 @@ fn trace_opened<W: Sink>(
     Ok(report_after(alloc, machine, verified.linked().set(), done, why)?)
 }
 
-/// Does the events of a schedule over verified class files, as far as they go, under the limits of the run (JVMS 2.5, 2.6, 5.5, chapter
-/// 6; JLS 17), and writes a line for each that is to be told. Returns the report of those that were done, and why no more were.
+/// Does the events of a schedule over verified class files, as far as they go, under the limits of the run (JVMS 2.5,
+/// 2.6, 5.5, chapter 6; JLS 17), and writes a line for each that is to be told. Returns the report of those that were
+/// done, and why no more were.
 ///
 /// `Device` is answered where the writer failed, `Memory` for want of memory; a front of the lines is written then.
 pub fn trace<W: Sink>(
@@ -114,7 +116,8 @@ pub fn trace<W: Sink>(
     window: Window<'_>,
     output: &mut W,
 ) -> Result<(Report, End), DeviceFault>
-    ensures traced { IfOk result (λ r. (text : _) × IsTrace verified.now (events_of schedule.now) limits window.entry r.0 r.1 text
+    ensures traced { IfOk result (λ r. (text : _)
+        × IsTrace verified.now (events_of schedule.now) limits window.entry r.0 r.1 text
         × Appends (W.contents output.old) (W.contents output.new) text) }
     ensures part { OnErr result (WritesFront verified.now (events_of schedule.now) limits
         window.entry (W.contents output.old) (W.contents output.new)) }

@@ -6,8 +6,8 @@ ghost use Rattle.program_runs.specs.traced_runs.Windows.{has_thread, is_told};
 use model::ScheduleEntry;
 use traces::Form;
 
-/// The events that are told: those with a number from `from` to `to`, counted from 0, of the threads of a list, or of all; and the
-/// form of their lines.
+/// The events that are told: those with a number from `from` to `to`, counted from 0, of the threads of a list, or of
+/// all; and the form of their lines.
 #[derive(Clone, Copy)]
 pub struct Window<'a> {
     pub from: u64,
@@ -39,7 +39,8 @@ impl Window<'_> {
     /// Whether no event of an entry is told that begins at a number.
     pub(crate) fn leaves_out(self, number: u64, entry: ScheduleEntry) -> bool
         requires { number + entry.repeat < 2 ^ 64 }
-        ensures { IsTrue result → (n : _) → number ≤ n → n < number + entry.repeat → is_told self.entry n entry.event.thread ≡ false }
+        ensures { IsTrue result → (n : _) → number ≤ n → n < number + entry.repeat
+            → is_told self.entry n entry.event.thread ≡ false }
     {
         if !self.has_thread(entry.event.thread) {
             return true;

@@ -44,9 +44,10 @@ pub fn open_machine(
     Machine::open(alloc, program, limits)
 }
 
-/// Does the events of a schedule over verified class files, as far as they go, under the limits of the run (JVMS 2.5, 2.6, 5.5, chapter
-/// 6; JLS 17). The report is of those that were done, and the end says why no more were. The only error is a want of memory before any
-/// event, or for the report; where an event wants memory that isn't there, the end says so.
+/// Does the events of a schedule over verified class files, as far as they go, under the limits of the run (JVMS 2.5,
+/// 2.6, 5.5, chapter 6; JLS 17). The report is of those that were done, and the end says why no more were. The only
+/// error is a want of memory before any event, or for the report; where an event wants memory that isn't there, the
+/// end says so.
 pub fn replay(
     alloc: Global,
     verified: &Verified,

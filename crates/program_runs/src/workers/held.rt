@@ -58,16 +58,17 @@ impl<J: Given> Held<J> {
         }
     }
 
-    /// A burst of no step of the first thread, in rotation from a number, that runs with no exception pending and has a frame of a
-    /// method on top. There is none where no thread is so. Nothing changes. The only error is a want of memory.
+    /// A burst of no step of the first thread, in rotation from a number, that runs with no exception pending and has
+    /// a frame of a method on top. There is none where no thread is so. Nothing changes. The only error is a want of
+    /// memory.
     pub fn check_out(&self, alloc: Global, from: u16) -> Result<Option<ThreadBurst>, AllocError>
         ensures { IfOk result (ChecksOut self.now.machine from) }
     {
         self.world.check_out(alloc, from)
     }
 
-    /// Takes a burst over. Tells whether it did: it doesn't where there is none, where it has no step, and where it is stale, and then
-    /// nothing changes. The only error is a want of memory, after which nothing has changed.
+    /// Takes a burst over. Tells whether it did: it doesn't where there is none, where it has no step, and where it
+    /// is stale, and then nothing changes. The only error is a want of memory, after which nothing has changed.
     pub fn take_over(&mut self, out: Option<ThreadBurst>) -> Result<bool, AllocError>
         ensures done { IfOk result (λ r. TakesOver r self.old out self.new) }
         ensures still { IfErr result (λ _. self.new ≡ self.old) }
@@ -84,8 +85,9 @@ impl<J: Given> Held<J> {
         }
     }
 
-    /// Does up to so many events of the first thread that has one which is enabled, in rotation from a number up, within the budget;
-    /// none of them picks a waiter. Returns the thread, or none where an end is set: if it wasn't before, it is now.
+    /// Does up to so many events of the first thread that has one which is enabled, in rotation from a number up,
+    /// within the budget; none of them picks a waiter. Returns the thread, or none where an end is set: if it wasn't
+    /// before, it is now.
     pub fn shared_steps(&mut self, from: u16, most: u32) -> Option<u16>
         requires { 1 ≤ most }
         ensures { TakesTurn from most self.old.end result self.old self.new }

@@ -16,8 +16,8 @@ use std::thread;
 use std::thread::Threads;
 use verifier::Verified;
 
-/// A burst of the first thread in rotation from a number, done without the lock. There is none where no thread has a burst, and where
-/// memory is wanted.
+/// A burst of the first thread in rotation from a number, done without the lock. There is none where no thread has a
+/// burst, and where memory is wanted.
 fn burst_from<J: Given, R: Wait, G: Gate>(
     rt: &R,
     alloc: Global,
@@ -46,8 +46,8 @@ enum Turn {
     Over,
 }
 
-/// Takes a burst over; where that isn't so, also for want of memory, does up to so many events of the first thread in rotation from a
-/// number. Tells how many events are done in all.
+/// Takes a burst over; where that isn't so, also for want of memory, does up to so many events of the first thread in
+/// rotation from a number. Tells how many events are done in all.
 fn take_turn<J: Given, R: Wait>(
     rt: &R,
     held: &Mutex<Held<J>>,
@@ -68,8 +68,8 @@ fn take_turn<J: Given, R: Wait>(
     }
 }
 
-/// One worker, until an end is set: with bursts, where a turn is of one event, and else without. Its next burst, and its next events,
-/// are those of a thread past the one of its last.
+/// One worker, until an end is set: with bursts, where a turn is of one event, and else without. Its next burst, and
+/// its next events, are those of a thread past the one of its last.
 fn work<J: Given, R: Wait, G: Gate>(
     rt: &R,
     alloc: Global,
@@ -124,10 +124,10 @@ fn run_world<J: Given + Send + Sync, R: Threads + Wait + Sync, G: Gate + Sync>(
     Ok(held.into_inner().into_world())
 }
 
-/// Runs verified class files by so many workers until there is an end (JVMS 2.5, 2.6, 5.5, chapter 6; JLS 17), and records the events
-/// that were done. Where the quantum is 1, a worker does the local instructions of a thread while it doesn't hold the lock; and while
-/// it holds it, it does one event. With a greater quantum it does up to so many events of a thread while it holds the lock, and
-/// none without it. The only error is a want of memory.
+/// Runs verified class files by so many workers until there is an end (JVMS 2.5, 2.6, 5.5, chapter 6; JLS 17), and
+/// records the events that were done. Where the quantum is 1, a worker does the local instructions of a thread while
+/// it doesn't hold the lock; and while it holds it, it does one event. With a greater quantum it does up to so many
+/// events of a thread while it holds the lock, and none without it. The only error is a want of memory.
 pub fn run_workers<R: Threads + Wait + Sync, G: Gate + Sync>(
     rt: &R,
     alloc: Global,

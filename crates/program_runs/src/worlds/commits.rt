@@ -21,11 +21,13 @@ pub struct ThreadBurst {
 pub enum Commit {
     /// Its steps are events of the world now.
     Committed,
-    /// The thread doesn't stand where the burst started, or the budget doesn't leave as many events, or the world has ended.
+    /// The thread doesn't stand where the burst started, or the budget doesn't leave as many events, or the world has
+    /// ended.
     Stale,
 }
 
-/// A burst of no step of the first thread, from a number up to another, that runs with no exception pending and has a frame on top.
+/// A burst of no step of the first thread, from a number up to another, that runs with no exception pending and has a
+/// frame on top.
 fn first_copy(
     machine: &Machine,
     alloc: Global,
@@ -58,17 +60,19 @@ fn first_in_rotation(
 }
 
 impl World {
-    /// A burst of no step of the first thread, in rotation from a number, that runs with no exception pending and has a frame of a
-    /// method on top. There is none where no thread is so. Nothing changes. The only error is a want of memory.
+    /// A burst of no step of the first thread, in rotation from a number, that runs with no exception pending and has
+    /// a frame of a method on top. There is none where no thread is so. Nothing changes. The only error is a want of
+    /// memory.
     pub fn check_out(&self, alloc: Global, from: u16) -> Result<Option<ThreadBurst>, AllocError>
         ensures { IfOk result (ChecksOut self.now.machine from) }
     {
         first_in_rotation(&self.machine, alloc, from)
     }
 
-    /// Takes a burst over, if its thread runs with no exception pending, and the frame on top is of a method with the burst's code and
-    /// stands where the burst started, if the budget leaves as many events as the burst has steps, and if the world has not ended. Else
-    /// the burst is stale, and nothing changes. The only error is a want of memory, after which nothing has changed.
+    /// Takes a burst over, if its thread runs with no exception pending, and the frame on top is of a method with the
+    /// burst's code and stands where the burst started, if the budget leaves as many events as the burst has steps,
+    /// and if the world has not ended. Else the burst is stale, and nothing changes. The only error is a want of
+    /// memory, after which nothing has changed.
     pub fn commit(&mut self, out: ThreadBurst) -> Result<Commit, AllocError>
         ensures done { IfOk result (λ r. Commits r self.old out self.new) }
         ensures still { IfErr result (λ _. self.new ≡ self.old) }

@@ -1,4 +1,5 @@
-//! A world: verified class files, a machine that runs them, and the events that it has done so far, which are their schedule.
+//! A world: verified class files, a machine that runs them, and the events that it has done so far, which are their
+//! schedule.
 
 mod commits;
 mod records;

@@ -14,8 +14,8 @@ use std::alloc::{AllocError, Global};
 use std::sync::Arc;
 use verifier::Verified;
 
-/// A run that has ended: its class files and its limits, the events that were done, the report of where they led, and why there were
-/// no more.
+/// A run that has ended: its class files and its limits, the events that were done, the report of where they led, and
+/// why there were no more.
 #[derive(Drop)]
 pub struct Recorded {
     pub verified: Arc<Verified>,
@@ -26,7 +26,8 @@ pub struct Recorded {
 }
 
 impl World {
-    /// Goes on until there is an end. Each turn does an event, of which the budget leaves fewer and fewer, or sets an end.
+    /// Goes on until there is an end. Each turn does an event, of which the budget leaves fewer and fewer, or sets an
+    /// end.
     fn finish(&mut self) -> End
         ensures ended { self.new.end ≡ Some result }
         ensures turns { HasTakenTurns self.old self.new }

@@ -11,8 +11,8 @@ use run_laws::word_reports::reports_of_words;
 use std::alloc::AllocError;
 
 impl World {
-    /// Does an event up to so many times, within the budget, and never where an end is set. Returns how often it was done, and why no
-    /// more. The only error is a want of memory to record it, and then nothing has changed.
+    /// Does an event up to so many times, within the budget, and never where an end is set. Returns how often it was
+    /// done, and why no more. The only error is a want of memory to record it, and then nothing has changed.
     pub fn repeat(&mut self, event: Event, most: u32) -> Result<(u32, Stopped), AllocError>
         requires { 1 < most → event.pick ≡ 0 }
         ensures done { IfOk result (λ r. RepeatsWithin event most self.old.end r self.old self.new) }
@@ -28,8 +28,9 @@ impl World {
         Ok((done, why))
     }
 
-    /// Does up to so many events of the first thread that has one which is enabled, in rotation from a number up, within the budget;
-    /// none of them picks a waiter. Returns the thread, or none where an end is set: if it wasn't before, it is now.
+    /// Does up to so many events of the first thread that has one which is enabled, in rotation from a number up,
+    /// within the budget; none of them picks a waiter. Returns the thread, or none where an end is set: if it wasn't
+    /// before, it is now.
     pub fn shared_steps(&mut self, from: u16, most: u32) -> Option<u16>
         requires { 1 ≤ most }
         ensures { TakesTurn from most self.old.end result self.old self.new }

@@ -49,7 +49,8 @@ fn last_between(machine: &Machine, from: u16, to: u16) -> Option<u16>
     None
 }
 
-/// The first thread that has an event which is enabled, in rotation downwards: from a number down, and then from the last thread.
+/// The first thread that has an event which is enabled, in rotation downwards: from a number down, and then from the
+/// last thread.
 pub(crate) fn first_enabled_downwards(machine: &Machine, from: u16) -> Option<u16>
     ensures { IsFoundDownwards machine.now from result }
 {

@@ -13,7 +13,8 @@ use std::marker::Model;
 use std::sync::Arc;
 use verifier::Verified;
 
-/// Verified class files, a machine that runs them under limits, the events that it has done, at most so many, and why it does no more.
+/// Verified class files, a machine that runs them under limits, the events that it has done, at most so many, and why
+/// it does no more.
 #[derive(Drop)]
 pub struct World {
     pub(crate) verified: Arc<Verified>,

@@ -147,8 +147,8 @@ fn outcome<R: Threads + Wait + Sync>(
     Ok((answer, output.into_inner().written, folder.made.is_some()))
 }
 
-/// Whether the answer is that a device failed, and no more is written than a beginning of the text: nothing where a file
-/// can't be read, and all of it where one can't be recorded. What is to be recorded is, though the output fails.
+/// Whether the answer is that a device failed, and no more is written than a beginning of the text: nothing where a
+/// file can't be read, and all of it where one can't be recorded. What is to be recorded is, though the output fails.
 fn is_told(done: &Done, device: &str, outcome: &Outcome) -> bool {
     let (answer, written, is_made) = outcome;
     matches!(answer, Err(Complaint::Fault(Fault::Device)))

@@ -14,8 +14,8 @@ const FILES: [File; 2] = [("A", &PRINTS_SEVEN), ("empty", &[])];
 /// The seed that is drawn.
 const DRAWN: u32 = 4711;
 
-/// A gate that draws always the same seed, and keeps what happens: 1 where it is drawn, 2 more where it is told, and 4 more where
-/// something is done before that.
+/// A gate that draws always the same seed, and keeps what happens: 1 where it is drawn, 2 more where it is told, and
+/// 4 more where something is done before that.
 #[derive(Drop)]
 struct Watch {
     seen: AtomicU64,
@@ -89,8 +89,8 @@ fn seen<R: Threads + Wait + Sync>(
     Ok((answer, watch.seen.load(Ordering::SeqCst)))
 }
 
-/// Words, and what is seen: 3 where a seed is drawn and told before anything is done, 1 where it is drawn and not told, 4 where none
-/// is drawn and something is done, 0 where nothing is.
+/// Words, and what is seen: 3 where a seed is drawn and told before anything is done, 1 where it is drawn and not
+/// told, 4 where none is drawn and something is done, 0 where nothing is.
 static SEEN: [(&[&str], u64); 9] = [
     (&["jvm", "run", "A"], 3),
     (&["jvm", "run", "--policy", "mixed", "A"], 3),

@@ -14,8 +14,8 @@ use std::sync::Arc;
 use std::test::Fail;
 use verifier::Verified;
 
-/// Runs of class files, each with what comes of it: the schedule as text, behind a bar the numbers that are printed, and behind another
-/// one a letter for each thread.
+/// Runs of class files, each with what comes of it: the schedule as text, behind a bar the numbers that are printed,
+/// and behind another one a letter for each thread.
 pub(crate) struct Runs {
     pub(crate) name: &'static str,
     pub(crate) files: &'static [&'static [u8]],

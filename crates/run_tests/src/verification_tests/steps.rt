@@ -6,8 +6,8 @@ use std::alloc::Global;
 use std::test::Fail;
 use verifier::{MOST_STEPS, verify_within};
 
-/// How many steps are given, and what is told of a main with a loop over many local variables. The one built-in method with
-/// code, Thread.run, is verified before it, and is in no file.
+/// How many steps are given, and what is told of a main with a loop over many local variables. The one built-in
+/// method with code, Thread.run, is verified before it, and is in no file.
 const ROWS: [(u64, &str); 4] = [
     (0, "refused 8 TooLarge method run()V"),
     (

@@ -67,7 +67,8 @@ fn after_four(alloc: Global, file: &[u8], budget: u32) -> Result<World, Fail> {
     Ok(world)
 }
 
-/// How many steps the burst of a row has, what became of it, and whether its world has recorded as many events as it says.
+/// How many steps the burst of a row has, what became of it, and whether its world has recorded as many events as it
+/// says.
 fn outcome(alloc: Global, row: &Row) -> Result<(u64, Commit, bool), Fail> {
     let mut world = after_four(alloc, row.file, row.budget)?;
     let Some(mut out) = world.check_out(alloc, 0)? else {

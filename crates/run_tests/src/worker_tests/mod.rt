@@ -1,5 +1,5 @@
-//! Tests of workers: that bursts overlap and are committed, and that what is recorded replays. No clause says that a burst is done,
-//! nor by how many threads.
+//! Tests of workers: that bursts overlap and are committed, and that what is recorded replays. No clause says that a
+//! burst is done, nor by how many threads.
 
 #[cfg(test)]
 mod commits;

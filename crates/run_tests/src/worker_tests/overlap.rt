@@ -29,7 +29,8 @@ impl Pair {
         }
     }
 
-    /// Waits for a burst of the other thread. That it has begun counts only if it is seen from here: it begins in any case, later.
+    /// Waits for a burst of the other thread. That it has begun counts only if it is seen from here: it begins in any
+    /// case, later.
     fn hold(&self) {
         for _ in 0..TURNS {
             if self.other.load(Ordering::SeqCst) {

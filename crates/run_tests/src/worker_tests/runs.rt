@@ -90,7 +90,8 @@ fn is_as(recorded: &Recorded, row: &Row) -> bool {
     false
 }
 
-/// Whether the schedule of a run has the same report, and the same end. A replay has no budget: it ends with the schedule.
+/// Whether the schedule of a run has the same report, and the same end. A replay has no budget: it ends with the
+/// schedule.
 fn is_replayed(
     alloc: Global,
     verified: &Verified,

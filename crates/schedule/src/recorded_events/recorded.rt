@@ -28,7 +28,8 @@ impl Model for RecordedEvents {
     ghost invariant = { λ r. IsRecord r.entries.items r.total };
 }
 
-/// How often the last entry stands for its event once it also stands for so many more events, where they are equal and pick nothing.
+/// How often the last entry stands for its event once it also stands for so many more events, where they are equal
+/// and pick nothing.
 fn longer(entries: &[ScheduleEntry], event: Event, count: u32) -> Option<u32>
     requires { length (events_of entries.now) + count < 2 ^ 32 }
     ensures longer { IfSome result (λ n. IsLonger entries.now event count n) }

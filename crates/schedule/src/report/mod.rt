@@ -15,7 +15,8 @@ use std::alloc::{AllocError, Global};
 /// is `ended`, `threw` with the name of the exception's class, `blocked`, `waiting`, `joining`, `initialising` or
 /// `runnable`. Each line ends with a line feed.
 pub fn text(alloc: Global, report: &Report, end: &End) -> Result<Vec<u8>, AllocError>
-    ensures { IfOk result (λ v. v.items ≡ report_text report.now.printed.items (map end_state_of report.now.threads.items)
+    ensures { IfOk result (λ v.
+        v.items ≡ report_text report.now.printed.items (map end_state_of report.now.threads.items)
         report.now.events end.now) }
 {
     let mut text = Vec::new(alloc);

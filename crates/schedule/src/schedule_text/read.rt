@@ -23,7 +23,8 @@ pub fn parse(alloc: Global, text: &[u8]) -> Result<(Schedule, Option<Recording>)
     // What is read is spelled so.
     ensures found { IfOk result (λ read. SpellsSchedule text.now read.1 read.0) }
     // What is spelled so is read, unless memory runs out.
-    ensures only { (recorded : Option Recorded) (entries : List ScheduleEntry) → SpellsSchedule text.now recorded entries
+    ensures only { (recorded : Option Recorded) (entries : List ScheduleEntry)
+        → SpellsSchedule text.now recorded entries
         → Answers result recorded entries }
 {
     let mut words = Words::new(text);

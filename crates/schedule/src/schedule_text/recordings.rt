@@ -87,7 +87,8 @@ fn lengths(alloc: Global, words: &mut Words<'_>) -> Result<Vec<u64>, TextFault>
 /// What the words say up to the entries.
 fn recording(alloc: Global, words: &mut Words<'_>) -> Result<Recording, TextFault>
     ensures found { IfOk result (λ r. (words.old ≡ recording_words (Some r) ++ words.new) × file.RecordingFits r) }
-    ensures only { (r : file.Recording) (rest : List (List ℕ)) → file.RecordingFits r → words.old ≡ recording_words (Some r) ++ rest
+    ensures only { (r : file.Recording) (rest : List (List ℕ)) → file.RecordingFits r
+        → words.old ≡ recording_words (Some r) ++ rest
         → Reads {Y = file.Recording × List (List ℕ)} (λ x. (x, words.new)) result (r, rest) }
 {
     if !heading(words, b"#limits") {

@@ -7,6 +7,7 @@ ghost use Rattle.schedule.specs.schedule_text.Text.{SpellsSchedule};
 
 /// A text spells at most one list of entries, and at most one recording beside it.
 pub fn text_spells_one_schedule()
-    ensures { (text : List ℕ) (p q : Option Recording) (es fs : List ScheduleEntry) → SpellsSchedule text p es → SpellsSchedule text q fs
+    ensures { (text : List ℕ) (p q : Option Recording) (es fs : List ScheduleEntry) → SpellsSchedule text p es
+        → SpellsSchedule text q fs
         → (p ≡ q) × (es ≡ fs) }
 {}

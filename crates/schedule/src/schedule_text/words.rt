@@ -33,7 +33,8 @@ fn ends_word(bytes: &[u8]) -> bool
 fn comment_after(comment: bool, bytes: &[u8]) -> Option<bool>
     requires { 0 < length bytes.now }
     ensures goes_on { IfSome result (λ next. words_from next [] (drop 1 bytes.now) ≡ words_from comment [] bytes.now) }
-    ensures begins { result ≡ None → (comment ≡ false) × ((blank (get_or bytes.now 0 0) || comment_begins bytes.now) ≡ false) }
+    ensures begins { result ≡ None → (comment ≡ false)
+        × ((blank (get_or bytes.now 0 0) || comment_begins bytes.now) ≡ false) }
 {
     if comment {
         return Some(bytes[0] != b'\n');
@@ -51,7 +52,8 @@ fn comment_after(comment: bool, bytes: &[u8]) -> Option<bool>
 fn gap(bytes: &[u8]) -> usize
     ensures within { result ≤ length bytes.now }
     ensures same { words_of (drop result bytes.now) ≡ words_of bytes.now }
-    ensures begins { result < length bytes.now → (blank (get_or bytes.now result 0) || comment_begins (drop result bytes.now)) ≡ false }
+    ensures begins { result < length bytes.now
+        → (blank (get_or bytes.now result 0) || comment_begins (drop result bytes.now)) ≡ false }
 {
     let mut comment = false;
     'gap: for at in 0..bytes.len() {

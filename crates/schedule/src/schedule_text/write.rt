@@ -15,7 +15,8 @@ use std::alloc::{AllocError, Global};
 /// How many words stand in a line.
 const IN_A_LINE: usize = 16;
 
-/// What stands behind the word at this place, with so many words left: a line feed at the end of a line, and else a space.
+/// What stands behind the word at this place, with so many words left: a line feed at the end of a line, and else a
+/// space.
 fn gap_after(place: usize, left: usize) -> u8
     ensures { result ≡ printing.gap_after place left }
 {
@@ -108,7 +109,8 @@ fn push_recording(text: &mut Vec<u8>, recording: &Recording) -> Result<(), Alloc
 
 fn push_recorded(text: &mut Vec<u8>, recording: Option<&Recording>) -> Result<(), AllocError>
     ensures fits { OnOk result (RecordedFits (option_map (λ r. r.now) recording.entry)) }
-    ensures added { OnOk result (text.new.items ≡ text.old.items ++ printed_recording (option_map (λ r. r.now) recording.entry)) }
+    ensures added { OnOk result (text.new.items
+        ≡ text.old.items ++ printed_recording (option_map (λ r. r.now) recording.entry)) }
 {
     match recording {
         Some(recording) => push_recording(text, recording),
@@ -123,8 +125,10 @@ pub fn print(
     schedule: &Schedule,
     recording: Option<&Recording>,
 ) -> Result<Vec<u8>, AllocError>
-    ensures printed { IfOk result (λ text. text.items ≡ printed_schedule (option_map (λ r. r.now) recording.entry) schedule.now) }
-    ensures spells { IfOk result (λ text. SpellsSchedule text.items (option_map (λ r. r.now) recording.entry) schedule.now) }
+    ensures printed { IfOk result (λ text.
+        text.items ≡ printed_schedule (option_map (λ r. r.now) recording.entry) schedule.now) }
+    ensures spells { IfOk result (λ text.
+        SpellsSchedule text.items (option_map (λ r. r.now) recording.entry) schedule.now) }
 {
     let entries = schedule.entries();
     let mut text = Vec::new(alloc);

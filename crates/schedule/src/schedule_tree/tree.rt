@@ -16,8 +16,8 @@ pub(crate) struct Node {
     pub(crate) entry: ScheduleEntry,
 }
 
-/// Schedules by their numbers. Number 0 has no entries, and each other one goes on from one with a lower number by one entry. There are
-/// at most 4,294,967,295. One takes 12 bytes, however long it is.
+/// Schedules by their numbers. Number 0 has no entries, and each other one goes on from one with a lower number by
+/// one entry. There are at most 4,294,967,295. One takes 12 bytes, however long it is.
 #[derive(Drop)]
 pub struct ScheduleTree {
     nodes: Vec<Node>,

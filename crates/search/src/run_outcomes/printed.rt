@@ -6,7 +6,8 @@ ghost use Rattle.search.specs.run_outcomes.Outcomes.{printed_text};
 use schedule::report::push_printed;
 use std::alloc::{AllocError, Global};
 
-/// The text of printed numbers, each in decimal and a line feed behind it; of none, it is empty. The only error is a want of memory.
+/// The text of printed numbers, each in decimal and a line feed behind it; of none, it is empty. The only error is a
+/// want of memory.
 pub fn printed_lines(alloc: Global, numbers: &[i32]) -> Result<Vec<u8>, AllocError>
     ensures { IfOk result (λ lines. lines.items ≡ printed_text numbers.now) }
 {

@@ -54,9 +54,9 @@ fn answer_to(
     }
 }
 
-/// Searches all schedules of a program (JVMS 2.5, 2.6, 5.5, chapter 6; JLS 17), which is that of the classes, as far as so many states,
-/// for a run whose outcome is wanted. Of runs that never end nothing is said. Meanwhile it tells how far it has come. The only error is a
-/// want of memory.
+/// Searches all schedules of a program (JVMS 2.5, 2.6, 5.5, chapter 6; JLS 17), which is that of the classes, as far
+/// as so many states, for a run whose outcome is wanted. Of runs that never end nothing is said. Meanwhile it tells
+/// how far it has come. The only error is a want of memory.
 pub fn search_report<P: Progress>(
     alloc: Global,
     progress: &P,

@@ -123,8 +123,8 @@ fn of_stacks(hash: u64, stacks: &[ThreadStack]) -> u64 {
     hash
 }
 
-/// The hash of a state: two that keep the same objects, monitors, static fields, classes, threads, stacks and printed numbers have the
-/// same one. Of a stack it takes the two entries on top, and of wait sets nothing.
+/// The hash of a state: two that keep the same objects, monitors, static fields, classes, threads, stacks and printed
+/// numbers have the same one. Of a stack it takes the two entries on top, and of wait sets nothing.
 pub fn hash_of(shared: &Shared) -> u64 {
     let hash = of_heap(0, &shared.heap);
     let hash = of_words(hash, &shared.statics);

@@ -12,8 +12,8 @@ struct Entry {
     before: u32,
 }
 
-/// States by their numbers, from 0 on, each with a hash. Two that are the same have the same hash. Two that have the same hash may be
-/// the same, or may not.
+/// States by their numbers, from 0 on, each with a hash. Two that are the same have the same hash. Two that have the
+/// same hash may be the same, or may not.
 #[derive(Drop)]
 pub struct StateIndex {
     /// By the low bits of a hash: the last state.

@@ -1,5 +1,5 @@
-//! States by their hashes, for a search that asks which of the states that it has met may be the same as another one. A hash only picks
-//! those that are compared, so nothing is claimed of it.
+//! States by their hashes, for a search that asks which of the states that it has met may be the same as another one.
+//! A hash only picks those that are compared, so nothing is claimed of it.
 
 mod hashes;
 mod index;

@@ -9,8 +9,9 @@ pub struct Entries {
     pub count: u32,
 }
 
-/// What an event did, beside an exception that it throws and the end of its thread. Objects are named by their references, classes
-/// and methods by their numbers; a word is an int by its bits, or 0 for null and else a reference and one.
+/// What an event did, beside an exception that it throws and the end of its thread. Objects are named by their
+/// references, classes and methods by their numbers; a word is an int by its bits, or 0 for null and else a reference
+/// and one.
 #[derive(Clone, Copy)]
 pub enum Deed {
     /// No more than its instruction says, or nothing.

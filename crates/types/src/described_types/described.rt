@@ -32,7 +32,8 @@ pub struct MethodTypes {
 
 /// An array of so many dimensions of a class, or the class itself where there are none.
 fn class_type(set: &ClassSet, dimensions: u8, name: &[u8]) -> Option<ReferenceType>
-    ensures value { Gives (reference_in set.now) (is_missing set.now name.now) (arrays dimensions (made_type set.now (ClassType name.now)))
+    ensures value { Gives (reference_in set.now) (is_missing set.now name.now)
+        (arrays dimensions (made_type set.now (ClassType name.now)))
         result }
     ensures few { IfSome result (λ t. t.dimensions ≤ dimensions) }
 {
@@ -83,8 +84,8 @@ fn declared_type(set: &ClassSet, field: Field<'_>) -> Option<VerificationType>
     }
 }
 
-/// The type that a field's descriptor describes (JVMS 4.3.2), or `None` where its class is not in the set. A text that is no
-/// descriptor stands for an int, as in the model.
+/// The type that a field's descriptor describes (JVMS 4.3.2), or `None` where its class is not in the set. A text
+/// that is no descriptor stands for an int, as in the model.
 pub fn field_type(set: &ClassSet, descriptor: &[u8]) -> Option<VerificationType>
     ensures value { Gives (type_in set.now) (declared_missing set.now (field_declared descriptor.now))
         (verification_type set.now (field_declared descriptor.now)) result }
@@ -97,14 +98,16 @@ pub fn field_type(set: &ClassSet, descriptor: &[u8]) -> Option<VerificationType>
 }
 
 fn class_constant(set: &ClassSet, name: &[u8]) -> Option<ReferenceType>
-    ensures value { Gives (reference_in set.now) (is_missing set.now name.now) (made_type set.now (ClassType name.now)) result }
+    ensures value { Gives (reference_in set.now) (is_missing set.now name.now)
+        (made_type set.now (ClassType name.now)) result }
     ensures few { IfSome result (λ t. t.dimensions ≤ dimensions_of name.now) }
 {
     class_type(set, 0, name)
 }
 
 fn array_constant(set: &ClassSet, name: &[u8]) -> Option<ReferenceType>
-    ensures value { Gives (reference_in set.now) (type_missing set.now (reference_declared name.now (field_declared name.now)))
+    ensures value { Gives (reference_in set.now)
+        (type_missing set.now (reference_declared name.now (field_declared name.now)))
         (made_type set.now (reference_declared name.now (field_declared name.now))) result }
     ensures few { IfSome result (λ t. t.dimensions ≤ dimensions_of name.now) }
 {
@@ -115,10 +118,11 @@ fn array_constant(set: &ClassSet, name: &[u8]) -> Option<ReferenceType>
     }
 }
 
-/// The type that a class constant names (JVMS 4.4.1): a class by its name, and an array by its descriptor; `None` where the
-/// class, or that of the array's elements, is not in the set.
+/// The type that a class constant names (JVMS 4.4.1): a class by its name, and an array by its descriptor; `None`
+/// where the class, or that of the array's elements, is not in the set.
 pub fn named_type(set: &ClassSet, name: &[u8]) -> Option<ReferenceType>
-    ensures value { Gives (reference_in set.now) (type_missing set.now (type_named name.now)) (made_type set.now (type_named name.now))
+    ensures value { Gives (reference_in set.now) (type_missing set.now (type_named name.now))
+        (made_type set.now (type_named name.now))
         result }
     ensures few { IfSome result (λ t. t.dimensions ≤ dimensions_of name.now) }
 {
@@ -155,10 +159,12 @@ fn types_of(
 ) -> Result<Option<MethodTypes>, AllocError>
     ensures parameters { IfOk result (λ found. Gives (parameters_in set.now)
         (list_any (declared_missing set.now) (map declared_of method.now.parameters
-        ++ returned_type method.now.returns)) (map (verification_type set.now) (map declared_of method.now.parameters)) found) }
+        ++ returned_type method.now.returns))
+        (map (verification_type set.now) (map declared_of method.now.parameters)) found) }
     ensures returns { IfOk result (λ found. Gives (results_in set.now)
         (list_any (declared_missing set.now) (map declared_of method.now.parameters
-        ++ returned_type method.now.returns)) (map (verification_type set.now) (returned_type method.now.returns)) found) }
+        ++ returned_type method.now.returns))
+        (map (verification_type set.now) (returned_type method.now.returns)) found) }
 {
     let found = declared_types(alloc, set, method.parameters())?;
     let Some(parameters) = found else {
@@ -179,8 +185,8 @@ fn types_of(
     }))
 }
 
-/// The types that a method's descriptor describes (JVMS 4.3.3), or `None` where one of its classes is not in the set. A text
-/// that is no descriptor has no parameters and no result, as in the model.
+/// The types that a method's descriptor describes (JVMS 4.3.3), or `None` where one of its classes is not in the set.
+/// A text that is no descriptor has no parameters and no result, as in the model.
 pub fn method_types(
     alloc: Global,
     set: &ClassSet,
@@ -188,10 +194,12 @@ pub fn method_types(
 ) -> Result<Option<MethodTypes>, AllocError>
     ensures parameters { IfOk result (λ found. Gives (parameters_in set.now)
         (list_any (declared_missing set.now) (parameters_declared descriptor.now
-        ++ results_declared descriptor.now)) (map (verification_type set.now) (parameters_declared descriptor.now)) found) }
+        ++ results_declared descriptor.now))
+        (map (verification_type set.now) (parameters_declared descriptor.now)) found) }
     ensures returns { IfOk result (λ found. Gives (results_in set.now)
         (list_any (declared_missing set.now) (parameters_declared descriptor.now
-        ++ results_declared descriptor.now)) (map (verification_type set.now) (results_declared descriptor.now)) found) }
+        ++ results_declared descriptor.now))
+        (map (verification_type set.now) (results_declared descriptor.now)) found) }
 {
     let parsed = parse_method(alloc, descriptor)?;
     match parsed {

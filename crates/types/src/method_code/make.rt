@@ -9,7 +9,8 @@ use hierarchy::Hierarchy;
 impl<'a> MethodCode<'a> {
     ghost use Rattle.types.specs.method_code.View.{files_of, shown, shown_at};
 
-    /// The method at a place among those of the class at a place, or `None` where there is no such place, or it has no code.
+    /// The method at a place among those of the class at a place, or `None` where there is no such place, or it has
+    /// no code.
     pub fn new(hierarchy: &'a Hierarchy, class: usize, method: usize) -> Option<MethodCode<'a>>
         requires { IsLinked hierarchy.now }
         ensures files { IfSome result (λ m. files_of m ≡ hierarchy.now) }

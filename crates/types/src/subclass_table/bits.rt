@@ -20,7 +20,8 @@ fn set_in_word(row: &mut Vec<u64>, place: usize, bits: u64)
     requires { place < length row.now.items }
     ensures wide { length row.new.items ≡ length row.old.items }
     ensures set { slice_index_or row.new.items place 0 ≡ bit_or (slice_index_or row.old.items place 0) bits }
-    ensures others { (other : ℕ) → other ≢ place → slice_index_or row.new.items other 0 ≡ slice_index_or row.old.items other 0 }
+    ensures others { (other : ℕ) → other ≢ place
+        → slice_index_or row.new.items other 0 ≡ slice_index_or row.old.items other 0 }
 {
     row[place] |= bits;
 }

@@ -34,7 +34,8 @@ pub(crate) fn row_by_names(
 ) -> Result<Vec<u64>, AllocError>
     requires { FitIn columns.now width }
     ensures wide { IfOk result (λ row. length row.items ≡ width) }
-    ensures row { IfOk result (λ row. IsRow hierarchy.now columns.now (is_subclass_or_implements hierarchy.now class.now) row.items) }
+    ensures row { IfOk result (λ row.
+        IsRow hierarchy.now columns.now (is_subclass_or_implements hierarchy.now class.now) row.items) }
 {
     let mut row = clear_row(alloc, width)?;
     for place in 0..columns.len() {

@@ -60,10 +60,13 @@ fn add_interface(
 ) -> bool
     ensures wide { length near.new.items ≡ length near.old.items }
     ensures near { (columns : List (Option ℕ)) (steps : ℕ) (p : Name → Bool)
-        → AreMade set.now columns (length near.old.items) steps made.now → IsRow set.now columns p near.old.items → result ≡ true
-        → IsRow set.now columns (λ d. p d || list_any (λ i. is_near set.now i d) (option_to_list (option_map (λ t. t.now) name.entry)))
+        → AreMade set.now columns (length near.old.items) steps made.now → IsRow set.now columns p near.old.items
+        → result ≡ true
+        → IsRow set.now columns (λ d. p d
+        || list_any (λ i. is_near set.now i d) (option_to_list (option_map (λ t. t.now) name.entry)))
         near.new.items }
-    ensures settled { (columns : List (Option ℕ)) (steps : ℕ) → AreMade set.now columns (length near.old.items) steps made.now
+    ensures settled { (columns : List (Option ℕ)) (steps : ℕ)
+        → AreMade set.now columns (length near.old.items) steps made.now
         → result ≡ true → EachOf (IsSettled set.now steps) (option_to_list (option_map (λ t. t.now) name.entry)) }
 {
     let Some(name) = name else {
@@ -158,7 +161,8 @@ pub(crate) fn class_rows(
 ) -> Result<Option<ClassRows>, AllocError>
     requires own { FindOwnPlaces set.now }
     requires fit { FitIn columns.now width }
-    ensures { IfOk result (λ rows. (steps : ℕ) → steps < length (classes_of set.now) → AreMade set.now columns.now width steps made.now
+    ensures { IfOk result (λ rows. (steps : ℕ) → steps < length (classes_of set.now)
+        → AreMade set.now columns.now width steps made.now
         → AreRowsAt set.now columns.now width (steps + 1) place rows) }
 {
     let Some(file) = set.class_at(place) else {

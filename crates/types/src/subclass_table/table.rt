@@ -11,9 +11,10 @@ use hierarchy::Hierarchy;
 use linked_code::Subclasses;
 use std::alloc::{AllocError, Global};
 
-/// Which classes are below which of the tested ones; these are given by their numbers, in any order and as often as one
-/// likes. The row of a class is made of those of the classes directly above it, where no class is above itself. This alone takes
-/// memory: a bit for each class and each class that is tested, and three times as much while it runs.
+/// Which classes are below which of the tested ones; these are given by their numbers, in any order and as often as
+/// one likes. The row of a class is made of those of the classes directly above it, where no class is above itself.
+/// This alone takes memory: a bit for each class and each class that is tested, and three times as much while it
+/// runs.
 pub fn subclasses(
     alloc: Global,
     hierarchy: &Hierarchy,

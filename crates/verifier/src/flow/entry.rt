@@ -61,7 +61,8 @@ fn argument_types(
 
 /// Fills up local variables that are not usable, until there are so many.
 fn fill_up(locals: &mut Vec<VerificationType>, count: usize) -> Result<(), AllocError>
-    ensures { OnOk result (locals.new.items ≡ locals.old.items ++ replicate (count - length locals.old.items) VerificationType.Unusable) }
+    ensures { OnOk result (locals.new.items
+        ≡ locals.old.items ++ replicate (count - length locals.old.items) VerificationType.Unusable) }
 {
     let missing = count.saturating_sub(locals.len());
     for _local in 0..missing {
@@ -70,8 +71,8 @@ fn fill_up(locals: &mut Vec<VerificationType>, count: usize) -> Result<(), Alloc
     Ok(())
 }
 
-/// The frame type where a method begins: its arguments in the first local variables, the others not usable, and nothing on
-/// the operand stack (JVMS 2.6.1, 4.10.1.6).
+/// The frame type where a method begins: its arguments in the first local variables, the others not usable, and
+/// nothing on the operand stack (JVMS 2.6.1, 4.10.1.6).
 pub fn entry_frame(alloc: Global, method: &MethodCode<'_>) -> Result<FrameType, AllocError>
     requires { IsLinked (files_of method.now) }
     ensures { IfOk result (λ f. frame_in (files_of method.now) f

@@ -45,7 +45,8 @@ fn site_at<'a>(method: &MethodCode<'a>, offset: u16) -> Option<Site<'a>>
 /// The offset, in bytes from the code's start, is an instruction boundary.
 pub(crate) fn leaves_at(method: &MethodCode<'_>, offset: usize, locals: &[usize]) -> bool
     requires start { IsTrue (is_start (body_of method.now).code.code offset) }
-    ensures { IsTrue result → (site : ModelSite) → site_at (member_of method.now) (body_of method.now) offset ≡ Some site
+    ensures { IsTrue result → (site : ModelSite)
+        → site_at (member_of method.now) (body_of method.now) offset ≡ Some site
         → leaves site locals.now ≡ true }
 {
     match site_at(method, offset as u16) {
@@ -54,11 +55,12 @@ pub(crate) fn leaves_at(method: &MethodCode<'_>, offset: usize, locals: &[usize]
     }
 }
 
-/// Where the instruction at an offset leads from a frame type, its handlers included; `None` where no instruction begins
-/// there, or where it must not find this frame type (JVMS 4.10.1.9). The frame type becomes the one after the instruction,
-/// and with no answer it is any.
+/// Where the instruction at an offset leads from a frame type, its handlers included; `None` where no instruction
+/// begins there, or where it must not find this frame type (JVMS 4.10.1.9). The frame type becomes the one after the
+/// instruction, and with no answer it is any.
 ///
-/// The offset, in bytes from the code's start, is an instruction boundary, and handlers and meanings are the method's own.
+/// The offset, in bytes from the code's start, is an instruction boundary, and handlers and meanings are the method's
+/// own.
 pub fn flow_at(
     alloc: Global,
     method: &MethodCode<'_>,
@@ -73,7 +75,8 @@ pub fn flow_at(
     requires meanings { AreMeanings method.now meanings.old }
     ensures meanings { OnOk result (AreMeanings method.now meanings.new) }
     ensures flow { IfOk result (λ o. option_map (λ v. map (lead_in (files_of method.now) frame.old frame.new) v.items) o
-        ≡ flow (files_of method.now) (member_of method.now) (body_of method.now) offset (frame_in (files_of method.now) frame.old)) }
+        ≡ flow (files_of method.now) (member_of method.now) (body_of method.now) offset
+        (frame_in (files_of method.now) frame.old)) }
     ensures handlers { IfOk result (λ o. IfSome o (λ v. LeadOn offset handlers.now v.items)) }
 {
     let Some(site) = site_at(method, offset as u16) else {

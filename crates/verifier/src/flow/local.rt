@@ -17,7 +17,8 @@ pub(crate) fn flow_locally(
     site: &Site<'_>,
     frame: &mut FrameType,
 ) -> Result<LocalFlow, AllocError>
-    ensures { IfOk result (AnswersLocally (files_of site.now.method) (site_of site.now) (frame_in (files_of site.now.method) frame.old)
+    ensures { IfOk result
+        (AnswersLocally (files_of site.now.method) (site_of site.now) (frame_in (files_of site.now.method) frame.old)
         (frame_in (files_of site.now.method) frame.new)) }
 {
     let method = &site.method;

@@ -28,8 +28,8 @@ fn is_among(site: &Site<'_>, types: &[VerificationType]) -> bool
     types.iter().any(|t| is_made_here(site, *t))
 }
 
-/// Whether the instruction may find a frame type, its operands aside (JVMS 4.10.1.9): `new` finds nothing on the stack that
-/// it itself made before, and a constructor returns only once a constructor was called on `this`.
+/// Whether the instruction may find a frame type, its operands aside (JVMS 4.10.1.9): `new` finds nothing on the
+/// stack that it itself made before, and a constructor returns only once a constructor was called on `this`.
 pub(crate) fn may_stand(site: &Site<'_>, frame: &FrameType) -> bool
     ensures { result ≡ may_stand (site_of site.now) (frame_in (files_of site.now.method) frame.now) site.now.instr }
 {

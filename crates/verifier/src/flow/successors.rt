@@ -31,9 +31,11 @@ fn successors_by(
     meaning: &Meaning,
     frame: &mut FrameType,
 ) -> Result<Option<SmallVec<usize, 2>>, AllocError>
-    ensures { IfOk result (λ o. (model : MeaningOf Value) → Means (files_of site.now.method) (site_of site.now) meaning.now model
+    ensures { IfOk result (λ o. (model : MeaningOf Value)
+        → Means (files_of site.now.method) (site_of site.now) meaning.now model
         → option_map (λ tos. map (λ to. (to, frame_in (files_of site.now.method) frame.new)) tos.items) o
-        ≡ successors_by (files_of site.now.method) (site_of site.now) (frame_in (files_of site.now.method) frame.old) (Some model)) }
+        ≡ successors_by (files_of site.now.method) (site_of site.now)
+        (frame_in (files_of site.now.method) frame.old) (Some model)) }
 {
     let method = &site.method;
     if !is_ready(method.set(), &meaning.wants, method.code.max_stack, frame) {
@@ -54,10 +56,12 @@ fn other_successors(
 ) -> Result<Option<SmallVec<usize, 2>>, AllocError>
     requires differ { IsFalse (stands (files_of site.now.method) DuplicateClass) }
     requires linked { is_refused (files_of site.now.method) (site_of site.now) ≡ false }
-    requires there { site_at (member_of site.now.method) (body_of site.now.method) site.now.offset ≡ Some (site_of site.now) }
+    requires there { site_at (member_of site.now.method) (body_of site.now.method) site.now.offset
+        ≡ Some (site_of site.now) }
     requires meanings { AreMeanings site.now.method meanings.old }
     ensures meanings { OnOk result (AreMeanings site.now.method meanings.new) }
-    ensures successors { IfOk result (λ o. option_map (λ tos. map (λ to. (to, frame_in (files_of site.now.method) frame.new)) tos.items) o
+    ensures successors { IfOk result (λ o.
+        option_map (λ tos. map (λ to. (to, frame_in (files_of site.now.method) frame.new)) tos.items) o
         ≡ successors_by (files_of site.now.method) (site_of site.now) (frame_in (files_of site.now.method) frame.old)
         (other_meaning values (files_of site.now.method) (site_of site.now) site.now.instr)) }
 {
@@ -86,10 +90,12 @@ pub(crate) fn successors(
 ) -> Result<Option<SmallVec<usize, 2>>, AllocError>
     requires differ { IsFalse (stands (files_of site.now.method) DuplicateClass) }
     requires linked { is_refused (files_of site.now.method) (site_of site.now) ≡ false }
-    requires there { site_at (member_of site.now.method) (body_of site.now.method) site.now.offset ≡ Some (site_of site.now) }
+    requires there { site_at (member_of site.now.method) (body_of site.now.method) site.now.offset
+        ≡ Some (site_of site.now) }
     requires meanings { AreMeanings site.now.method meanings.old }
     ensures meanings { OnOk result (AreMeanings site.now.method meanings.new) }
-    ensures successors { IfOk result (λ o. option_map (λ tos. map (λ to. (to, frame_in (files_of site.now.method) frame.new)) tos.items) o
+    ensures successors { IfOk result (λ o.
+        option_map (λ tos. map (λ to. (to, frame_in (files_of site.now.method) frame.new)) tos.items) o
         ≡ successors_by (files_of site.now.method) (site_of site.now) (frame_in (files_of site.now.method) frame.old)
         (meaning_of values (files_of site.now.method) (site_of site.now))) }
 {

@@ -89,7 +89,8 @@ fn initialised(set: &ClassSet, receiver: VerificationType, t: VerificationType) 
 
 /// Forgets what a `new` made before.
 pub(crate) fn forget(offset: u16, types: &mut [VerificationType])
-    ensures { (files : Program) → map (type_in files) types.new ≡ map (forgotten offset) (map (type_in files) types.old) }
+    ensures { (files : Program)
+        → map (type_in files) types.new ≡ map (forgotten offset) (map (type_in files) types.old) }
 {
     for i in 0..types.len() {
         types[i] = forgotten(offset, types[i]);
@@ -98,7 +99,8 @@ pub(crate) fn forget(offset: u16, types: &mut [VerificationType])
 
 /// Initialises all copies of a receiver.
 pub(crate) fn initialise(set: &ClassSet, receiver: VerificationType, types: &mut [VerificationType])
-    ensures { map (type_in set.now) types.new ≡ map (initialised (type_in set.now receiver)) (map (type_in set.now) types.old) }
+    ensures { map (type_in set.now) types.new
+        ≡ map (initialised (type_in set.now receiver)) (map (type_in set.now) types.old) }
 {
     for i in 0..types.len() {
         types[i] = initialised(set, receiver, types[i]);

@@ -30,14 +30,16 @@ use types::{FrameType, VerificationType};
 
 /// An operand that a frame type has, counted from the top; null where there is none.
 fn operand_in(wants: &Wants, frame: &FrameType, k: usize) -> VerificationType
-    ensures { (files : Program) → type_in files result ≡ slice_index_or (found_by files wants.now frame.now) k model.NullType }
+    ensures { (files : Program)
+        → type_in files result ≡ slice_index_or (found_by files wants.now frame.now) k model.NullType }
 {
     operand(wants, &frame.stack, k)
 }
 
 /// Forgets what a `new` made before.
 fn forget_all(offset: u16, types: &mut Vec<VerificationType>)
-    ensures { (files : Program) → map (type_in files) types.new.items ≡ map (forgotten offset) (map (type_in files) types.old.items) }
+    ensures { (files : Program)
+        → map (type_in files) types.new.items ≡ map (forgotten offset) (map (type_in files) types.old.items) }
 {
     forget(offset, types);
 }
@@ -53,7 +55,8 @@ fn initialise_all(set: &ClassSet, receiver: VerificationType, types: &mut Vec<Ve
 /// Takes the operands off.
 fn drop_operands(wants: &Wants, frame: &mut FrameType)
     ensures { (files : Program) → frame_in files frame.new
-        ≡ with_slots (frame_in files frame.old) (frame_in files frame.old).slots.locals (left_by files wants.now frame.old) }
+        ≡ with_slots (frame_in files frame.old) (frame_in files frame.old).slots.locals
+        (left_by files wants.now frame.old) }
 {
     pop(wants, &mut frame.stack);
 }
@@ -65,7 +68,8 @@ fn push_type(
     pushed: VerificationType,
 ) -> Result<(), AllocError>
     ensures { OnOk result ((files : Program)
-        → frame_in files frame.new ≡ with_slots (frame_in files frame.old) (frame_in files frame.old).slots.locals (type_in files pushed
+        → frame_in files frame.new
+        ≡ with_slots (frame_in files frame.old) (frame_in files frame.old).slots.locals (type_in files pushed
         ∷ left_by files wants.now frame.old)) }
 {
     pop(wants, &mut frame.stack);
@@ -179,7 +183,8 @@ pub(crate) fn names_constructor(site: &Site<'_>, index: u16) -> bool
 
 /// Whether a constructor is called on `this`.
 fn constructs_this(site: &Site<'_>, wants: &Wants, frame: &FrameType) -> bool
-    ensures { result ≡ constructs_this (site_of site.now) (found_by (files_of site.now.method) wants.now frame.now) site.now.instr }
+    ensures { result ≡ constructs_this (site_of site.now)
+        (found_by (files_of site.now.method) wants.now frame.now) site.now.instr }
 {
     match site.instr {
         Instr::Invoke {
@@ -197,14 +202,16 @@ fn either(a: bool, b: bool) -> bool
     a || b
 }
 
-/// Where an instruction leads from a frame type, by its meaning (JVMS 4.10.1.9): whether it goes on at the next one, with
-/// what the frame type becomes. Where it doesn't, and where memory runs out, the frame type is of no use any more.
+/// Where an instruction leads from a frame type, by its meaning (JVMS 4.10.1.9): whether it goes on at the next one,
+/// with what the frame type becomes. Where it doesn't, and where memory runs out, the frame type is of no use any
+/// more.
 pub fn lead_on(
     site: &Site<'_>,
     meaning: &Meaning,
     frame: &mut FrameType,
 ) -> Result<bool, AllocError>
-    ensures { IfOk result (λ on. (M : MeaningOf Value) → Means (files_of site.now.method) (site_of site.now) meaning.now M
+    ensures { IfOk result (λ on. (M : MeaningOf Value)
+        → Means (files_of site.now.method) (site_of site.now) meaning.now M
         → lead_after on site.now.next (frame_in (files_of site.now.method) frame.new)
         ≡ successors (site_of site.now) M (frame_in (files_of site.now.method) frame.old)) }
 {

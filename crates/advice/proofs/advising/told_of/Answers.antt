@@ -1,6 +1,5 @@
-use Rattle.std.proofs.Common.{◌≡◌, ℕ, Option, Vec, Global, length, map, ap, ◌∙◌}
+use Rattle.std.proofs.Common.{◌≡◌, Vec, Global, length, map, ◌∙◌}
 use Rattle.std.proofs.lemmas.List.{length-map}
-use Rattle.class_tree.specs.declared.tree.ClassFile.{ClassFile}
 use Rattle.hierarchy.specs.Set.{trees_of}
 use Rattle.advice.specs.declared.told.Told.{Told}
 use Rattle.advice.specs.Advice.{TellsAll}

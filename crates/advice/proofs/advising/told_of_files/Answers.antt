@@ -1,4 +1,4 @@
-use Rattle.std.proofs.Common.{◌≡◌, Option, length, subst, arith, ℕ}
+use Rattle.std.proofs.Common.{Option, subst, arith, ℕ}
 use Rattle.advice.specs.Telling.{TellsPlace}
 use Rattle.advice.proofs.WalkLaws.{files_more}
 use Rattle.advice.proofs.advising.told_of_files.Goals as goal

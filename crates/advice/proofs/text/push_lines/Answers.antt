@@ -1,4 +1,4 @@
-use Rattle.std.proofs.Common.{◌≡◌, ◌++◌, ◌∷◌, [], List, ℕ, map, take, sym, ap, ◌∙◌, arith}
+use Rattle.std.proofs.Common.{[], List, ℕ, map, take, sym, ap, ◌∙◌, arith}
 use Rattle.link_conditions.specs.limits_of_linking.Texts.{with_text, with_texts}
 use Rattle.advice.specs.Advice.{words_of}
 use Rattle.advice.specs.declared.told.Told.{Told}

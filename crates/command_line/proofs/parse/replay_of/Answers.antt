@@ -34,6 +34,7 @@ returns-clause-values c = record {
   schedule = c.in_ok-schedule.ensures.path;
   then_run = c.in_ok-then_run.ensures.values;
   limits = c.in_ok-limits.ensures.limits;
+  main = c.in_ok-main.ensures;
   files = c.in_ok-files.ensures.files;
   other_schedule = subst (IsApart (first_of (codes "record") (rows_of (found_of c.args.matches.now)))) c.as_str.ensures.value c.in_ok-check_file.ensures.apart;
   other_files = files_other (rows_of (found_of c.args.matches.now)) c.in_ok-files.files.items _ c.deref.ensures.value c.in_ok-check_files.ensures.apart;

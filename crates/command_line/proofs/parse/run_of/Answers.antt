@@ -20,6 +20,7 @@ returns-clause-values c = record {
   options = c.in_ok-options.ensures.numbers;
   recording = c.in_ok-record.ensures;
   limits = c.in_ok-limits.ensures.limits;
+  main = c.in_ok-main.ensures;
   files = c.in_ok-files.ensures.files;
   other_files = files_other (rows_of (found_of c.args.matches.now)) c.in_ok-files.files.items _ c.deref.ensures.value c.in_ok-check_files.ensures.apart;
   explain = c.is_set.ensures;

@@ -16,6 +16,7 @@ returns-clause-values c = record {
   form = c.in_ok-form.ensures.form;
   summary = c.is_set.ensures;
   limits = c.in_ok-limits.ensures.limits;
+  main = c.in_ok-main.ensures;
   files = c.in_ok-files.ensures.files;
   explain = c.is_set-2.ensures;
   quiet = c.is_set-3.ensures;

@@ -1,7 +1,7 @@
 use Rattle.std.proofs.Common.{◌∙◌, ap, ap₂, codes}
 use Rattle.std.proofs.lemmas.Result.{IfOk-weaker}
 use Rattle.clap.specs.Words.{new_app}
-use Rattle.command_line.specs.CommandLine.{with_files, with_limits}
+use Rattle.command_line.specs.CommandLine.{with_files, with_program}
 use Rattle.command_line.proofs.ParserLemmas.{IsParser, with_argument}
 use Rattle.command_line.proofs.parsers.run_parser.Goals as goal
 
@@ -14,6 +14,6 @@ returns c =
     let seed = with_argument _ _ _ _ _ quantum c.seed_argument.ensures.rule c.seed_argument.ensures.local c.in_ok-arg-4.ensures in
     let policy = with_argument _ _ _ _ _ seed c.policy_argument.ensures.rule c.policy_argument.ensures.local c.in_ok-arg-5.ensures in
     let recording = with_argument _ _ _ _ _ policy c.record_argument.ensures.rule c.record_argument.ensures.local c.in_ok-run.ensures in
-    let limited = c.in_ok-with_limits.ensures.app ∙ ap with_limits recording.0 in
+    let limited = c.in_ok-with_program.ensures.app ∙ ap with_program recording.0 in
     IfOk-weaker c.with_files.result _ _ (λ whole is. (is.0 ∙ ap₂ with_files limited c.files_argument.ensures.rule, is.1))
-    (c.with_files.ensures (c.in_ok-with_limits.ensures.local recording.1) c.files_argument.ensures.local)
+    (c.with_files.ensures (c.in_ok-with_program.ensures.local recording.1) c.files_argument.ensures.local)

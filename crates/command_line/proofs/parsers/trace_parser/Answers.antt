@@ -1,7 +1,7 @@
 use Rattle.std.proofs.Common.{◌∙◌, ap, ap₂, codes}
 use Rattle.std.proofs.lemmas.Result.{IfOk-weaker}
 use Rattle.clap.specs.Words.{new_app}
-use Rattle.command_line.specs.CommandLine.{with_files, with_limits}
+use Rattle.command_line.specs.CommandLine.{with_files, with_program}
 use Rattle.command_line.proofs.ParserLemmas.{IsParser, with_argument}
 use Rattle.command_line.proofs.parsers.trace_parser.Goals as goal
 
@@ -15,6 +15,6 @@ returns c =
     let columns = with_argument _ _ _ _ _ only c.flag_argument.ensures.rule c.flag_argument.ensures.local c.in_ok-arg-5.ensures in
     let json = with_argument _ _ _ _ _ columns c.flag_argument-2.ensures.rule c.flag_argument-2.ensures.local c.in_ok-arg-6.ensures in
     let summary = with_argument _ _ _ _ _ json c.flag_argument-3.ensures.rule c.flag_argument-3.ensures.local c.in_ok-trace.ensures in
-    let limited = c.in_ok-with_limits.ensures.app ∙ ap with_limits summary.0 in
+    let limited = c.in_ok-with_program.ensures.app ∙ ap with_program summary.0 in
     IfOk-weaker c.with_files.result _ _ (λ whole is. (is.0 ∙ ap₂ with_files limited c.files_argument.ensures.rule, is.1))
-    (c.with_files.ensures (c.in_ok-with_limits.ensures.local summary.1) c.files_argument.ensures.local)
+    (c.with_files.ensures (c.in_ok-with_program.ensures.local summary.1) c.files_argument.ensures.local)

@@ -6,7 +6,7 @@ use Rattle.engines.proofs.commands.replays.replayed.Goals as goal
 
 pub returns-clause-told : goal.returns-clause-told
 returns-clause-told g c =
-    let none = ap (sum_by (λ file. failures_of file.reading)) c.as_mut_slice.ensures.value ∙ c.in_ok-files.ensures.none in
+    let none = ap (sum_by (λ file. failures_of file.reading)) c.as_mut_slice.ensures.value ∙ c.in_ok-sources.ensures.none in
     told_by_more (λ file. failures_of file.reading) (FolderMayFail g.F.Folder.may_fail)
     (λ file n failed. (file.folder.now, file.path.now, file.failed (failed_of file.reading n failed)))
     c.replay_engine.result c.replay_engine.new.schedule c.replay_engine.new.files _ _ _ _ c.source-schedule.ensures.none none c.replay_engine.ensures.counted

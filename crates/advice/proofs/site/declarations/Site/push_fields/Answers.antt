@@ -1,7 +1,7 @@
 use Rattle.std.proofs.Common.{◌≡◌, length, map, ap, ◌∙◌, arith}
 use Rattle.std.proofs.lemmas.List.{length-map}
-use Rattle.model.specs.Tree.{FieldTree, FileTree}
-use Rattle.classfile.specs.View.{field_of, file_of}
+use Rattle.model.specs.Tree.{FileTree}
+use Rattle.classfile.specs.View.{field_of}
 use Rattle.advice.specs.Wrong.{is_field_wrong, is_wrong_at}
 use Rattle.advice.specs.declared.told.ToldPlace.TheVariants as places
 use Rattle.advice.proofs.TellingLaws.{one_more, each_of, none_past}
