@@ -1,3 +1,5 @@
+pub mod Fewest
+pub mod JoinedEntries
 pub mod Laws
 pub mod Loop
 pub mod OneList

@@ -2,6 +2,7 @@
 #![tactic(auto)]
 
 mod fault;
+mod joining;
 mod read;
 mod reader;
 pub mod recorded_events;
@@ -14,6 +15,7 @@ mod spelling;
 mod write;
 
 pub use fault::ScheduleFault;
+pub use joining::joined_entries_are_fewest;
 pub use model::{Event, ScheduleEntry};
 pub use read::read_schedule;
 pub use recording::Recording;
