@@ -1,4 +1,5 @@
 pub mod Fewest
+pub mod FileNumbers
 pub mod JoinedEntries
 pub mod Laws
 pub mod Loop

@@ -4,6 +4,7 @@ use Rattle.std.specs.List.{AllByRecursion}
 use Rattle.model.specs.declared.event.Event.{Event}
 use Rattle.model.specs.declared.event.ScheduleEntry.{ScheduleEntry}
 use Rattle.model.specs.Schedule.{EntryFits}
+use Rattle.schedule.specs.Files.{Recording, ScheduleFile}
 
 -- an entry could stand for this event, too: it is of the same one, which picks nothing, and of fewer than it may be
 pub record CanTake (entry : ScheduleEntry) (event : Event) : Type 0 where
@@ -21,6 +22,11 @@ AreJoined (first ∷ second ∷ others) = (CanTake first second.event → ⊥) �
 pub record AreRuns (entries : List ScheduleEntry) : Type 0 where
   pub each : AllByRecursion EntryFits entries
   pub joined : AreJoined entries
+
+-- a file of these events as they are recorded: in entries that are joined
+pub record RecordedFile (bytes : List ℕ) (recorded : Option Recording) (events : List Event) : Type 0 where
+  pub file : ScheduleFile bytes recorded events
+  pub joined : AreJoined file.entries
 
 -- ---- more events at the end
 

@@ -1,3 +1,4 @@
+pub mod Files
 pub mod Joined
 pub mod Names
 pub mod Outcomes

@@ -1,8 +1,8 @@
 //! What is true of schedule files whatever reads them.
 
 ghost use Rattle.std.specs.Prelude.{◌≡◌, ℕ, List, Option};
-ghost use Rattle.model.specs.Schedule.{Recording, ScheduleFile};
 ghost use Rattle.model.specs.declared.event.Event.{Event};
+ghost use Rattle.schedule.specs.Files.{Recording, ScheduleFile};
 
 /// Bytes spell at most one list of events, and at most one recording beside it.
 pub fn bytes_spell_one_list()
