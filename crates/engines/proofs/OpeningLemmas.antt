@@ -3,7 +3,7 @@ use Rattle.std.proofs.Common.{◌≡◌, ◌∙◌, ℕ, List, Option, ◌⊎◌
 use Rattle.model.specs.declared.event.Event.{Event}
 use Rattle.model.specs.declared.device.DeviceFault.{DeviceFault}
 use Rattle.model.specs.declared.device.DeviceFault.TheVariants as devices
-use Rattle.model.specs.Schedule.{Recording, ScheduleFile}
+use Rattle.schedule.specs.Files.{Recording, ScheduleFile}
 use Rattle.schedule.specs.Outcomes.{StandsIn}
 use Rattle.schedule.specs.declared.schedule_text.either.EitherFault.{EitherFault}
 use Rattle.schedule.specs.declared.schedule_text.either.EitherFault.TheVariants.{File, Text}

@@ -6,7 +6,9 @@ use Rattle.model.specs.declared.report.Report.{Report}
 use Rattle.model.specs.declared.end.End.{End}
 use Rattle.model.specs.Classes.{Program}
 use Rattle.model.specs.Devices.{AppendsFront}
-use Rattle.model.specs.Schedule.{ScheduleFile, events_of}
+use Rattle.model.specs.Schedule.{events_of}
+use Rattle.schedule.specs.Files.{recording_of}
+use Rattle.schedule.specs.Joined.{RecordedFile}
 use Rattle.machine.specs.machine_replay.Replays.{text_of}
 use Rattle.program_runs.specs.continued_runs.Continuing.{GoesOn}
 use Rattle.program_runs.specs.declared.continued_runs.run.Continued.{Continued}
@@ -14,7 +16,6 @@ use Rattle.program_runs.specs.declared.continued_runs.run.Continued.TheVariants.
 use Rattle.command_line.specs.declared.options.LimitOptions.{LimitOptions}
 use Rattle.engines.specs.Engines.{Reads, ReadsEach}
 use Rattle.engines.specs.Opening.{IsKeptBy, IsOpened}
-use Rattle.engines.specs.Runs.{recording_of}
 use Rattle.engines.specs.Statuses.{status_of}
 use Rattle.engines.specs.declared.fault.Fault.{Fault}
 use Rattle.engines.specs.declared.fault.Fault.TheVariants as faults
@@ -26,8 +27,8 @@ ComesTo (Whole run) schedule report end whole = (report ≡ run.report) × (end 
 ComesTo (Part told stop) schedule report end whole = (report ≡ told) × (end ≡ stop) × (whole ≡ schedule)
 
 -- The schedule and the class files are such as they have to be. The program of the class files has gone on behind the events, within the
--- limits and the budget; this is the text of the report, and its status. The bytes of a file spell the whole schedule, the limits,
--- and the lengths of the class files.
+-- limits and the budget; this is the text of the report, and its status. The bytes of a file spell the whole schedule, in as few
+-- entries as its events can have, the limits, and the lengths and checksums of the class files.
 pub record IsContinued (schedule : List ℕ) (files : List (List ℕ)) (options : LimitOptions) (budget : ℕ) (text : List ℕ)
     (file : Option (List ℕ)) (status : Status) : Type 0 where
   pub trees : Program
@@ -42,7 +43,7 @@ pub record IsContinued (schedule : List ℕ) (files : List (List ℕ)) (options 
   pub comes_to : ComesTo continued events report end whole
   pub told : text ≡ text_of report end
   pub ended : status ≡ status_of report.threads.items end
-  pub spelled : IfSome file (λ bytes. ScheduleFile bytes (Some (recording_of limits files)) whole)
+  pub spelled : IfSome file (λ bytes. RecordedFile bytes (Some (recording_of limits files)) whole)
 
 -- the same of what these sources hold
 abbrev pub Continues : Option (List ℕ) → List (Option (List ℕ)) → LimitOptions → (budget : ℕ) → List ℕ → Option (List ℕ) → Status → Type 0

@@ -1,16 +1,16 @@
 -- A run and with what its schedule was recorded, if the schedule file says so (own).
-use Rattle.std.specs.Prelude.{◌≡◌, ℕ, List, length, map, Option, Some, None}
+use Rattle.std.specs.Prelude.{◌≡◌, ℕ, List, Option, Some, None}
 use Rattle.model.specs.declared.limits.Limits.{Limits}
-use Rattle.model.specs.Schedule.{Recording}
 use Rattle.command_line.specs.Choices.{AreAsked, AreChosen}
 use Rattle.command_line.specs.declared.options.LimitOptions.{LimitOptions}
+use Rattle.schedule.specs.Files.{AreRecorded, Recording}
 use Rattle.schedule.specs.declared.fault.ScheduleFault.{ScheduleFault}
 use Rattle.schedule.specs.declared.fault.ScheduleFault.TheVariants as schedules
 
--- the class files are as many as were recorded, each as long
+-- the class files are those that were recorded, as far as that is told
 abbrev pub FitsFiles : Option Recording → List (List ℕ) → Type 0
 FitsFiles None files = Unit {0}
-FitsFiles (Some recorded) files = map length files ≡ recorded.lengths
+FitsFiles (Some recorded) files = AreRecorded recorded files
 
 -- no limit is asked for that is another one than was recorded
 abbrev pub FitsOptions : Option Recording → LimitOptions → Type 0

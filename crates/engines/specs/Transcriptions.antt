@@ -2,7 +2,7 @@
 use Rattle.std.specs.Prelude.{◌≡◌, ◌⊎◌, ℕ, List, Option}
 use Rattle.model.specs.declared.event.ScheduleEntry.{ScheduleEntry}
 use Rattle.model.specs.Devices.{AppendsFront}
-use Rattle.model.specs.Schedule.{Recording, schedule}
+use Rattle.schedule.specs.Files.{Recording, schedule}
 use Rattle.schedule.specs.declared.fault.ScheduleFault.TheVariants as schedules
 use Rattle.schedule.specs.schedule_text.Either.{GivesEntries}
 use Rattle.schedule.specs.schedule_text.Printing.{printed_schedule}

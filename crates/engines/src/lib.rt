@@ -9,6 +9,7 @@ mod commands;
 mod complaint;
 mod continuing;
 mod device;
+mod differing_files;
 mod explaining;
 mod explanation;
 mod fault;

@@ -1,7 +1,7 @@
 use Rattle.std.proofs.Common.{◌≡◌, inr, rules, subst}
 use Rattle.std.proofs.lemmas.Result.{err_from_is_err_and}
 use Rattle.model.specs.Devices.{AppendsFront}
-use Rattle.model.specs.Schedule.{schedule}
+use Rattle.schedule.specs.Files.{schedule}
 use Rattle.schedule.specs.schedule_text.Text.{SpellsSchedule}
 use Rattle.engines.proofs.OpeningLemmas.{part_is_untranscribed}
 use Rattle.engines.proofs.transcribing.write_schedule_engine.Goals as goal
