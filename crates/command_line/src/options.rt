@@ -46,7 +46,7 @@ pub struct Run {
 /// `jvm replay`: class files are run under a schedule, and what comes of it is reported.
 #[derive(Drop)]
 pub struct Replay {
-    /// The path of the schedule file.
+    /// The path of the schedule file, or the schedule itself.
     pub schedule: String,
     /// How the run goes on where the schedule ends, if it does.
     pub then_run: Option<ThenRun>,
@@ -64,7 +64,7 @@ pub struct Replay {
 /// `jvm trace`: class files are run under a schedule, and the run is told event by event.
 #[derive(Drop)]
 pub struct Trace {
-    /// The path of the schedule file.
+    /// The path of the schedule file, or the schedule itself.
     pub schedule: String,
     /// The number of the first event that is told, and `None` for 0.
     pub from: Option<u32>,

@@ -24,7 +24,7 @@ use Rattle.command_line.specs.declared.options.TraceForm.TheVariants as forms
 use Rattle.command_line.specs.declared.usage.Usage.{Usage}
 use Rattle.engines.specs.Continuations.{Continues, IsUncontinued}
 use Rattle.engines.specs.Devices.{IsUnable}
-use Rattle.engines.specs.Files.{Held, IsWith, Listed, Path, Written, held_at, written_at}
+use Rattle.engines.specs.Files.{Held, IsWith, Listed, OfSchedule, Path, Written, held_at, written_at}
 use Rattle.program_files.specs.Given.{AreGiven, IsUnable as IsUnableFor, IsUngiven, is_given}
 use Rattle.program_files.specs.Handed.{AreHandedOn, IsUnhanded}
 use Rattle.program_files.specs.declared.files_fault.FilesFault.{FilesFault}
@@ -124,25 +124,25 @@ pub record IsRunUndone (lefts : List (Option (List ℕ))) (run : Run) (old new :
 
 pub record IsContinuationDone (held : Held) (lefts : List (Option (List ℕ))) (replay : Replay) (then_run : ThenRun) (text : List ℕ) (written : Written) (status : Status) : Type 0 where
   pub file : Option (List ℕ)
-  pub continues : Continues (held (string_bytes replay.schedule)) lefts replay.limits
-      (unwrap_or then_run.budget 10000000) text file status
+  pub continues : OfSchedule held (string_bytes replay.schedule) (λ left. Continues left lefts replay.limits
+      (unwrap_or then_run.budget 10000000) text file status)
   pub made : IsTrue (is_some then_run.record) → IsTrue (is_some file)
   pub recorded : written ≡ written_at then_run.record file
 
 pub record IsContinuationUndone (held : Held) (lefts : List (Option (List ℕ))) (replay : Replay) (then_run : ThenRun) (old new : Option (List ℕ)) (fault : Fault) (written : Written) : Type 0 where
   pub file : Option (List ℕ)
-  pub uncontinued : IsUncontinued (held (string_bytes replay.schedule)) lefts replay.limits
-      (unwrap_or then_run.budget 10000000) old new None file fault
+  pub uncontinued : OfSchedule held (string_bytes replay.schedule) (λ left. IsUncontinued left lefts replay.limits
+      (unwrap_or then_run.budget 10000000) old new None file fault)
   pub recorded : (written ≡ None) ⊎ (written ≡ written_at then_run.record file)
 
 abbrev pub IsReplayDone : Held → (lefts : List (Option (List ℕ))) → Replay → Option ThenRun → List ℕ → Written → Status → Type 0
 IsReplayDone held lefts replay None text written status =
-    Replays (held (string_bytes replay.schedule)) lefts replay.limits text status × (written ≡ None)
+    OfSchedule held (string_bytes replay.schedule) (λ left. Replays left lefts replay.limits text status) × (written ≡ None)
 IsReplayDone held lefts replay (Some then_run) text written status = IsContinuationDone held lefts replay then_run text written status
 
 abbrev pub IsReplayUndone : Held → (lefts : List (Option (List ℕ))) → Replay → Option ThenRun → (old new : Option (List ℕ)) → Fault → Written → Type 0
 IsReplayUndone held lefts replay None old new fault written =
-    IsFaulty (held (string_bytes replay.schedule)) lefts replay.limits old new fault × (written ≡ None)
+    OfSchedule held (string_bytes replay.schedule) (λ left. IsFaulty left lefts replay.limits old new fault) × (written ≡ None)
 IsReplayUndone held lefts replay (Some then_run) old new fault written = IsContinuationUndone held lefts replay then_run old new fault written
 
 -- ---- trace
@@ -163,11 +163,11 @@ pub record IsWindow (trace : Trace) (window : Window) : Type 0 where
 
 abbrev pub IsTraceDone : Held → (lefts : List (Option (List ℕ))) → Trace → List ℕ → Written → Status → Type 0
 IsTraceDone held lefts trace text written status = (window : Window) × IsWindow trace window
-    × Traces (held (string_bytes trace.schedule)) lefts trace.limits window text status × (written ≡ None)
+    × OfSchedule held (string_bytes trace.schedule) (λ left. Traces left lefts trace.limits window text status) × (written ≡ None)
 
 abbrev pub IsTraceUndone : Held → (lefts : List (Option (List ℕ))) → Trace → (old new : Option (List ℕ)) → Fault → Written → Type 0
 IsTraceUndone held lefts trace old new fault written = (window : Window) × IsWindow trace window
-    × IsUntraced (held (string_bytes trace.schedule)) lefts trace.limits window old new fault × (written ≡ None)
+    × OfSchedule held (string_bytes trace.schedule) (λ left. IsUntraced left lefts trace.limits window old new fault) × (written ≡ None)
 
 -- ---- search
 

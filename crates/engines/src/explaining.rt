@@ -15,6 +15,7 @@ use explanations::refusal_explanations::{explain, explain_schedule, explain_text
 use link_conditions::refusal::RefusalKind;
 use program_files::{Folder, first_unlisted, given_paths};
 use schedule::ScheduleFault;
+use schedule::schedule_text::is_schedule_word;
 use std::alloc::{AllocError, Global};
 use std::fmt::Display;
 use std::io;
@@ -127,7 +128,7 @@ fn indented(alloc: Global, line: Told) -> Option<Vec<u8>> {
     Some(bytes)
 }
 
-/// The path of the schedule that is read.
+/// The schedule that is read: its path, or the word that it is.
 fn schedule_of(command: &Command) -> Option<&str> {
     match command {
         Command::Replay(options) => Some(options.schedule.as_str()),
@@ -144,7 +145,10 @@ fn first_of(command: &Command) -> Option<&str> {
             Some(Goal::Differs(path)) => Some(path.as_str()),
             _ => None,
         },
-        _ => schedule_of(command),
+        _ => match schedule_of(command) {
+            Some(word) if is_schedule_word(word.as_bytes()) => None,
+            other => other,
+        },
     }
 }
 

@@ -2,12 +2,12 @@
 
 use crate::class_files::read_class_files;
 use crate::fault::Fault;
-use crate::named_file::sources;
+use crate::named_file::{schedule_source, sources};
 use crate::recording::limits_of;
 use crate::verification::accepted;
 use command_line::LimitOptions;
 use explanations::thread_explanations::explain_threads;
-use model::Limits;
+use model::{Limits, Source};
 use program_files::Folder;
 use program_runs::verified_programs::verified_program;
 use schedule::Schedule;
@@ -15,17 +15,17 @@ use schedule::schedule_text::read_either;
 use std::alloc::{AllocError, Global};
 use verifier::Verified;
 
-/// What the threads are about that did not end normally, after the events of the schedule at a path, if they are not
-/// too many.
+/// What the threads are about that did not end normally, after the events of the schedule that a word is, or whose
+/// path it is, if they are not too many.
 pub(crate) fn told_schedule<F: Folder>(
     alloc: Global,
     folder: &F,
-    path: &String,
+    word: &String,
     files: &[String],
     limits: &LimitOptions,
     most: u64,
 ) -> Option<Vec<u8>> {
-    let bytes = folder.read(alloc, path.as_str()).ok()?;
+    let bytes = schedule_source(folder, word.as_str()).read_all(alloc).ok()?;
     told_threads(alloc, folder, bytes.as_slice(), files, limits, most).ok()?
 }
 

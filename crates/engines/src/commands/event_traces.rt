@@ -8,7 +8,7 @@ ghost use Rattle.engines.specs.Failures.{FolderMayFail, TellsFailures};
 
 use crate::explanation::Explanation;
 use crate::fault::Fault;
-use crate::named_file::{source, sources};
+use crate::named_file::{schedule_source, sources};
 use crate::status::Status;
 use crate::telling::told_schedule;
 use crate::tracing::trace_engine;
@@ -70,7 +70,7 @@ fn traced<'a, F: Folder, W: Sink>(
 {
     let limits = &options.limits;
     let window = window_of(options);
-    let mut schedule = source(folder, options.schedule.as_str());
+    let mut schedule = schedule_source(folder, options.schedule.as_str());
     let mut sources = sources(alloc, folder, files)?;
     trace_engine(
         alloc,

@@ -5,7 +5,7 @@ ghost use Rattle.std.specs.Option.{option_map};
 ghost use Rattle.std.specs.Io.KnownBytes.{Appends};
 ghost use Rattle.engines.specs.Commands.{IsContinuationDone, IsContinuationUndone, IsReplayDone, IsReplayUndone, Leaves, LeavesAt};
 ghost use Rattle.engines.specs.Continuations.{Continues, IsUncontinued};
-ghost use Rattle.engines.specs.Files.{held_at};
+ghost use Rattle.engines.specs.Files.{OfSchedule, held_at};
 ghost use Rattle.engines.specs.Failures.{FolderMayFail, TellsFailures};
 ghost use Rattle.engines.specs.Replays.{IsFaulty, Replays};
 
@@ -13,7 +13,7 @@ use crate::commands::storing::{recorded, try_record};
 use crate::continuing::continue_engine;
 use crate::explanation::Explanation;
 use crate::fault::Fault;
-use crate::named_file::{source, sources};
+use crate::named_file::{schedule_source, sources};
 use crate::replaying::replay_engine;
 use crate::status::Status;
 use crate::telling::{told_record, told_schedule};
@@ -68,16 +68,17 @@ fn replayed<'a, F: Folder, W: Sink>(
     output: &mut W,
 ) -> Result<Status, Fault>
     ensures replayed { IfOk result (λ status. (text : _)
-        × Replays (F.held folder.now (string_bytes options.now.schedule))
+        × OfSchedule (F.held folder.now) (string_bytes options.now.schedule) (λ left. Replays left
         (held_at (F.held folder.now) (map string_bytes files.now))
-        options.now.limits text status
+        options.now.limits text status)
         × Appends (W.contents output.old) (W.contents output.new) text) }
-    ensures faulty { IfErr result (IsFaulty (F.held folder.now (string_bytes options.now.schedule))
+    ensures faulty { IfErr result (λ fault.
+        OfSchedule (F.held folder.now) (string_bytes options.now.schedule) (λ left. IsFaulty left
         (held_at (F.held folder.now) (map string_bytes files.now)) options.now.limits (W.contents output.old)
-        (W.contents output.new)) }
+        (W.contents output.new) fault)) }
     ensures told { TellsFailures (FolderMayFail F.may_fail) result (W.failures output.old) (W.failures output.new) }
 {
-    let mut schedule = source(folder, options.schedule.as_str());
+    let mut schedule = schedule_source(folder, options.schedule.as_str());
     let mut sources = sources(alloc, folder, files)?;
     replay_engine(
         alloc,
@@ -130,19 +131,20 @@ fn continued<'a, F: Folder, W: Sink>(
     file: &mut Option<Vec<u8>>,
 ) -> Result<Status, Fault>
     ensures continued { IfOk result (λ status. (text : _)
-        × Continues (F.held folder.now (string_bytes options.now.schedule))
+        × OfSchedule (F.held folder.now) (string_bytes options.now.schedule) (λ left. Continues left
         (held_at (F.held folder.now) (map string_bytes files.now))
-        options.now.limits (unwrap_or then_run.now.budget 10000000) text (option_map vec_items file.new) status
+        options.now.limits (unwrap_or then_run.now.budget 10000000) text (option_map vec_items file.new) status)
         × Appends (W.contents output.old) (W.contents output.new) text) }
     ensures asked { IfOk result (λ _. IsTrue (is_some then_run.now.record) → IsTrue (is_some file.new)) }
-    ensures faulty { IfErr result (IsUncontinued (F.held folder.now (string_bytes options.now.schedule))
+    ensures faulty { IfErr result (λ fault.
+        OfSchedule (F.held folder.now) (string_bytes options.now.schedule) (λ left. IsUncontinued left
         (held_at (F.held folder.now) (map string_bytes files.now)) options.now.limits
         (unwrap_or then_run.now.budget 10000000)
         (W.contents output.old) (W.contents output.new) (option_map vec_items file.old)
-        (option_map vec_items file.new)) }
+        (option_map vec_items file.new) fault)) }
     ensures told { TellsFailures (FolderMayFail F.may_fail) result (W.failures output.old) (W.failures output.new) }
 {
-    let mut schedule = source(folder, options.schedule.as_str());
+    let mut schedule = schedule_source(folder, options.schedule.as_str());
     let mut sources = sources(alloc, folder, files)?;
     continue_engine(
         alloc,
