@@ -48,6 +48,8 @@ pub struct Run {
 pub struct Replay {
     /// The path of the schedule file, or the schedule itself.
     pub schedule: String,
+    /// Whether any class files will do, whatever the schedule was recorded over.
+    pub any_files: bool,
     /// How the run goes on where the schedule ends, if it does.
     pub then_run: Option<ThenRun>,
     pub limits: LimitOptions,
@@ -66,6 +68,8 @@ pub struct Replay {
 pub struct Trace {
     /// The path of the schedule file, or the schedule itself.
     pub schedule: String,
+    /// Whether any class files will do, whatever the schedule was recorded over.
+    pub any_files: bool,
     /// The number of the first event that is told, and `None` for 0.
     pub from: Option<u32>,
     /// The number of the last event that is told, and `None` for that of the run.

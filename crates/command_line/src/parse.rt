@@ -152,6 +152,7 @@ fn replay_of(alloc: Global, matches: &ArgMatches<'_>) -> Result<Replay, Usage>
         files,
         explain: is_set(matches, "explain"),
         quiet: is_set(matches, "quiet"),
+        any_files: is_set(matches, "any-files"),
     })
 }
 
@@ -180,6 +181,7 @@ fn trace_of(alloc: Global, matches: &ArgMatches<'_>) -> Result<Trace, Usage>
         files,
         explain: is_set(matches, "explain"),
         quiet: is_set(matches, "quiet"),
+        any_files: is_set(matches, "any-files"),
     })
 }
 

@@ -50,6 +50,7 @@ pub use open::Open;
 pub use program::run;
 pub use program_files::{FilesFault, Folder};
 pub use program_runs::workers::Gate;
+pub use recording::Conditions;
 pub use replaying::replay_engine;
 pub use running::run_engine;
 pub use search::Progress;

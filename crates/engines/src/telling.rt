@@ -3,7 +3,7 @@
 use crate::class_files::read_class_files;
 use crate::fault::Fault;
 use crate::named_file::{schedule_source, sources};
-use crate::recording::limits_of;
+use crate::recording::{Conditions, limits_of};
 use crate::verification::accepted;
 use command_line::LimitOptions;
 use explanations::thread_explanations::explain_threads;
@@ -22,11 +22,11 @@ pub(crate) fn told_schedule<F: Folder>(
     folder: &F,
     word: &String,
     files: &[String],
-    limits: &LimitOptions,
+    conditions: &Conditions,
     most: u64,
 ) -> Option<Vec<u8>> {
     let bytes = schedule_source(folder, word.as_str()).read_all(alloc).ok()?;
-    told_threads(alloc, folder, bytes.as_slice(), files, limits, most).ok()?
+    told_threads(alloc, folder, bytes.as_slice(), files, conditions, most).ok()?
 }
 
 /// The same of the schedule file that was made, if one was.
@@ -38,8 +38,12 @@ pub(crate) fn told_record<F: Folder>(
     limits: &LimitOptions,
     most: u64,
 ) -> Option<Vec<u8>> {
+    let conditions = Conditions {
+        limits: *limits,
+        any_files: false,
+    };
     match file {
-        Some(bytes) => { told_threads(alloc, folder, bytes.as_slice(), files, limits, most).ok()? }
+        Some(bytes) => { told_threads(alloc, folder, bytes.as_slice(), files, &conditions, most).ok()? }
         None => None,
     }
 }
@@ -50,7 +54,7 @@ fn told_threads<F: Folder>(
     folder: &F,
     bytes: &[u8],
     files: &[String],
-    limits: &LimitOptions,
+    conditions: &Conditions,
     most: u64,
 ) -> Result<Option<Vec<u8>>, Fault> {
     let (schedule, recorded) = read_either(alloc, bytes)?;
@@ -59,7 +63,7 @@ fn told_threads<F: Folder>(
     }
     let mut sources = sources(alloc, folder, files)?;
     let files = read_class_files(alloc, sources.as_mut_slice())?;
-    let limits = limits_of(&recorded, files.as_slice(), limits)?;
+    let limits = limits_of(&recorded, files.as_slice(), conditions)?;
     let verified = accepted(alloc, files.as_slice())?;
     Ok(Some(threads_after(alloc, &verified, &schedule, limits)?))
 }

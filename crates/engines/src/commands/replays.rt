@@ -6,6 +6,7 @@ ghost use Rattle.std.specs.Io.KnownBytes.{Appends};
 ghost use Rattle.engines.specs.Commands.{IsContinuationDone, IsContinuationUndone, IsReplayDone, IsReplayUndone, Leaves, LeavesAt};
 ghost use Rattle.engines.specs.Continuations.{Continues, IsUncontinued};
 ghost use Rattle.engines.specs.Files.{OfSchedule, held_at};
+ghost use Rattle.engines.specs.Recordings.{conditions_of};
 ghost use Rattle.engines.specs.Failures.{FolderMayFail, TellsFailures};
 ghost use Rattle.engines.specs.Replays.{IsFaulty, Replays};
 
@@ -14,6 +15,7 @@ use crate::continuing::continue_engine;
 use crate::explanation::Explanation;
 use crate::fault::Fault;
 use crate::named_file::{schedule_source, sources};
+use crate::recording::Conditions;
 use crate::replaying::replay_engine;
 use crate::status::Status;
 use crate::telling::{told_record, told_schedule};
@@ -51,7 +53,7 @@ pub(crate) fn replay<F: Folder, W: Sink>(
             folder,
             &options.schedule,
             files,
-            &options.limits,
+            &conditions_of(options),
             most,
         );
         explanation.tell(lines);
@@ -70,11 +72,12 @@ fn replayed<'a, F: Folder, W: Sink>(
     ensures replayed { IfOk result (λ status. (text : _)
         × OfSchedule (F.held folder.now) (string_bytes options.now.schedule) (λ left. Replays left
         (held_at (F.held folder.now) (map string_bytes files.now))
-        options.now.limits text status)
+        (conditions_of options.now.limits options.now.any_files) text status)
         × Appends (W.contents output.old) (W.contents output.new) text) }
     ensures faulty { IfErr result (λ fault.
         OfSchedule (F.held folder.now) (string_bytes options.now.schedule) (λ left. IsFaulty left
-        (held_at (F.held folder.now) (map string_bytes files.now)) options.now.limits (W.contents output.old)
+        (held_at (F.held folder.now) (map string_bytes files.now))
+        (conditions_of options.now.limits options.now.any_files) (W.contents output.old)
         (W.contents output.new) fault)) }
     ensures told { TellsFailures (FolderMayFail F.may_fail) result (W.failures output.old) (W.failures output.new) }
 {
@@ -84,9 +87,19 @@ fn replayed<'a, F: Folder, W: Sink>(
         alloc,
         &mut schedule,
         sources.as_mut_slice(),
-        &options.limits,
+        &conditions_of(options),
         output,
     )
+}
+
+/// Under what the schedule is to run.
+fn conditions_of(options: &Replay) -> Conditions
+    ensures { result ≡ conditions_of options.now.limits options.now.any_files }
+{
+    Conditions {
+        limits: options.limits,
+        any_files: options.any_files,
+    }
 }
 
 /// `replay --then-run`.
@@ -133,12 +146,13 @@ fn continued<'a, F: Folder, W: Sink>(
     ensures continued { IfOk result (λ status. (text : _)
         × OfSchedule (F.held folder.now) (string_bytes options.now.schedule) (λ left. Continues left
         (held_at (F.held folder.now) (map string_bytes files.now))
-        options.now.limits (unwrap_or then_run.now.budget 10000000) text (option_map vec_items file.new) status)
+        (conditions_of options.now.limits options.now.any_files) (unwrap_or then_run.now.budget 10000000) text (option_map vec_items file.new) status)
         × Appends (W.contents output.old) (W.contents output.new) text) }
     ensures asked { IfOk result (λ _. IsTrue (is_some then_run.now.record) → IsTrue (is_some file.new)) }
     ensures faulty { IfErr result (λ fault.
         OfSchedule (F.held folder.now) (string_bytes options.now.schedule) (λ left. IsUncontinued left
-        (held_at (F.held folder.now) (map string_bytes files.now)) options.now.limits
+        (held_at (F.held folder.now) (map string_bytes files.now))
+        (conditions_of options.now.limits options.now.any_files)
         (unwrap_or then_run.now.budget 10000000)
         (W.contents output.old) (W.contents output.new) (option_map vec_items file.old)
         (option_map vec_items file.new) fault)) }
@@ -150,7 +164,7 @@ fn continued<'a, F: Folder, W: Sink>(
         alloc,
         &mut schedule,
         sources.as_mut_slice(),
-        &options.limits,
+        &conditions_of(options),
         then_run,
         output,
         file,
