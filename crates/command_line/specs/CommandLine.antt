@@ -164,7 +164,7 @@ abbrev pub jvm_disasm : App
 jvm_disasm = with_files (with_rule (new_app (codes "disasm")) (flag (codes "names"))) class_files
 
 abbrev pub jvm_schedule : App
-jvm_schedule = with_files (with_rule (new_app (codes "schedule")) (flag (codes "write"))) one_file
+jvm_schedule = with_files (with_rule (with_rule (new_app (codes "schedule")) (flag (codes "write"))) (number_option (codes "as-version") 1 3)) one_file
 
 -- it has `--version`, and a command has to be there
 abbrev pub with_version : Shape → Shape
@@ -328,6 +328,7 @@ pub record AreDisasmValues (rows : List Row) (disasm : Disasm) : Type 0 where
 pub record AreScheduleValues (rows : List Row) (schedule : Schedule) : Type 0 where
   pub file : first_of (codes "file") rows ≡ Some (string_bytes schedule.file)
   pub write : schedule.write ≡ is_set (first_of (codes "write") rows)
+  pub as_version : IsNumber 1 3 (first_of (codes "as-version") rows) schedule.as_version
   pub explain : schedule.explain ≡ is_set (first_of (codes "explain") rows)
   pub quiet : schedule.quiet ≡ is_set (first_of (codes "quiet") rows)
 

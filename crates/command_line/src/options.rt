@@ -206,6 +206,8 @@ pub struct Schedule {
     pub file: String,
     /// Whether the file is made.
     pub write: bool,
+    /// The version that the file that is made is of at most, and `None` for any.
+    pub as_version: Option<u32>,
     /// Whether a refusal is explained.
     pub explain: bool,
     /// Whether standard error tells no more than why there is no output.

@@ -10,7 +10,7 @@ use crate::help::{
     SEARCH_PAGE, TRACE_PAGE, VERIFY_PAGE, VERSION,
 };
 use crate::numbers::{
-    BUDGET, CELLS, FRAMES, FROM, MEMORY, MONITORS, OBJECTS, ONLY, QUANTUM, STATES, THREADS, TO,
+    AS_VERSION, BUDGET, CELLS, FRAMES, FROM, MEMORY, MONITORS, OBJECTS, ONLY, QUANTUM, STATES, THREADS, TO,
     WHOLE_BUDGET, WORKERS,
 };
 use crate::run_arguments::{policy_argument, seed_argument};
@@ -197,7 +197,8 @@ fn schedule_parser<'a>(alloc: Global) -> Result<clap::Command<'a>, AllocError>
         "Prints a schedule file as text, or makes one of a text",
         SCHEDULE_PAGE,
     )
-    .arg(write)?;
+    .arg(write)?
+    .arg(AS_VERSION.argument(alloc))?;
     with_files(alloc, schedule, file_argument(alloc, "The schedule file"))
 }
 

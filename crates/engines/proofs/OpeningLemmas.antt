@@ -48,10 +48,10 @@ pub part_is_uncontinued : (fault : DeviceFault) (left : Option (List ℕ)) (left
 part_is_uncontinued devices.Device left lefts options budget old new kept made part = part
 part_is_uncontinued devices.Memory left lefts options budget old new kept made part = part
 
-pub part_is_untranscribed : (fault : DeviceFault) (left old new : Option (List ℕ)) → TranscribesPart left old new
-    → IsUntranscribed left old new (fault_of fault)
-part_is_untranscribed devices.Device left old new part = part
-part_is_untranscribed devices.Memory left old new part = part
+pub part_is_untranscribed : (fault : DeviceFault) (as_version : Option ℕ) (left old new : Option (List ℕ)) → TranscribesPart as_version left old new
+    → IsUntranscribed as_version left old new (fault_of fault)
+part_is_untranscribed devices.Device as_version left old new part = part
+part_is_untranscribed devices.Memory as_version left old new part = part
 
 pub part_is_unprinted : (fault : DeviceFault) (left old new : Option (List ℕ)) → PrintsPart left old new
     → IsUnprinted left old new (fault_of fault)

@@ -208,14 +208,14 @@ IsUnlistedAs false lefts old new fault = IsUnlisted lefts old new fault
 -- ---- schedule
 
 abbrev pub IsScheduleDone : Held → (input : Option (List ℕ)) → Schedule → (write : Bool) → List ℕ → Written → Status → Type 0
-IsScheduleDone held input schedule true text written status = (bytes : List ℕ) × Transcribes input bytes
+IsScheduleDone held input schedule true text written status = (bytes : List ℕ) × Transcribes schedule.as_version input bytes
     × (text ≡ []) × (written ≡ Some (string_bytes schedule.file, bytes)) × (status ≡ Returned)
 IsScheduleDone held input schedule false text written status = Prints (held (string_bytes schedule.file)) text
     × (written ≡ None) × (status ≡ Returned)
 
 abbrev pub IsScheduleUndone : Held → (input : Option (List ℕ)) → Schedule → (write : Bool) → (old new : Option (List ℕ)) → Fault → Written → Type 0
 IsScheduleUndone held input schedule true old new fault written = (new ≡ old) × (written ≡ None)
-    × ((kept made : Option (List ℕ)) × IsUntranscribed input kept made fault)
+    × ((kept made : Option (List ℕ)) × IsUntranscribed schedule.as_version input kept made fault)
 IsScheduleUndone held input schedule false old new fault written = IsUnprinted (held (string_bytes schedule.file)) old new fault × (written ≡ None)
 
 -- ---- any command

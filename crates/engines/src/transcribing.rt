@@ -10,7 +10,7 @@ use crate::opening::read_given;
 use crate::status::Status;
 use model::{DeviceFault, Sink, Source};
 use schedule::schedule_text::{TextFault, parse, print};
-use schedule::write_schedule;
+use schedule::{Recording, write_schedule};
 use std::alloc::Global;
 
 /// Writes the text of a schedule, and answers the status of what is done. The schedule is read as text, too, where its
@@ -36,26 +36,29 @@ pub fn schedule_engine<S: Source, W: Sink>(
     Ok(Status::Returned)
 }
 
-/// Writes the schedule file of a text, and answers the status of what is done. The file is of version 2 where the
-/// text says with what the schedule was recorded, and else of version 1.
+/// Writes the schedule file of a text, and answers the status of what is done. The file is of version 3 where the
+/// text has checksums, of version 2 where it says else with what the schedule was recorded, and else of version 1; and
+/// of no later version than is asked for.
 ///
 /// Nothing is written where the text can't be read or is refused.
 pub fn write_schedule_engine<S: Source, W: Sink>(
     alloc: Global,
     text: &mut S,
+    as_version: Option<u32>,
     file: &mut W,
 ) -> Result<Status, Fault>
     // The bytes of the entries that the text spells are written, and nothing else.
     ensures written { IfOk result (λ status. (bytes : _) × (status ≡ Status.Returned)
-        × Transcribes (S.remaining text.old) bytes
+        × Transcribes as_version (S.remaining text.old) bytes
         × Appends (W.contents file.old) (W.contents file.new) bytes) }
-    ensures faulty { IfErr result (IsUntranscribed (S.remaining text.old) (W.contents file.old) (W.contents file.new)) }
+    ensures faulty { IfErr result (IsUntranscribed as_version (S.remaining text.old) (W.contents file.old) (W.contents file.new)) }
     ensures counted { CountsFailure result (S.failures text.old + W.failures file.old)
         (S.failures text.new + W.failures file.new) }
 {
     let read = read_text(alloc, text)?;
     let (schedule, recorded) = parse(alloc, read.as_slice())?;
-    let bytes = write_schedule(alloc, &schedule, recorded.as_ref())?;
+    let told = Recording::told_as(as_version, recorded);
+    let bytes = write_schedule(alloc, &schedule, told.as_ref())?;
     file.write_all(bytes.as_slice())?;
     Ok(Status::Returned)
 }
@@ -63,7 +66,8 @@ pub fn write_schedule_engine<S: Source, W: Sink>(
 /// The bytes of a text.
 fn read_text<S: Source>(alloc: Global, text: &mut S) -> Result<Vec<u8>, Fault>
     ensures read { IfOk result (λ bytes. Reads (S.remaining text.old) bytes.items) }
-    ensures faulty { IfErr result (λ fault. (sink : _) → IsUntranscribed (S.remaining text.old) sink sink fault) }
+    ensures faulty { IfErr result (λ fault. (as_version : _) (sink : _)
+        → IsUntranscribed as_version (S.remaining text.old) sink sink fault) }
     ensures counted { CountsFailure result (S.failures text.old) (S.failures text.new) }
 {
     match text.read_all(alloc) {
