@@ -41,9 +41,9 @@ pub fn is_schedule_word(word: &[u8]) -> bool
     let mut words = Words::new(word);
     let mut has_some = false;
     'words: while let Some(word) = words.next() {
-        if entry(word).is_none() {
+        let Some(_entry) = entry(word) else {
             return false;
-        }
+        };
         has_some = true;
     }
     has_some

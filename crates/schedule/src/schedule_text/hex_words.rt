@@ -23,7 +23,10 @@ pub(crate) fn hex_number(word: &[u8]) -> Option<u64>
     ensures only { (n : ℕ) → n < 2 ^ 64 → word.now ≡ word_of n → result ≡ Some n }
 {
     let mut bytes = [0u8; 8];
-    hex::decode_to_slice(word, &mut bytes).ok()?;
+    match hex::decode_to_slice(word, &mut bytes) {
+        Ok(()) => {}
+        Err(_) => return None,
+    }
     let number = BigEndian::read_u64(&bytes);
     if hex_word(number).as_slice() == word {
         Some(number)

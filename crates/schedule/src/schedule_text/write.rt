@@ -124,7 +124,8 @@ fn push_checksums(text: &mut Vec<u8>, checksums: &Checksums) -> Result<(), Alloc
 {
     text.extend_from_slice(b"#checksums ")?;
     push_hex_words(text, checksums.files())?;
-    push_library(text, checksums.library())
+    push_library(text, checksums.library())?;
+    Ok(())
 }
 
 fn push_checked(text: &mut Vec<u8>, checksums: Option<&Checksums>) -> Result<(), AllocError>

@@ -13,6 +13,6 @@ returns-clause-written c =
     let first = subst (λ (l : Limits). c.push_limits.new.bytes.items ≡ c.args.bytes.now.items ++ limits l) c.limits.ensures c.in_ok-push_limits.ensures in
     let second = subst (λ (l : List ℕ). c.push_number.new.bytes.items ≡ c.push_limits.new.bytes.items ++ big_bytes 4 (length l)) c.lengths-lengths.ensures.are c.in_ok-push_number.ensures in
     let third = subst (λ (l : List ℕ). c.push_longs.new.bytes.items ≡ c.push_number.new.bytes.items ++ flat_map (big_bytes 8) l) c.lengths-lengths.ensures.are c.in_ok-push_longs.ensures in
-    let fourth = c.push_checked.ensures ∙ ap (λ l. c.push_longs.new.bytes.items ++ checked l) c.checksums.ensures.are in
+    let fourth = c.in_ok-push_checked.ensures ∙ ap (λ l. c.push_longs.new.bytes.items ++ checked l) c.checksums.ensures.are in
     four_parts c.args.bytes.now.items (limits r.limits) (big_bytes 4 (length r.lengths)) (flat_map (big_bytes 8) r.lengths) (checked r.checksums)
     c.push_limits.new.bytes.items c.push_number.new.bytes.items c.push_longs.new.bytes.items c.push_checked.new.bytes.items first second third fourth
