@@ -1,6 +1,6 @@
 -- The words of checksums.
 use Rattle.std.proofs.Common.{◌≡◌, ◌<◌, ◌+◌, ◌^◌, ℕ, suc, Bool, true, false, List, [], ◌∷◌, ◌++◌, length, map, sym, ap, subst, ◌∙◌, arith, codes, append_assoc, length-append, Option, Some, None, refl, inl, inr}
-use Rattle.std.specs.Prelude.{◌==◌, if◌then◌else◌}
+use Rattle.std.specs.Prelude.{◌==◌, IfSome, if◌then◌else◌}
 use Rattle.std.specs.List.{AllByRecursion}
 use Rattle.std.proofs.lemmas.Bool.{eqb-true}
 use Rattle.std.proofs.lemmas.List.{append-nil, map-append}
@@ -105,6 +105,37 @@ is_none words library rest other is = elim (library == 0) as (λ t. (library == 
   | true ↦ λ h k. (eqb-true library 0 h, k)
   | false ↦ λ h k. absurd (other (hex_word library ∷ rest, k))
 ] refl is
+
+-- ---- whether checksums are told
+
+pub not_told : (words : List (List ℕ)) (c : Option Checksums) (rest : List (List ℕ)) → (BeginWith (codes "#checksums") words → ⊥)
+    → words ≡ checked_words c ++ rest → (None ≡ c) × (words ≡ rest)
+not_told words None rest no is = (refl, is)
+not_told words (Some d) rest no is = absurd (no ((map hex_word d.files ++ library_words d.library) ++ rest, is))
+
+pub record AreTold (words : List (List ℕ)) (c : Option Checksums) (rest : List (List ℕ)) : Type 0 where
+  pub checksums : Checksums
+  pub same : c ≡ Some checksums
+  pub told : words ≡ codes "#checksums" ∷ (map hex_word checksums.files ++ (library_words checksums.library ++ rest))
+
+pub are_told : (words : List (List ℕ)) (c : Option Checksums) (rest : List (List ℕ)) → BeginWith (codes "#checksums") words → EndRecording rest
+    → words ≡ checked_words c ++ rest → AreTold words c rest
+are_told words None rest begins end is =
+    absurd (other (same_cons (codes "#events") (codes "#checksums") end.0 begins.0 (sym end.1 ∙ sym is ∙ begins.1)).0)
+  where
+    other : codes "#events" ≡ codes "#checksums" → ⊥
+    other e = absurd cc
+are_told words (Some d) rest begins end is = record {
+  checksums = d;
+  same = refl;
+  told = is ∙ ap (λ ws. codes "#checksums" ∷ ws) (append_assoc (map hex_word d.files) (library_words d.library) rest);
+}
+
+-- what stands behind a word that is passed
+pub passed : {W : Type 0} (bytes : W → List ℕ) (r : Option W) (old new : List (List ℕ)) (word : List ℕ) (rest : List (List ℕ))
+    → IfSome r (λ w. old ≡ bytes w ∷ new) → (r ≡ None → (old ≡ []) × (new ≡ [])) → old ≡ word ∷ rest → new ≡ rest
+passed bytes (Some w) old new word rest some none is = (same_cons (bytes w) word new rest (sym some ∙ is)).1
+passed bytes None old new word rest some none is = absurd (let e : [] ≡ word ∷ rest = sym (none refl).0 ∙ is in cc)
 
 -- ---- the end of what is recorded
 
