@@ -6,7 +6,7 @@ use Rattle.model.specs.Schedule.{AreEntries, events_of}
 use Rattle.schedule.specs.Files.{Recording, RecordedFits, ScheduleFile, schedule}
 use Rattle.schedule.specs.Joined.{AreJoined, RecordedFile}
 
-file_of : (bytes : List ℕ) (recorded : Option Recording) (entries whole : List ScheduleEntry) → entries ≡ whole → AreEntries entries
+abbrev file_of : (bytes : List ℕ) (recorded : Option Recording) (entries whole : List ScheduleEntry) → entries ≡ whole → AreEntries entries
     → bytes ≡ schedule recorded entries → RecordedFits recorded → ScheduleFile bytes recorded (events_of whole)
 file_of bytes recorded entries whole are fit is fits = record {
   entries = whole;

@@ -17,12 +17,12 @@ returns-clause-only c = λ r. λ rest. λ fits. λ is.
     let limits = c.in-Some.ensures.only r.limits _ fits.cells first.1 in
     let second = c.heading-2.ensures.only _ limits.1 in
     let lengths = c.in_ok-lengths.ensures.only r.lengths (last_words r.checksums ++ rest) fits.lengths fits.count (ends_lengths r.checksums rest)
-        (second.1 ∙ append_assoc (map decimal r.lengths) (last_words r.checksums) rest) in
+    (second.1 ∙ append_assoc (map decimal r.lengths) (last_words r.checksums) rest) in
     let numbers : c.in_ok-lengths.lengths.items ≡ r.lengths = ap (λ (p : List ℕ × List (List ℕ)). p.0) lengths in
     let behind : c.lengths.new.words ≡ last_words r.checksums ++ rest = ap (λ (p : List ℕ × List (List ℕ)). p.1) lengths in
     let count : length r.lengths ≡ c.len.result = omega (arith, ap length numbers, c.in_ok-lengths.lengths.ok.0, c.len.ensures) in
     let checked = c.in_ok-checksums.ensures.only r.checksums (codes "#events" ∷ rest) (subst (λ n. CheckedFits n r.checksums) count fits.checksums) (rest, refl)
-        (behind ∙ append_assoc (checked_words r.checksums) (codes "#events" ∷ []) rest) in
+    (behind ∙ append_assoc (checked_words r.checksums) (codes "#events" ∷ []) rest) in
     let checksums : c.in_ok-checksums.checksums ≡ r.checksums = ap (λ (p : Option Checksums × List (List ℕ)). p.0) checked in
     let last : c.checked.new.words ≡ codes "#events" ∷ rest = ap (λ (p : Option Checksums × List (List ℕ)). p.1) checked in
     let third = c.heading-3.ensures.only rest last in
@@ -34,12 +34,12 @@ returns-then-not-heading-3-clause-only c = λ r. λ rest. λ fits. λ is.
     let limits = c.in-Some.ensures.only r.limits _ fits.cells first.1 in
     let second = c.heading-2.ensures.only _ limits.1 in
     let lengths = c.in_ok-lengths.ensures.only r.lengths (last_words r.checksums ++ rest) fits.lengths fits.count (ends_lengths r.checksums rest)
-        (second.1 ∙ append_assoc (map decimal r.lengths) (last_words r.checksums) rest) in
+    (second.1 ∙ append_assoc (map decimal r.lengths) (last_words r.checksums) rest) in
     let numbers : c.in_ok-lengths.lengths.items ≡ r.lengths = ap (λ (p : List ℕ × List (List ℕ)). p.0) lengths in
     let behind : c.lengths.new.words ≡ last_words r.checksums ++ rest = ap (λ (p : List ℕ × List (List ℕ)). p.1) lengths in
     let count : length r.lengths ≡ c.len.result = omega (arith, ap length numbers, c.in_ok-lengths.lengths.ok.0, c.len.ensures) in
     let checked = c.in_ok-checksums.ensures.only r.checksums (codes "#events" ∷ rest) (subst (λ n. CheckedFits n r.checksums) count fits.checksums) (rest, refl)
-        (behind ∙ append_assoc (checked_words r.checksums) (codes "#events" ∷ []) rest) in
+    (behind ∙ append_assoc (checked_words r.checksums) (codes "#events" ∷ []) rest) in
     let last : c.checked.new.words ≡ codes "#events" ∷ rest = ap (λ (p : Option Checksums × List (List ℕ)). p.1) checked in
     let third = c.heading-3.ensures.only rest last in
     let no : c.heading-3.result ≡ false = search (rules, tests) in
