@@ -1,5 +1,5 @@
 -- Entries that are joined are the fewest of their events.
-use Rattle.std.proofs.Common.{◌≡◌, ℕ, ◌+◌, ◌-◌, ◌<◌, ◌≤◌, ◌^◌, List, [], ◌∷◌, ◌++◌, length, replicate, get_or, drop, sym, ap, subst, ◌∙◌, add-zero, arith}
+use Rattle.std.proofs.Common.{◌≡◌, ℕ, ◌+◌, ◌-◌, ◌<◌, ◌≤◌, List, [], ◌∷◌, ◌++◌, length, replicate, get_or, drop, sym, ap, subst, ◌∙◌, add-zero, arith}
 use Rattle.std.specs.List.{AllByRecursion}
 use Rattle.std.proofs.Math.Decide.{dec_lt}
 use Rattle.std.proofs.Math.Seq.{drop-append_seam}
@@ -7,7 +7,7 @@ use Rattle.std.proofs.lemmas.List.{drop-append-le, drop-replicate, get_or_append
 use Rattle.model.specs.declared.event.Event.{Event}
 use Rattle.model.specs.declared.event.ScheduleEntry.{ScheduleEntry}
 use Rattle.model.specs.Schedule.{EntryFits, events_of}
-use Rattle.schedule.specs.Joined.{AreJoined, AreRuns, CanTake}
+use Rattle.schedule.specs.Joined.{AreJoined, AreRuns}
 use Rattle.schedule.proofs.recorded_events.Runs.{fewer}
 
 -- ---- equal events, and others behind them

@@ -7,3 +7,4 @@ pub mod OneList
 pub mod Recordings
 pub mod Texts
 pub mod Whole
+pub mod Written

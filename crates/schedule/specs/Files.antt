@@ -1,5 +1,5 @@
 -- Schedule files of three versions (own). Numbers are big-endian.
-use Rattle.std.specs.Prelude.{◌≡◌, ◌<◌, ℕ, ◌^◌, List, [], ◌∷◌, ◌++◌, length, map, replicate, take, codes, Option, Some, None, ◌==◌, if◌then◌else◌, refl}
+use Rattle.std.specs.Prelude.{◌≡◌, ◌<◌, ℕ, ◌^◌, List, [], ◌∷◌, ◌++◌, length, map, codes, Option, Some, None, ◌==◌, if◌then◌else◌, refl}
 use Rattle.std.specs.List.{flat_map, AllByRecursion}
 use Rattle.std.specs.Option.{option_map}
 use Rattle.std.proofs.Math.Dec.{lit≤}

@@ -1,3 +1,4 @@
+pub mod FileExamples
 pub mod Files
 pub mod Joined
 pub mod Names

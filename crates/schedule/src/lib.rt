@@ -22,5 +22,5 @@ pub use model::{Event, ScheduleEntry};
 pub use read::read_schedule;
 pub use recording::{Checksums, Recording};
 pub use runs::Schedule;
-pub use spelling::bytes_spell_one_list;
+pub use spelling::{bytes_spell_one_list, schedule_files};
 pub use write::write_schedule;

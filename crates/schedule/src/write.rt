@@ -1,6 +1,6 @@
 //! Writing schedule files.
 
-ghost use Rattle.std.specs.Prelude.{◌≡◌, ◌∷◌, [], ◌++◌, IfOk, OnOk};
+ghost use Rattle.std.specs.Prelude.{◌≡◌, ◌<◌, ◌^◌, ◌∷◌, [], ◌++◌, IfOk, OnOk, length};
 ghost use Rattle.std.specs.List.{flat_map};
 ghost use Rattle.std.specs.Option.{option_map};
 ghost use Rattle.byteorder.specs.Endian.{big_bytes};
@@ -137,6 +137,25 @@ fn push_version(bytes: &mut Vec<u8>, recording: Option<&Recording>) -> Result<()
     }
 }
 
+/// The bytes of these entries, behind those of the version and of what it says.
+fn file_bytes(
+    alloc: Global,
+    entries: &[ScheduleEntry],
+    recording: Option<&Recording>,
+) -> Result<Vec<u8>, AllocError>
+    requires { length entries.now < 2 ^ 32 }
+    ensures written { IfOk result (λ v. v.items
+        ≡ file.schedule (option_map (λ r. r.now) recording.entry) entries.now) }
+    ensures fits { IfOk result (λ _. file.RecordedFits (option_map (λ r. r.now) recording.entry)) }
+{
+    let mut bytes = Vec::new(alloc);
+    bytes.extend_from_slice(b"JSCH")?;
+    push_version(&mut bytes, recording)?;
+    push_number(&mut bytes, entries.len() as u32)?;
+    push_entries(&mut bytes, entries)?;
+    Ok(bytes)
+}
+
 /// The bytes of a schedule as a file: of version 1 where it isn't told with what the schedule was recorded, else of
 /// version 3 with checksums, and of version 2 without.
 pub fn write_schedule(
@@ -152,11 +171,5 @@ pub fn write_schedule(
     ensures joined { AreJoined schedule.now → IfOk result (λ v.
         RecordedFile v.items (option_map (λ r. r.now) recording.entry) (events_of schedule.now)) }
 {
-    let entries = schedule.entries();
-    let mut bytes = Vec::new(alloc);
-    bytes.extend_from_slice(b"JSCH")?;
-    push_version(&mut bytes, recording)?;
-    push_number(&mut bytes, entries.len() as u32)?;
-    push_entries(&mut bytes, entries)?;
-    Ok(bytes)
+    file_bytes(alloc, schedule.entries(), recording)
 }

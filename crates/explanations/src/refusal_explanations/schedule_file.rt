@@ -1,8 +1,8 @@
 //! What is wrong with a file that is no schedule file, and with a text that spells no schedule.
 
 use advice::words::Line;
-use schedule::{Difference, ScheduleFault};
 use schedule::schedule_text::TextFault;
+use schedule::{Difference, ScheduleFault};
 use std::alloc::{AllocError, Global};
 
 fn words_of(fault: ScheduleFault) -> &'static str {

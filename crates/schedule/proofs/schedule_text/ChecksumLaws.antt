@@ -1,10 +1,10 @@
 -- The words of checksums.
-use Rattle.std.proofs.Common.{◌≡◌, ◌<◌, ◌+◌, ◌^◌, ℕ, suc, Bool, true, false, List, [], ◌∷◌, ◌++◌, length, map, sym, ap, subst, ◌∙◌, arith, codes, append_assoc, length-append, Option, Some, None, refl, inl, inr}
-use Rattle.std.specs.Prelude.{◌==◌, if◌then◌else◌}
+use Rattle.std.proofs.Common.{◌≡◌, ◌<◌, ◌+◌, ◌^◌, ℕ, Bool, true, false, List, [], ◌∷◌, ◌++◌, length, map, sym, ap, ◌∙◌, arith, codes, append_assoc, length-append, Option, Some, None, refl, inl, inr}
+use Rattle.std.specs.Prelude.{◌==◌, IfSome, if◌then◌else◌}
 use Rattle.std.specs.List.{AllByRecursion}
 use Rattle.std.proofs.lemmas.Bool.{eqb-true}
 use Rattle.std.proofs.lemmas.List.{append-nil, map-append}
-use Rattle.schedule.specs.Files.{CheckedFits, Checksums, ChecksumsFit}
+use Rattle.schedule.specs.Files.{CheckedFits, Checksums}
 use Rattle.schedule.proofs.schedule_text.EntryLaws.{same_cons}
 use Rattle.schedule.proofs.schedule_text.HexLaws.{hex_injective}
 use Rattle.schedule.specs.schedule_text.Recordings.{BeginWith, EndLengths, EndRecording}
@@ -93,7 +93,7 @@ pub is_told : (words : List (List ℕ)) (library : ℕ) (rest : List (List ℕ))
     → words ≡ library_words library ++ rest → TellsLibrary words library rest
 is_told words library rest begins end is =
     let some : library ≡ 0 → ⊥ =
-        λ none. other (same_cons (codes "#events") (codes "#library") end.0 begins.0 (sym end.1 ∙ sym (is ∙ ap (λ n. library_words n ++ rest) none) ∙ begins.1)).0 in
+    λ none. other (same_cons (codes "#events") (codes "#library") end.0 begins.0 (sym end.1 ∙ sym (is ∙ ap (λ n. library_words n ++ rest) none) ∙ begins.1)).0 in
     record { some = some; told = is ∙ ap (λ ws. ws ++ rest) (some_library library some) }
   where
     other : codes "#events" ≡ codes "#library" → ⊥
@@ -105,6 +105,37 @@ is_none words library rest other is = elim (library == 0) as (λ t. (library == 
   | true ↦ λ h k. (eqb-true library 0 h, k)
   | false ↦ λ h k. absurd (other (hex_word library ∷ rest, k))
 ] refl is
+
+-- ---- whether checksums are told
+
+pub not_told : (words : List (List ℕ)) (c : Option Checksums) (rest : List (List ℕ)) → (BeginWith (codes "#checksums") words → ⊥)
+    → words ≡ checked_words c ++ rest → (None ≡ c) × (words ≡ rest)
+not_told words None rest other is = (refl, is)
+not_told words (Some d) rest other is = absurd (other ((map hex_word d.files ++ library_words d.library) ++ rest, is))
+
+pub record AreTold (words : List (List ℕ)) (c : Option Checksums) (rest : List (List ℕ)) : Type 0 where
+  pub checksums : Checksums
+  pub same : c ≡ Some checksums
+  pub told : words ≡ codes "#checksums" ∷ (map hex_word checksums.files ++ (library_words checksums.library ++ rest))
+
+pub are_told : (words : List (List ℕ)) (c : Option Checksums) (rest : List (List ℕ)) → BeginWith (codes "#checksums") words → EndRecording rest
+    → words ≡ checked_words c ++ rest → AreTold words c rest
+are_told words None rest begins end is =
+    absurd (other (same_cons (codes "#events") (codes "#checksums") end.0 begins.0 (sym end.1 ∙ sym is ∙ begins.1)).0)
+  where
+    other : codes "#events" ≡ codes "#checksums" → ⊥
+    other e = absurd cc
+are_told words (Some d) rest begins end is = record {
+  checksums = d;
+  same = refl;
+  told = is ∙ ap (λ ws. codes "#checksums" ∷ ws) (append_assoc (map hex_word d.files) (library_words d.library) rest);
+}
+
+-- what stands behind a word that is passed
+pub passed : {W : Type 0} (bytes : W → List ℕ) (r : Option W) (old new : List (List ℕ)) (word : List ℕ) (rest : List (List ℕ))
+    → IfSome r (λ w. old ≡ bytes w ∷ new) → (r ≡ None → (old ≡ []) × (new ≡ [])) → old ≡ word ∷ rest → new ≡ rest
+passed bytes (Some w) old new word rest some none is = (same_cons (bytes w) word new rest (sym some ∙ is)).1
+passed bytes None old new word rest some none is = absurd (let e : [] ≡ word ∷ rest = sym (none refl).0 ∙ is in cc)
 
 -- ---- the end of what is recorded
 
@@ -158,7 +189,7 @@ last_once count (Some c) None rest more a b is = absurd (let e = (same_cons (cod
 last_once count (Some c) (Some d) rest more a b is =
     let first = same_cons (codes "#checksums") (codes "#checksums") _ _ is in
     let files = hexes_once c.files d.files (library_words c.library ++ codes "#events" ∷ rest) (library_words d.library ++ codes "#events" ∷ more)
-        (a.count_is ∙ sym b.count_is) a.files b.files (sym (regroup c rest) ∙ first.1 ∙ regroup d more) in
+    (a.count_is ∙ sym b.count_is) a.files b.files (sym (regroup c rest) ∙ first.1 ∙ regroup d more) in
     let library = library_once c.library d.library rest more a.library b.library files.1 in
     (ap Some (same_checksums c d files.0 library.0), library.1)
   where

@@ -1,12 +1,12 @@
 -- Numbers in sixteen hexadecimal digits, as words.
-use Rattle.std.proofs.Common.{◌≡◌, ◌<◌, ◌/◌, ◌%◌, ◌^◌, ℕ, zero, suc, Bool, true, List, [], ◌∷◌, ◌++◌, length, Result, Ok, refl, subst, sym, ap, ◌∙◌, arith, mod-lt, inl, inr}
+use Rattle.std.proofs.Common.{◌≡◌, ◌<◌, ◌/◌, ◌^◌, ℕ, zero, suc, Bool, true, List, [], length, Result, Ok, refl, subst, sym, ap, ◌∙◌, arith, mod-lt, inl, inr}
 use Rattle.std.specs.Prelude.{◌&&◌, MatchResult, nat_lt, slice_index}
 use Rattle.std.specs.Int.{byte_at, bytes_high_first}
 use Rattle.std.proofs.lemmas.Bool.{and_parts, cases_lt}
 use Rattle.std.proofs.lemmas.List.{append-nil}
 use Rattle.byteorder.specs.Endian.{big_bytes, big_number}
 use Rattle.byteorder.specs.Numbers.{big_number-reads_back, length-bytes_high_first}
-use Rattle.hex.specs.Hex.{IsBytes, decode_of, decode_sized, encode_lower, encode_with, lower_digits}
+use Rattle.hex.specs.Hex.{IsBytes, decode_of, decode_sized, lower_digits}
 use Rattle.hex.specs.declared.error.FromHexError.{FromHexError}
 use Rattle.hex.proofs.HexLemmas.{IsDigits-lower_digits, decode_of-encode_lower, decode_pairs-encode_with, length-encode_with}
 use Rattle.schedule.specs.schedule_text.Text.{hex_word}

@@ -1,10 +1,10 @@
 -- The words of lengths.
-use Rattle.std.proofs.Common.{◌≡◌, ◌⊎◌, ◌<◌, ◌^◌, ℕ, List, [], ◌∷◌, ◌++◌, length, map, get_or, sym, ap, subst, ◌∙◌, arith, codes, decimal, append_assoc, length-append, Some, inl, inr, refl}
+use Rattle.std.proofs.Common.{◌≡◌, ◌<◌, ◌^◌, ℕ, List, [], ◌∷◌, ◌++◌, length, map, get_or, sym, ap, subst, ◌∙◌, arith, codes, decimal, append_assoc, length-append, Some, inl, inr, refl}
 use Rattle.std.specs.List.{AllByRecursion}
 use Rattle.std.proofs.lemmas.Fmt.{decimal_injective}
 use Rattle.std.proofs.lemmas.List.{append-nil, map-append}
 use Rattle.schedule.proofs.schedule_text.EntryLaws.{decimal_digits, same_cons}
-use Rattle.schedule.specs.schedule_text.Recordings.{BeginWith, EndLengths}
+use Rattle.schedule.specs.schedule_text.Recordings.{EndLengths}
 
 -- These words begin with those of these lengths, and so do all lengths that spell them up to a word that ends lengths.
 pub record AreLengthsAhead (words : List (List ℕ)) (done : List ℕ) (left : List (List ℕ)) : Type 0 where

@@ -132,9 +132,9 @@ one_schedule (Some p) (Some q) es fs x y a b is =
     let limits = one_limits p.limits q.limits (behind p left) (behind q right) x.cells y.cells (sym (regroup p left) ∙ first.1 ∙ regroup q right) in
     let second = same_cons (codes "#lengths") (codes "#lengths") _ _ limits.1 in
     let lengths = one_way p.lengths q.lengths (last_words p.checksums ++ left) (last_words q.checksums ++ right) x.lengths y.lengths
-        (ends_lengths p.checksums left) (ends_lengths q.checksums right) second.1 in
+    (ends_lengths p.checksums left) (ends_lengths q.checksums right) second.1 in
     let last = last_once (length p.lengths) p.checksums q.checksums left right x.checksums
-        (subst (λ n. CheckedFits n q.checksums) (ap length (sym lengths.0)) y.checksums) lengths.1 in
+    (subst (λ n. CheckedFits n q.checksums) (ap length (sym lengths.0)) y.checksums) lengths.1 in
     (ap Some (same_recording p q limits.0 lengths.0 last.0), one_list es fs a.each b.each last.1)
 
 pub spelled_once : (text : List ℕ) (p q : Option Recording) (es fs : List ScheduleEntry) → SpellsSchedule text p es

@@ -13,7 +13,7 @@ use Rattle.model.specs.declared.event.ScheduleEntry.{ScheduleEntry}
 use Rattle.model.specs.declared.limits.Limits.{Limits}
 use Rattle.schedule.specs.Files.{Checksums, RecordedFits, Recording}
 use Rattle.schedule.specs.schedule_text.Printing.{gap_after, in_lines, laid_out, printed_checksums, printed_library, printed_recording, printed_schedule}
-use Rattle.schedule.specs.schedule_text.Text.{SpellsSchedule, begins_comment, begins_slashes, behind_comments, checked_words, entry_tail, entry_word, hex_word, is_blank, last_words, library_words, limit_words, recording_words, text_words, with_word, words_from, words_of}
+use Rattle.schedule.specs.schedule_text.Text.{SpellsSchedule, begins_comment, begins_slashes, behind_comments, checked_words, entry_tail, entry_word, hex_word, is_blank, last_words, library_words, limit_words, recording_words, with_word, words_from, words_of}
 use Rattle.schedule.proofs.schedule_text.EntryLaws.{AreDigits, decimal_digits, form_of}
 use Rattle.schedule.proofs.schedule_text.HexLaws.{are_bytes, digit_behind, length_of_word}
 use Rattle.schedule.proofs.schedule_text.WordLaws.{begun, blank_ends, front_ends, no_byte, stays_there}
@@ -162,13 +162,13 @@ events_stand more = refl
 library_is_printed : (library : ℕ) (more : List ℕ) → words_of (printed_library library ++ more) ≡ library_words library ++ words_of more
 library_is_printed library more = elim (library == 0) as (λ t. words_of ((if t then [] else codes "#library " ++ (hex_word library ++ 10 ∷ [])) ++ more)
     ≡ (if t then [] else codes "#library" ∷ hex_word library ∷ []) ++ words_of more) [
-  | true ↦ refl
-  | false ↦
-      let plain = hex_is_plain library in
-      library_stands ((hex_word library ++ 10 ∷ []) ++ more)
-      ∙ ap (λ x. codes "#library" ∷ words_from false [] x) (append_assoc (hex_word library) (10 ∷ []) more)
-      ∙ ap (λ x. codes "#library" ∷ x) (plain_word (hex_word library) [] 10 more plain.0 refl ∙ begun (hex_word library) (words_of more) plain.1)
-]
+      | true ↦ refl
+      | false ↦
+          let plain = hex_is_plain library in
+          library_stands ((hex_word library ++ 10 ∷ []) ++ more)
+          ∙ ap (λ x. codes "#library" ∷ words_from false [] x) (append_assoc (hex_word library) (10 ∷ []) more)
+          ∙ ap (λ x. codes "#library" ∷ x) (plain_word (hex_word library) [] 10 more plain.0 refl ∙ begun (hex_word library) (words_of more) plain.1)
+    ]
 
 checksums_are_printed : (c : Option Checksums) (more : List ℕ) → words_of (printed_checksums c ++ more) ≡ checked_words c ++ words_of more
 checksums_are_printed None more = refl

@@ -8,5 +8,5 @@ pub returns : goal.returns
 returns c =
     IfOk-weaker c.write_schedule.result _ _
     (λ bytes is. subst (λ r. RecordedFile bytes.items (Some r) (events_of c.args.schedule.now)) c.in_ok-recording.ensures
-        (subst (λ es. RecordedFile bytes.items (Some c.in_ok-recording.recording) es) c.in_ok-joined.ensures.same is))
+    (subst (λ es. RecordedFile bytes.items (Some c.in_ok-recording.recording) es) c.in_ok-joined.ensures.same is))
     (c.write_schedule.ensures.joined c.in_ok-joined.ensures.joined)

@@ -1,4 +1,4 @@
-use Rattle.std.proofs.Common.{◌≡◌, vec_items, ap, ◌∙◌}
+use Rattle.std.proofs.Common.{vec_items, ap, ◌∙◌}
 use Rattle.schedule.specs.Files.{checksum_of}
 use Rattle.schedule.proofs.FileNumbers.{number_differs}
 use Rattle.schedule.proofs.file_checksums.other_checksum.Goals as goal

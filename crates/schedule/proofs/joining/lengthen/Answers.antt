@@ -1,4 +1,4 @@
-use Rattle.std.proofs.Common.{◌≡◌, ◌∙◌, ◌<◌, ap, arith, length, subst, sym}
+use Rattle.std.proofs.Common.{◌∙◌, ◌<◌, ap, arith, length, subst, sym}
 use Rattle.schedule.specs.Joined.{HasRoom}
 use Rattle.schedule.proofs.JoinedEntries.{lengthened}
 use Rattle.schedule.proofs.joining.lengthen.Goals as goal

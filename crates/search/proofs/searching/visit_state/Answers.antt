@@ -7,7 +7,7 @@ use Rattle.search.proofs.searching.visit_state.Goals as goal
 pub returns-in_default-clause-visits : goal.returns-in_default-clause-visits
 returns-in_default-clause-visits c =
     let found = found_if c.args.classes.now c.args.states.now.limits c.args.wanted.now c.args.states.now c.args.outcomes.now c.listed_at.new.outcomes c.args.number c.requires.visited c.requires.number
-        c.in_ok-machine.field-0 c.in_ok-machine.ensures (search (rules, tests)) (events_of c.in_ok-schedule.schedule) c.in_ok-schedule.ensures in
+    c.in_ok-machine.field-0 c.in_ok-machine.ensures (search (rules, tests)) (events_of c.in_ok-schedule.schedule) c.in_ok-schedule.ensures in
     (subst (IsFound c.args.classes.now c.args.states.now.limits c.args.wanted.now) (sym c.in_ok-joined.ensures.same) found, c.in_ok-joined.ensures.joined)
 
 pub returns-then-branch-clause-visits : goal.returns-then-branch-clause-visits

@@ -5,7 +5,7 @@ pub returns-in_default-entry : goal.returns-in_default-entry
 returns-in_default-entry c = (
   (λ t. absurd cc),
   (λ is. absurd (no_schedule c.args.word.now c.words.has_some c.words.words c.next.new.self c.in-Some.word.now c.words.invariant c.in-Some.ensures.some
-  (λ f fits spelled. c.in_default-entry.not-Some f (c.entry.ensures.only f fits spelled)) is)),
+      (λ f fits spelled. c.in_default-entry.not-Some f (c.entry.ensures.only f fits spelled)) is)),
 )
 
 pub words-preserved : goal.words-preserved

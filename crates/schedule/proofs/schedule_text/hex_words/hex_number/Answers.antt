@@ -1,4 +1,4 @@
-use Rattle.std.proofs.Common.{◌≡◌, ◌∙◌, ap, Some, sym}
+use Rattle.std.proofs.Common.{◌∙◌, ap, Some, sym}
 use Rattle.byteorder.specs.Endian.{big_number}
 use Rattle.schedule.proofs.schedule_text.HexLaws.{is_read, reads_back}
 use Rattle.schedule.proofs.schedule_text.LimitLaws.{differ}
