@@ -1,8 +1,9 @@
 -- What the engines of schedules answer and write, by the bytes that their devices hold.
-use Rattle.std.specs.Prelude.{◌≡◌, ◌⊎◌, ℕ, List, Option}
+use Rattle.std.specs.Prelude.{◌≡◌, ◌⊎◌, ℕ, List, Option, Some, None, ◌==◌, if◌then◌else◌}
+use Rattle.std.specs.Option.{option_map}
 use Rattle.model.specs.declared.event.ScheduleEntry.{ScheduleEntry}
 use Rattle.model.specs.Devices.{AppendsFront}
-use Rattle.schedule.specs.Files.{Recording, schedule, told_as}
+use Rattle.schedule.specs.Files.{Recording, schedule, without_checksums}
 use Rattle.schedule.specs.declared.fault.ScheduleFault.TheVariants as schedules
 use Rattle.schedule.specs.schedule_text.Either.{GivesEntries}
 use Rattle.schedule.specs.schedule_text.Printing.{printed_schedule}
@@ -34,6 +35,11 @@ IsUnprinted left old new (faults.Text fault) = (new ≡ old) × ((fault ≡ text
 IsUnprinted left old new (faults.Refusal refusal) = ⊥
 
 -- ---- a text as schedule file
+
+-- what a file of a version tells of a recording, or of a later one, where that is asked for
+abbrev pub told_as : (as_version : Option ℕ) → Option Recording → Option Recording
+told_as None recorded = recorded
+told_as (Some version) recorded = if version == 1 then None else if version == 2 then option_map without_checksums recorded else recorded
 
 -- the source holds a text, and these are the bytes of the entries that it spells, and of what it says that they were recorded with, as far
 -- as a file of the version tells it

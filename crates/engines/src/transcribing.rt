@@ -3,7 +3,7 @@
 ghost use Rattle.std.specs.Prelude.{◌≡◌, ◌+◌, IfOk, IfErr};
 ghost use Rattle.std.specs.Io.KnownBytes.{Appends};
 ghost use Rattle.engines.specs.Engines.{CountsFailure, Reads};
-ghost use Rattle.engines.specs.Transcriptions.{IsUnprinted, IsUntranscribed, Prints, Transcribes};
+ghost use Rattle.engines.specs.Transcriptions.{IsUnprinted, IsUntranscribed, Prints, Transcribes, told_as};
 
 use crate::fault::Fault;
 use crate::opening::read_given;
@@ -57,10 +57,24 @@ pub fn write_schedule_engine<S: Source, W: Sink>(
 {
     let read = read_text(alloc, text)?;
     let (schedule, recorded) = parse(alloc, read.as_slice())?;
-    let told = Recording::told_as(as_version, recorded);
+    let told = kept_of(as_version, recorded);
     let bytes = write_schedule(alloc, &schedule, told.as_ref())?;
     file.write_all(bytes.as_slice())?;
     Ok(Status::Returned)
+}
+
+/// What a file of this version tells of a recording, or one of the version that it is of.
+fn kept_of(version: Option<u32>, recording: Option<Recording>) -> Option<Recording>
+    ensures { result ≡ told_as version recording }
+{
+    match version {
+        Some(1) => None,
+        Some(2) => match recording {
+            Some(recording) => Some(recording.without_checksums()),
+            None => None,
+        },
+        _ => recording,
+    }
 }
 
 /// The bytes of a text.

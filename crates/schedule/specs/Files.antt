@@ -1,7 +1,6 @@
 -- Schedule files of three versions (own). Numbers are big-endian.
-use Rattle.std.specs.Prelude.{◌≡◌, ◌<◌, ℕ, ◌^◌, List, [], ◌∷◌, ◌++◌, length, map, codes, Option, Some, None, ◌==◌, if◌then◌else◌, refl}
+use Rattle.std.specs.Prelude.{◌≡◌, ◌<◌, ℕ, ◌^◌, List, [], ◌∷◌, ◌++◌, length, map, codes, Option, Some, None, refl}
 use Rattle.std.specs.List.{flat_map, AllByRecursion}
-use Rattle.std.specs.Option.{option_map}
 use Rattle.std.proofs.Math.Dec.{lit≤}
 use Rattle.byteorder.specs.Endian.{big_bytes, big_number}
 use Rattle.sha2.specs.Sha256.{sha256}
@@ -97,11 +96,6 @@ recording_of limits files = record {
 -- the same as version 2 tells it
 abbrev pub without_checksums : Recording → Recording
 without_checksums r = record { limits = r.limits; lengths = r.lengths; checksums = None }
-
--- what a file of a version tells of it, or of a later one, where that is asked for
-abbrev pub told_as : Option ℕ → Option Recording → Option Recording
-told_as None recorded = recorded
-told_as (Some version) recorded = if version == 1 then None else if version == 2 then option_map without_checksums recorded else recorded
 
 -- ---- whether class files are those that were recorded
 

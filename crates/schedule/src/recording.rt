@@ -110,20 +110,6 @@ impl Recording {
         self.checksums.as_ref()
     }
 
-    /// What a file of this version tells of it, or one of the version that it is of.
-    pub fn told_as(version: Option<u32>, recording: Option<Recording>) -> Option<Recording>
-        ensures { result ≡ file.told_as version recording }
-    {
-        match version {
-            Some(1) => None,
-            Some(2) => match recording {
-                Some(recording) => Some(recording.without_checksums()),
-                None => None,
-            },
-            _ => recording,
-        }
-    }
-
     /// The same, where no checksums are told: what a file of version 2 tells.
     pub fn without_checksums(self) -> Recording
         ensures { result ≡ file.without_checksums self }

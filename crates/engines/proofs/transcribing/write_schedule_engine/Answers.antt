@@ -1,9 +1,10 @@
 use Rattle.std.proofs.Common.{◌≡◌, inr, rules, subst}
 use Rattle.std.proofs.lemmas.Result.{err_from_is_err_and}
 use Rattle.model.specs.Devices.{AppendsFront}
-use Rattle.schedule.specs.Files.{schedule, told_as}
+use Rattle.schedule.specs.Files.{schedule}
 use Rattle.schedule.specs.schedule_text.Text.{SpellsSchedule}
 use Rattle.engines.proofs.OpeningLemmas.{part_is_untranscribed}
+use Rattle.engines.specs.Transcriptions.{told_as}
 use Rattle.engines.proofs.transcribing.write_schedule_engine.Goals as goal
 
 pub returns-in_err-read-clause-faulty : goal.returns-in_err-read-clause-faulty
