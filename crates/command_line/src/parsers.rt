@@ -207,12 +207,7 @@ fn schedule_argument<'a>(alloc: Global) -> Arg<'a>
     ensures rule { rule_of result ≡ schedule_option }
     ensures local { result.global ≡ false }
 {
-    path_argument(
-        alloc,
-        "schedule",
-        "The schedule file, or its text, or the entries, as '0*22 1'",
-    )
-    .required(true)
+    path_argument(alloc, "schedule", "The schedule file, or its text, or '0*22 1'").required(true)
 }
 
 /// Whether the schedule is for any class files.

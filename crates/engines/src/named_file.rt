@@ -39,21 +39,14 @@ impl<F: Folder> Source for NamedFile<'_, F> {
     ghost failures = { λ file. failures_of file.reading };
 
     fn read_all(&mut self, alloc: Global) -> Result<Vec<u8>, DeviceFault> {
-        match self.reading {
-            Reading::Ahead => self.read_file(alloc),
-            Reading::Given => {
-                let bytes = Vec::from_slice(alloc, self.path.as_bytes())?;
-                self.reading = Reading::Behind;
-                Ok(bytes)
-            }
-            Reading::Behind | Reading::Failed => Ok(Vec::new(alloc)),
+        if let Reading::Given = self.reading {
+            let word = Vec::from_slice(alloc, self.path.as_bytes())?;
+            self.reading = Reading::Behind;
+            return Ok(word);
         }
-    }
-}
-
-impl<F: Folder> NamedFile<'_, F> {
-    /// The bytes of the file, which was not read.
-    fn read_file(&mut self, alloc: Global) -> Result<Vec<u8>, DeviceFault> {
+        let Reading::Ahead = self.reading else {
+            return Ok(Vec::new(alloc));
+        };
         match self.folder.read(alloc, self.path) {
             Ok(bytes) => {
                 self.reading = Reading::Behind;
