@@ -2,4 +2,5 @@
 
 mod program;
 
+pub(crate) use program::open_linked_machine;
 pub use program::{open_machine, replay, verified_program};

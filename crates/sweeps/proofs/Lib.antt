@@ -1,0 +1,5 @@
+mod Adding
+mod Places
+mod Tallying
+mod Sweeping
+mod Telling
