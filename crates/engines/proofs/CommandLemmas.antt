@@ -27,7 +27,7 @@ module _ (held : Held) (listed : Listed) (input : Option (List ℕ)) (command : 
   -- what a command does not do, the words do not
   pub undone_stops : (words : List (List ℕ)) (complaint : Complaint) (written : Written) → Spells words command
       → IsUndone held listed input command old new complaint written → Stops held listed input words old new complaint written
-  undone_stops words (complaints.Usage usage) written spells undone = absurd undone
+  undone_stops words (complaints.Usage usage) written spells undone = inr (command, spells, undone)
   undone_stops words (complaints.Files fault) written spells undone = (command, spells, undone)
   undone_stops words (complaints.Fault fault) written spells undone = inr (command, spells, undone)
 
