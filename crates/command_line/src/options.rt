@@ -3,6 +3,7 @@
 ghost use Rattle.std.specs.Prelude.{◌≡◌, ◌≤◌, ◌↔◌, IsTrue, unwrap_or};
 
 use crate::run_options::RunOptions;
+use crate::sweep_options::SweepOptions;
 use model::Limits;
 
 /// A subcommand with the values of its options.
@@ -30,6 +31,8 @@ const USUAL_MEMORY: u32 = 1_000_000_000;
 #[derive(Drop)]
 pub struct Run {
     pub options: RunOptions,
+    /// A run for each of some seeds, where these are asked for.
+    pub sweep: Option<SweepOptions>,
     /// The path of the file that the schedule of the run is written to, if any.
     pub record: Option<String>,
     pub limits: LimitOptions,
