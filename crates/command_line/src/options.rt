@@ -18,8 +18,8 @@ pub enum Command {
     Schedule(Schedule),
 }
 
-/// The usual budget of a run that goes on behind a schedule, in events.
-const USUAL_BUDGET: u32 = 10_000_000;
+/// The usual budget of a run of a sweep, and of one that goes on behind a schedule, in events.
+pub(crate) const USUAL_BUDGET: u32 = 10_000_000;
 
 /// How many states a search may meet, unless another number is asked for.
 const USUAL_STATES: u32 = 10_000_000;

@@ -13,5 +13,6 @@ pub mod RecordingLemmas
 pub mod RunLemmas
 pub mod ScheduleLemmas
 pub mod SearchLemmas
+pub mod SweepLemmas
 pub mod TraceLemmas
 pub mod VerificationLemmas

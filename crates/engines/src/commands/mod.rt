@@ -8,10 +8,11 @@ mod runs;
 mod schedules;
 mod searches;
 mod storing;
+mod sweeps;
 
 pub(crate) use event_traces::trace;
 pub(crate) use given_files::{disasm, verify};
 pub(crate) use replays::replay;
-pub(crate) use runs::run_files;
+pub(crate) use runs::run;
 pub(crate) use schedules::schedule;
 pub(crate) use searches::search;
