@@ -21,7 +21,7 @@ use Rattle.sweeps.specs.Sweeps.{Sweeps}
 use Rattle.sweeps.specs.Texts.{sweep_text}
 use Rattle.sweeps.specs.declared.policy_runs.SeededPolicy.{SeededPolicy}
 use Rattle.sweeps.specs.declared.policy_runs.SeededPolicy.TheVariants as seeded
-use Rattle.sweeps.specs.declared.sweeping.Sweep.{Sweep}
+use Rattle.sweeps.specs.declared.sweeping.SweepReport.{SweepReport}
 use Rattle.engines.specs.Engines.{ReadsEach}
 use Rattle.engines.specs.Refusals.{IsRefused}
 use Rattle.engines.specs.Statuses.{sweep_status}
@@ -70,8 +70,8 @@ repeat_words run sweep = policy_words sweep.policy ++ (limit_words run.limits ++
 pub record IsSwept (trees : Program) (run : Run) (sweep : SweepOptions) (may_stop : Bool) (want : Wanted) (text : List ℕ) (status : Status) : Type 0 where
   pub limits : Limits
   pub chosen : AreChosen run.limits limits
-  pub swept : Sweep
-  pub sweeps : Sweeps (IsRunWith (seeded_policy sweep.policy) trees limits (unwrap_or run.options.budget 10000000)) may_stop want sweep.seeds.first sweep.seeds.last swept
+  pub swept : SweepReport
+  pub sweeps : Sweeps (IsRunWith (record { policy = seeded_policy sweep.policy; trees = trees; limits = limits; budget = unwrap_or run.options.budget 10000000 })) may_stop want sweep.seeds.first sweep.seeds.last swept
   pub told : text ≡ sweep_text (seeded_policy sweep.policy) swept.first (repeat_words run sweep) swept.tally swept.end
   pub ended : status ≡ sweep_status swept.end
 

@@ -57,7 +57,7 @@ pub fn sweep_engine<P: Watch, S: Source, W: Sink>(
 
 /// What a sweep says: the text of what its runs show, and its status.
 #[derive(Drop)]
-struct Swept {
+struct ToldSweep {
     text: Vec<u8>,
     status: Status,
 }
@@ -70,7 +70,7 @@ fn swept<P: Watch>(
     options: &Run,
     sweep: &SweepOptions,
     wanted: &Wanted,
-) -> Result<Swept, AllocError>
+) -> Result<ToldSweep, AllocError>
     ensures { IfOk result (λ swept. IsSwept verified options.now sweep.now (P.may_stop watch.now) wanted.now
         swept.text.items swept.status) }
 {
@@ -88,25 +88,21 @@ fn swept_over<P: Watch>(
     options: &Run,
     sweep: &SweepOptions,
     wanted: &Wanted,
-) -> Result<Swept, AllocError>
+) -> Result<ToldSweep, AllocError>
     requires { IsProgramOf (arc_value verified.now) (arc_value program.now) }
     ensures { IfOk result (λ swept. IsSwept (arc_value verified.now) options.now sweep.now (P.may_stop watch.now)
         wanted.now swept.text.items swept.status) }
 {
     let policy = seeded_policy(sweep.policy);
-    let runs = PolicyRuns {
-        verified,
-        program,
-        limits: options.limits.limits(),
-        budget: options.options.sweep_budget(),
-        policy,
-    };
+    let limits = options.limits.limits();
+    let budget = options.options.sweep_budget();
+    let runs = PolicyRuns::new(verified, program, limits, budget, policy);
     let seeds = sweep.seeds;
     let swept = sweeps::sweep(alloc, &runs, watch, wanted, seeds.first, seeds.last)?;
     let words = repeat_words(alloc, options, sweep)?;
     let text = sweep_text(alloc, &swept, policy, words.as_str())?;
     let status = Status::of_sweep(swept.end);
-    Ok(Swept { text, status })
+    Ok(ToldSweep { text, status })
 }
 
 /// The policy that is asked for.

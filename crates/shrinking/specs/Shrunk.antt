@@ -36,13 +36,20 @@ abbrev pub ComesTo : Wanted → Continued → Type 0
 ComesTo want (continued.Whole r) = EndsWanted want r.report r.end
 ComesTo want (continued.Part r end) = ⊥
 
+-- of which class files replays are, under which limits, with how many events at most, and which outcome is wanted
+pub record TriesFor : Type 0 where
+  pub trees : Program
+  pub limits : Limits
+  pub budget : ℕ
+  pub want : Wanted
+
 -- a replay of these events that goes on has the outcome
-abbrev pub Has : Program → Limits → (budget : ℕ) → Wanted → List Event → Type 0
-Has trees limits budget want events = (c : Continued) × GoesOn trees events limits budget c × ComesTo want c
+abbrev pub Has : TriesFor → List Event → Type 0
+Has for events = (c : Continued) × GoesOn for.trees events for.limits for.budget c × ComesTo for.want c
 
 -- one has it not
-abbrev pub Lacks : Program → Limits → (budget : ℕ) → Wanted → List Event → Type 0
-Lacks trees limits budget want events = (c : Continued) × GoesOn trees events limits budget c × (ComesTo want c → ⊥)
+abbrev pub Lacks : TriesFor → List Event → Type 0
+Lacks for events = (c : Continued) × GoesOn for.trees events for.limits for.budget c × (ComesTo for.want c → ⊥)
 
 -- ---- what is answered
 

@@ -12,19 +12,53 @@ use program_runs::continued_runs::{Continued, run_linked_on};
 use schedule::Schedule;
 use search::run_outcomes::{Outcome, Wanted};
 use std::alloc::{AllocError, Global};
+use std::marker::Model;
 use std::sync::Arc;
 use verifier::Verified;
 
 /// Tries whether a run has a wanted outcome that does the events of a schedule, and goes on where it ends: the threads
 /// go on in turn. It is of verified class files, under limits and with a budget of events.
 pub struct ContinuedTries<'a> {
-    pub verified: &'a Arc<Verified>,
-    /// All that a run needs of the class files.
-    pub program: &'a Arc<LinkedProgram>,
-    pub limits: Limits,
-    pub budget: u32,
-    pub wanted: &'a Wanted,
-    pub ghost linked: { IsProgramOf (arc_value verified.now) (arc_value program.now) },
+    verified: &'a Arc<Verified>,
+    program: &'a Arc<LinkedProgram>,
+    limits: Limits,
+    budget: u32,
+    wanted: &'a Wanted,
+}
+
+impl Model for ContinuedTries<'_> {
+    ghost use Rattle.std.specs.Arc.{arc_value};
+    ghost use Rattle.machine.specs.Machines.{IsProgramOf};
+    ghost use Rattle.shrinking.specs.Shrunk.{TriesFor};
+
+    ghost Value = { TriesFor };
+
+    ghost view = { λ t. record { trees = arc_value t.verified.now; limits = t.limits; budget = t.budget; want = t.wanted.now } };
+
+    ghost invariant = { λ t. IsProgramOf (arc_value t.verified.now) (arc_value t.program.now) };
+}
+
+impl<'a> ContinuedTries<'a> {
+    /// Those of class files of which there is all that a run needs.
+    pub fn new(
+        verified: &'a Arc<Verified>,
+        program: &'a Arc<LinkedProgram>,
+        limits: Limits,
+        budget: u32,
+        wanted: &'a Wanted,
+    ) -> ContinuedTries<'a>
+        requires { IsProgramOf (arc_value verified.now) (arc_value program.now) }
+        ensures { result
+            ≡ record { trees = arc_value verified.now; limits = limits; budget = budget; want = wanted.now } }
+    {
+        ContinuedTries {
+            verified,
+            program,
+            limits,
+            budget,
+            wanted,
+        }
+    }
 }
 
 /// Whether a run that came to this report and this end has a wanted outcome. The only error is a want of memory, in the
@@ -61,12 +95,11 @@ fn comes_to(alloc: Global, wanted: &Wanted, run: Continued) -> Result<bool, Allo
 }
 
 impl Tries for ContinuedTries<'_> {
-    ghost use Rattle.std.specs.Arc.{arc_value};
     ghost use Rattle.shrinking.specs.Shrunk as spec;
 
-    ghost has = { λ t events. spec.Has (arc_value t.verified.now) t.limits t.budget t.wanted.now events };
+    ghost has = { spec.Has };
 
-    ghost lacks = { λ t events. spec.Lacks (arc_value t.verified.now) t.limits t.budget t.wanted.now events };
+    ghost lacks = { spec.Lacks };
 
     fn has(&self, alloc: Global, schedule: &Schedule) -> Result<bool, AllocError> {
         let verified = Arc::try_clone(self.verified)?;

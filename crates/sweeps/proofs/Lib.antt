@@ -1,5 +1,6 @@
 mod Adding
 mod Places
 mod Tallying
-mod Sweeping
+mod RunsSwept
+mod Counting
 mod Telling

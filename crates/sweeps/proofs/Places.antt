@@ -69,3 +69,24 @@ module _ {A S : Type 0} (g : A → S) (t : S → Bool) (again : S → S) (new : 
   pub placed_some : (xs : List A) (at : ℕ) → position test xs ≡ Some at → (x y : A) → x ≡ get_or xs at x → g y ≡ again (g x)
       → more (map g xs) ≡ map g (set xs at y)
   placed_some xs at e x y is made = some_from x y made xs 0 at (sym (position_from-zero test xs) ∙ (e ∙ ap Some (sym (zero-add at)))) is
+
+  -- there is one at the place
+  found_from : (xs : List A) (i at : ℕ) → position_from test i xs ≡ Some (i + at) → (x : A) × (x ≡ get_or xs at x)
+  found_from [] i at e = absurd cc
+  found_from (z ∷ xs) i zero e = (z, refl)
+  found_from (z ∷ xs) i (suc at) e = by (test z) refl (found_from xs (i + 1) at)
+    where
+      by : (b : Bool) → test z ≡ b → (position_from test (i + 1) xs ≡ Some (i + 1 + at) → (x : A) × (x ≡ get_or xs at x))
+          → (x : A) × (x ≡ get_or (z ∷ xs) (suc at) x)
+      by true p others =
+          let here : Some i ≡ Some (i + suc at) = sym (ap (λ c. cond c (Some i) (position_from test (i + 1) xs)) p) ∙ e in
+          let same : i ≡ i + suc at = cc in absurd (omega (arith, same))
+      by false p others =
+          let number : i + suc at ≡ i + 1 + at = omega arith in
+          let rest : position_from test (i + 1) xs ≡ Some (i + 1 + at) =
+              sym (ap (λ c. cond c (Some i) (position_from test (i + 1) xs)) p) ∙ (e ∙ ap Some number)
+          in
+          others rest
+
+  pub found : (xs : List A) (at : ℕ) → position test xs ≡ Some at → (x : A) × (x ≡ get_or xs at x)
+  found xs at e = found_from xs 0 at (sym (position_from-zero test xs) ∙ (e ∙ ap Some (sym (zero-add at))))

@@ -37,7 +37,14 @@ WantsMemory ends.Budget = ⊥
 WantsMemory ends.Schedule = ⊥
 WantsMemory (ends.NotEnabled i) = ⊥
 
--- a run by a policy with a seed, which has not ended for want of memory
-pub record IsRunWith (policy : SeededPolicy) (trees : Program) (limits : Limits) (budget seed : ℕ) (r : Recorded) : Type 0 where
-  pub recorded : IsRecordOf trees limits budget r
+-- by which policy runs are of which class files, under which limits, and with which budget for each
+pub record RunsBy : Type 0 where
+  pub policy : SeededPolicy
+  pub trees : Program
+  pub limits : Limits
+  pub budget : ℕ
+
+-- the run with a seed, which has not ended for want of memory
+pub record IsRunWith (by : RunsBy) (seed : ℕ) (r : Recorded) : Type 0 where
+  pub recorded : IsRecordOf by.trees by.limits by.budget r
   pub no_want : WantsMemory r.end → ⊥

@@ -2,7 +2,7 @@
 use Rattle.std.specs.Prelude.{◌≡◌, ◌≤◌, ◌+◌, ℕ, suc, Bool, List, [], ◌∷◌, ◌++◌, IsTrue, length}
 use Rattle.program_runs.specs.declared.worlds.records.Recorded.{Recorded}
 use Rattle.search.specs.declared.run_outcomes.wanted.Wanted.{Wanted}
-use Rattle.sweeps.specs.declared.sweeping.Sweep.{Sweep}
+use Rattle.sweeps.specs.declared.sweeping.SweepReport.{SweepReport}
 use Rattle.sweeps.specs.declared.sweeping.SweepEnd.{SweepEnd}
 use Rattle.sweeps.specs.declared.sweeping.SweepEnd.TheVariants as ends
 use Rattle.sweeps.specs.Shown.{IsShownWanted, shown_by}
@@ -30,7 +30,7 @@ EndsSo ends.Found may_stop want first last runs = (before : List Recorded) × (r
 EndsSo ends.GaveUp may_stop want first last runs = IsTrue may_stop × (suc first ≤ first + length runs) × (first + length runs ≤ last) × NoneShows want runs
 
 -- what is told of the runs that there were
-pub record Sweeps (IsRun : ℕ → Recorded → Type 0) (may_stop : Bool) (want : Wanted) (first last : ℕ) (s : Sweep) : Type 0 where
+pub record Sweeps (IsRun : ℕ → Recorded → Type 0) (may_stop : Bool) (want : Wanted) (first last : ℕ) (s : SweepReport) : Type 0 where
   pub runs : List Recorded
   pub are : AreRuns IsRun first runs
   pub first_is : s.first ≡ first

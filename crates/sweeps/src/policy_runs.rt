@@ -12,6 +12,7 @@ use program_runs::policies::{Policy, run_linked};
 use program_runs::workers::Gate;
 use program_runs::worlds::Recorded;
 use std::alloc::{AllocError, Global};
+use std::marker::Model;
 use std::sync::Arc;
 use verifier::Verified;
 
@@ -55,15 +56,47 @@ impl Gate for Unwatched {
     fn turn_ends(&self, _events: u32) {}
 }
 
-/// Runs of verified class files by a policy, under limits and with a budget of events.
+/// Runs of verified class files by a policy, under limits and with a budget of events for each.
 pub struct PolicyRuns<'a> {
-    pub verified: &'a Arc<Verified>,
-    /// All that a run needs of the class files.
-    pub program: &'a Arc<LinkedProgram>,
-    pub limits: Limits,
-    pub budget: u32,
-    pub policy: SeededPolicy,
-    pub ghost linked: { IsProgramOf (arc_value verified.now) (arc_value program.now) },
+    verified: &'a Arc<Verified>,
+    program: &'a Arc<LinkedProgram>,
+    limits: Limits,
+    budget: u32,
+    policy: SeededPolicy,
+}
+
+impl Model for PolicyRuns<'_> {
+    ghost use Rattle.std.specs.Arc.{arc_value};
+    ghost use Rattle.machine.specs.Machines.{IsProgramOf};
+    ghost use Rattle.sweeps.specs.Policies.{RunsBy};
+
+    ghost Value = { RunsBy };
+
+    ghost view = { λ s. record { policy = s.policy; trees = arc_value s.verified.now; limits = s.limits; budget = s.budget } };
+
+    ghost invariant = { λ s. IsProgramOf (arc_value s.verified.now) (arc_value s.program.now) };
+}
+
+impl<'a> PolicyRuns<'a> {
+    /// Those of class files of which there is all that a run needs.
+    pub fn new(
+        verified: &'a Arc<Verified>,
+        program: &'a Arc<LinkedProgram>,
+        limits: Limits,
+        budget: u32,
+        policy: SeededPolicy,
+    ) -> PolicyRuns<'a>
+        requires { IsProgramOf (arc_value verified.now) (arc_value program.now) }
+        ensures { result ≡ record { policy = policy; trees = arc_value verified.now; limits = limits; budget = budget } }
+    {
+        PolicyRuns {
+            verified,
+            program,
+            limits,
+            budget,
+            policy,
+        }
+    }
 }
 
 /// A run, unless it ended for want of memory.
@@ -77,10 +110,9 @@ fn unless_memory(recorded: Recorded) -> Result<Recorded, AllocError>
 }
 
 impl SeedRuns for PolicyRuns<'_> {
-    ghost use Rattle.std.specs.Arc.{arc_value};
     ghost use Rattle.sweeps.specs.Policies.{IsRunWith};
 
-    ghost is_run = { λ s seed r. IsRunWith s.policy (arc_value s.verified.now) s.limits s.budget seed r };
+    ghost is_run = { IsRunWith };
 
     fn run(&self, alloc: Global, seed: u64) -> Result<Recorded, AllocError> {
         let verified = Arc::try_clone(self.verified)?;

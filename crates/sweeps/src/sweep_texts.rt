@@ -13,7 +13,7 @@ ghost use Rattle.sweeps.specs.Texts.{cut_line, cut_part, cut_texts, end_text, is
 use crate::policy_runs::SeededPolicy;
 use crate::same_runs::SameRuns;
 use crate::shown::Shown;
-use crate::sweeping::{Sweep, SweepEnd};
+use crate::sweeping::{SweepReport, SweepEnd};
 use crate::tallies::Tally;
 use schedule::report::{push_line, push_printed, push_threads};
 use search::run_outcomes::Outcome;
@@ -79,6 +79,17 @@ fn push_same(
     }
 }
 
+/// The number of the next outcome behind this one, or behind what is none.
+fn next_number(same: &SameRuns, number: usize) -> usize
+    requires { number < usize.MAX }
+    ensures { result ≡ spec.next_number (shown_in same.now.shown) number }
+{
+    match &same.shown {
+        Shown::Outcome(_) => number + 1,
+        Shown::Budget | Shown::Refused => number,
+    }
+}
+
 /// The outcomes among these, numbered from 1 on.
 fn push_outcomes(
     alloc: Global,
@@ -91,9 +102,7 @@ fn push_outcomes(
     let mut number = 1usize;
     for same in listed {
         push_same(alloc, text, all, number, same)?;
-        if same.shown.is_outcome() {
-            number += 1;
-        }
+        number = next_number(same, number);
     }
     Ok(())
 }
@@ -115,16 +124,24 @@ fn push_cut(
     )
 }
 
+/// A line of runs that have no outcome, where these have none.
+fn push_cut_part(alloc: Global, text: &mut Vec<u8>, same: &SameRuns) -> Result<(), AllocError>
+    ensures { OnOk result (text.new.items
+        ≡ text.old.items ++ cut_part (shown_in same.now.shown) (same_in same.now)) }
+{
+    match &same.shown {
+        Shown::Outcome(_) => Ok(()),
+        Shown::Budget => push_cut(alloc, text, "budget ", same),
+        Shown::Refused => push_cut(alloc, text, "refused ", same),
+    }
+}
+
 /// The lines of those that have no outcome.
 fn push_cuts(alloc: Global, text: &mut Vec<u8>, listed: &[SameRuns]) -> Result<(), AllocError>
     ensures { OnOk result (text.new.items ≡ text.old.items ++ cut_texts (map same_in listed.now)) }
 {
     for same in listed {
-        match &same.shown {
-            Shown::Outcome(_) => {}
-            Shown::Budget => push_cut(alloc, text, "budget ", same)?,
-            Shown::Refused => push_cut(alloc, text, "refused ", same)?,
-        }
+        push_cut_part(alloc, text, same)?;
     }
     Ok(())
 }
@@ -245,7 +262,7 @@ fn push_end(
 /// memory.
 pub fn sweep_text(
     alloc: Global,
-    sweep: &Sweep,
+    sweep: &SweepReport,
     policy: SeededPolicy,
     words: &str,
 ) -> Result<Vec<u8>, AllocError>

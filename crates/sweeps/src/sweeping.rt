@@ -23,7 +23,7 @@ pub enum SweepEnd {
 
 /// What has come of a sweep.
 #[derive(Drop)]
-pub struct Sweep {
+pub struct SweepReport {
     /// The seed of the first run.
     pub first: u64,
     pub tally: Tally,
@@ -39,7 +39,7 @@ pub fn sweep<S: SeedRuns, W: Watch>(
     wanted: &Wanted,
     first: u64,
     last: u64,
-) -> Result<Sweep, AllocError>
+) -> Result<SweepReport, AllocError>
     requires { first ≤ last }
     ensures { IfOk result (Sweeps (S.is_run runs.now) (W.may_stop watch.now) wanted.now first last) }
 {
@@ -51,13 +51,13 @@ pub fn sweep<S: SeedRuns, W: Watch>(
         watch.runs_done(tally.runs());
         if is_wanted {
             let end = SweepEnd::Found;
-            return Ok(Sweep { first, tally, end });
+            return Ok(SweepReport { first, tally, end });
         }
         if seed < last && watch.is_over() {
             let end = SweepEnd::GaveUp;
-            return Ok(Sweep { first, tally, end });
+            return Ok(SweepReport { first, tally, end });
         }
     }
     let end = SweepEnd::Done;
-    Ok(Sweep { first, tally, end })
+    Ok(SweepReport { first, tally, end })
 }

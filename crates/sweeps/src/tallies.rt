@@ -20,6 +20,7 @@ pub struct Tally {
 }
 
 impl Model for Tally {
+    ghost use Rattle.std.specs.Prelude.{map};
     ghost use Rattle.sweeps.specs.Tallies.{HasRoom, TallyOf};
     ghost use Rattle.sweeps.specs.Tallies as spec;
 

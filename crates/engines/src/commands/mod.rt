@@ -7,8 +7,8 @@ mod replays;
 mod runs;
 mod schedules;
 mod searches;
+mod seed_sweeps;
 mod storing;
-mod sweeps;
 
 pub(crate) use event_traces::trace;
 pub(crate) use given_files::{disasm, verify};

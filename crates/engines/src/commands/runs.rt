@@ -8,8 +8,8 @@ ghost use Rattle.engines.specs.Files.{held_at};
 ghost use Rattle.engines.specs.Failures.{FolderMayFail, TellsFailures};
 ghost use Rattle.engines.specs.Runs.{IsUnrun, Runs};
 
+use crate::commands::seed_sweeps::sweep_files;
 use crate::commands::storing::{recorded, try_record};
-use crate::commands::sweeps::sweep_files;
 use crate::explanation::Explanation;
 use crate::fault::Fault;
 use crate::going_on::how_to_go_on;

@@ -28,8 +28,8 @@ runs_with IsRun first (x ∷ runs) r h is =
     (h.0, runs_with IsRun (suc first) runs r h.1 (subst (λ n. IsRun n r) number is))
 
 none_with : (want : Wanted) (runs : List Recorded) (r : Recorded) → NoneShows want runs → (Shows want r → ⊥) → NoneShows want (runs ++ r ∷ [])
-none_with want [] r h no = (no, tt)
-none_with want (x ∷ runs) r h no = (h.0, none_with want runs r h.1 no)
+none_with want [] r h lacks = (lacks, tt)
+none_with want (x ∷ runs) r h lacks = (h.0, none_with want runs r h.1 lacks)
 
 module _ (IsRun : ℕ → Recorded → Type 0) (want : Wanted) (first seed : ℕ) (old new : TallyOf) (h : HasSwept IsRun want first seed old) (r : Recorded) (is : IsRun seed r)
     (e : new ≡ with_run (shown_by r) (events_of r.schedule) r.report.events seed old) where
@@ -43,10 +43,10 @@ module _ (IsRun : ℕ → Recorded → Type 0) (want : Wanted) (first seed : ℕ
       ∙ (ap (λ n. with_run (shown_by r) (events_of r.schedule) r.report.events n (tally_of first h.runs)) (sym h.count) ∙ one_more first h.runs r))
 
   pub goes_on : (Shows want r → ⊥) → HasSwept IsRun want first (seed + 1) new
-  goes_on no = record {
+  goes_on lacks = record {
     runs = h.runs ++ r ∷ [];
     are = are_more;
     count = let count : length (h.runs ++ r ∷ []) ≡ length h.runs + 1 = length-append h.runs (r ∷ []) in omega (arith, count, h.count);
     tally_is = tally_more;
-    none = none_with want h.runs r h.none no;
+    none = none_with want h.runs r h.none lacks;
   }

@@ -2,7 +2,7 @@ use Rattle.std.proofs.Common.{◌∙◌, ap, sum_by}
 use Rattle.engines.specs.Failures.{FolderMayFail}
 use Rattle.engines.specs.Files.{failures_of}
 use Rattle.engines.proofs.FailureLemmas.{failed_of, told_by}
-use Rattle.engines.proofs.commands.sweeps.sweep_for.Goals as goal
+use Rattle.engines.proofs.commands.seed_sweeps.sweep_for.Goals as goal
 
 pub returns-clause-told : goal.returns-clause-told
 returns-clause-told g c =
