@@ -26,7 +26,7 @@ pub struct ContinuedTries<'a> {
     wanted: &'a Wanted,
 }
 
-impl Model for ContinuedTries<'_> {
+impl<'a> Model for ContinuedTries<'a> {
     ghost use Rattle.std.specs.Arc.{arc_value};
     ghost use Rattle.machine.specs.Machines.{IsProgramOf};
     ghost use Rattle.shrinking.specs.Shrunk.{TriesFor};

@@ -65,7 +65,7 @@ pub struct PolicyRuns<'a> {
     policy: SeededPolicy,
 }
 
-impl Model for PolicyRuns<'_> {
+impl<'a> Model for PolicyRuns<'a> {
     ghost use Rattle.std.specs.Arc.{arc_value};
     ghost use Rattle.machine.specs.Machines.{IsProgramOf};
     ghost use Rattle.sweeps.specs.Policies.{RunsBy};
