@@ -22,11 +22,7 @@ fn push_number(
 }
 
 /// The limits that are asked for.
-fn push_limits(
-    alloc: Global,
-    words: &mut String,
-    limits: &LimitOptions,
-) -> Result<(), AllocError>
+fn push_limits(alloc: Global, words: &mut String, limits: &LimitOptions) -> Result<(), AllocError>
     ensures { OnOk result (string_bytes words.new ≡ string_bytes words.old ++ spec.limit_words limits.now) }
 {
     push_number(alloc, words, " --objects ", limits.objects)?;

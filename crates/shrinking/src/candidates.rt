@@ -9,10 +9,7 @@ use schedule::Schedule;
 use std::alloc::{AllocError, Global};
 
 /// Adds an entry to a schedule that is being made: to the last one, where one may stand for the events of both.
-fn push_joined(
-    entries: &mut Vec<ScheduleEntry>,
-    entry: ScheduleEntry,
-) -> Result<(), AllocError>
+fn push_joined(entries: &mut Vec<ScheduleEntry>, entry: ScheduleEntry) -> Result<(), AllocError>
     requires fit { AllFit entries.old.items }
     requires fits { EntryFits entry }
     ensures fit { OnOk result (AllFit entries.new.items) }

@@ -63,12 +63,7 @@ impl<'a> ContinuedTries<'a> {
 
 /// Whether a run that came to this report and this end has a wanted outcome. The only error is a want of memory, in the
 /// run, too.
-fn ends_wanted(
-    alloc: Global,
-    wanted: &Wanted,
-    report: Report,
-    end: End,
-) -> Result<bool, AllocError>
+fn ends_wanted(alloc: Global, wanted: &Wanted, report: Report, end: End) -> Result<bool, AllocError>
     ensures { IfOk result (λ b. IsTrue b ↔ EndsWanted wanted.now report end) }
 {
     match end {
@@ -104,14 +99,7 @@ impl Tries for ContinuedTries<'_> {
     fn has(&self, alloc: Global, schedule: &Schedule) -> Result<bool, AllocError> {
         let verified = Arc::try_clone(self.verified)?;
         let program = Arc::try_clone(self.program)?;
-        let run = run_linked_on(
-            alloc,
-            verified,
-            program,
-            schedule,
-            self.limits,
-            self.budget,
-        )?;
+        let run = run_linked_on(alloc, verified, program, schedule, self.limits, self.budget)?;
         comes_to(alloc, self.wanted, run)
     }
 }

@@ -59,7 +59,7 @@ module _ {A S : Type 0} (g : A → S) (t : S → Bool) (again : S → S) (new : 
         by false p others =
             let number : i + suc at ≡ i + 1 + at = omega arith in
             let rest : position_from test (i + 1) xs ≡ Some (i + 1 + at) =
-                sym (ap (λ c. cond c (Some i) (position_from test (i + 1) xs)) p) ∙ (e ∙ ap Some number)
+            sym (ap (λ c. cond c (Some i) (position_from test (i + 1) xs)) p) ∙ (e ∙ ap Some number)
             in
             ap (λ c. cond c (again (g z) ∷ map g xs) (g z ∷ more (map g xs))) p ∙ ap (λ l. g z ∷ l) (others rest is)
 
@@ -84,7 +84,7 @@ module _ {A S : Type 0} (g : A → S) (t : S → Bool) (again : S → S) (new : 
       by false p others =
           let number : i + suc at ≡ i + 1 + at = omega arith in
           let rest : position_from test (i + 1) xs ≡ Some (i + 1 + at) =
-              sym (ap (λ c. cond c (Some i) (position_from test (i + 1) xs)) p) ∙ (e ∙ ap Some number)
+          sym (ap (λ c. cond c (Some i) (position_from test (i + 1) xs)) p) ∙ (e ∙ ap Some number)
           in
           others rest
 

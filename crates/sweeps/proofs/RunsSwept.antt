@@ -10,7 +10,7 @@ use Rattle.sweeps.specs.declared.sweeping.SweepEnd.{SweepEnd}
 use Rattle.sweeps.specs.declared.sweeping.SweepEnd.TheVariants as ends
 use Rattle.sweeps.specs.declared.sweeping.SweepReport.{SweepReport}
 use Rattle.sweeps.specs.Shown.{IsShownWanted, shown_by, shown_in}
-use Rattle.sweeps.specs.Sweeps.{AreRuns, EndsSo, NoneShows, Shows, Sweeps}
+use Rattle.sweeps.specs.Sweeps.{AreRuns, EndsSo, HasRun, NoneShows, Shows, Sweeps, last_end}
 use Rattle.sweeps.specs.Tallies.{TallyOf, tally_of, with_run}
 use Rattle.sweeps.proofs.Tallying.{one_more}
 
@@ -58,59 +58,69 @@ module _ (IsRun : ℕ → Recorded → Type 0) (want : Wanted) (first seed : ℕ
 
 -- ---- a run, as it is told of
 
-module _ (IsRun : ℕ → Recorded → Type 0) (may_stop : Bool) (want : Wanted) (first last seed : ℕ) (old new : TallyOf) (h : HasSwept IsRun want first seed old)
-    (r : Recorded) (ran : Ran) (is : IsRun seed r) (shown : shown_in ran.shown ≡ shown_by r) (events : events_of ran.schedule ≡ events_of r.schedule)
-    (count : ran.events ≡ r.report.events) (e : new ≡ with_run (shown_in ran.shown) (events_of ran.schedule) ran.events seed old)
+module _ (IsRun : ℕ → Recorded → Type 0) (want : Wanted) (seed : ℕ) (old new : TallyOf) (r : Recorded) (ran : Ran) (is : IsRun seed r)
+    (shown : shown_in ran.shown ≡ shown_by r) (events : events_of ran.schedule ≡ events_of r.schedule) (count : ran.events ≡ r.report.events)
+    (e : new ≡ with_run (shown_in ran.shown) (events_of ran.schedule) ran.events seed old)
     (b : Bool) (wanted : (IsTrue b → IsShownWanted want (shown_in ran.shown)) × (IsShownWanted want (shown_in ran.shown) → IsTrue b)) where
-  as_run : new ≡ with_run (shown_by r) (events_of r.schedule) r.report.events seed old
-  as_run =
-      e
-      ∙ (ap (λ s. with_run s (events_of ran.schedule) ran.events seed old) shown
-      ∙ (ap (λ l. with_run (shown_by r) l ran.events seed old) events ∙ ap (λ n. with_run (shown_by r) (events_of r.schedule) n seed old) count))
+  pub has_run : HasRun IsRun want seed b old new
+  has_run = record {
+    run = r;
+    is = is;
+    counted =
+        e
+        ∙ (ap (λ s. with_run s (events_of ran.schedule) ran.events seed old) shown
+        ∙ (ap (λ l. with_run (shown_by r) l ran.events seed old) events ∙ ap (λ n. with_run (shown_by r) (events_of r.schedule) n seed old) count));
+    shows = λ it. subst (IsShownWanted want) shown (wanted.0 it);
+    lacks = λ it shows. let is_so : b ≡ true = wanted.1 (subst (IsShownWanted want) (sym shown) shows) in let bad : true ≡ false = sym is_so ∙ it in cc;
+  }
 
-  shows_if : b ≡ true → Shows want r
-  shows_if yes = subst (IsShownWanted want) shown (wanted.0 yes)
+-- ---- what a sweep comes to
 
-  lacks_if : b ≡ false → Shows want r → ⊥
-  lacks_if none shows = let yes : b ≡ true = wanted.1 (subst (IsShownWanted want) (sym shown) shows) in let bad : true ≡ false = sym yes ∙ none in cc
-
+module _ (IsRun : ℕ → Recorded → Type 0) (may_stop : Bool) (want : Wanted) (first last seed : ℕ) (old new : TallyOf) (h : HasSwept IsRun want first seed old)
+    (b : Bool) (one : HasRun IsRun want seed b old new) where
   pub swept_on : b ≡ false → HasSwept IsRun want first (seed + 1) new
-  swept_on none = goes_on IsRun want first seed old new h r is as_run (lacks_if none)
+  swept_on it = goes_on IsRun want first seed old new h one.run one.is one.counted (one.lacks it)
 
   module _ (report : SweepReport) (first_is : report.first ≡ first) (tally_is : report.tally ≡ new) where
     pub found_by : b ≡ true → seed ≤ last → report.end ≡ ends.Found → Sweeps IsRun may_stop want first last report
-    found_by yes le end_is = record {
-      runs = h.runs ++ r ∷ [];
-      are = are_more IsRun want first seed old new h r is as_run;
+    found_by it le end_is = record {
+      runs = h.runs ++ one.run ∷ [];
+      are = are_more IsRun want first seed old new h one.run one.is one.counted;
       first_is = first_is;
-      tally_is = tally_is ∙ tally_more IsRun want first seed old new h r is as_run;
-      ends = subst (λ (end : SweepEnd). EndsSo end may_stop want first last (h.runs ++ r ∷ [])) (sym end_is) (h.runs, r, refl, omega (arith, h.count, le), h.none, shows_if yes);
+      tally_is = tally_is ∙ tally_more IsRun want first seed old new h one.run one.is one.counted;
+      ends = subst (λ (end : SweepEnd). EndsSo end may_stop want first last (h.runs ++ one.run ∷ [])) (sym end_is)
+          (h.runs, one.run, refl, omega (arith, h.count, le), h.none, one.shows it);
     }
 
+    count_more : length (h.runs ++ one.run ∷ []) ≡ length h.runs + 1
+    count_more = length-append h.runs (one.run ∷ [])
+
     pub gave_up_by : b ≡ false → seed < last → IsTrue may_stop → report.end ≡ ends.GaveUp → Sweeps IsRun may_stop want first last report
-    gave_up_by none less may end_is =
-        let on = swept_on none in
-        let runs : length on.runs ≡ length h.runs + 1 = length-append h.runs (r ∷ []) in
-        record {
-          runs = on.runs;
-          are = on.are;
-          first_is = first_is;
-          tally_is = tally_is ∙ on.tally_is;
-          ends = subst (λ (end : SweepEnd). EndsSo end may_stop want first last on.runs) (sym end_is)
-              (may, omega (arith, runs), omega (arith, on.count, less), on.none);
-        }
+    gave_up_by it less may end_is = record {
+      runs = h.runs ++ one.run ∷ [];
+      are = are_more IsRun want first seed old new h one.run one.is one.counted;
+      first_is = first_is;
+      tally_is = tally_is ∙ tally_more IsRun want first seed old new h one.run one.is one.counted;
+      ends = subst (λ (end : SweepEnd). EndsSo end may_stop want first last (h.runs ++ one.run ∷ [])) (sym end_is)
+          (may, omega (arith, count_more), omega (arith, count_more, h.count, less), none_with want h.runs one.run h.none (one.lacks it));
+    }
 
--- ---- all seeds
+    pub done_by : b ≡ false → seed ≡ last → report.end ≡ ends.Done → Sweeps IsRun may_stop want first last report
+    done_by it all end_is = record {
+      runs = h.runs ++ one.run ∷ [];
+      are = are_more IsRun want first seed old new h one.run one.is one.counted;
+      first_is = first_is;
+      tally_is = tally_is ∙ tally_more IsRun want first seed old new h one.run one.is one.counted;
+      ends = subst (λ (end : SweepEnd). EndsSo end may_stop want first last (h.runs ++ one.run ∷ [])) (sym end_is)
+          (omega (arith, count_more, h.count, all), none_with want h.runs one.run h.none (one.lacks it));
+    }
 
-module _ (IsRun : ℕ → Recorded → Type 0) (may_stop : Bool) (want : Wanted) (first last seed : ℕ) (t : TallyOf) (h : HasSwept IsRun want first seed t) where
-  pub done_by : seed ≡ last + 1 → (report : SweepReport) → report.first ≡ first → report.tally ≡ t → report.end ≡ ends.Done → Sweeps IsRun may_stop want first last report
-  done_by all report first_is tally_is end_is = record {
-    runs = h.runs;
-    are = h.are;
-    first_is = first_is;
-    tally_is = tally_is ∙ h.tally_is;
-    ends = subst (λ (end : SweepEnd). EndsSo end may_stop want first last h.runs) (sym end_is) (omega (arith, h.count, all), h.none);
-  }
+    pub last_by : seed ≡ last → report.end ≡ last_end b → Sweeps IsRun may_stop want first last report
+    last_by all end_is = by b refl
+      where
+        by : (x : Bool) → b ≡ x → Sweeps IsRun may_stop want first last report
+        by true it = found_by it (omega (arith, all)) (end_is ∙ ap last_end it)
+        by false it = done_by it all (end_is ∙ ap last_end it)
 
-  pub few_runs : seed < 2 ^ 64 → t.runs < 2 ^ 64
-  few_runs less = let runs : t.runs ≡ length h.runs = ap (λ (x : TallyOf). x.runs) h.tally_is in omega (arith, runs, h.count, less)
+pub few_runs : (IsRun : ℕ → Recorded → Type 0) (want : Wanted) (first seed : ℕ) (t : TallyOf) → HasSwept IsRun want first seed t → seed < 2 ^ 64 → t.runs < 2 ^ 64
+few_runs IsRun want first seed t h less = let runs : t.runs ≡ length h.runs = ap (λ (x : TallyOf). x.runs) h.tally_is in omega (arith, runs, h.count, less)

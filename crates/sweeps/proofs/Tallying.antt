@@ -69,12 +69,12 @@ pub one_more : (seed : ℕ) (runs : List Recorded) (r : Recorded)
     → with_run (shown_by r) (events_of r.schedule) r.report.events (seed + length runs) (tally_of seed runs) ≡ tally_of seed (runs ++ r ∷ [])
 one_more seed runs r =
     let same : with_one_more (shown_by r) (events_of r.schedule) (seed + length runs) (map same_as (firsts show_same seed runs))
-        ≡ map same_as (firsts show_same seed (runs ++ r ∷ [])) =
-        sym (told_added r (seed + length runs) (firsts show_same seed runs)) ∙ ap (map same_as) (one_run_more show_same laws seed runs r)
+    ≡ map same_as (firsts show_same seed (runs ++ r ∷ [])) =
+    sym (told_added r (seed + length runs) (firsts show_same seed runs)) ∙ ap (map same_as) (one_run_more show_same laws seed runs r)
     in
     let count : length runs + 1 ≡ length (runs ++ r ∷ []) = sym (length-append runs (r ∷ [])) in
     let events : sum_by (λ (x : Recorded). x.report.events) runs + r.report.events ≡ sum_by (λ (x : Recorded). x.report.events) (runs ++ r ∷ []) =
-        sym (sum_by_push (λ (x : Recorded). x.report.events) runs r)
+    sym (sum_by_push (λ (x : Recorded). x.report.events) runs r)
     in
     all_three same count events
   where

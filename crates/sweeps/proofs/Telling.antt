@@ -1,5 +1,5 @@
 -- The text of a sweep, as far as it has been written.
-use Rattle.std.proofs.Common.{◌≡◌, ◌≤◌, ◌<◌, ◌+◌, ◌++◌, ℕ, suc, List, [], ◌∷◌, length, map, drop, get_or, cond, refl, sym, ap, subst, ◌∙◌, append_assoc, arith}
+use Rattle.std.proofs.Common.{◌≡◌, ◌≤◌, ◌<◌, ◌+◌, ◌++◌, ℕ, suc, Bool, List, [], ◌∷◌, length, map, drop, get_or, cond, refl, sym, ap, subst, ◌∙◌, append_assoc, arith}
 use Rattle.std.specs.Prelude.{count_by}
 use Rattle.std.specs.List.{flat_map}
 use Rattle.std.proofs.Math.Seq.{drop-cons}
@@ -57,7 +57,6 @@ cuts_end listed at whole text le h =
     sym (append-nil text) ∙ (ap (λ l. text ++ cut_texts (map same_in l)) (sym none) ∙ h)
 
 -- ---- how many
-
 
 pub count_through : (p : Same → Bool) (listed : List SameRuns) → count_by p (map same_in listed) ≡ count_by (λ s. p (same_in s)) listed
 count_through p [] = refl

@@ -15,6 +15,6 @@ pub use same_runs::SameRuns;
 pub use seed_runs::SeedRuns;
 pub use shown::{Ran, Shown};
 pub use sweep_texts::sweep_text;
-pub use sweeping::{SweepReport, SweepEnd, sweep};
+pub use sweeping::{SweepEnd, SweepReport, sweep};
 pub use tallies::Tally;
 pub use watch::Watch;

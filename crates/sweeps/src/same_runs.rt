@@ -1,6 +1,6 @@
 //! Runs that show the same.
 
-ghost use Rattle.std.specs.Prelude.{◌≡◌, ◌<◌, ◌≤◌, ◌^◌, OnOk, map, position, vec_len};
+ghost use Rattle.std.specs.Prelude.{◌≡◌, ◌<◌, ◌≤◌, ◌^◌, OnErr, OnOk, map, position, vec_len};
 ghost use Rattle.model.specs.Schedule.{events_of};
 ghost use Rattle.sweeps.specs.Shown.{is_same_shown, shown_in};
 ghost use Rattle.sweeps.specs.Tallies.{AreFew, IsCountedAt, same_in, with_one_more};
@@ -45,8 +45,9 @@ pub(crate) fn count(
     seed: u64,
 ) -> Result<(), AllocError>
     requires { AreFew (2 ^ 64) (map same_in listed.old.items) }
-    ensures { OnOk result (map same_in listed.new.items
+    ensures counted { OnOk result (map same_in listed.new.items
         ≡ with_one_more (shown_in shown) (events_of schedule) seed (map same_in listed.old.items)) }
+    ensures still { OnErr result (listed.new.items ≡ listed.old.items) }
 {
     match place_of(listed, &shown) {
         Some(at) => {

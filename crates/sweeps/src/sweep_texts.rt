@@ -13,7 +13,7 @@ ghost use Rattle.sweeps.specs.Texts.{cut_line, cut_part, cut_texts, end_text, is
 use crate::policy_runs::SeededPolicy;
 use crate::same_runs::SameRuns;
 use crate::shown::Shown;
-use crate::sweeping::{SweepReport, SweepEnd};
+use crate::sweeping::{SweepEnd, SweepReport};
 use crate::tallies::Tally;
 use schedule::report::{push_line, push_printed, push_threads};
 use search::run_outcomes::Outcome;
@@ -148,7 +148,7 @@ fn push_cuts(alloc: Global, text: &mut Vec<u8>, listed: &[SameRuns]) -> Result<(
 
 /// How many outcomes are among these.
 fn outcome_count(listed: &[SameRuns]) -> usize
-    ensures { result ≡ count_by (λ s. is_outcome (shown_in s.shown)) listed.now }
+    ensures { result ≡ spec.outcomes_in (map same_in listed.now) }
 {
     listed.iter().filter(|same| same.shown.is_outcome()).count()
 }
@@ -162,18 +162,13 @@ fn is_once(same: &SameRuns) -> bool
 
 /// How many outcomes one run alone has shown.
 fn once_count(listed: &[SameRuns]) -> usize
-    ensures { result ≡ count_by (λ s. is_outcome (shown_in s.shown) && (s.count == 1)) listed.now }
+    ensures { result ≡ spec.once_in (map same_in listed.now) }
 {
     listed.iter().filter(|same| is_once(same)).count()
 }
 
 /// How many runs there were, and by which seeds.
-fn push_seeds(
-    alloc: Global,
-    text: &mut Vec<u8>,
-    runs: u128,
-    first: u64,
-) -> Result<(), AllocError>
+fn push_seeds(alloc: Global, text: &mut Vec<u8>, runs: u128, first: u64) -> Result<(), AllocError>
     requires { runs ≤ 2 ^ 64 }
     ensures { OnOk result (text.new.items ≡ text.old.items ++ seeds_line runs first) }
 {
@@ -249,7 +244,10 @@ fn push_end(
         SweepEnd::GaveUp => push_line(text, b"sweep gave up: seconds"),
         SweepEnd::Found => {
             push_line(text, b"sweep found")?;
-            push_line(text, format!(in alloc; "jvm run --seed {seed}{words}")?.as_bytes())
+            push_line(
+                text,
+                format!(in alloc; "jvm run --seed {seed}{words}")?.as_bytes(),
+            )
         }
     }
 }

@@ -1,6 +1,6 @@
 //! What runs have shown so far, and how often.
 
-ghost use Rattle.std.specs.Prelude.{◌≡◌, ◌<◌, ◌^◌, OnOk, map, length};
+ghost use Rattle.std.specs.Prelude.{◌≡◌, ◌<◌, ◌≤◌, ◌^◌, OnOk, map, length};
 ghost use Rattle.model.specs.Schedule.{events_of};
 ghost use Rattle.sweeps.specs.Shown.{shown_in};
 ghost use Rattle.sweeps.specs.Tallies.{empty, same_in, with_run};
@@ -52,7 +52,8 @@ impl Tally {
 
     /// How many runs there were.
     pub fn runs(&self) -> u128
-        ensures { result ≡ self.now.runs }
+        ensures value { result ≡ self.now.runs }
+        ensures few { result ≤ 2 ^ 64 }
     {
         self.count
     }

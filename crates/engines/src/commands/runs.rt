@@ -49,16 +49,7 @@ pub(crate) fn run<R: Threads + Wait + Sync, G: Gate + Seeds + Sync, F: Folder, W
 {
     match &options.sweep {
         Some(sweep) => sweep_files(alloc, folder, files, options, sweep, output),
-        None => run_files(
-            rt,
-            alloc,
-            gate,
-            folder,
-            files,
-            options,
-            output,
-            explanation,
-        ),
+        None => run_files(rt, alloc, gate, folder, files, options, output, explanation),
     }
 }
 

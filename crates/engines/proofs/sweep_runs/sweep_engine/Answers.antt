@@ -34,9 +34,12 @@ returns-in_err-write_all-clause-faulty g c =
     let accepted = subst (λ files. IsAccepted (map vec_items files) trees) c.as_slice-files.ensures.value c.in_ok-verified.ensures.accepted in
     let contents = g.W.Sink.contents in
     let written = subst (AppendsFront (contents c.args.report.now) (contents c.write_all.new.self)) c.as_slice.ensures.value c.in_err-write_all.ensures.part in
-    rw (p.1, p.2) (part_is_unswept _ _ _ _ _ _ _ _ (inr (_, _,
-    record { files = map vec_items c.in_ok-read.read.items; read = c.in_ok-read.ensures.read; trees = trees; accepted = accepted; swept = c.in_ok-swept.ensures },
-    written)))
+    rw (p.1, p.2) (part_is_unswept _ _ _ _ _ _ _ _ (inr (
+      _,
+      _,
+      record { files = map vec_items c.in_ok-read.read.items; read = c.in_ok-read.ensures.read; trees = trees; accepted = accepted; swept = c.in_ok-swept.ensures },
+      written,
+    )))
 
 pub returns-clause-swept : goal.returns-clause-swept
 returns-clause-swept g c =

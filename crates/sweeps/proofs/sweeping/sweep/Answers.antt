@@ -1,5 +1,22 @@
-use Rattle.sweeps.proofs.RunsSwept.{are_more, begins, goes_on, tally_more}
+use Rattle.std.proofs.Common.{◌≤◌, ◌<◌, ◌^◌, arith, refl}
+use Rattle.sweeps.proofs.RunsSwept.{begins, few_runs, found_by, gave_up_by, last_by, swept_on}
 use Rattle.sweeps.proofs.sweeping.sweep.Goals as goal
 
 pub seeds-init : goal.seeds-init
 seeds-init g c = begins _ _ _ _ c.new-tally.ensures
+
+pub run_seed-is_wanted-requires : goal.run_seed-is_wanted-requires
+run_seed-is_wanted-requires g c = few_runs _ _ _ c.seeds.seed _ c.seeds.invariant (omega (arith, c.ranges.last.fits, c.seeds-test.true))
+
+pub seeds-preserved : goal.seeds-preserved
+seeds-preserved g c =
+    swept_on _ (g.W.Watch.may_stop c.args.watch.now) _ c.args.first c.args.last c.seeds.seed _ _ c.seeds.invariant _ c.in_ok-is_wanted.ensures c.if-is_wanted.false
+
+pub returns-then-is_wanted : goal.returns-then-is_wanted
+returns-then-is_wanted g c =
+    found_by _ _ _ c.args.first c.args.last c.seeds.seed _ _ c.seeds.invariant _ c.in_ok-is_wanted.ensures _ refl refl c.if-is_wanted.true (omega (arith, c.seeds-test.true)) refl
+
+pub returns-then-is_over : goal.returns-then-is_over
+returns-then-is_over g c =
+    gave_up_by _ _ _ c.args.first c.args.last c.seeds.seed _ _ c.seeds.invariant _ c.in_ok-is_wanted.ensures _ refl refl c.if-is_wanted.false (omega (arith, c.seeds-test.true))
+    (c.is_over.ensures c.if-is_over.true) refl
