@@ -1,6 +1,5 @@
-use Rattle.std.proofs.Common.{◌≡◌, ◌<◌, ◌++◌, ◌∷◌, [], length, map, take, get_or, string_bytes, sym, ap, subst, arith}
-use Rattle.advice.specs.Reading.{bytes_of}
-use Rattle.engines.specs.Engines.{Reads, ReadsEach}
+use Rattle.std.proofs.Common.{subst, arith}
+use Rattle.engines.specs.Engines.{Reads}
 use Rattle.engines.proofs.AdviceLemmas.{file_read, all_read}
 use Rattle.engines.proofs.advised.named_files.Goals as goal
 
