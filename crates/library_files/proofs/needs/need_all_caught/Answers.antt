@@ -1,0 +1,15 @@
+use Rattle.std.proofs.Common.{arith, refl}
+use Rattle.library_files.specs.Needs.{caught_classes}
+use Rattle.library_files.proofs.Adding.{adds_nothing, adds_step, adds_all}
+use Rattle.library_files.proofs.needs.need_all_caught.Goals as goal
+
+pub loop-entry-init : goal.loop-entry-init
+loop-entry-init c = adds_nothing c.args.file.now.pool c.args.texts.now
+
+pub loop-entry-preserved : goal.loop-entry-preserved
+loop-entry-preserved c =
+    adds_step c.args.file.now.pool c.args.texts.now c.loop-entry.texts c.need_caught.new.texts (caught_classes c.args.file.now.pool) c.args.entries.now c.loop-entry.entry-index _ (omega (arith, c.loop-entry-test.true)) refl
+    c.loop-entry.invariant c.in_ok-need_caught.ensures
+
+pub returns : goal.returns
+returns c = adds_all c.args.file.now.pool c.args.texts.now c.loop-entry.texts (caught_classes c.args.file.now.pool) c.args.entries.now c.loop-entry.entry-index (omega (arith, c.loop-entry-test.false)) c.loop-entry.invariant

@@ -1,0 +1,4 @@
+pub mod NeededTexts
+pub mod Names
+pub mod Needs
+pub mod Parts
