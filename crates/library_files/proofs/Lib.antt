@@ -1,1 +1,5 @@
-pub mod Adding
+pub mod Needing
+pub mod Naming
+pub mod Offering
+pub mod Turns
+pub mod Missing

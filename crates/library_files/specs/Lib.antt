@@ -2,3 +2,5 @@ pub mod NeededTexts
 pub mod Names
 pub mod Needs
 pub mod Parts
+pub mod Adding
+pub mod Offers

@@ -1,8 +1,13 @@
 //! Which classes of a library are added to class files: those that linking would else find missing.
 #![tactic(auto)]
 
-mod needed_names;
+mod adding;
+mod library_class;
+mod names;
 mod needed_texts;
 mod needs;
+mod offers;
 
-pub use needed_names::needed_names;
+pub use adding::added_classes;
+pub use library_class::LibraryClass;
+pub use names::needed_names;

@@ -1,6 +1,6 @@
 use Rattle.std.proofs.Common.{arith, refl}
 use Rattle.library_files.specs.Needs.{caught_classes}
-use Rattle.library_files.proofs.Adding.{adds_nothing, adds_step, adds_all}
+use Rattle.library_files.proofs.Needing.{adds_nothing, adds_step, adds_all}
 use Rattle.library_files.proofs.needs.need_all_caught.Goals as goal
 
 pub loop-entry-init : goal.loop-entry-init

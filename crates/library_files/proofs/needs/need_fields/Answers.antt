@@ -2,7 +2,7 @@ use Rattle.std.proofs.Common.{arith, sym}
 use Rattle.std.proofs.lemmas.List.Folds.{flat_map-map}
 use Rattle.class_tree.specs.View.{field_of}
 use Rattle.library_files.specs.Parts.{field_classes}
-use Rattle.library_files.proofs.Adding.{adds_nothing, adds_step, adds_all, adds_same}
+use Rattle.library_files.proofs.Needing.{adds_nothing, adds_step, adds_all, adds_same}
 use Rattle.library_files.proofs.needs.need_fields.Goals as goal
 
 pub loop-field-init : goal.loop-field-init

@@ -1,6 +1,6 @@
 use Rattle.std.proofs.Common.{arith, get_or, refl}
 use Rattle.library_files.specs.Parts.{classes_at}
-use Rattle.library_files.proofs.Adding.{adds_nothing, adds_step, adds_all}
+use Rattle.library_files.proofs.Needing.{adds_nothing, adds_step, adds_all}
 use Rattle.library_files.proofs.needs.need_interfaces.Goals as goal
 
 pub loop-index-init : goal.loop-index-init

@@ -1,7 +1,7 @@
 use Rattle.std.proofs.Common.{arith, get_or, false, refl, ap, sym}
 use Rattle.std.proofs.lemmas.List.{take_all}
 use Rattle.library_files.specs.Parts.{marked_classes}
-use Rattle.library_files.proofs.Adding.{adds_nothing, adds_marked, adds_same}
+use Rattle.library_files.proofs.Needing.{adds_nothing, adds_marked, adds_same}
 use Rattle.library_files.proofs.needs.need_marked.Goals as goal
 
 pub loop-pc-init : goal.loop-pc-init

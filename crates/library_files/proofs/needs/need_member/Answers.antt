@@ -3,7 +3,7 @@ use Rattle.std.specs.Prelude.{is_some}
 use Rattle.model.specs.Tree.{NameAndType}
 use Rattle.model.specs.Spelling.{entry_at}
 use Rattle.model.specs.Pool.{utf8_at, class_name_at}
-use Rattle.library_files.proofs.Adding.{on_ok, adds_both, adds_same, member_named}
+use Rattle.library_files.proofs.Needing.{on_ok, adds_both, adds_same, member_named}
 use Rattle.library_files.proofs.needs.need_member.Goals as goal
 
 pub returns : goal.returns

@@ -1,5 +1,5 @@
 use Rattle.std.proofs.Common.{refl}
-use Rattle.library_files.proofs.Adding.{on_ok, adds_described}
+use Rattle.library_files.proofs.Needing.{on_ok, adds_described}
 use Rattle.library_files.proofs.needed_texts.NeededTexts.need_descriptor.Goals as goal
 
 pub returns : goal.returns
