@@ -76,7 +76,8 @@ def copied(program: str, folder: str) -> Dict[str, str]:
     place = os.path.join(folder, "bin")
     os.mkdir(place)
     os.symlink(os.path.realpath(program), os.path.join(place, "jvm"))
-    return {**os.environ, "PATH": place + os.pathsep + os.environ["PATH"]}
+    cache = os.path.join(folder, "cache")
+    return {**os.environ, "PATH": place + os.pathsep + os.environ["PATH"], "XDG_CACHE_HOME": cache}
 
 
 def compared(screens: List[Screen], printed: str) -> Iterator[Screen]:

@@ -154,7 +154,7 @@ abbrev pub jvm_search : App
 jvm_search = with_files (with_program (with_search_options (new_app (codes "search")))) class_files
 
 abbrev pub jvm_verify : App
-jvm_verify = with_files (with_rule (new_app (codes "verify")) (flag (codes "library"))) class_files
+jvm_verify = with_files (with_rule (with_rule (new_app (codes "verify")) (flag (codes "library"))) main_option) class_files
 
 abbrev pub jvm_disasm : App
 jvm_disasm = with_files (with_rule (new_app (codes "disasm")) (flag (codes "names"))) class_files
@@ -305,6 +305,7 @@ pub record AreSearchValues (rows : List Row) (search : Search) : Type 0 where
 
 -- the values that the words give to `jvm verify`
 pub record AreVerifyValues (rows : List Row) (verify : Verify) : Type 0 where
+  pub main : first_of (codes "main") rows ≡ option_map string_bytes verify.main
   pub files : all_of (codes "files") rows ≡ Some (map string_bytes verify.files.items)
   pub library : verify.library ≡ is_set (first_of (codes "library") rows)
   pub explain : verify.explain ≡ is_set (first_of (codes "explain") rows)

@@ -25,13 +25,9 @@ Examples:
   jvm search --for deadlock A.class
   jvm schedule a.schedule";
 
-/// What class files are that are run.
+/// What class files are of which one has the main method.
 pub(crate) const FILES_HELP: &str =
     "The class files, and folders of them; a file in front has the main method";
-
-/// What class files are that are verified.
-pub(crate) const VERIFIED_HELP: &str =
-    "The class files, and folders of them; the main method is that of the first file";
 
 /// What class files are that are listed.
 pub(crate) const LISTED_HELP: &str = "The class files, and folders of them";
@@ -136,8 +132,9 @@ pub(crate) const VERIFY_PAGE: &str = "\
 What it does:
   Links the class files and verifies the code of their methods; nothing is run.
   A folder stands for the class files in it and below it, sorted by their paths.
-  Each class that they need has to be among them, or to be a built-in one. It
-  prints how many classes there are, or tells why they are refused.
+  Each class that they need has to be among them, or to be a built-in one. One
+  has to have a main method, which is found as by `jvm run`. It prints how many
+  classes there are, or tells why they are refused.
 
 Statuses:
   0  the class files are verified

@@ -169,7 +169,9 @@ impl ThenRun {
 /// `jvm verify`: class files are linked and verified, and nothing is run.
 #[derive(Drop)]
 pub struct Verify {
-    /// The paths of the class files, and of folders of them. The first file holds the class that has to have a `main`.
+    /// The name of the class that has to have a `main`, with dots or slashes, if it is given.
+    pub main: Option<String>,
+    /// The paths of the class files, and of folders of them.
     pub files: Vec<String>,
     /// Whether no class has to have a `main`.
     pub library: bool,

@@ -228,7 +228,9 @@ fn verify_of(alloc: Global, matches: &ArgMatches<'_>) -> Result<Verify, Usage>
         → AreVerifyValues (rows_of (found_of matches.now)) verify → ⊥)) }
 {
     let files = files_of(alloc, matches)?;
+    let main = path_of(alloc, matches, "main")?;
     Ok(Verify {
+        main,
         files,
         library: is_set(matches, "library"),
         explain: is_set(matches, "explain"),

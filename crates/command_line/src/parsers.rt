@@ -7,7 +7,7 @@ ghost use Rattle.command_line.specs.CommandLine.{IsLocal, class_files, flag, goa
 
 use crate::help::{
     ABOUT, AFTER, DISASM_PAGE, FILES_HELP, LISTED_HELP, REPLAY_PAGE, RUN_PAGE, SCHEDULE_PAGE,
-    SEARCH_PAGE, TRACE_PAGE, VERIFIED_HELP, VERIFY_PAGE, VERSION,
+    SEARCH_PAGE, TRACE_PAGE, VERIFY_PAGE, VERSION,
 };
 use crate::numbers::{
     BUDGET, CELLS, FRAMES, FROM, MEMORY, MONITORS, OBJECTS, ONLY, QUANTUM, STATES, THREADS, TO,
@@ -164,8 +164,9 @@ fn verify_parser<'a>(alloc: Global) -> Result<clap::Command<'a>, AllocError>
         "Links and verifies class files",
         VERIFY_PAGE,
     )
-    .arg(library)?;
-    with_files(alloc, verify, files_argument(alloc, VERIFIED_HELP))
+    .arg(library)?
+    .arg(main_argument(alloc))?;
+    with_files(alloc, verify, files_argument(alloc, FILES_HELP))
 }
 
 fn disasm_parser<'a>(alloc: Global) -> Result<clap::Command<'a>, AllocError>

@@ -73,7 +73,7 @@ impl Usage {
     }
 
     /// That a file is to be written which is read, too, in the parser's words for a value that it refuses.
-    pub(crate) fn read_too(alloc: Global, path: &str) -> Usage
+    pub fn read_too(alloc: Global, path: &str) -> Usage
         ensures { Asks result → ⊥ }
     {
         Usage::told(format!(in alloc;

@@ -11,9 +11,8 @@ use Rattle.engines.specs.declared.complaint.Complaint.{Complaint}
 use Rattle.engines.specs.declared.complaint.Complaint.TheVariants as complaints
 use Rattle.engines.specs.declared.fault.Fault.{Fault}
 use Rattle.engines.specs.Advised.{IsExplained, IsToldOf}
-use Rattle.engines.specs.Commands.{Held, Listed}
 use Rattle.engines.specs.Engines.{Reads, ReadsEach}
-use Rattle.engines.specs.Files.{held_at}
+use Rattle.engines.specs.Files.{Held, Listed, held_at}
 use Rattle.engines.proofs.EngineLemmas.{reads_next}
 
 -- the files at paths, of which each is read

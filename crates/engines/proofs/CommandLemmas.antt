@@ -1,12 +1,13 @@
 -- What a command does over the files that its words stand for.
-use Rattle.std.proofs.Common.{arith, ◌≡◌, ◌≤◌, ℕ, List, Option, inl, inr, refl, sym, tt}
+use Rattle.std.proofs.Common.{arith, ◌≡◌, ◌≤◌, ℕ, List, Option, inl, inr, refl, subst, sym, tt}
 use Rattle.std.specs.Prelude.{None}
-use Rattle.command_line.specs.CommandLine.{Spells}
+use Rattle.command_line.specs.CommandLine.{Fails, Spells}
 use Rattle.command_line.specs.declared.options.Command.{Command}
+use Rattle.command_line.specs.declared.usage.Usage.{Usage}
 use Rattle.program_files.specs.Folders.{Held, Listed, Written}
 use Rattle.program_files.specs.declared.files_fault.FilesFault.{FilesFault}
 use Rattle.program_files.specs.declared.files_fault.FilesFault.TheVariants as files
-use Rattle.engines.specs.Commands.{HasNoFiles, IsUndone, Stops}
+use Rattle.engines.specs.Commands.{HasNoFiles, IsUndone, IsUntold, Stops}
 use Rattle.engines.specs.Complaints.{complaint_of}
 use Rattle.engines.specs.Failures.{TellsComplaint}
 use Rattle.engines.specs.declared.complaint.Complaint.{Complaint}
@@ -27,9 +28,18 @@ module _ (held : Held) (listed : Listed) (input : Option (List ℕ)) (command : 
   -- what a command does not do, the words do not
   pub undone_stops : (words : List (List ℕ)) (complaint : Complaint) (written : Written) → Spells words command
       → IsUndone held listed input command old new complaint written → Stops held listed input words old new complaint written
-  undone_stops words (complaints.Usage usage) written spells undone = absurd undone
+  undone_stops words (complaints.Usage usage) written spells undone = inr (command, spells, undone)
   undone_stops words (complaints.Files fault) written spells undone = (command, spells, undone)
   undone_stops words (complaints.Fault fault) written spells undone = inr (command, spells, undone)
+
+-- what keeps words that are no command from their help keeps them from all
+pub untold_stops : (held : Held) (listed : Listed) (input : Option (List ℕ)) (words : List (List ℕ)) (old new : Option (List ℕ)) (usage : Usage)
+    (complaint : Complaint) → Fails words usage → IsUntold usage old new complaint → Stops held listed input words old new complaint None
+untold_stops held listed input words old new usage (complaints.Usage told) fails untold =
+    subst (λ u. Stops held listed input words old new (complaints.Usage u) None) (sym untold.0) (inl (fails, untold.1, untold.2, refl))
+untold_stops held listed input words old new usage (complaints.Files fault) fails untold = absurd untold
+untold_stops held listed input words old new usage (complaints.Fault fault) fails untold =
+    inl ((usage, fails, untold.0), untold.1, untold.2, refl)
 
 -- what keeps files from being handed on is told as it is
 pub told_files : (elsewhere : Type 0) (fault : FilesFault) (n : ℕ) → (fault ≡ files.Device → elsewhere) → TellsComplaint elsewhere (complaint_of fault) n n

@@ -5,8 +5,9 @@ use Rattle.command_line.specs.CommandLine.{Asks, Fails, Spells}
 use Rattle.command_line.specs.declared.options.Command.{Command}
 use Rattle.command_line.specs.declared.options.Command.TheVariants as commands
 use Rattle.command_line.specs.declared.usage.Usage.{Usage}
-use Rattle.engines.specs.Commands.{Held, Listed, OfGiven}
+use Rattle.engines.specs.Commands.{OfFiles}
 use Rattle.engines.specs.Engines.{ReadsEach}
+use Rattle.engines.specs.Files.{Held, Listed}
 use Rattle.engines.specs.declared.complaint.Complaint.{Complaint}
 use Rattle.engines.specs.declared.complaint.Complaint.TheVariants as complaints
 use Rattle.engines.specs.declared.fault.Fault.{Fault}
@@ -18,7 +19,7 @@ IsAdviceOn text lefts = (files : List (List ℕ)) × ReadsEach lefts files × Is
 
 -- advice on the files that a command refuses: `verify` alone has it
 abbrev pub IsAdvised : Held → Listed → Command → Fault → (text : List ℕ) → Type 0
-IsAdvised held listed (commands.Verify verify) (faults.Refusal refusal) text = OfGiven held listed verify.files.items (IsAdviceOn text)
+IsAdvised held listed (commands.Verify verify) (faults.Refusal refusal) text = OfFiles held listed (commands.Verify verify) (IsAdviceOn text)
 IsAdvised held listed command fault text = ⊥
 
 -- whether standard error is to tell no more than the complaint
@@ -36,10 +37,11 @@ abbrev pub IsToldOf : Held → Listed → Command → Fault → (new : List ℕ)
 IsToldOf held listed command fault new = (is_quiet command ≡ false)
     × ((front text : List ℕ) × (new ≡ front ++ text) × ((text ≡ []) ⊎ IsAdvised held listed command fault text))
 
--- Behind words that are no command nothing is told. Otherwise the text that was told stands; or another one is told, of the fault of the
+-- Behind words that are no command, or stand for no files, nothing is told. Otherwise the text that was told stands; or another one is told, of the fault of the
 -- command of the words; or of help that can't be written, of which nothing is said.
 abbrev pub IsExplained : Held → Listed → (words : List (List ℕ)) → Complaint → (old new : List ℕ) → Type 0
 IsExplained held listed words (complaints.Usage usage) old new = new ≡ old
+IsExplained held listed words (complaints.Files fault) old new = new ≡ old
 IsExplained held listed words (complaints.Fault fault) old new = (new ≡ old)
     ⊎ (((command : Command) × Spells words command × IsToldOf held listed command fault new)
     ⊎ ((usage : Usage) × Fails words usage × Asks usage))

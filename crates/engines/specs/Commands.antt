@@ -1,7 +1,7 @@
 -- What a command does, by what the files hold that its words stand for: the text that it writes to the output, the file that it writes, and
 -- its status (own). Each does what its engine does, with these files in their order.
 use Rattle.std.specs.Prelude.{◌≡◌, ◌⊎◌, ℕ, ◌-◌, ◌^◌, Bool, true, false, List, [], map, Option, Some, None, IsTrue, is_some, string_bytes, unwrap_or, vec_items, Result, Ok, Err}
-use Rattle.std.specs.Option.{option_map}
+use Rattle.std.specs.Option.{option_and_then, option_map}
 use Rattle.std.specs.Io.KnownBytes.{Appends}
 use Rattle.std.specs.declared.string.String.{String}
 use Rattle.std.specs.Global.{Global}
@@ -10,7 +10,7 @@ use Rattle.program_runs.specs.declared.traced_runs.window.Window.{Window}
 use Rattle.search.specs.declared.run_outcomes.wanted.Wanted.{Wanted}
 use Rattle.traces.specs.declared.form.Form.{Form}
 use Rattle.traces.specs.declared.form.Form.TheVariants as lines
-use Rattle.command_line.specs.CommandLine.{Asks, Fails, Spells}
+use Rattle.command_line.specs.CommandLine.{Asks, Fails, Refuses, Spells}
 use Rattle.command_line.specs.declared.options.Command.{Command}
 use Rattle.command_line.specs.declared.options.Command.TheVariants as commands
 use Rattle.command_line.specs.declared.options.Replay.{Replay}
@@ -25,7 +25,7 @@ use Rattle.command_line.specs.declared.usage.Usage.{Usage}
 use Rattle.engines.specs.Continuations.{Continues, IsUncontinued}
 use Rattle.engines.specs.Devices.{IsUnable}
 use Rattle.engines.specs.Files.{Held, IsWith, Listed, Path, Written, held_at, written_at}
-use Rattle.program_files.specs.Given.{AreGiven, IsUnable as IsUnableFor, IsUngiven}
+use Rattle.program_files.specs.Given.{AreGiven, IsUnable as IsUnableFor, IsUngiven, is_given}
 use Rattle.program_files.specs.Handed.{AreHandedOn, IsUnhanded}
 use Rattle.program_files.specs.declared.files_fault.FilesFault.{FilesFault}
 use Rattle.engines.specs.Goals.{IsAskedFor}
@@ -45,13 +45,23 @@ use Rattle.engines.specs.declared.status.Status.TheVariants.{Returned}
 
 -- ---- the files of a command
 
+-- of a library no class has to come first
+abbrev pub AreVerified : Held → Listed → (library : Bool) → (main : Option (List ℕ)) → (words files : List Path) → Type 0
+AreVerified held listed true None words files = AreGiven listed words files
+AreVerified held listed library main words files = AreHandedOn held listed main words files
+
+-- why there are none
+abbrev pub IsUnverified : Held → Listed → (library : Bool) → (main : Option (List ℕ)) → (words : List Path) → FilesFault → Type 0
+IsUnverified held listed true None words fault = IsUngiven listed words fault
+IsUnverified held listed library main words fault = IsUnhanded held listed main words fault
+
 -- the class files that the words of a command stand for, in the order in which they are handed on
 abbrev pub AreFiles : Held → Listed → Command → List Path → Type 0
 AreFiles held listed (commands.Run run) files = AreHandedOn held listed (option_map string_bytes run.main) (map string_bytes run.files.items) files
 AreFiles held listed (commands.Replay replay) files = AreHandedOn held listed (option_map string_bytes replay.main) (map string_bytes replay.files.items) files
 AreFiles held listed (commands.Trace trace) files = AreHandedOn held listed (option_map string_bytes trace.main) (map string_bytes trace.files.items) files
 AreFiles held listed (commands.Search search) files = AreHandedOn held listed (option_map string_bytes search.main) (map string_bytes search.files.items) files
-AreFiles held listed (commands.Verify verify) files = AreGiven listed (map string_bytes verify.files.items) files
+AreFiles held listed (commands.Verify verify) files = AreVerified held listed verify.library (option_map string_bytes verify.main) (map string_bytes verify.files.items) files
 AreFiles held listed (commands.Disasm disasm) files = AreGiven listed (map string_bytes disasm.files.items) files
 AreFiles held listed (commands.Schedule schedule) files = files ≡ []
 
@@ -61,9 +71,29 @@ HasNoFiles held listed (commands.Run run) fault = IsUnhanded held listed (option
 HasNoFiles held listed (commands.Replay replay) fault = IsUnhanded held listed (option_map string_bytes replay.main) (map string_bytes replay.files.items) fault
 HasNoFiles held listed (commands.Trace trace) fault = IsUnhanded held listed (option_map string_bytes trace.main) (map string_bytes trace.files.items) fault
 HasNoFiles held listed (commands.Search search) fault = IsUnhanded held listed (option_map string_bytes search.main) (map string_bytes search.files.items) fault
-HasNoFiles held listed (commands.Verify verify) fault = IsUngiven listed (map string_bytes verify.files.items) fault
+HasNoFiles held listed (commands.Verify verify) fault = IsUnverified held listed verify.library (option_map string_bytes verify.main) (map string_bytes verify.files.items) fault
 HasNoFiles held listed (commands.Disasm disasm) fault = IsUngiven listed (map string_bytes disasm.files.items) fault
 HasNoFiles held listed (commands.Schedule schedule) fault = IsUnableFor fault
+
+-- where the schedule of a run is written
+abbrev pub record_path : Command → Option Path
+record_path (commands.Run run) = option_map string_bytes run.record
+record_path (commands.Replay replay) = option_and_then (λ (then_run : ThenRun). option_map string_bytes then_run.record) replay.then_run
+record_path (commands.Trace trace) = None
+record_path (commands.Search search) = option_map string_bytes search.record
+record_path (commands.Verify verify) = None
+record_path (commands.Disasm disasm) = None
+record_path (commands.Schedule schedule) = None
+
+-- it is none of these files
+abbrev pub IsUnread : (written : Option Path) → (files : List Path) → Type 0
+IsUnread None files = Unit {0}
+IsUnread (Some path) files = is_given files path ≡ false
+
+-- it is one of them
+abbrev pub IsReadToo : (written : Option Path) → (files : List Path) → Type 0
+IsReadToo None files = ⊥
+IsReadToo (Some path) files = is_given files path ≡ true
 
 -- this is so of the files of a command, by what they hold
 abbrev pub OfFiles : Held → Listed → Command → (List (Option (List ℕ)) → Type 0) → Type 0
@@ -214,16 +244,20 @@ IsUndoneOver held lefts input (commands.Disasm disasm) old new fault written =
     ((IsUnable fault × (new ≡ old)) ⊎ IsUnlistedAs disasm.names lefts old new fault) × (written ≡ None)
 IsUndoneOver held lefts input (commands.Schedule schedule) old new fault written = IsScheduleUndone held input schedule schedule.write old new fault written
 
--- the same over the files that its words stand for
+-- the same over the files that its words stand for, none of which is written
 abbrev pub IsDone : Held → Listed → (input : Option (List ℕ)) → Command → List ℕ → Written → Status → Type 0
-IsDone held listed input command text written status = OfFiles held listed command (λ lefts. IsDoneOver held lefts input command text written status)
+IsDone held listed input command text written status = (files : List Path) × AreFiles held listed command files
+    × IsUnread (record_path command) files × IsDoneOver held (held_at held files) input command text written status
 
--- and what keeps it from a status: its words stand for no files, and nothing is done; or there is a fault
+-- and what keeps it from a status: one of them is to be written, or its words stand for none, and nothing is done; or there is a fault
 abbrev pub IsUndone : Held → Listed → (input : Option (List ℕ)) → Command → (old new : Option (List ℕ)) → Complaint → Written → Type 0
-IsUndone held listed input command old new (complaints.Usage usage) written = ⊥
+IsUndone held listed input command old new (complaints.Usage usage) written =
+    Refuses usage ((files : List Path) × AreFiles held listed command files × IsReadToo (record_path command) files)
+    × (new ≡ old) × (written ≡ None)
 IsUndone held listed input command old new (complaints.Files fault) written = HasNoFiles held listed command fault × (new ≡ old) × (written ≡ None)
 IsUndone held listed input command old new (complaints.Fault fault) written = (IsUnable fault × (new ≡ old) × (written ≡ None))
-    ⊎ OfFiles held listed command (λ lefts. IsUndoneOver held lefts input command old new fault written)
+    ⊎ ((files : List Path) × AreFiles held listed command files × IsUnread (record_path command) files
+    × IsUndoneOver held (held_at held files) input command old new fault written)
 
 -- ---- the words of a command line
 
@@ -239,7 +273,8 @@ Does held listed input words text written status = (AskForHelp words × (written
 -- The words are no command, and nothing is written; or help can't be written; or they spell a command, and it isn't done.
 abbrev pub Stops : Held → Listed → (input : Option (List ℕ)) → (words : List (List ℕ)) → (old new : Option (List ℕ)) → Complaint → Written → Type 0
 Stops held listed input words old new (complaints.Usage usage) written =
-    Fails words usage × (Asks usage → ⊥) × (new ≡ old) × (written ≡ None)
+    (Fails words usage × (Asks usage → ⊥) × (new ≡ old) × (written ≡ None))
+    ⊎ ((command : Command) × Spells words command × IsUndone held listed input command old new (complaints.Usage usage) written)
 Stops held listed input words old new (complaints.Files fault) written =
     (command : Command) × Spells words command × IsUndone held listed input command old new (complaints.Files fault) written
 Stops held listed input words old new (complaints.Fault fault) written =

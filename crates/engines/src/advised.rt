@@ -3,15 +3,15 @@
 ghost use Rattle.std.specs.Prelude.{◌≡◌, ◌⊎◌, [], IfOk, OnOk, map, string_bytes};
 ghost use Rattle.advice.specs.Reading.{bytes_of};
 ghost use Rattle.engines.specs.Advised.{IsAdviceOn, IsAdvised};
-ghost use Rattle.engines.specs.Commands.{OfGiven};
+ghost use Rattle.engines.specs.Commands.{OfFiles};
 ghost use Rattle.engines.specs.Engines.{ReadsEach};
 ghost use Rattle.engines.specs.Files.{held_at};
 
+use crate::command_files::command_files;
 use crate::fault::Fault;
-use crate::folder::Folder;
-use crate::given_paths::given_paths;
 use advice::{GivenFile, advice};
 use command_line::Command;
+use program_files::Folder;
 use std::alloc::Global;
 use std::io;
 
@@ -33,14 +33,19 @@ pub(crate) fn named_files<'a, F: Folder>(
     Ok(files)
 }
 
-/// What is wrong with the files for which the paths of a command line stand, in lines.
-fn advice_on<F: Folder>(alloc: Global, folder: &F, paths: &[String]) -> io::Result<Vec<u8>>
-    ensures { IfOk result (λ text.
-        OfGiven (F.held folder.now) (F.listed folder.now) paths.now (IsAdviceOn text.items)) }
+/// What is wrong with the files for which the words of a command stand, in lines; nothing where they can't be read
+/// again.
+fn advice_on<F: Folder>(alloc: Global, folder: &F, command: &Command) -> Vec<u8>
+    ensures { (result.items ≡ [])
+        ⊎ OfFiles (F.held folder.now) (F.listed folder.now) command.now (IsAdviceOn result.items) }
 {
-    let paths = given_paths(alloc, folder, paths)?;
-    let files = named_files(alloc, folder, &paths)?;
-    Ok(advice(alloc, &files)?)
+    let Ok(paths) = command_files(alloc, folder, command) else {
+        return Vec::new(alloc);
+    };
+    let Ok(files) = named_files(alloc, folder, &paths) else {
+        return Vec::new(alloc);
+    };
+    advice(alloc, &files).unwrap_or(Vec::new(alloc))
 }
 
 /// What is wrong with the files that `verify` refuses, in lines; nothing where it isn't `verify`, or they can't be
@@ -55,9 +60,7 @@ pub(crate) fn advised<F: Folder>(
         ⊎ IsAdvised (F.held folder.now) (F.listed folder.now) command.now fault.now result.items }
 {
     match (command, fault) {
-        (Command::Verify(options), Fault::Refusal(_)) => {
-            advice_on(alloc, folder, &options.files).unwrap_or(Vec::new(alloc))
-        }
+        (Command::Verify(_), Fault::Refusal(_)) => advice_on(alloc, folder, command),
         _ => Vec::new(alloc),
     }
 }

@@ -4,13 +4,15 @@ ghost use Rattle.std.specs.Prelude.{◌≡◌, ◌⊎◌, map, string_bytes};
 ghost use Rattle.engines.specs.Advised.{IsExplained, IsToldOf, is_quiet};
 
 use crate::advised::{advised, named_files};
+use crate::command_files::{command_files, record_path};
 use crate::complaint::Complaint;
 use crate::explanation::Explanation;
 use crate::fault::Fault;
-use crate::folder::Folder;
-use crate::given_paths::given_paths;
+use crate::main_hints::add_mains;
 use command_line::{Command, Goal, Usage, command};
 use explanations::refusal_explanations::{explain, explain_schedule, explain_text};
+use link_conditions::refusal::RefusalKind;
+use program_files::{Folder, first_unlisted, given_paths};
 use std::alloc::{AllocError, Global};
 use std::fmt::Display;
 use std::io;
@@ -145,42 +147,23 @@ fn first_of(command: &Command) -> Option<&str> {
 }
 
 /// The path of the schedule file that is to be written.
-fn record_of(command: &Command) -> Option<&str> {
+fn written_path(command: &Command) -> Option<&str> {
     match command {
-        Command::Run(options) => options.record.as_deref(),
-        Command::Search(options) => options.record.as_deref(),
-        Command::Replay(options) => options.then_run.as_ref()?.record.as_deref(),
         Command::Schedule(options) if options.write => Some(options.file.as_str()),
-        _ => None,
+        _ => record_path(command),
     }
 }
 
-/// The paths of the class files, those of the folders that are given included.
-fn files_of<F: Folder>(
-    alloc: Global,
-    folder: &F,
-    command: &Command,
-) -> Result<Vec<String>, AllocError> {
+/// The words that name class files and folders of them.
+fn words_of(command: &Command) -> &[String] {
     match command {
-        Command::Run(options) => options.files.clone(),
-        Command::Replay(options) => options.files.clone(),
-        Command::Trace(options) => options.files.clone(),
-        Command::Search(options) => options.files.clone(),
-        Command::Verify(options) => given_or_same(alloc, folder, &options.files),
-        Command::Disasm(options) => given_or_same(alloc, folder, &options.files),
-        Command::Schedule(_) => Ok(Vec::new(alloc)),
-    }
-}
-
-/// The paths of the files that are given, and these paths where a folder can't be read.
-fn given_or_same<F: Folder>(
-    alloc: Global,
-    folder: &F,
-    paths: &Vec<String>,
-) -> Result<Vec<String>, AllocError> {
-    match given_paths(alloc, folder, paths) {
-        Ok(given) => Ok(given),
-        Err(_) => paths.clone(),
+        Command::Run(options) => options.files.as_slice(),
+        Command::Replay(options) => options.files.as_slice(),
+        Command::Trace(options) => options.files.as_slice(),
+        Command::Search(options) => options.files.as_slice(),
+        Command::Verify(options) => options.files.as_slice(),
+        Command::Disasm(options) => options.files.as_slice(),
+        Command::Schedule(_) => &[],
     }
 }
 
@@ -198,11 +181,17 @@ fn line_of<F: Folder>(alloc: Global, folder: &F, command: &Command, fault: &Faul
             Ok(Some(explain_text(alloc, name, *fault)?))
         }
         Fault::Refusal(refusal) => {
-            let paths = files_of(alloc, folder, command)?;
-            match named_files(alloc, folder, &paths) {
-                Ok(files) => Ok(Some(explain(alloc, refusal, &files)?)),
-                Err(_) => Ok(None),
+            let Ok(paths) = command_files(alloc, folder, command) else {
+                return Ok(None);
+            };
+            let Ok(files) = named_files(alloc, folder, &paths) else {
+                return Ok(None);
+            };
+            let mut line = explain(alloc, refusal, &files)?;
+            if refusal.kind == RefusalKind::NoMain {
+                add_mains(alloc, folder, &paths, &mut line)?;
             }
+            Ok(Some(line))
         }
     }
 }
@@ -216,7 +205,7 @@ fn of_device<F: Folder>(
     failures: Failures<'_>,
     recording: Option<&str>,
 ) -> Told {
-    if let (Some(path), Some(reason)) = (record_of(command), recording) {
+    if let (Some(path), Some(reason)) = (written_path(command), recording) {
         return line_with(alloc, path, &reason);
     }
     if let Some(line) = of_streams(alloc, failures)? {
@@ -227,7 +216,14 @@ fn of_device<F: Folder>(
             return line_with(alloc, path, &error);
         }
     }
-    unread(alloc, folder, files_of(alloc, folder, command)?.as_slice())
+    let words = words_of(command);
+    if let Some(line) = unlisted(alloc, folder, words)? {
+        return Ok(Some(line));
+    }
+    match given_paths(alloc, folder, words) {
+        Ok(paths) => unread(alloc, folder, &paths),
+        Err(_) => Ok(None),
+    }
 }
 
 /// Which of the output and the input failed, and the system's reason.
@@ -237,6 +233,16 @@ fn of_streams(alloc: Global, failures: Failures<'_>) -> Told {
         (None, Some(error)) => line_with(alloc, STANDARD_INPUT, error),
         (None, None) => Ok(None),
     }
+}
+
+/// The first of the words, or of what lies in their folders, of which it isn't known whether it is a folder, and why.
+fn unlisted<F: Folder>(alloc: Global, folder: &F, words: &[String]) -> Told {
+    for word in words {
+        if let Some((path, error)) = first_unlisted(alloc, folder, word.as_str())? {
+            return line_with(alloc, path.as_str(), &error);
+        }
+    }
+    Ok(None)
 }
 
 /// The first of the files that can't be read, and why.

@@ -19,7 +19,7 @@ pub(crate) fn add_mains<F: Folder>(
         line.extend_from_slice(b"; no other class has one")?;
         return Ok(());
     }
-    line.extend_from_slice(b"; '--main NAME' runs that of a class which has one:")?;
+    line.extend_from_slice(b"; '--main' may name a class that has one:")?;
     for name in names {
         line.push(b' ')?;
         push_printed(line, name)?;

@@ -8,7 +8,7 @@ ghost use Rattle.engines.specs.Commands.{Does, IsDone, IsDoneOver, IsUndone, IsU
 ghost use Rattle.engines.specs.Files.{held_at};
 ghost use Rattle.engines.specs.Failures.{FolderMayFail, TellsComplaint, TellsFailures};
 
-use crate::command_files::command_files;
+use crate::command_files::{check_record, command_files};
 use crate::commands::{disasm, replay, run_files, schedule, search, trace, verify};
 use crate::complaint::Complaint;
 use crate::explanation::Explanation;
@@ -125,6 +125,7 @@ fn done<R: Threads + Wait + Sync, G: Gate + Progress + Seeds + Sync, F: Folder, 
         (I.failures input.old + W.failures output.old) (I.failures input.new + W.failures output.new)) }
 {
     let files = command_files(alloc, folder, command)?;
+    check_record(alloc, command, &files)?;
     let status = done_over(
         rt,
         alloc,

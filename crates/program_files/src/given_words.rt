@@ -82,7 +82,7 @@ fn new_files(alloc: Global, before: &[String], files: &[String]) -> Result<Vec<S
 }
 
 /// Whether a file was given before, by its path or another one that leads the same way.
-fn is_given(alloc: Global, before: &[String], file: &str) -> Result<bool, AllocError>
+pub fn is_given(alloc: Global, before: &[String], file: &str) -> Result<bool, AllocError>
     ensures { IfOk result (λ is. is ≡ is_given (map string_bytes before.now) file.now) }
 {
     for path in before {

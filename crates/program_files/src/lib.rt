@@ -12,5 +12,5 @@ pub use class_paths::first_unlisted;
 pub use file_order::handed_on;
 pub use files_fault::FilesFault;
 pub use folder::Folder;
-pub use given_words::{given_paths, is_folder};
+pub use given_words::{given_paths, is_folder, is_given};
 pub use held_class::{HeldClass, held_classes};

@@ -52,11 +52,11 @@ pub(crate) fn trace<F: Folder, W: Sink>(
 }
 
 /// Tells a run of the class files of a folder under its schedule.
-fn traced<F: Folder, W: Sink>(
+fn traced<'a, F: Folder, W: Sink>(
     alloc: Global,
-    folder: &F,
-    files: &[String],
-    options: &Trace,
+    folder: &'a F,
+    files: &'a [String],
+    options: &'a Trace,
     output: &mut W,
 ) -> Result<Status, Fault>
     ensures traced { IfOk result (λ status. (text : _)

@@ -60,11 +60,11 @@ pub(crate) fn replay<F: Folder, W: Sink>(
 }
 
 /// Replays a schedule of a folder over its class files, and writes the report.
-fn replayed<F: Folder, W: Sink>(
+fn replayed<'a, F: Folder, W: Sink>(
     alloc: Global,
-    folder: &F,
-    files: &[String],
-    options: &Replay,
+    folder: &'a F,
+    files: &'a [String],
+    options: &'a Replay,
     output: &mut W,
 ) -> Result<Status, Fault>
     ensures replayed { IfOk result (λ status. (text : _)
@@ -120,11 +120,11 @@ fn replay_on<F: Folder, W: Sink>(
 }
 
 /// Replays a schedule of a folder over its class files and goes on, writes the report, and makes the schedule file.
-fn continued<F: Folder, W: Sink>(
+fn continued<'a, F: Folder, W: Sink>(
     alloc: Global,
-    folder: &F,
-    files: &[String],
-    options: &Replay,
+    folder: &'a F,
+    files: &'a [String],
+    options: &'a Replay,
     then_run: &ThenRun,
     output: &mut W,
     file: &mut Option<Vec<u8>>,

@@ -9,6 +9,7 @@ returns-in_err-files-clause-none c =
 
 pub returns-clause-values : goal.returns-clause-values
 returns-clause-values c = record {
+  main = c.in_ok-main.ensures;
   files = c.in_ok-files.ensures.files;
   library = c.is_set.ensures;
   explain = c.is_set-2.ensures;
