@@ -129,6 +129,7 @@ fn run_of(alloc: Global, matches: &ArgMatches<'_>) -> Result<Run, Usage>
         files,
         explain: is_set(matches, "explain"),
         quiet: is_set(matches, "quiet"),
+        files_alone: is_set(matches, "files-alone"),
     })
 }
 
@@ -152,6 +153,7 @@ fn replay_of(alloc: Global, matches: &ArgMatches<'_>) -> Result<Replay, Usage>
         files,
         explain: is_set(matches, "explain"),
         quiet: is_set(matches, "quiet"),
+        files_alone: is_set(matches, "files-alone"),
     })
 }
 
@@ -180,6 +182,7 @@ fn trace_of(alloc: Global, matches: &ArgMatches<'_>) -> Result<Trace, Usage>
         files,
         explain: is_set(matches, "explain"),
         quiet: is_set(matches, "quiet"),
+        files_alone: is_set(matches, "files-alone"),
     })
 }
 
@@ -207,6 +210,7 @@ fn search_of(alloc: Global, matches: &ArgMatches<'_>) -> Result<Search, Usage>
         files,
         explain: is_set(matches, "explain"),
         quiet: is_set(matches, "quiet"),
+        files_alone: is_set(matches, "files-alone"),
     })
 }
 
@@ -235,6 +239,7 @@ fn verify_of(alloc: Global, matches: &ArgMatches<'_>) -> Result<Verify, Usage>
         library: is_set(matches, "library"),
         explain: is_set(matches, "explain"),
         quiet: is_set(matches, "quiet"),
+        files_alone: is_set(matches, "files-alone"),
     })
 }
 

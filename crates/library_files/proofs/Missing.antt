@@ -22,21 +22,20 @@ use Rattle.library_files.proofs.Turns.{from_flat_map}
 -- ---- elements
 
 any_contained : {A : Type 0} (p : A → Bool) (xs : List A) (x : A) → Contains xs x → p x ≡ true → list_any p xs ≡ true
-any_contained p [] x h yes = absurd (omega (arith, h.1))
-any_contained {A} p (first ∷ xs) x (zero, below, is) yes = or_left (p first) (list_any p xs) (ap p is ∙ yes)
-any_contained p (first ∷ xs) x (suc k, below, is) yes = or_right (p first) (list_any p xs) (any_contained p xs x (k, omega (arith, below), is) yes)
+any_contained p [] x h so = absurd (omega (arith, h.1))
+any_contained {A} p (first ∷ xs) x (zero, below, is) so = or_left (p first) (list_any p xs) (ap p is ∙ so)
+any_contained p (first ∷ xs) x (suc k, below, is) so = or_right (p first) (list_any p xs) (any_contained p xs x (k, omega (arith, below), is) so)
 
 from_filter_map : {A B : Type 0} (h : A → Option B) (xs : List A) (y : B) → Contains (filter_map h xs) y → (x : A) × Contains xs x × (h x ≡ Some y)
 from_filter_map h [] y c = absurd (omega (arith, c.1))
-from_filter_map {A} {B} h (x ∷ xs) y c = by (h x) refl c
+from_filter_map {A} {B} h (x ∷ xs) y c =
+    by (h x) refl (λ later. let rest = from_filter_map h xs y later in (rest.0, (suc rest.1.0, omega (arith, rest.1.1), rest.1.2), rest.2)) c
   where
-    further : Contains (filter_map h xs) y → (z : A) × Contains (x ∷ xs) z × (h z ≡ Some y)
-    further c = let rest = from_filter_map h xs y c in (rest.0, (suc rest.1.0, omega (arith, rest.1.1), rest.1.2), rest.2)
-
-    by : (o : Option B) → h x ≡ o → Contains (cons_option o (filter_map h xs)) y → (z : A) × Contains (x ∷ xs) z × (h z ≡ Some y)
-    by None e c = further c
-    by (Some z) e (zero, below, is) = (x, (zero, omega arith, refl), e ∙ ap Some is)
-    by (Some z) e (suc k, below, is) = further (k, omega (arith, below), is)
+    by : (o : Option B) → h x ≡ o → (Contains (filter_map h xs) y → (z : A) × Contains (x ∷ xs) z × (h z ≡ Some y))
+        → Contains (cons_option o (filter_map h xs)) y → (z : A) × Contains (x ∷ xs) z × (h z ≡ Some y)
+    by None e further c = further c
+    by (Some z) e further (zero, below, is) = (x, (zero, omega arith, refl), e ∙ ap Some is)
+    by (Some z) e further (suc k, below, is) = further (k, omega (arith, below), is)
 
 of_option : {A : Type 0} (o : Option A) (x : A) → Contains (option_to_list o) x → o ≡ Some x
 of_option None x h = absurd (omega (arith, h.1))
@@ -87,17 +86,17 @@ module _ (files : Program) (file : FileTree) (name : Name) where
   unfolding code_classes
   in_code m c among is h missing = ⊎_elim
       (λ l.
-        let i = from_flat_map (operand_classes file.pool) (instructions_of c) name l in
-        let pc = from_filter_map (instr_at c.code) (boundaries c.code) i.0 i.1 in
-        let absent : operand_class_missing files file i.0 ≡ true = any_contained (is_missing files) (operand_classes file.pool i.0) name i.2 missing in
-        let stands_there : unresolved_instruction files file i.0 ≡ true = or_left (operand_class_missing files file i.0) _ absent in
-        let at : option_map_or (unresolved_instruction files file) (instr_at c.code pc.0) false ≡ true = ap (λ (o : Option Instr). option_map_or (unresolved_instruction files file) o false) pc.2 ∙ stands_there in
-        let in_it : any_instruction (λ pc i. unresolved_instruction files file i) c ≡ true = any_contained (λ pc. option_map_or (unresolved_instruction files file) (instr_at c.code pc) false) (boundaries c.code) pc.0 pc.1 at in
-        by_instruction (any_contained unresolved_in file.methods m among (ap (λ (o : Option CodeTree). option_map_or (any_instruction (λ pc i. unresolved_instruction files file i)) o false) is ∙ in_it)))
+      let i = from_flat_map (operand_classes file.pool) (instructions_of c) name l in
+      let pc = from_filter_map (instr_at c.code) (boundaries c.code) i.0 i.1 in
+      let absent : operand_class_missing files file i.0 ≡ true = any_contained (is_missing files) (operand_classes file.pool i.0) name i.2 missing in
+      let stands_there : unresolved_instruction files file i.0 ≡ true = or_left (operand_class_missing files file i.0) _ absent in
+      let at : option_map_or (unresolved_instruction files file) (instr_at c.code pc.0) false ≡ true = ap (λ (o : Option Instr). option_map_or (unresolved_instruction files file) o false) pc.2 ∙ stands_there in
+      let in_it : any_instruction (λ pc i. unresolved_instruction files file i) c ≡ true = any_contained (λ pc. option_map_or (unresolved_instruction files file) (instr_at c.code pc) false) (boundaries c.code) pc.0 pc.1 at in
+      by_instruction (any_contained unresolved_in file.methods m among (ap (λ (o : Option CodeTree). option_map_or (any_instruction (λ pc i. unresolved_instruction files file i)) o false) is ∙ in_it)))
       (λ r.
-        let e = from_flat_map (caught_classes file.pool) c.exceptions name r in
-        let in_it : list_any caught_missing c.exceptions ≡ true = any_contained caught_missing c.exceptions e.0 e.1 (caught_is e.0 e.2 missing) in
-        by_catch_type (any_contained catches_missing file.methods m among (ap (λ (o : Option CodeTree). option_map_or (λ (c : CodeTree). list_any caught_missing c.exceptions) o false) is ∙ in_it)))
+      let e = from_flat_map (caught_classes file.pool) c.exceptions name r in
+      let in_it : list_any caught_missing c.exceptions ≡ true = any_contained caught_missing c.exceptions e.0 e.1 (caught_is e.0 e.2 missing) in
+      by_catch_type (any_contained catches_missing file.methods m among (ap (λ (o : Option CodeTree). option_map_or (λ (c : CodeTree). list_any caught_missing c.exceptions) o false) is ∙ in_it)))
       (Contains-append_cases (flat_map (operand_classes file.pool) (instructions_of c)) (flat_map (caught_classes file.pool) c.exceptions) name h)
 
   pub unresolved_by : Contains (needed_classes file) name → is_missing files name ≡ true → is_unresolved files file ≡ true
@@ -105,15 +104,15 @@ module _ (files : Program) (file : FileTree) (name : Name) where
   unresolved_by h missing = ⊎_elim
       (λ super. by_superclass (ap (λ (o : Option Name). option_map_or (is_missing files) o false) (of_option (super_name_of file) name super) ∙ missing))
       (λ more. ⊎_elim
-        (λ interface. by_interface (any_contained (is_missing files) (interface_names file) name interface missing))
-        (λ others. ⊎_elim
-          (λ declared. by_declared (any_contained (is_missing files) (flat_map classes_in (declared_descriptors file)) name declared missing))
-          (λ coded.
-            let c = from_flat_map (code_classes file.pool) (codes_of file) name coded in
-            let m = from_filter_map (λ (m : MethodTree). code_in m.parts) file.methods c.0 c.1 in
-            in_code m.0 c.0 m.1 m.2 c.2 missing)
-          (Contains-append_cases (flat_map classes_in (declared_descriptors file)) (flat_map (code_classes file.pool) (codes_of file)) name others))
-        (Contains-append_cases (interface_names file) _ name more))
+      (λ interface. by_interface (any_contained (is_missing files) (interface_names file) name interface missing))
+      (λ others. ⊎_elim
+      (λ declared. by_declared (any_contained (is_missing files) (flat_map classes_in (declared_descriptors file)) name declared missing))
+      (λ coded.
+      let c = from_flat_map (code_classes file.pool) (codes_of file) name coded in
+      let m = from_filter_map (λ (m : MethodTree). code_in m.parts) file.methods c.0 c.1 in
+      in_code m.0 c.0 m.1 m.2 c.2 missing)
+      (Contains-append_cases (flat_map classes_in (declared_descriptors file)) (flat_map (code_classes file.pool) (codes_of file)) name others))
+      (Contains-append_cases (interface_names file) _ name more))
       (Contains-append_cases (option_to_list (super_name_of file)) _ name h)
 
 -- ---- none is added
@@ -121,7 +120,7 @@ module _ (files : Program) (file : FileTree) (name : Name) where
 module _ (library : List LibraryFile) (files : Program) where
   none_added : stands files Unresolved ≡ false → (class : LibraryFile) → IsAdded library files class → ⊥
   none_added resolved class (of_file file name class' among needs offered) =
-      let yes : stands files Unresolved ≡ true = any_contained (is_unresolved files) files file among (unresolved_by files file name needs offered.missing) in
+      let so : stands files Unresolved ≡ true = any_contained (is_unresolved files) files file among (unresolved_by files file name needs offered.missing) in
       absurd cc
   none_added resolved class (of_class other tree name class' added spells needs offered) = none_added resolved other added
 

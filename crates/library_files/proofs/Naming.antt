@@ -1,14 +1,21 @@
 -- The names that marks of texts stand for, one by one.
-use Rattle.std.proofs.Common.{◌≡◌, ◌⊎◌, ◌∙◌, ℕ, zero, suc, ◌+◌, ◌<◌, ◌≤◌, List, [], ◌∷◌, ◌++◌, length, get_or, Bool, true, false, Some, None, refl, sym, ap, subst, inl, inr, ⊎_elim, arith}
-use Rattle.std.specs.List.{Contains}
+use Rattle.std.proofs.Common.{◌≡◌, ◌⊎◌, ◌∙◌, ℕ, zero, suc, ◌+◌, ◌<◌, ◌≤◌, List, [], ◌∷◌, ◌++◌, length, get_or, map, take, Bool, true, false, Option, Some, None, refl, sym, ap, subst, inl, inr, ⊎_elim, append_assoc, arith}
+use Rattle.std.specs.List.{Contains, filter_map, cons_option}
+use Rattle.std.specs.Option.{option_map, option_to_list}
 use Rattle.std.proofs.lemmas.Bool.{cases_lt}
-use Rattle.std.proofs.lemmas.List.{get_or_past}
-use Rattle.std.proofs.lemmas.List.Elements.{Contains-append_left, Contains-append_right, Contains-append_cases}
+use Rattle.std.proofs.lemmas.List.{append-nil, get_or_past, take_more, map_more, length-map, length-take-le}
+use Rattle.std.proofs.lemmas.List.Elements.{Contains-append_left, Contains-append_right, Contains-append_cases, filter_map-append}
+use Rattle.constant_pool.specs.declared.constant.Constant.{Constant}
+use Rattle.constant_pool.specs.View.{entry_of, entries_of}
 use Rattle.model.specs.Names.{Name}
 use Rattle.model.specs.Tree.{Entry, Utf8, Unusable, FileTree}
 use Rattle.model.specs.Spelling.{entry_at}
 use Rattle.model.specs.Pool.{utf8_of, utf8_at}
-use Rattle.model.specs.DescriptorParts.{classes_in}
+use Rattle.model.specs.Descriptors.{FieldType, MethodType}
+use Rattle.model.specs.DescriptorScan.{field_type, method_type}
+use Rattle.model.specs.DescriptorParts.{class_of_element, return_types, types_in, classes_in}
+use Rattle.constant_pool.specs.declared.descriptors.field.Field.{Field}
+use Rattle.constant_pool.specs.descriptors.View.{field_of}
 use Rattle.library_files.specs.declared.needed_texts.NeededTexts.{NeededTexts}
 use Rattle.library_files.specs.NeededTexts.{Adds, is_marked, IsMarkedText, IsDescribed, IsNeededBy}
 use Rattle.library_files.specs.Names.{where_so, names_of_entry, names_from}
@@ -38,9 +45,9 @@ module _ (texts : NeededTexts) where
       let there : utf8_at pool k ≡ Some text = ap utf8_of at in
       ⊎_elim
       (λ l. let so = where_only (is_marked texts.names.items k) (text ∷ []) name l in
-        inl (record { index = k; marked = so.0; stands = there ∙ ap Some (only_one text name so.1) }))
+      inl (record { index = k; marked = so.0; stands = there ∙ ap Some (only_one text name so.1) }))
       (λ r. let so = where_only (is_marked texts.descriptors.items k) (classes_in text) name r in
-        inr (record { text = text; marked = record { index = k; marked = so.0; stands = there }; among = so.1 }))
+      inr (record { text = text; marked = record { index = k; marked = so.0; stands = there }; among = so.1 }))
       (Contains-append_cases (where_so (is_marked texts.names.items k) (text ∷ [])) (where_so (is_marked texts.descriptors.items k) (classes_in text)) name h)
   entry_needs pool k e name at h = absurd (omega (arith, h.1))
 
@@ -112,3 +119,63 @@ module _ (texts : NeededTexts) where
     only = λ name h. ⊎_elim (λ l. absurd (nothing name l)) (λ r. r) (adds.only name (there_needed file.pool name (subst (λ (xs : List Name). Contains xs name) are h)));
     all = λ name h. subst (λ (xs : List Name). Contains xs name) (sym are) (needed_there file.pool name (adds.added name h));
   }
+
+-- ---- one more
+
+pub filter_map_more : {X Y : Type 0} (h : X → Option Y) (xs : List X) (i : ℕ) (d : X) → i < length xs
+    → filter_map h (take (i + 1) xs) ≡ filter_map h (take i xs) ++ option_to_list (h (get_or xs i d))
+filter_map_more {X} {Y} h xs i d below =
+    ap (filter_map h) (take_more xs i d below) ∙ filter_map-append h (take i xs) (get_or xs i d ∷ []) ∙ ap (λ (l : List Y). filter_map h (take i xs) ++ l) (by (h (get_or xs i d)))
+  where
+    by : (o : Option Y) → cons_option o [] ≡ option_to_list o
+    by None = refl
+    by (Some y) = refl
+
+pub pushed : {X : Type 0} (h : X → Option Name) (old mid new : List Name) (xs : List X) (i : ℕ) (d : X) → i < length xs
+    → new ≡ mid ++ option_to_list (h (get_or xs i d)) → mid ≡ old ++ filter_map h (take i xs) → new ≡ old ++ filter_map h (take (i + 1) xs)
+pushed h old mid new xs i d below is before =
+    is ∙ ap (λ (l : List Name). l ++ option_to_list (h (get_or xs i d))) before
+    ∙ append_assoc old (filter_map h (take i xs)) (option_to_list (h (get_or xs i d)))
+    ∙ ap (λ (l : List Name). old ++ l) (sym (filter_map_more h xs i d below))
+
+names_push : (texts : NeededTexts) (k : ℕ) (pool : List Entry) (e : Entry)
+    → names_from texts k (pool ++ e ∷ []) ≡ names_from texts k pool ++ names_of_entry texts (k + length pool) e
+names_push texts k [] e = let here : k ≡ k + 0 = omega arith in append-nil (names_of_entry texts k e) ∙ ap (λ (n : ℕ). names_of_entry texts n e) here
+names_push texts k (first ∷ pool) e =
+    let next : suc k + length pool ≡ k + length (first ∷ pool) = omega arith in
+    ap (λ (l : List Name). names_of_entry texts k first ++ l) (names_push texts (suc k) pool e ∙ ap (λ (n : ℕ). names_from texts (suc k) pool ++ names_of_entry texts n e) next)
+    ∙ sym (append_assoc (names_of_entry texts k first) (names_from texts (suc k) pool) (names_of_entry texts (k + length (first ∷ pool)) e))
+
+pub names_more : (texts : NeededTexts) (pool : List Constant) (i : ℕ) (constant : Constant) → i < length pool → constant ≡ get_or pool i constant
+    → names_from texts 1 (entries_of (take (i + 1) pool)) ≡ names_from texts 1 (entries_of (take i pool)) ++ names_of_entry texts (i + 1) (entry_of constant)
+names_more texts pool i constant below is =
+    let place : 1 + length (entries_of (take i pool)) ≡ i + 1 = omega (arith, length-map (take i pool) entry_of, length-take-le i pool (omega (arith, below))) in
+    ap (names_from texts 1) (map_more entry_of pool i constant below ∙ ap (λ (x : Constant). entries_of (take i pool) ++ entry_of x ∷ []) (sym is))
+    ∙ names_push texts 1 (entries_of (take i pool)) (entry_of constant)
+    ∙ ap (λ (n : ℕ). names_from texts 1 (entries_of (take i pool)) ++ names_of_entry texts n (entry_of constant)) place
+
+-- ---- descriptors
+
+abbrev pub field_class : Field → Option Name
+field_class f = class_of_element (field_of f).element
+
+filtered_map : (fs : List Field) → filter_map (λ (f : FieldType). class_of_element f.element) (map field_of fs) ≡ filter_map field_class fs
+filtered_map [] = refl
+filtered_map (f ∷ fs) = ap (λ (l : List Name). cons_option (field_class f) l) (filtered_map fs)
+
+-- the classes of the parameters, and of what is returned
+pub described_method : (text : Name) (m : MethodType) (parameters : List Field) (returns : Option Field) → field_type text ≡ None → method_type text ≡ Some m
+    → map field_of parameters ≡ m.parameters → option_map field_of returns ≡ m.returns
+    → filter_map field_class parameters ++ filter_map field_class (option_to_list returns) ≡ classes_in text
+described_method text m parameters returns none is are gives =
+    let types : types_in text ≡ m.parameters ++ return_types m.returns = rw (none, is) refl in
+    let both : m.parameters ++ return_types m.returns ≡ map field_of parameters ++ map field_of (option_to_list returns) =
+    ap (λ (l : List FieldType). l ++ return_types m.returns) (sym are) ∙ ap (λ (o : Option FieldType). map field_of parameters ++ return_types o) (sym gives) ∙ ap (λ (l : List FieldType). map field_of parameters ++ l) (by returns) in
+    sym (ap (filter_map (λ (f : FieldType). class_of_element f.element)) (types ∙ both)
+    ∙ filter_map-append (λ (f : FieldType). class_of_element f.element) (map field_of parameters) (map field_of (option_to_list returns))
+    ∙ ap (λ (l : List Name). l ++ filter_map (λ (f : FieldType). class_of_element f.element) (map field_of (option_to_list returns))) (filtered_map parameters)
+    ∙ ap (λ (l : List Name). filter_map field_class parameters ++ l) (filtered_map (option_to_list returns)))
+  where
+    by : (o : Option Field) → return_types (option_map field_of o) ≡ map field_of (option_to_list o)
+    by None = refl
+    by (Some f) = refl

@@ -104,10 +104,10 @@ module _ (pool : List Entry) where
   adds_alone a b xs h = adds_same a b xs (xs ++ []) (sym (append-nil xs)) h
 
   -- the next part
-  pub adds_step : {X : Type 0} (a b c : NeededTexts) (f : X → List Name) (xs : List X) (i : ℕ) (x : X) → i < length xs → x ≡ get_or xs i x
+  pub adds_step : {X : Type 0} (a b c : NeededTexts) (f : X → List Name) (xs : List X) (i : ℕ) (x d : X) → i < length xs → x ≡ get_or xs i d
       → Adds pool a b (flat_map f (take i xs)) → Adds pool b c (f x) → Adds pool a c (flat_map f (take (i + 1) xs))
-  adds_step {X} a b c f xs i x below is before one =
-      let more : take (i + 1) xs ≡ take i xs ++ x ∷ [] = take_more xs i x below ∙ ap (λ (y : X). take i xs ++ y ∷ []) (sym is) in
+  adds_step {X} a b c f xs i x d below is before one =
+      let more : take (i + 1) xs ≡ take i xs ++ x ∷ [] = take_more xs i d below ∙ ap (λ (y : X). take i xs ++ y ∷ []) (sym is) in
       let list : flat_map f (take i xs) ++ f x ≡ flat_map f (take (i + 1) xs) =
       ap (λ (l : List Name). flat_map f (take i xs) ++ l) (sym (append-nil (f x))) ∙ sym (flat_map-append f (take i xs) (x ∷ [])) ∙ ap (flat_map f) (sym more) in
       adds_same a c _ _ list (adds_both a b c (flat_map f (take i xs)) (f x) before one)
@@ -127,11 +127,11 @@ module _ (pool : List Entry) where
         ap (λ (l : List Name). instruction_classes pool code n first ++ l) (more_marked (suc n) marks m ∙ ap (λ (k : ℕ). marked_classes pool code (suc n) marks ++ instruction_classes pool code k m) place)
         ∙ sym (append_assoc (instruction_classes pool code n first) (marked_classes pool code (suc n) marks) (instruction_classes pool code (n + length (first ∷ marks)) m))
 
-    pub adds_marked : (a b c : NeededTexts) (marks : List Bool) (i : ℕ) (m : Bool) → i < length marks → m ≡ get_or marks i m
+    pub adds_marked : (a b c : NeededTexts) (marks : List Bool) (i : ℕ) (m d : Bool) → i < length marks → m ≡ get_or marks i d
         → Adds pool a b (marked_classes pool code 0 (take i marks)) → Adds pool b c (instruction_classes pool code i m)
         → Adds pool a c (marked_classes pool code 0 (take (i + 1) marks))
-    adds_marked a b c marks i m below is before one =
-        let more : take (i + 1) marks ≡ take i marks ++ m ∷ [] = take_more marks i m below ∙ ap (λ (y : Bool). take i marks ++ y ∷ []) (sym is) in
+    adds_marked a b c marks i m d below is before one =
+        let more : take (i + 1) marks ≡ take i marks ++ m ∷ [] = take_more marks i d below ∙ ap (λ (y : Bool). take i marks ++ y ∷ []) (sym is) in
         let place : 0 + length (take i marks) ≡ i = omega (arith, length-take-le i marks (omega (arith, below))) in
         let list : marked_classes pool code 0 (take i marks) ++ instruction_classes pool code i m ≡ marked_classes pool code 0 (take (i + 1) marks) =
         ap (λ (k : ℕ). marked_classes pool code 0 (take i marks) ++ instruction_classes pool code k m) (sym place)
@@ -173,9 +173,8 @@ coded {A} {B} g h (x ∷ xs) = by (h x) (coded g h xs)
     by (Some y) e = ap (λ (l : List Name). g y ++ l) e
 
 -- no text is no descriptor
-unfolding element_at scanned_at field_type method_type
-
 nothing_described : classes_in [] ≡ []
+unfolding element_at scanned_at field_type method_type
 nothing_described = refl
 
 described : (pool : List Entry) (k : ℕ) → flat_map classes_in (option_to_list (utf8_at pool k)) ≡ classes_in (text_at pool k)

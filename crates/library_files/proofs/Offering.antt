@@ -1,27 +1,29 @@
 -- What a library offers, and the places of what is needed.
-use Rattle.std.proofs.Common.{◌≡◌, ◌⊎◌, ◌∙◌, ℕ, zero, suc, ◌+◌, ◌<◌, ◌≤◌, List, [], ◌∷◌, ◌++◌, length, get_or, map, take, Bool, true, false, cond, ◌||◌, not, Option, Some, None, refl, sym, ap, subst, inl, inr, ⊎_elim, arith, append_assoc}
+use Rattle.std.proofs.Common.{◌≡◌, ◌⊎◌, ◌∙◌, ℕ, zero, suc, ◌+◌, ◌<◌, ◌≤◌, List, [], ◌∷◌, ◌++◌, length, get_or, ltb, map, take, Bool, true, false, cond, ◌||◌, not, Option, Some, None, refl, sym, ap, subst, inl, inr, ⊎_elim, arith, append_assoc}
 use Rattle.std.specs.Prelude.{find, is_some, nat_eq, position, slice_get}
-use Rattle.std.specs.Option.{option_and_then, is_none}
+use Rattle.std.specs.Option.{option_and_then, option_map, is_none}
 use Rattle.std.specs.List.{Contains, list_any, flat_map}
 use Rattle.std.proofs.lemmas.Bool.{eqb-true}
-use Rattle.std.proofs.lemmas.List.{append-nil, map_more}
+use Rattle.std.proofs.lemmas.List.{append-nil, map_more, take-map}
 use Rattle.std.proofs.lemmas.Grind.{flat_map-append}
 use Rattle.class_tree.specs.declared.tree.ClassFile.{ClassFile}
 use Rattle.class_tree.specs.View.{file_of}
 use Rattle.std.proofs.lemmas.List.Folds.{list_any-append}
 use Rattle.std.proofs.lemmas.List.Elements.{Contains-append_left, Contains-append_right, Contains-append_cases, Contains-push, Contains-push_cases}
-use Rattle.std.proofs.lemmas.Option.{slice_get-get_or, slice_get_within, get_or_from_slice_get, slice_get-map}
+use Rattle.std.proofs.lemmas.Option.{slice_get-get_or, slice_get_past, slice_get_within, get_or_from_slice_get, slice_get-map}
+use borrow.Author.Tests.{ltb-false}
 use Rattle.model.specs.Names.{Name, name_eq}
 use Rattle.model.specs.Tree.{FileTree}
 use Rattle.model.specs.BuiltIn.{built_in_classes}
 use Rattle.model.specs.Classes.{Program, is_named}
 use Rattle.model.specs.Resolution.{is_missing}
 use Rattle.hierarchy.proofs.Names.{found_any}
-use Rattle.hierarchy.proofs.Finding.{find_by_position, position_within, passes_at, find_passes, nowhere}
+use Rattle.hierarchy.proofs.Finding.{find_by_position, position_first, position_within, passes_at, find_passes, nowhere}
 use Rattle.hierarchy.proofs.SetLaws.{same_name}
-use Rattle.library_files.specs.Adding.{LibraryFile, IsOffered, in_library}
+use Rattle.library_files.specs.declared.library_class.LibraryClass.{LibraryClass}
+use Rattle.library_files.specs.Adding.{LibraryFile, library_file, IsOffered, in_library}
 use Rattle.library_files.specs.Needs.{needed_classes, AreNeeded}
-use Rattle.library_files.specs.Offers.{offers_of, library_place, IsOfferedAt, FindsOffered, HasPlace, IsNeededPlace, IsClosed, AddsPlace, AddsPlaces, AddsPlacesBy}
+use Rattle.library_files.specs.Offers.{offers_of, has_name, library_place, IsOfferedAt, FindsOffered, HasPlace, IsNeededPlace, IsClosed, AddsPlace, AddsPlaces, AddsPlacesBy}
 
 -- ---- what is missing
 
@@ -36,22 +38,39 @@ missing_by files name =
 
 pub built_in_there : (files : Program) (name : Name) (built : List FileTree) (a : Bool) → built ≡ built_in_classes → a ≡ list_any (is_named name) built → a ≡ true
     → false ≡ is_missing files name
-built_in_there files name built a are is yes =
-    let there : list_any (is_named name) built_in_classes ≡ true = ap (list_any (is_named name)) (sym are) ∙ sym is ∙ yes in
+built_in_there files name built a are is so =
+    let there : list_any (is_named name) built_in_classes ≡ true = ap (list_any (is_named name)) (sym are) ∙ sym is ∙ so in
     sym (missing_by files name ∙ ap (λ (b : Bool). not (b || list_any (is_named name) files)) there)
 
 pub by_files : (files : Program) (name : Name) (built : List FileTree) (a b : Bool) → built ≡ built_in_classes → a ≡ list_any (is_named name) built → a ≡ false
     → b ≡ list_any (is_named name) files → not b ≡ is_missing files name
-by_files files name built a b are is no is_so =
-    let absent : list_any (is_named name) built_in_classes ≡ false = ap (list_any (is_named name)) (sym are) ∙ sym is ∙ no in
+by_files files name built a b are is not_so is_so =
+    let absent : list_any (is_named name) built_in_classes ≡ false = ap (list_any (is_named name)) (sym are) ∙ sym is ∙ not_so in
     sym (missing_by files name ∙ ap (λ (c : Bool). not (c || list_any (is_named name) files)) absent ∙ ap not (sym is_so))
+
+-- ---- a class in a list of them
+
+pub first_named : (name : Name) (classes : List LibraryClass) (i : ℕ) (d : LibraryClass) → i < length classes
+    → has_name name (library_file (get_or classes i d)) ≡ true → list_any (has_name name) (map library_file (take i classes)) ≡ false
+    → Some i ≡ library_place (map library_file classes) name
+first_named name classes i d below here before =
+    let at : slice_get (map library_file classes) i ≡ Some (library_file (get_or classes i d)) =
+    slice_get-map library_file classes i ∙ ap (option_map library_file) (slice_get-get_or classes i d below) in
+    sym (position_first (has_name name) (map library_file classes) i (library_file (get_or classes i d)) at here (ap (list_any (has_name name)) (take-map library_file i classes) ∙ before))
+
+pub same_class : (library : List LibraryFile) (place : ℕ) (a b : LibraryFile) → slice_get library place ≡ Some a → slice_get library place ≡ Some b → a ≡ b
+same_class library place a b e f = cc
+
+pub nothing_past : (classes : List LibraryClass) (place : ℕ) (class : LibraryFile) → ltb place (length classes) ≡ false
+    → slice_get (map library_file classes) place ≡ Some class → ⊥
+nothing_past classes place class past at =
+    let none : slice_get classes place ≡ None = slice_get_past classes place (ltb-false _ _ past) in
+    let is : slice_get (map library_file classes) place ≡ None = slice_get-map library_file classes place ∙ ap (option_map library_file) none in
+    absurd cc
 
 -- ---- the class of a name
 
 module _ (library : List LibraryFile) where
-  abbrev has_name : Name → LibraryFile → Bool
-  has_name name c = name_eq c.name name
-
   abbrev no_class : LibraryFile
   no_class = record { name = []; bytes = [] }
 
@@ -66,11 +85,8 @@ module _ (library : List LibraryFile) where
       → get_or offers place false ≡ is_missing files class.name
   offered_is files offers place class are stands =
       get_or_from_slice_get offers place (is_missing files class.name) false
-      (ap (λ (l : List Bool). slice_get l place) are ∙ slice_get-map (λ (c : LibraryFile). is_missing files c.name) library place ∙ ap (λ (o : Option LibraryFile). option_of o) stands)
-    where
-      abbrev option_of : Option LibraryFile → Option Bool
-      option_of None = None
-      option_of (Some c) = Some (is_missing files c.name)
+      (ap (λ (l : List Bool). slice_get l place) are ∙ slice_get-map (λ (c : LibraryFile). is_missing files c.name) library place
+      ∙ ap (option_map (λ (c : LibraryFile). is_missing files c.name)) stands)
 
   -- none has the name
   pub nothing_there : (files : Program) (name : Name) → library_place library name ≡ None → FindsOffered library files name None
@@ -78,19 +94,19 @@ module _ (library : List LibraryFile) where
 
   pub offered_there : (files : Program) (offers : List Bool) (name : Name) (place : ℕ) → offers ≡ offers_of files library → library_place library name ≡ Some place
       → get_or offers place false ≡ true → FindsOffered library files name (Some place)
-  offered_there files offers name place are e yes =
+  offered_there files offers name place are e so =
       let class = class_there name place e in
       record {
         class = class.0;
         stands = class.1;
-        offered = record { missing = ap (is_missing files) (sym class.3) ∙ sym (offered_is files offers place class.0 are class.1) ∙ yes; there = class.2 };
+        offered = record { missing = ap (is_missing files) (sym class.3) ∙ sym (offered_is files offers place class.0 are class.1) ∙ so; there = class.2 };
       }
 
   pub not_offered : (files : Program) (offers : List Bool) (name : Name) (place : ℕ) → offers ≡ offers_of files library → library_place library name ≡ Some place
       → get_or offers place false ≡ false → FindsOffered library files name None
-  not_offered files offers name place are e no =
+  not_offered files offers name place are e not_so =
       let class = class_there name place e in
-      let here : is_missing files name ≡ false = ap (is_missing files) (sym class.3) ∙ sym (offered_is files offers place class.0 are class.1) ∙ no in
+      let here : is_missing files name ≡ false = ap (is_missing files) (sym class.3) ∙ sym (offered_is files offers place class.0 are class.1) ∙ not_so in
       λ other h. let missing = h.missing in absurd cc
 
   -- ---- places
@@ -138,11 +154,12 @@ module _ (library : List LibraryFile) where
 
     any_among : (places : List ℕ) (place : ℕ) → list_any (nat_eq place) places ≡ true → Contains places place
     any_among [] place h = absurd cc
-    any_among (p ∷ places) place h = by (nat_eq place p) refl h
+    any_among (p ∷ places) place h = by (nat_eq place p) refl (any_among places place) h
       where
-        by : (b : Bool) → nat_eq place p ≡ b → (b || list_any (nat_eq place) places) ≡ true → Contains (p ∷ places) place
-        by true e h = (zero, omega arith, sym (eqb-true place p e))
-        by false e h = let rest = any_among places place h in (suc rest.0, omega (arith, rest.1), rest.2)
+        by : (b : Bool) → nat_eq place p ≡ b → (list_any (nat_eq place) places ≡ true → Contains places place) → (b || list_any (nat_eq place) places) ≡ true
+            → Contains (p ∷ places) place
+        by true e later h = (zero, omega arith, sym (eqb-true place p e))
+        by false e later h = let rest = later h in (suc rest.0, omega (arith, rest.1), rest.2)
 
     closed_at : (new : List ℕ) (name : Name) (place : ℕ) → IsOfferedAt library files name place → Contains new place → IsClosed library files new (name ∷ [])
     closed_at new name place at among = λ other class h offered.

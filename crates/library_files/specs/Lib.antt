@@ -4,3 +4,4 @@ pub mod Needs
 pub mod Parts
 pub mod Adding
 pub mod Offers
+pub mod Completing

@@ -13,9 +13,12 @@ use Rattle.library_files.specs.Adding.{LibraryFile, IsOffered, IsAdded}
 abbrev pub offers_of : Program → List LibraryFile → List Bool
 offers_of files library = map (λ (c : LibraryFile). is_missing files c.name) library
 
+abbrev pub has_name : Name → LibraryFile → Bool
+has_name name class = name_eq class.name name
+
 -- the place of the class of a name
 abbrev pub library_place : List LibraryFile → Name → Option ℕ
-library_place library name = position (λ (c : LibraryFile). name_eq c.name name) library
+library_place library name = position (has_name name) library
 
 -- the class at a place is offered under a name
 pub record IsOfferedAt (library : List LibraryFile) (files : Program) (name : Name) (place : ℕ) : Type 0 where

@@ -2,6 +2,7 @@
 #![tactic(auto)]
 
 mod adding;
+mod completing;
 mod library_class;
 mod names;
 mod needed_texts;
@@ -9,5 +10,6 @@ mod needs;
 mod offers;
 
 pub use adding::added_classes;
+pub use completing::{added_to, completed};
 pub use library_class::LibraryClass;
 pub use names::needed_names;

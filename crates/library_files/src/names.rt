@@ -2,6 +2,7 @@
 
 ghost use Rattle.std.specs.Prelude.{◌≡◌, ◌++◌, ◌∷◌, [], IfOk, OnOk, map, option_map};
 ghost use Rattle.std.specs.List.{filter_map};
+ghost use Rattle.std.specs.Option.{option_to_list};
 ghost use Rattle.model.specs.DescriptorParts.{class_of_element, classes_in};
 ghost use Rattle.constant_pool.specs.View.{entry_of, entries_of};
 ghost use Rattle.constant_pool.specs.descriptors.View.{field_of};
@@ -25,15 +26,24 @@ fn class_of<'a>(field: &Field<'a>) -> Option<&'a [u8]>
     }
 }
 
+/// Appends a name, if there is one.
+fn push_some<'a>(names: &mut Vec<&'a [u8]>, name: Option<&'a [u8]>) -> Result<(), AllocError>
+    ensures { OnOk result (named names.new.items
+        ≡ named names.old.items ++ option_to_list (option_map (λ t. t.now) name.entry)) }
+{
+    if let Some(name) = name {
+        names.push(name)?;
+    }
+    Ok(())
+}
+
 /// Appends the classes of types.
 fn push_classes<'a>(names: &mut Vec<&'a [u8]>, fields: &[Field<'a>]) -> Result<(), AllocError>
     ensures { OnOk result (named names.new.items ≡ named names.old.items
         ++ filter_map (λ f. class_of_element (field_of f).element) fields.now) }
 {
     for field in fields {
-        if let Some(name) = class_of(field) {
-            names.push(name)?;
-        }
+        push_some(names, class_of(field))?;
     }
     Ok(())
 }

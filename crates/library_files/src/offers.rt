@@ -7,19 +7,25 @@ ghost use Rattle.model.specs.Classes.{Program, is_named};
 ghost use Rattle.model.specs.Resolution.{is_missing};
 ghost use Rattle.class_tree.specs.View.{file_of};
 ghost use Rattle.library_files.specs.Adding.{library_file};
-ghost use Rattle.library_files.specs.Offers.{FindsOffered, library_place, offers_of};
+ghost use Rattle.library_files.specs.Offers.{FindsOffered, has_name, library_place, offers_of};
 
 use crate::library_class::LibraryClass;
 use class_tree::builtin::built_in_classes;
 use class_tree::{ClassFile, class_name};
 use std::alloc::{AllocError, Global};
 
+fn is_named(class: &ClassFile, name: &[u8]) -> bool
+    ensures { result ≡ is_named name.now (file_of class.now) }
+{
+    class_name(class) == name
+}
+
 /// Whether one of some classes has a name.
 fn is_declared(classes: &[ClassFile], name: &[u8]) -> bool
     ensures { result ≡ list_any (is_named name.now) (map file_of classes.now) }
 {
     for class in classes {
-        if class_name(class) == name {
+        if is_named(class, name) {
             return true;
         }
     }
@@ -68,12 +74,18 @@ pub(crate) fn offers(
     offers_beside(alloc, &built_in, files, library)
 }
 
+fn has_name(class: &LibraryClass<'_>, name: &[u8]) -> bool
+    ensures { result ≡ has_name name.now (library_file class.now) }
+{
+    class.name == name
+}
+
 /// The place in a library of the class of a name.
 fn place_of(library: &[LibraryClass<'_>], name: &[u8]) -> Option<usize>
     ensures { result ≡ library_place (map library_file library.now) name.now }
 {
     for (place, class) in library.iter().enumerate() {
-        if class.name == name {
+        if has_name(class, name) {
             return Some(place);
         }
     }

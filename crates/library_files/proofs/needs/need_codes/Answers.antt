@@ -10,7 +10,7 @@ loop-method-init c = adds_nothing c.args.file.now.pool c.args.texts.now
 
 pub loop-method-preserved : goal.loop-method-preserved
 loop-method-preserved c =
-    adds_step c.args.file.now.pool c.args.texts.now c.loop-method.texts c.need_method_code.new.texts (λ m. method_classes c.args.file.now.pool (method_of m)) c.args.methods.now c.loop-method.method-index c.method-item.result (omega (arith, c.loop-method-test.true)) c.method-item.is
+    adds_step c.args.file.now.pool c.args.texts.now c.loop-method.texts c.need_method_code.new.texts (λ m. method_classes c.args.file.now.pool (method_of m)) c.args.methods.now c.loop-method.method-index c.method-item.result c.method-item.result (omega (arith, c.loop-method-test.true)) c.method-item.is
     c.loop-method.invariant c.in_ok-need_method_code.ensures
 
 pub returns : goal.returns

@@ -10,7 +10,7 @@ loop-field-init c = λ pool. adds_nothing pool c.args.texts.now
 
 pub loop-field-preserved : goal.loop-field-preserved
 loop-field-preserved c = λ pool.
-    adds_step pool c.args.texts.now c.loop-field.texts c.need_descriptor.new.self (λ f. field_classes pool (field_of f)) c.args.fields.now c.loop-field.field-index c.field-item.result (omega (arith, c.loop-field-test.true)) c.field-item.is
+    adds_step pool c.args.texts.now c.loop-field.texts c.need_descriptor.new.self (λ f. field_classes pool (field_of f)) c.args.fields.now c.loop-field.field-index c.field-item.result c.field-item.result (omega (arith, c.loop-field-test.true)) c.field-item.is
     (c.loop-field.invariant pool) (c.in_ok-need_descriptor.ensures pool)
 
 pub returns : goal.returns

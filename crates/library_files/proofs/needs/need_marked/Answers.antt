@@ -9,7 +9,7 @@ loop-pc-init c = adds_nothing c.args.file.now.pool c.args.texts.now
 
 pub loop-pc-preserved : goal.loop-pc-preserved
 loop-pc-preserved c =
-    adds_marked c.args.file.now.pool c.args.code.now c.args.texts.now c.loop-pc.texts c.need_instruction.new.texts c.args.marks.now c.loop-pc.pc (get_or c.args.marks.now c.loop-pc.pc false) (omega (arith, c.loop-pc-test.true)) ?
+    adds_marked c.args.file.now.pool c.args.code.now c.args.texts.now c.loop-pc.texts c.need_instruction.new.texts c.args.marks.now c.loop-pc.pc (get_or c.args.marks.now c.loop-pc.pc false) false (omega (arith, c.loop-pc-test.true)) refl
     c.loop-pc.invariant c.in_ok-need_instruction.ensures
 
 pub returns : goal.returns

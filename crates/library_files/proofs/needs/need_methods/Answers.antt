@@ -10,7 +10,7 @@ loop-method-init c = λ pool. adds_nothing pool c.args.texts.now
 
 pub loop-method-preserved : goal.loop-method-preserved
 loop-method-preserved c = λ pool.
-    adds_step pool c.args.texts.now c.loop-method.texts c.need_descriptor.new.self (λ f. declared_classes pool (method_of f)) c.args.methods.now c.loop-method.method-index c.method-item.result (omega (arith, c.loop-method-test.true)) c.method-item.is
+    adds_step pool c.args.texts.now c.loop-method.texts c.need_descriptor.new.self (λ f. declared_classes pool (method_of f)) c.args.methods.now c.loop-method.method-index c.method-item.result c.method-item.result (omega (arith, c.loop-method-test.true)) c.method-item.is
     (c.loop-method.invariant pool) (c.in_ok-need_descriptor.ensures pool)
 
 pub returns : goal.returns
