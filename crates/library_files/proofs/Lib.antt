@@ -3,3 +3,4 @@ pub mod Naming
 pub mod Offering
 pub mod Turns
 pub mod Missing
+pub mod Spelled

@@ -16,7 +16,8 @@ use Rattle.model.specs.Hierarchy.{catch_class}
 use Rattle.model.specs.Resolution.{is_missing, is_missing_catch, superclass_missing, interface_missing, catch_type_missing, declared_descriptors, declared_class_missing, operand_classes, operand_class_missing, unresolved_instruction, is_unresolved}
 use Rattle.model.specs.Linkable.{stands, Unresolved}
 use Rattle.library_files.specs.Needs.{plain_class, caught_classes, instructions_of, code_classes, codes_of, needed_classes}
-use Rattle.library_files.specs.Adding.{LibraryFile, IsOffered, IsAdded, of_file, of_class, AreAdded}
+use Rattle.library_files.specs.declared.library_class.LibraryClass.{LibraryClass}
+use Rattle.library_files.specs.Adding.{LibraryFile, library_file, IsOffered, IsAdded, of_file, of_class, AreAdded}
 use Rattle.library_files.proofs.Turns.{from_flat_map}
 
 -- ---- elements
@@ -127,3 +128,7 @@ module _ (library : List LibraryFile) (files : Program) where
   pub nothing_added : (added : List LibraryFile) → AreAdded library files added → stands files Unresolved ≡ false → added ≡ []
   nothing_added [] are resolved = refl
   nothing_added (class ∷ added) are resolved = absurd (none_added resolved class (are.only class (zero, omega arith, refl)))
+
+pub no_classes : (classes : List LibraryClass) → map library_file classes ≡ [] → classes ≡ []
+no_classes [] e = refl
+no_classes (class ∷ classes) e = absurd cc

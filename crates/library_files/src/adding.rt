@@ -1,8 +1,9 @@
 //! Which classes of a library are added.
 
-ghost use Rattle.std.specs.Prelude.{◌≡◌, ◌∷◌, [], IfOk, OnOk, map, slice_get};
+ghost use Rattle.std.specs.Prelude.{◌≡◌, ◌∷◌, [], false, IfOk, OnOk, map, slice_get};
 ghost use Rattle.std.specs.List.{flat_map};
 ghost use Rattle.model.specs.Classes.{Program};
+ghost use Rattle.model.specs.Linkable.{Unresolved, stands};
 ghost use Rattle.class_tree.specs.View.{file_of};
 ghost use Rattle.library_files.specs.Names.{named};
 ghost use Rattle.library_files.specs.Needs.{needed_classes};
@@ -196,8 +197,10 @@ pub fn added_classes<'a>(
     files: &[ClassFile],
     library: &[LibraryClass<'a>],
 ) -> Result<Vec<LibraryClass<'a>>, AllocError>
-    ensures { IfOk result (λ added.
+    ensures added { IfOk result (λ added.
         AreAdded (map library_file library.now) (map file_of files.now) (map library_file added.items)) }
+    // Where all names are found nothing is added.
+    ensures none { stands (map file_of files.now) Unresolved ≡ false → IfOk result (λ added. added.items ≡ []) }
 {
     let offers = offers(alloc, files, library)?;
     let mut places = Vec::new(alloc);

@@ -21,6 +21,5 @@ loop-turn-preserved c = λ files are added.
 
 pub returns : goal.returns
 returns c = λ files are added.
-    let small = c.loop-turn.places.small in
-    let all = c.loop-turn.places.ok in
-    all_turns (map library_file c.args.library.now) files c.loop-turn.turn c.args.places.now.items c.loop-turn.places.items ? (c.loop-turn.invariant files are added)
+    all_turns (map library_file c.args.library.now) files c.loop-turn.turn c.args.places.now.items c.loop-turn.places.items
+    (omega (arith, c.loop-turn-test.false, c.loop-turn.places.small, c.loop-turn.places.ok.0, c.loop-turn.places.ok.1)) (c.loop-turn.invariant files are added)
