@@ -1,15 +1,21 @@
 -- What a command does over the files that its words stand for.
-use Rattle.std.proofs.Common.{arith, ◌≡◌, ◌≤◌, ℕ, List, Option, inl, inr, refl, subst, sym, tt}
+use Rattle.std.proofs.Common.{arith, ◌≡◌, ◌≤◌, ℕ, List, Option, inl, inr, map, refl, string_bytes, subst, sym}
 use Rattle.std.specs.Prelude.{None}
-use Rattle.command_line.specs.CommandLine.{Fails, Spells}
+use Rattle.std.specs.declared.string.String.{String}
+use Rattle.std.specs.Global.{Global}
+use Rattle.command_line.specs.CommandLine.{Fails, Refuses, Spells}
+use Rattle.command_line.proofs.CommandLineLemmas.{refuses_more}
 use Rattle.command_line.specs.declared.options.Command.{Command}
 use Rattle.command_line.specs.declared.usage.Usage.{Usage}
 use Rattle.program_files.specs.Folders.{Held, Listed, Written}
 use Rattle.program_files.specs.declared.files_fault.FilesFault.{FilesFault}
 use Rattle.program_files.specs.declared.files_fault.FilesFault.TheVariants as files
-use Rattle.engines.specs.Commands.{HasNoFiles, IsUndone, IsUntold, Stops}
+use Rattle.engines.specs.Commands.{AreFiles, HasNoFiles, IsDone, IsDoneOver, IsReadToo, IsUndone, IsUndoneOver, IsUnread, IsUntold, Stops, record_path}
 use Rattle.engines.specs.Complaints.{complaint_of}
 use Rattle.engines.specs.Failures.{TellsComplaint}
+use Rattle.engines.specs.Files.{held_at}
+use Rattle.engines.specs.declared.fault.Fault.{Fault}
+use Rattle.engines.specs.declared.status.Status.{Status}
 use Rattle.engines.specs.declared.complaint.Complaint.{Complaint}
 use Rattle.engines.specs.declared.complaint.Complaint.TheVariants as complaints
 
@@ -24,6 +30,25 @@ module _ (held : Held) (listed : Listed) (input : Option (List ℕ)) (command : 
   no_files (files.Mains names) none same = (none, same, refl)
   no_files (files.NoClass name) none same = (none, same, refl)
   no_files (files.NoMain name) none same = (none, same, refl)
+
+  -- the files that are checked are those that its words stand for
+  module _ (items paths : List (String Global)) (same : paths ≡ items) (are : AreFiles held listed command (map string_bytes items)) where
+    are_paths : AreFiles held listed command (map string_bytes paths)
+    are_paths = subst (λ files. AreFiles held listed command (map string_bytes files)) (sym same) are
+
+    pub read_too : (usage : Usage) → Refuses usage (IsReadToo (record_path command) (map string_bytes paths)) → new ≡ old
+        → IsUndone held listed input command old new (complaints.Usage usage) None
+    read_too usage read kept = (refuses_more usage _ _ (λ too. (map string_bytes paths, are_paths, too)) read, kept, refl)
+
+    pub undone_over : (fault : Fault) (written : Written) → IsUnread (record_path command) (map string_bytes paths)
+        → IsUndoneOver held (held_at held (map string_bytes paths)) input command old new fault written
+        → IsUndone held listed input command old new (complaints.Fault fault) written
+    undone_over fault written unread undone = inr (map string_bytes paths, are_paths, unread, undone)
+
+    pub done_over : (text : List ℕ) (written : Written) (status : Status) → IsUnread (record_path command) (map string_bytes paths)
+        → IsDoneOver held (held_at held (map string_bytes paths)) input command text written status
+        → IsDone held listed input command text written status
+    done_over text written status unread done = (map string_bytes paths, are_paths, unread, done)
 
   -- what a command does not do, the words do not
   pub undone_stops : (words : List (List ℕ)) (complaint : Complaint) (written : Written) → Spells words command

@@ -125,13 +125,14 @@ fn done<R: Threads + Wait + Sync, G: Gate + Progress + Seeds + Sync, F: Folder, 
         (I.failures input.old + W.failures output.old) (I.failures input.new + W.failures output.new)) }
 {
     let files = command_files(alloc, folder, command)?;
-    check_record(alloc, command, &files)?;
+    let paths = files.as_slice();
+    check_record(alloc, command, paths)?;
     let status = done_over(
         rt,
         alloc,
         gate,
         folder,
-        &files,
+        paths,
         command,
         input,
         output,
