@@ -11,20 +11,22 @@ use Rattle.program_files.specs.Folders.{Held, Listed, Written}
 use Rattle.program_files.specs.declared.files_fault.FilesFault.{FilesFault}
 use Rattle.program_files.specs.declared.files_fault.FilesFault.TheVariants as files
 use Rattle.engines.specs.Commands.{AreFiles, HasNoFiles, IsDone, IsDoneOver, IsReadToo, IsUndone, IsUndoneOver, IsUnread, IsUntold, Stops, record_path}
+use Rattle.library_files.specs.Adding.{LibraryFile}
 use Rattle.engines.specs.Complaints.{complaint_of}
+use Rattle.engines.specs.Handed.{AreHanded, IsUnread as IsUnreadFile}
 use Rattle.engines.specs.Failures.{TellsComplaint}
-use Rattle.engines.specs.Files.{held_at}
+use Rattle.engines.specs.Files.{held_at, known}
 use Rattle.engines.specs.declared.fault.Fault.{Fault}
 use Rattle.engines.specs.declared.status.Status.{Status}
 use Rattle.engines.specs.declared.complaint.Complaint.{Complaint}
 use Rattle.engines.specs.declared.complaint.Complaint.TheVariants as complaints
 
-module _ (held : Held) (listed : Listed) (input : Option (List ℕ)) (command : Command) (old new : Option (List ℕ)) where
+module _ (library : List LibraryFile) (held : Held) (listed : Listed) (input : Option (List ℕ)) (command : Command) (old new : Option (List ℕ)) where
   -- without files nothing is done
   pub no_files : (fault : FilesFault) → HasNoFiles held listed command fault → new ≡ old
-      → IsUndone held listed input command old new (complaint_of fault) None
-  no_files files.Device none same = inl (tt, same, refl)
-  no_files files.Memory none same = inl (tt, same, refl)
+      → IsUndone library held listed input command old new (complaint_of fault) None
+  no_files files.Device none same = inl (inl tt, same, refl)
+  no_files files.Memory none same = inl (inl tt, same, refl)
   no_files (files.Empty path) none same = (none, same, refl)
   no_files (files.TooDeep path) none same = (none, same, refl)
   no_files (files.Mains names) none same = (none, same, refl)
@@ -37,33 +39,38 @@ module _ (held : Held) (listed : Listed) (input : Option (List ℕ)) (command : 
     are_paths = subst (λ files. AreFiles held listed command (map string_bytes files)) (sym same) are
 
     pub read_too : (usage : Usage) → Refuses usage (IsReadToo (record_path command) (map string_bytes paths)) → new ≡ old
-        → IsUndone held listed input command old new (complaints.Usage usage) None
+        → IsUndone library held listed input command old new (complaints.Usage usage) None
     read_too usage read kept = (refuses_more usage _ _ (λ too. (map string_bytes paths, are_paths, too)) read, kept, refl)
 
-    pub undone_over : (fault : Fault) (written : Written) → IsUnread (record_path command) (map string_bytes paths)
-        → IsUndoneOver held (held_at held (map string_bytes paths)) input command old new fault written
-        → IsUndone held listed input command old new (complaints.Fault fault) written
-    undone_over fault written unread undone = inr (map string_bytes paths, are_paths, unread, undone)
+    module _ (handed : List (List ℕ)) (are_handed : AreHanded library command (held_at held (map string_bytes paths)) handed) where
+      pub undone_over : (fault : Fault) (written : Written) → IsUnread (record_path command) (map string_bytes paths)
+          → IsUndoneOver held (known handed) input command old new fault written
+          → IsUndone library held listed input command old new (complaints.Fault fault) written
+      undone_over fault written unread undone = inr (map string_bytes paths, are_paths, unread, handed, are_handed, undone)
 
-    pub done_over : (text : List ℕ) (written : Written) (status : Status) → IsUnread (record_path command) (map string_bytes paths)
-        → IsDoneOver held (held_at held (map string_bytes paths)) input command text written status
-        → IsDone held listed input command text written status
-    done_over text written status unread done = (map string_bytes paths, are_paths, unread, done)
+      pub done_over : (text : List ℕ) (written : Written) (status : Status) → IsUnread (record_path command) (map string_bytes paths)
+          → IsDoneOver held (known handed) input command text written status
+          → IsDone library held listed input command text written status
+      done_over text written status unread done = (map string_bytes paths, are_paths, unread, handed, are_handed, done)
+
+  -- where a file can't be read, nothing is done
+  pub unread_over : (fault : Fault) → IsUnreadFile fault → new ≡ old → IsUndone library held listed input command old new (complaints.Fault fault) None
+  unread_over fault unread same = inl (inr unread, same, refl)
 
   -- what a command does not do, the words do not
   pub undone_stops : (words : List (List ℕ)) (complaint : Complaint) (written : Written) → Spells words command
-      → IsUndone held listed input command old new complaint written → Stops held listed input words old new complaint written
+      → IsUndone library held listed input command old new complaint written → Stops library held listed input words old new complaint written
   undone_stops words (complaints.Usage usage) written spells undone = inr (command, spells, undone)
   undone_stops words (complaints.Files fault) written spells undone = (command, spells, undone)
   undone_stops words (complaints.Fault fault) written spells undone = inr (command, spells, undone)
 
 -- what keeps words that are no command from their help keeps them from all
-pub untold_stops : (held : Held) (listed : Listed) (input : Option (List ℕ)) (words : List (List ℕ)) (old new : Option (List ℕ)) (usage : Usage)
-    (complaint : Complaint) → Fails words usage → IsUntold usage old new complaint → Stops held listed input words old new complaint None
-untold_stops held listed input words old new usage (complaints.Usage told) fails untold =
-    subst (λ u. Stops held listed input words old new (complaints.Usage u) None) (sym untold.0) (inl (fails, untold.1, untold.2, refl))
-untold_stops held listed input words old new usage (complaints.Files fault) fails untold = absurd untold
-untold_stops held listed input words old new usage (complaints.Fault fault) fails untold =
+pub untold_stops : (library : List LibraryFile) (held : Held) (listed : Listed) (input : Option (List ℕ)) (words : List (List ℕ)) (old new : Option (List ℕ)) (usage : Usage)
+    (complaint : Complaint) → Fails words usage → IsUntold usage old new complaint → Stops library held listed input words old new complaint None
+untold_stops library held listed input words old new usage (complaints.Usage told) fails untold =
+    subst (λ u. Stops library held listed input words old new (complaints.Usage u) None) (sym untold.0) (inl (fails, untold.1, untold.2, refl))
+untold_stops library held listed input words old new usage (complaints.Files fault) fails untold = absurd untold
+untold_stops library held listed input words old new usage (complaints.Fault fault) fails untold =
     inl ((usage, fails, untold.0), untold.1, untold.2, refl)
 
 -- what keeps files from being handed on is told as it is
