@@ -1,16 +1,16 @@
 -- What a command does over the files that its words stand for.
-use Rattle.std.proofs.Common.{arith, ◌≡◌, ◌≤◌, ℕ, List, Option, inl, inr, map, refl, string_bytes, subst, sym}
+use Rattle.std.proofs.Common.{arith, ◌≡◌, ℕ, List, Option, inl, inr, map, refl, string_bytes, subst, sym}
 use Rattle.std.specs.Prelude.{None}
 use Rattle.std.specs.declared.string.String.{String}
 use Rattle.std.specs.Global.{Global}
-use Rattle.command_line.specs.CommandLine.{Fails, Refuses, Spells}
+use Rattle.command_line.specs.CommandLine.{Refuses, Spells}
 use Rattle.command_line.proofs.CommandLineLemmas.{refuses_more}
 use Rattle.command_line.specs.declared.options.Command.{Command}
 use Rattle.command_line.specs.declared.usage.Usage.{Usage}
 use Rattle.program_files.specs.Folders.{Held, Listed, Written}
 use Rattle.program_files.specs.declared.files_fault.FilesFault.{FilesFault}
 use Rattle.program_files.specs.declared.files_fault.FilesFault.TheVariants as files
-use Rattle.engines.specs.Commands.{AreFiles, HasNoFiles, IsDone, IsDoneOver, IsReadToo, IsUndone, IsUndoneOver, IsUnread, IsUntold, Stops, record_path}
+use Rattle.engines.specs.Commands.{AreFiles, HasNoFiles, IsDone, IsDoneOver, IsReadToo, IsUndone, IsUndoneOver, IsUnread, Stops, record_path}
 use Rattle.library_files.specs.Adding.{LibraryFile}
 use Rattle.engines.specs.Complaints.{complaint_of}
 use Rattle.engines.specs.Handed.{AreHanded, IsUnread as IsUnreadFile}
@@ -63,15 +63,6 @@ module _ (library : List LibraryFile) (held : Held) (listed : Listed) (input : O
   undone_stops words (complaints.Usage usage) written spells undone = inr (command, spells, undone)
   undone_stops words (complaints.Files fault) written spells undone = (command, spells, undone)
   undone_stops words (complaints.Fault fault) written spells undone = inr (command, spells, undone)
-
--- what keeps words that are no command from their help keeps them from all
-pub untold_stops : (library : List LibraryFile) (held : Held) (listed : Listed) (input : Option (List ℕ)) (words : List (List ℕ)) (old new : Option (List ℕ)) (usage : Usage)
-    (complaint : Complaint) → Fails words usage → IsUntold usage old new complaint → Stops library held listed input words old new complaint None
-untold_stops library held listed input words old new usage (complaints.Usage told) fails untold =
-    subst (λ u. Stops library held listed input words old new (complaints.Usage u) None) (sym untold.0) (inl (fails, untold.1, untold.2, refl))
-untold_stops library held listed input words old new usage (complaints.Files fault) fails untold = absurd untold
-untold_stops library held listed input words old new usage (complaints.Fault fault) fails untold =
-    inl ((usage, fails, untold.0), untold.1, untold.2, refl)
 
 -- what keeps files from being handed on is told as it is
 pub told_files : (elsewhere : Type 0) (fault : FilesFault) (n : ℕ) → (fault ≡ files.Device → elsewhere) → TellsComplaint elsewhere (complaint_of fault) n n
