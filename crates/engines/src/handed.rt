@@ -6,7 +6,7 @@ ghost use Rattle.library_files.specs.Adding.{library_file};
 ghost use Rattle.engines.specs.Engines.{ReadsEach};
 ghost use Rattle.engines.specs.Failures.{FolderMayFail, TellsFailures};
 ghost use Rattle.engines.specs.Files.{held_at};
-ghost use Rattle.engines.specs.Handed.{AreHanded, IsUnread, library_of};
+ghost use Rattle.engines.specs.Handed.{AreHanded, IsUnread, library_of, unless_alone};
 
 use crate::class_files::read_class_files;
 use crate::fault::Fault;
@@ -27,19 +27,29 @@ fn read_files<F: Folder>(alloc: Global, folder: &F, paths: &[String]) -> Result<
     read_class_files(alloc, sources.as_mut_slice())
 }
 
+/// The library, unless the files are to stand alone.
+fn unless_alone<'a, 'b>(alone: bool, library: &'a [LibraryClass<'b>]) -> &'a [LibraryClass<'b>]
+    ensures { map library_file result.now ≡ unless_alone alone (map library_file library.now) }
+{
+    if alone {
+        return &[];
+    }
+    library
+}
+
 /// The classes that may be added to the files of a command.
 fn library_of<'a, 'b>(command: &Command, library: &'a [LibraryClass<'b>]) -> &'a [LibraryClass<'b>]
     ensures { map library_file result.now ≡ library_of command.now (map library_file library.now) }
 {
-    let alone = match command {
-        Command::Run(options) => options.files_alone,
-        Command::Replay(options) => options.files_alone,
-        Command::Trace(options) => options.files_alone,
-        Command::Search(options) => options.files_alone,
-        Command::Verify(options) => options.files_alone,
-        Command::Disasm(_) | Command::Schedule(_) => true,
-    };
-    if alone { &[] } else { library }
+    match command {
+        Command::Run(options) => unless_alone(options.files_alone, library),
+        Command::Replay(options) => unless_alone(options.files_alone, library),
+        Command::Trace(options) => unless_alone(options.files_alone, library),
+        Command::Search(options) => unless_alone(options.files_alone, library),
+        Command::Verify(options) => unless_alone(options.files_alone, library),
+        Command::Disasm(_) => &[],
+        Command::Schedule(_) => &[],
+    }
 }
 
 /// The bytes of the files at these paths, and behind them those of the classes of the library that are added to them.

@@ -138,12 +138,13 @@ fn done<R: Threads + Wait + Sync, G: Gate + Progress + Seeds + Sync, F: Folder, 
     let paths = files.as_slice();
     check_record(alloc, command, paths)?;
     let handed = handed_files(alloc, folder, command, library, paths)?;
+    let whole = handed.as_slice();
     let status = done_over(
         rt,
         alloc,
         gate,
         folder,
-        handed.as_slice(),
+        whole,
         command,
         input,
         output,
