@@ -41,8 +41,6 @@ pub struct Run {
     pub explain: bool,
     /// Whether standard error tells no more than why there is no report.
     pub quiet: bool,
-    /// Whether no class is added from the library.
-    pub files_alone: bool,
 }
 
 /// `jvm replay`: class files are run under a schedule, and what comes of it is reported.
@@ -61,8 +59,6 @@ pub struct Replay {
     pub explain: bool,
     /// Whether standard error tells no more than why there is no report.
     pub quiet: bool,
-    /// Whether no class is added from the library.
-    pub files_alone: bool,
 }
 
 /// `jvm trace`: class files are run under a schedule, and the run is told event by event.
@@ -88,8 +84,6 @@ pub struct Trace {
     pub explain: bool,
     /// Whether standard error tells no more than why there is no report.
     pub quiet: bool,
-    /// Whether no class is added from the library.
-    pub files_alone: bool,
 }
 
 /// How a trace tells each event.
@@ -123,8 +117,6 @@ pub struct Search {
     pub explain: bool,
     /// Whether standard error tells no more than why there is no output.
     pub quiet: bool,
-    /// Whether no class is added from the library.
-    pub files_alone: bool,
 }
 
 /// Which outcome of a run a search is to find.
@@ -187,8 +179,6 @@ pub struct Verify {
     pub explain: bool,
     /// Whether standard error tells no more than why there is no output.
     pub quiet: bool,
-    /// Whether no class is added from the library.
-    pub files_alone: bool,
 }
 
 /// `jvm disasm`: the listings of class files are written.

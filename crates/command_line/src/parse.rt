@@ -129,7 +129,6 @@ fn run_of(alloc: Global, matches: &ArgMatches<'_>) -> Result<Run, Usage>
         files,
         explain: is_set(matches, "explain"),
         quiet: is_set(matches, "quiet"),
-        files_alone: is_set(matches, "files-alone"),
     })
 }
 
@@ -153,7 +152,6 @@ fn replay_of(alloc: Global, matches: &ArgMatches<'_>) -> Result<Replay, Usage>
         files,
         explain: is_set(matches, "explain"),
         quiet: is_set(matches, "quiet"),
-        files_alone: is_set(matches, "files-alone"),
     })
 }
 
@@ -182,7 +180,6 @@ fn trace_of(alloc: Global, matches: &ArgMatches<'_>) -> Result<Trace, Usage>
         files,
         explain: is_set(matches, "explain"),
         quiet: is_set(matches, "quiet"),
-        files_alone: is_set(matches, "files-alone"),
     })
 }
 
@@ -210,7 +207,6 @@ fn search_of(alloc: Global, matches: &ArgMatches<'_>) -> Result<Search, Usage>
         files,
         explain: is_set(matches, "explain"),
         quiet: is_set(matches, "quiet"),
-        files_alone: is_set(matches, "files-alone"),
     })
 }
 
@@ -239,7 +235,6 @@ fn verify_of(alloc: Global, matches: &ArgMatches<'_>) -> Result<Verify, Usage>
         library: is_set(matches, "library"),
         explain: is_set(matches, "explain"),
         quiet: is_set(matches, "quiet"),
-        files_alone: is_set(matches, "files-alone"),
     })
 }
 

@@ -21,4 +21,3 @@ pub mod Statuses
 pub mod Traces
 pub mod Transcriptions
 pub mod Verifications
-pub mod Handed

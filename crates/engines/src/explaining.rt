@@ -1,7 +1,6 @@
 //! The line that tells a person why a command was not done. For it the files are read a second time.
 
 ghost use Rattle.std.specs.Prelude.{◌≡◌, ◌⊎◌, map, string_bytes};
-ghost use Rattle.library_files.specs.Adding.{library_file};
 ghost use Rattle.engines.specs.Advised.{IsExplained, IsToldOf, is_quiet};
 
 use crate::advised::{advised, named_files};
@@ -12,7 +11,6 @@ use crate::fault::Fault;
 use crate::main_hints::add_mains;
 use command_line::{Command, Goal, Usage, command};
 use explanations::refusal_explanations::{explain, explain_schedule, explain_text};
-use library_files::LibraryClass;
 use link_conditions::refusal::RefusalKind;
 use program_files::{Folder, first_unlisted, given_paths};
 use std::alloc::{AllocError, Global};
@@ -39,30 +37,20 @@ pub struct Failures<'a> {
 /// wanted anyway; and nothing with `--quiet`.
 pub fn explain_complaint<F: Folder>(
     alloc: Global,
-    library: &[LibraryClass<'_>],
     folder: &F,
     words: &[String],
     complaint: &Complaint,
     failures: Failures<'_>,
     explanation: &mut Explanation,
 )
-    ensures { IsExplained (map library_file library.now) (F.held folder.now) (F.listed folder.now)
-        (map string_bytes words.now) complaint.now
+    ensures { IsExplained (F.held folder.now) (F.listed folder.now) (map string_bytes words.now) complaint.now
         explanation.old explanation.new }
 {
     let Complaint::Fault(fault) = complaint else {
         return;
     };
     match command(alloc, words) {
-        Ok(command) => explain_fault(
-            alloc,
-            library,
-            folder,
-            &command,
-            fault,
-            failures,
-            explanation,
-        ),
+        Ok(command) => explain_fault(alloc, folder, &command, fault, failures, explanation),
         // help that can't be written
         Err(Usage::Asked(_)) if explanation.is_wanted() => {
             explanation.tell(indented(alloc, of_streams(alloc, failures)));
@@ -74,7 +62,6 @@ pub fn explain_complaint<F: Folder>(
 /// Tells why a command has this fault, and behind it the advice on files that `verify` refuses.
 fn explain_fault<F: Folder>(
     alloc: Global,
-    library: &[LibraryClass<'_>],
     folder: &F,
     command: &Command,
     fault: &Fault,
@@ -82,7 +69,7 @@ fn explain_fault<F: Folder>(
     explanation: &mut Explanation,
 )
     ensures { (explanation.new ≡ explanation.old)
-        ⊎ IsToldOf (map library_file library.now) (F.held folder.now) (F.listed folder.now) command.now fault.now explanation.new }
+        ⊎ IsToldOf (F.held folder.now) (F.listed folder.now) command.now fault.now explanation.new }
 {
     let (is_explained, is_quiet) = flags_of(command);
     if is_quiet || !(is_explained || explanation.is_wanted()) {
@@ -90,7 +77,6 @@ fn explain_fault<F: Folder>(
     }
     let line = told_line(
         alloc,
-        library,
         folder,
         command,
         fault,
@@ -98,13 +84,12 @@ fn explain_fault<F: Folder>(
         explanation.reason(),
     );
     explanation.tell(indented(alloc, line));
-    explanation.add(advised(alloc, folder, command, library, fault));
+    explanation.add(advised(alloc, folder, command, fault));
 }
 
 /// What is known of a fault of a command.
 fn told_line<F: Folder>(
     alloc: Global,
-    library: &[LibraryClass<'_>],
     folder: &F,
     command: &Command,
     fault: &Fault,
@@ -113,7 +98,7 @@ fn told_line<F: Folder>(
 ) -> Told {
     match fault {
         Fault::Device => of_device(alloc, folder, command, failures, recording),
-        _ => line_of(alloc, library, folder, command, fault),
+        _ => line_of(alloc, folder, command, fault),
     }
 }
 
@@ -183,13 +168,7 @@ fn words_of(command: &Command) -> &[String] {
 }
 
 /// What is known of a fault that is no failure of a device.
-fn line_of<F: Folder>(
-    alloc: Global,
-    library: &[LibraryClass<'_>],
-    folder: &F,
-    command: &Command,
-    fault: &Fault,
-) -> Told {
+fn line_of<F: Folder>(alloc: Global, folder: &F, command: &Command, fault: &Fault) -> Told {
     let schedule = schedule_of(command);
     match fault {
         Fault::Device | Fault::Memory => Ok(None),
@@ -205,7 +184,7 @@ fn line_of<F: Folder>(
             let Ok(paths) = command_files(alloc, folder, command) else {
                 return Ok(None);
             };
-            let Ok(files) = named_files(alloc, folder, command, library, &paths) else {
+            let Ok(files) = named_files(alloc, folder, &paths) else {
                 return Ok(None);
             };
             let mut line = explain(alloc, refusal, &files)?;

@@ -1,6 +1,8 @@
-//! What is told of the threads of a run. For it the events are done a second time.
+//! What is told of the threads of a run. For it the class files are read, and the events are done, a second time.
 
+use crate::class_files::read_class_files;
 use crate::fault::Fault;
+use crate::named_file::sources;
 use crate::recording::limits_of;
 use crate::verification::accepted;
 use command_line::LimitOptions;
@@ -19,33 +21,35 @@ pub(crate) fn told_schedule<F: Folder>(
     alloc: Global,
     folder: &F,
     path: &String,
-    files: &[Vec<u8>],
+    files: &[String],
     limits: &LimitOptions,
     most: u64,
 ) -> Option<Vec<u8>> {
     let bytes = folder.read(alloc, path.as_str()).ok()?;
-    told_threads(alloc, bytes.as_slice(), files, limits, most).ok()?
+    told_threads(alloc, folder, bytes.as_slice(), files, limits, most).ok()?
 }
 
 /// The same of the schedule file that was made, if one was.
-pub(crate) fn told_record(
+pub(crate) fn told_record<F: Folder>(
     alloc: Global,
+    folder: &F,
     file: &Option<Vec<u8>>,
-    files: &[Vec<u8>],
+    files: &[String],
     limits: &LimitOptions,
     most: u64,
 ) -> Option<Vec<u8>> {
     match file {
-        Some(bytes) => { told_threads(alloc, bytes.as_slice(), files, limits, most).ok()? }
+        Some(bytes) => { told_threads(alloc, folder, bytes.as_slice(), files, limits, most).ok()? }
         None => None,
     }
 }
 
 /// The same of these bytes of a schedule.
-fn told_threads(
+fn told_threads<F: Folder>(
     alloc: Global,
+    folder: &F,
     bytes: &[u8],
-    files: &[Vec<u8>],
+    files: &[String],
     limits: &LimitOptions,
     most: u64,
 ) -> Result<Option<Vec<u8>>, Fault> {
@@ -53,8 +57,10 @@ fn told_threads(
     if schedule.count() > most {
         return Ok(None);
     }
-    let limits = limits_of(&recorded, files, limits)?;
-    let verified = accepted(alloc, files)?;
+    let mut sources = sources(alloc, folder, files)?;
+    let files = read_class_files(alloc, sources.as_mut_slice())?;
+    let limits = limits_of(&recorded, files.as_slice(), limits)?;
+    let verified = accepted(alloc, files.as_slice())?;
     Ok(Some(threads_after(alloc, &verified, &schedule, limits)?))
 }
 

@@ -60,7 +60,6 @@ pub fn outcome_of<R: Threads + Wait + Sync>(
         rt,
         alloc,
         &Open,
-        &[],
         &mut folder,
         words.as_slice(),
         &mut input,

@@ -5,7 +5,7 @@ ghost use Rattle.std.specs.Option.{option_map};
 ghost use Rattle.std.specs.Io.KnownBytes.{Appends};
 ghost use Rattle.engines.specs.Commands.{IsContinuationDone, IsContinuationUndone, IsReplayDone, IsReplayUndone, Leaves, LeavesAt};
 ghost use Rattle.engines.specs.Continuations.{Continues, IsUncontinued};
-ghost use Rattle.engines.specs.Files.{known};
+ghost use Rattle.engines.specs.Files.{held_at};
 ghost use Rattle.engines.specs.Failures.{FolderMayFail, TellsFailures};
 ghost use Rattle.engines.specs.Replays.{IsFaulty, Replays};
 
@@ -26,18 +26,18 @@ use std::alloc::Global;
 pub(crate) fn replay<F: Folder, W: Sink>(
     alloc: Global,
     folder: &mut F,
-    files: &[Vec<u8>],
+    files: &[String],
     options: &Replay,
     output: &mut W,
     explanation: &mut Explanation,
 ) -> Result<Status, Fault>
     ensures done { IfOk result
         (Leaves (IsReplayDone (F.held folder.old)
-        (known (map vec_items files.now)) options.now options.now.then_run)
+        (held_at (F.held folder.old) (map string_bytes files.now)) options.now options.now.then_run)
         (W.contents output.old) (W.contents output.new) (F.held folder.old) (F.held folder.new)) }
     ensures faulty { IfErr result
         (LeavesAt (IsReplayUndone (F.held folder.old)
-        (known (map vec_items files.now)) options.now options.now.then_run
+        (held_at (F.held folder.old) (map string_bytes files.now)) options.now options.now.then_run
         (W.contents output.old) (W.contents output.new)) (F.held folder.old) (F.held folder.new)) }
     ensures told { TellsFailures (FolderMayFail F.may_fail) result (W.failures output.old) (W.failures output.new) }
 {
@@ -63,17 +63,17 @@ pub(crate) fn replay<F: Folder, W: Sink>(
 fn replayed<'a, F: Folder, W: Sink>(
     alloc: Global,
     folder: &'a F,
-    files: &'a [Vec<u8>],
+    files: &'a [String],
     options: &'a Replay,
     output: &mut W,
 ) -> Result<Status, Fault>
     ensures replayed { IfOk result (λ status. (text : _)
         × Replays (F.held folder.now (string_bytes options.now.schedule))
-        (known (map vec_items files.now))
+        (held_at (F.held folder.now) (map string_bytes files.now))
         options.now.limits text status
         × Appends (W.contents output.old) (W.contents output.new) text) }
     ensures faulty { IfErr result (IsFaulty (F.held folder.now (string_bytes options.now.schedule))
-        (known (map vec_items files.now)) options.now.limits (W.contents output.old)
+        (held_at (F.held folder.now) (map string_bytes files.now)) options.now.limits (W.contents output.old)
         (W.contents output.new)) }
     ensures told { TellsFailures (FolderMayFail F.may_fail) result (W.failures output.old) (W.failures output.new) }
 {
@@ -92,7 +92,7 @@ fn replayed<'a, F: Folder, W: Sink>(
 fn replay_on<F: Folder, W: Sink>(
     alloc: Global,
     folder: &mut F,
-    files: &[Vec<u8>],
+    files: &[String],
     options: &Replay,
     then_run: &ThenRun,
     output: &mut W,
@@ -100,11 +100,11 @@ fn replay_on<F: Folder, W: Sink>(
 ) -> Result<Status, Fault>
     ensures done { IfOk result
         (Leaves (IsContinuationDone (F.held folder.old)
-        (known (map vec_items files.now)) options.now then_run.now)
+        (held_at (F.held folder.old) (map string_bytes files.now)) options.now then_run.now)
         (W.contents output.old) (W.contents output.new) (F.held folder.old) (F.held folder.new)) }
     ensures faulty { IfErr result
         (LeavesAt (IsContinuationUndone (F.held folder.old)
-        (known (map vec_items files.now)) options.now then_run.now
+        (held_at (F.held folder.old) (map string_bytes files.now)) options.now then_run.now
         (W.contents output.old) (W.contents output.new)) (F.held folder.old) (F.held folder.new)) }
     ensures told { TellsFailures (FolderMayFail F.may_fail) result (W.failures output.old) (W.failures output.new) }
 {
@@ -113,7 +113,7 @@ fn replay_on<F: Folder, W: Sink>(
     let outcome = continued(alloc, folder, files, options, then_run, output, &mut file);
     let status = recorded(alloc, folder, &then_run.record, &file, outcome, explanation)?;
     if let Some(most) = explanation.most_events(status, options.explain, options.quiet) {
-        let lines = told_record(alloc, &file, files, &options.limits, most);
+        let lines = told_record(alloc, folder, &file, files, &options.limits, most);
         explanation.tell(lines);
     }
     Ok(status)
@@ -123,7 +123,7 @@ fn replay_on<F: Folder, W: Sink>(
 fn continued<'a, F: Folder, W: Sink>(
     alloc: Global,
     folder: &'a F,
-    files: &'a [Vec<u8>],
+    files: &'a [String],
     options: &'a Replay,
     then_run: &ThenRun,
     output: &mut W,
@@ -131,12 +131,12 @@ fn continued<'a, F: Folder, W: Sink>(
 ) -> Result<Status, Fault>
     ensures continued { IfOk result (λ status. (text : _)
         × Continues (F.held folder.now (string_bytes options.now.schedule))
-        (known (map vec_items files.now))
+        (held_at (F.held folder.now) (map string_bytes files.now))
         options.now.limits (unwrap_or then_run.now.budget 10000000) text (option_map vec_items file.new) status
         × Appends (W.contents output.old) (W.contents output.new) text) }
     ensures asked { IfOk result (λ _. IsTrue (is_some then_run.now.record) → IsTrue (is_some file.new)) }
     ensures faulty { IfErr result (IsUncontinued (F.held folder.now (string_bytes options.now.schedule))
-        (known (map vec_items files.now)) options.now.limits
+        (held_at (F.held folder.now) (map string_bytes files.now)) options.now.limits
         (unwrap_or then_run.now.budget 10000000)
         (W.contents output.old) (W.contents output.new) (option_map vec_items file.old)
         (option_map vec_items file.new)) }

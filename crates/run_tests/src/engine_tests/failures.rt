@@ -138,7 +138,6 @@ fn outcome<R: Threads + Wait + Sync>(
         rt,
         alloc,
         &Open,
-        &[],
         &mut folder,
         texts.as_slice(),
         &mut input,

@@ -80,7 +80,6 @@ fn seen<R: Threads + Wait + Sync>(
         rt,
         alloc,
         &watch,
-        &[],
         &mut folder,
         texts.as_slice(),
         &mut Counted::new(alloc, none),

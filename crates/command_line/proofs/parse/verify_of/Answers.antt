@@ -14,5 +14,4 @@ returns-clause-values c = record {
   library = c.is_set.ensures;
   explain = c.is_set-2.ensures;
   quiet = c.is_set-3.ensures;
-  files_alone = c.is_set-4.ensures;
 }
