@@ -3,7 +3,7 @@
 ghost use Rattle.std.specs.Prelude.{◌≡◌, slice_set};
 ghost use Rattle.machine.specs.Machines.{Lends};
 
-use linked_code::thread_stacks::ThreadStack;
+use thread_stacks::ThreadStack;
 use std::mem::swap;
 
 /// Takes the stack of a thread out, leaves another one in its place, and answers true. Where there is no such thread

@@ -2,7 +2,7 @@
 use Rattle.std.proofs.Common.{◌≡◌, ℕ, zero, suc, ◌+◌, ◌-◌, ◌<◌, ◌≤◌, List, [], ◌∷◌, ◌++◌, length, take, drop, reverse, sym, ap, refl, ◌∙◌, arith, inl, inr}
 use Rattle.std.specs.Prelude.{slice_range, replicate}
 use Rattle.std.proofs.lemmas.Bool.{cases_lt}
-use Rattle.std.proofs.lemmas.List.{drop_at, take-append-drop, length-drop, length-append, length-replicate, length-reverse, length-take-le, reverse-append, reverse-reverse, take-take, take_at, drop-take, append_assoc}
+use Rattle.std.proofs.lemmas.List.{drop_at, take-append-drop, length-drop, length-append, length-replicate, length-reverse, length-take-le, reverse-append, reverse-reverse, take-take, take_all, take_at, drop-take, append_assoc}
 use Rattle.std.proofs.Math.ListN.{drop_of_length-le}
 use Rattle.thread_stacks.specs.Stacks.{in_use, filled}
 
@@ -13,6 +13,15 @@ drop_some n m xs e =
 take_some : {A : Type 0} (n m : ℕ) (xs : List A) → length (drop m xs) ≡ n → take n (reverse xs) ≡ reverse (drop m xs)
 take_some n m xs e =
     ap (λ ys. take n (reverse ys)) (sym (take-append-drop m xs)) ∙ ap (take n) (reverse-append (take m xs) (drop m xs)) ∙ take_at (reverse (drop m xs)) (reverse (take m xs)) n (length-reverse (drop m xs) ∙ e)
+
+pub take_reverse : {A : Type 0} (n : ℕ) (xs : List A) → take n (reverse xs) ≡ reverse (drop (length xs - n) xs)
+take_reverse n xs =
+    elim (cases_lt n (length xs)) [
+      | inl lt ↦ take_some n (length xs - n) xs (omega (arith, length-drop (length xs - n) xs))
+      | inr le ↦
+          (let none : length xs - n ≡ 0 = omega arith in
+          take_all n (reverse xs) (omega (arith, length-reverse xs)) ∙ sym (ap (λ k. reverse (drop k xs)) none))
+    ]
 
 -- how many there are
 pub used_count : (used : ℕ) (ws : List ℕ) → used ≤ length ws → length (in_use used ws) ≡ used
@@ -51,11 +60,11 @@ use_more from to ws gap count order within =
     let whole : length (take from ws ++ gap) ≡ to = length-append (take from ws) gap ∙ omega arith in
     ap reverse (take_at (take from ws ++ gap) (drop to ws) to whole) ∙ reverse-append (take from ws) gap
 
-behind : (n : ℕ) → replicate n 0 ++ 0 ∷ [] ≡ 0 ∷ replicate n 0
-behind zero = refl
-behind (suc n) = ap (λ xs. 0 ∷ xs) (behind n)
+behind : (n x : ℕ) → replicate n x ++ x ∷ [] ≡ x ∷ replicate n x
+behind zero x = refl
+behind (suc n) x = ap (λ xs. x ∷ xs) (behind n x)
 
--- zeros in either order
-pub zeros_turned : (n : ℕ) → reverse (replicate n 0) ≡ replicate n 0
-zeros_turned zero = refl
-zeros_turned (suc n) = reverse-append (0 ∷ []) (replicate n 0) ∙ ap (λ xs. xs ++ 0 ∷ []) (zeros_turned n) ∙ behind n
+-- one word many times in either order
+pub same_turned : (n x : ℕ) → reverse (replicate n x) ≡ replicate n x
+same_turned zero x = refl
+same_turned (suc n) x = reverse-append (x ∷ []) (replicate n x) ∙ ap (λ xs. xs ++ x ∷ []) (same_turned n x) ∙ behind n x

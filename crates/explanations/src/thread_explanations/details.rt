@@ -11,7 +11,7 @@ use crate::thread_explanations::stacks::StackPlaces;
 use crate::thread_explanations::throws::{Thrown, throws_of};
 use crate::thread_explanations::waits::{Wait, each_wait};
 use linked_code::LinkedProgram;
-use linked_code::thread_stacks::ThreadStack;
+use thread_stacks::ThreadStack;
 use linker::Linked;
 use machine_state::Shared;
 use model::{EndState, Limits};

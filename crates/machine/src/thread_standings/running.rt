@@ -8,7 +8,7 @@ ghost use Rattle.machine.specs.thread_standings.Parts.{StandsPending, StandsAtFr
 use crate::thread_standings::begins::{begin_standing, empty_standing};
 use crate::thread_standings::classes::initialisation_standing;
 use linked_code::LinkedProgram;
-use linked_code::thread_stacks::{ThreadStack, Top};
+use thread_stacks::{ThreadStack, Top};
 use machine_state::Shared;
 use machine_state::linked_frames::frames_stand;
 use machine_threads::waiting_instructions::{Standing, instruction_standing};

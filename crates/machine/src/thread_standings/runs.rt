@@ -7,7 +7,7 @@ use crate::thread_standings::callees::callee_at;
 use crate::thread_standings::monitors::may_call;
 use heap::Heap;
 use linked_code::LinkedProgram;
-use linked_code::thread_stacks::Callee;
+use thread_stacks::Callee;
 use machine_state::Shared;
 use machine_state::method_selection::{class_of_kind, methods_are_read, select_virtual};
 

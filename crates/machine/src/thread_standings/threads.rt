@@ -9,7 +9,7 @@ use crate::thread_standings::running::running_standing;
 use heap::Heap;
 use heap::java_threads::ThreadStatus;
 use linked_code::LinkedProgram;
-use linked_code::thread_stacks::ThreadStack;
+use thread_stacks::ThreadStack;
 use machine_state::Shared;
 use machine_state::method_selection::class_of_kind;
 use machine_threads::waiting_instructions::Standing;

@@ -27,7 +27,7 @@ use Rattle.linked_code.specs.declared.program.LinkedProgram.{LinkedProgram}
 use Rattle.linked_code.specs.Arrays.{is_narrow}
 use Rattle.linked_code.specs.Linked.{offset_in}
 use Rattle.run_laws.specs.word_operands.Operands.{word_meets, is_word_with}
-use Rattle.linked_code.specs.thread_stacks.Stacks.{ShownFrame, ShownEntry, IsTopFrame, with_top}
+use Rattle.thread_stacks.specs.Stacks.{ShownFrame, ShownEntry, IsTopFrame, with_top}
 use Rattle.machine_state.specs.shown_objects.Laws.{is_array, kept_in, HasElements}
 use Rattle.machine_state.proofs.shown_objects.Objects.{are_elements}
 use Rattle.machine_state.specs.declared.answers.Effect.{Effect}

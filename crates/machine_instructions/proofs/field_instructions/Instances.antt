@@ -29,7 +29,7 @@ use Rattle.model.specs.Primitives.{primitive_of}
 use Rattle.linked_code.specs.Fields.{HaveSlot, IsGetField, IsPutField}
 use Rattle.linked_code.specs.Linked.{IsLinked, offset_in}
 use Rattle.run_laws.specs.word_operands.Operands.{is_word_with, word_meets}
-use Rattle.linked_code.specs.thread_stacks.Stacks.{ShownFrame, ShownEntry, IsTopFrame, with_top}
+use Rattle.thread_stacks.specs.Stacks.{ShownFrame, ShownEntry, IsTopFrame, with_top}
 use Rattle.machine_state.specs.shown_objects.Laws.{IsField}
 use Rattle.machine_state.proofs.shown_objects.Objects.{are_fields}
 use Rattle.machine_state.specs.declared.answers.Effect.{Effect}

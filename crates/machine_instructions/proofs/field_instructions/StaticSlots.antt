@@ -18,7 +18,7 @@ use Rattle.linked_code.specs.declared.program.LinkedProgram.{LinkedProgram}
 use Rattle.model.specs.Primitives.{primitive_of}
 use Rattle.linked_code.specs.Fields.{IsGetStatic, IsPutStatic}
 use Rattle.linked_code.specs.Linked.{IsLinked, offset_in}
-use Rattle.linked_code.specs.thread_stacks.Stacks.{ShownFrame, ShownEntry, IsTopFrame, with_top}
+use Rattle.thread_stacks.specs.Stacks.{ShownFrame, ShownEntry, IsTopFrame, with_top}
 use Rattle.machine_state.specs.shown_objects.Shown.{ShowsStatics}
 use Rattle.machine_state.proofs.shown_objects.Objects.{are_statics}
 use Rattle.machine_state.specs.declared.answers.Effect.{Effect}

@@ -29,7 +29,7 @@ use Rattle.run_laws.specs.word_operands.Operands.{word_meets, is_word_with}
 use Rattle.machine_state.specs.shown_objects.Shown.{IsKindOf, ShowsObjects}
 use Rattle.machine_state.specs.shown_objects.Laws.{is_array, kept_in, HasElements}
 use Rattle.machine_state.proofs.shown_objects.Objects.{are_elements}
-use Rattle.linked_code.specs.thread_stacks.Stacks.{ShownFrame, ShownEntry, with_top}
+use Rattle.thread_stacks.specs.Stacks.{ShownFrame, ShownEntry, with_top}
 use Rattle.machine_state.specs.declared.answers.Effect.{Effect}
 use Rattle.machine_state.specs.declared.answers.Effect.TheVariants as effect
 use Rattle.machine_state.specs.declared.answers.MachineException.TheVariants as exception

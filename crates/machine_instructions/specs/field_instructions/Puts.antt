@@ -4,7 +4,7 @@ use Rattle.linked_code.specs.declared.instruction.LinkedInstruction.{LinkedInstr
 use Rattle.linked_code.specs.declared.instruction.LinkedInstruction.TheVariants as linked
 use Rattle.model.specs.declared.primitive.Primitive.{Primitive}
 use Rattle.model.specs.declared.primitive.Primitive.TheVariants as primitive
-use Rattle.linked_code.specs.thread_stacks.Stacks.{ShownFrame, at_place, replaced}
+use Rattle.thread_stacks.specs.Stacks.{ShownFrame, at_place, replaced}
 use Rattle.machine_state.specs.declared.answers.Effect.{Effect}
 use Rattle.machine_state.specs.declared.answers.Effect.TheVariants as effect
 use Rattle.machine_state.specs.declared.refusals.EventRefusal.{EventRefusal}

@@ -3,7 +3,7 @@ use Rattle.std.specs.Prelude.{◌≡◌, ℕ, suc, ◌+◌, ◌<◌, ◌≤◌, 
 use Rattle.heap.specs.declared.kind.ObjectKind.{ObjectKind}
 use Rattle.heap.specs.declared.refusal.AllocRefusal.{AllocRefusal}
 use Rattle.heap.specs.Heap.{Heap, Allocates}
-use Rattle.linked_code.specs.thread_stacks.Stacks.{ShownFrame, at_place, replaced}
+use Rattle.thread_stacks.specs.Stacks.{ShownFrame, at_place, replaced}
 use Rattle.machine_state.specs.declared.answers.Effect.{Effect}
 use Rattle.machine_state.specs.declared.answers.Effect.TheVariants as effect
 use Rattle.machine_state.specs.declared.refusals.EventRefusal.{EventRefusal}

@@ -8,7 +8,7 @@ ghost use Rattle.machine_instructions.specs.called_methods.Selected.{IsClassObje
 use crate::called_methods::frames::{raised, receiver};
 use crate::called_methods::running::{Call, run_method};
 use linked_code::LinkedProgram;
-use linked_code::thread_stacks::ThreadStack;
+use thread_stacks::ThreadStack;
 use machine_state::method_selection::{method_at, methods_are_read};
 use machine_state::{Effect, EventRefusal, MachineException, Shared};
 

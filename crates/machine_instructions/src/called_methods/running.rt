@@ -5,7 +5,7 @@ ghost use Rattle.machine_instructions.specs.called_methods.Invoked.{CanInvoke, I
 
 use crate::called_methods::frames::{place_behind, raised};
 use crate::thread_methods::run_built_in;
-use linked_code::thread_stacks::{Callee, ThreadStack};
+use thread_stacks::{Callee, ThreadStack};
 use linked_code::{LinkedProgram, MethodBody};
 use machine_state::invocations::call as call_method;
 use machine_state::method_selection::{method_at, methods_are_run};

@@ -3,7 +3,7 @@
 ghost use Rattle.machine_instructions.specs.returns.Unwound.{Unwinds};
 
 use crate::returns::leaving::{entered_by_top, leave, may_leave};
-use linked_code::thread_stacks::ThreadStack;
+use thread_stacks::ThreadStack;
 use machine_state::raised_exceptions::raise;
 use machine_state::{Answer, EventRefusal, MachineException, Shared};
 

@@ -4,7 +4,7 @@ ghost use Rattle.machine_instructions.specs.thread_methods.Called.{CanCall, Does
 
 use crate::thread_methods::{lives, printing, targets, waiting};
 use linked_code::BuiltInMethod;
-use linked_code::thread_stacks::ThreadStack;
+use thread_stacks::ThreadStack;
 use machine_state::{Effect, EventRefusal, Shared};
 
 /// By an event that picks nothing.

@@ -2,12 +2,12 @@
 
 ghost use Rattle.std.specs.Prelude.{◌≡◌};
 ghost use Rattle.heap.specs.Heap.{Allocates};
-ghost use Rattle.linked_code.specs.thread_stacks.Stacks.{shown_frame};
+ghost use Rattle.thread_stacks.specs.Stacks.{shown_frame};
 ghost use Rattle.machine_instructions.specs.type_instructions.Leaving.{LeavesNew};
 
-use crate::type_instructions::leaving::{go_on, set_top};
+use crate::leaving::go_on;
 use heap::{AllocRefusal, Heap, ObjectKind};
-use linked_code::thread_stacks::Frame;
+use thread_stacks::ThreadStack;
 use machine_state::{Effect, EventRefusal};
 
 /// One more object of a kind, with so many words, which are 0.
@@ -31,17 +31,24 @@ fn allocate(heap: &mut Heap, kind: ObjectKind, cells: u32) -> Result<u32, AllocR
 #[inline]
 pub(crate) fn leave_new(
     heap: &mut Heap,
-    frame: &mut Frame,
+    stack: &mut ThreadStack,
     kind: ObjectKind,
     cells: u32,
 ) -> Result<Effect, EventRefusal>
-    ensures { LeavesNew result kind cells 0 heap.old heap.new (shown_frame frame.old) (shown_frame frame.new) }
+    ensures { LeavesNew result kind cells 0 heap.old heap.new stack.old stack.new }
 {
-    frame.make_room(1)?;
-    let reference = allocate(heap, kind, cells)?;
-    frame.put(reference + 1);
-    go_on(frame);
-    Ok(Effect::Done)
+    stack.replace(0, 0)?;
+    match allocate(heap, kind, cells) {
+        Ok(reference) => {
+            stack.set_top(reference + 1);
+            go_on(stack);
+            Ok(Effect::Done)
+        }
+        Err(refusal) => {
+            stack.pop(1);
+            Err(refusal.into())
+        }
+    }
 }
 
 /// The same, where its word takes the place of the operand on top.
@@ -52,14 +59,14 @@ pub(crate) fn leave_new(
 #[inline]
 pub(crate) fn leave_new_on_top(
     heap: &mut Heap,
-    frame: &mut Frame,
+    stack: &mut ThreadStack,
     kind: ObjectKind,
     cells: u32,
 ) -> Result<Effect, EventRefusal>
-    ensures { LeavesNew result kind cells 1 heap.old heap.new (shown_frame frame.old) (shown_frame frame.new) }
+    ensures { LeavesNew result kind cells 1 heap.old heap.new stack.old stack.new }
 {
     let reference = allocate(heap, kind, cells)?;
-    set_top(frame, reference + 1);
-    go_on(frame);
+    stack.set_top(reference + 1);
+    go_on(stack);
     Ok(Effect::Done)
 }

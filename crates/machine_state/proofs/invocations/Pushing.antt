@@ -16,9 +16,9 @@ use Rattle.heap.specs.Heap.{Heap}
 use Rattle.heap.specs.monitor_events.Events.{Enters}
 use Rattle.machine_state.specs.limits_at_words.FatLocks.{IsOneOf}
 use Rattle.linked_code.specs.declared.program.LinkedProgram.{LinkedProgram}
-use Rattle.linked_code.specs.declared.thread_stacks.frame.Callee.{Callee}
-use Rattle.linked_code.specs.thread_stacks.Stacks as shown
-use Rattle.linked_code.specs.thread_stacks.Stacks.{ShownEntry, frame_count, begun, called, called_over, under_top, without}
+use Rattle.thread_stacks.specs.declared.entry.Callee.{Callee}
+use Rattle.thread_stacks.specs.Stacks as shown
+use Rattle.thread_stacks.specs.Stacks.{ShownEntry, frame_count, begun, called, called_over, under_top, without}
 use Rattle.machine_state.specs.shown_stacks.Shown.{ShowsStack, IsCallee}
 use Rattle.machine_state.proofs.shown_stacks.Laws.{counted, begin, call, two_steps}
 use Rattle.machine_state.specs.declared.answers.MachineException.TheVariants as exception

@@ -2,7 +2,7 @@
 use Rattle.std.proofs.Common.{◌≡◌, refl, ℕ, suc, [], ◌∷◌, ◌++◌, take, drop, reverse, sym, ap, ◌∙◌, ◌+◌, arith}
 use Rattle.model.specs.State as model
 use Rattle.model.specs.Frames.{locals_with}
-use Rattle.linked_code.specs.thread_stacks.Stacks.{Invocation, Initialisation, filled, frame_count}
+use Rattle.thread_stacks.specs.Stacks.{Invocation, Initialisation, filled, frame_count}
 use Rattle.machine_state.specs.shown_stacks.Shown.{AreCounted, IsBeginShown, IsCallShown, IsCallOverShown, IsCallInTwoSteps, IsMoveShown, IsReturnShown, IsCatchShown, IsInitialisationShown, IsPhaseShown}
 
 one_more : (n : ℕ) → 1 + n ≡ suc n

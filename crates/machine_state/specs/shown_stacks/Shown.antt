@@ -16,10 +16,10 @@ use Rattle.linked_code.specs.declared.method.MethodBody.TheVariants as body
 use Rattle.linked_code.specs.declared.program.LinkedProgram.{LinkedProgram}
 use Rattle.linked_code.specs.Numbers.{IsMethodAt, IsClassAt}
 use Rattle.linked_code.specs.Linked.{offset_in, no_offset}
-use Rattle.linked_code.specs.declared.thread_stacks.entry.Phase.{Phase as LinkedPhase}
-use Rattle.linked_code.specs.declared.thread_stacks.entry.Phase.TheVariants as phase
-use Rattle.linked_code.specs.declared.thread_stacks.frame.Callee.{Callee}
-use Rattle.linked_code.specs.thread_stacks.Stacks.{ShownFrame, ShownEntry, Invocation, Initialisation, begun, caught, at_place, called, called_over, under_top, without, returned, in_phase, frame_count}
+use Rattle.thread_stacks.specs.declared.entry.Phase.{Phase as LinkedPhase}
+use Rattle.thread_stacks.specs.declared.entry.Phase.TheVariants as phase
+use Rattle.thread_stacks.specs.declared.entry.Callee.{Callee}
+use Rattle.thread_stacks.specs.Stacks.{ShownFrame, ShownEntry, Invocation, Initialisation, begun, caught, at_place, called, called_over, under_top, without, returned, in_phase, frame_count}
 
 -- ---- places
 

@@ -3,7 +3,7 @@
 ghost use Rattle.machine_state.specs.linked_frames.Frames.{IsInstruction};
 
 use crate::method_selection::method_at;
-use linked_code::thread_stacks::ThreadStack;
+use thread_stacks::ThreadStack;
 use linked_code::{LinkedInstruction, LinkedProgram, MethodBody};
 
 /// The instruction at which the frame on top of a stack stands; none where there is no frame on top, or where it stands

@@ -3,7 +3,7 @@
 ghost use Rattle.machine_threads.specs.instruction_events.Doing.{ComesFirst};
 
 use crate::instruction_needs::class_needed;
-use linked_code::thread_stacks::ThreadStack;
+use thread_stacks::ThreadStack;
 use linked_code::{LinkedInstruction, LinkedProgram};
 use machine_state::class_initialisation::need_class;
 use machine_state::{Answer, EventRefusal, Shared, instructions_are_done};

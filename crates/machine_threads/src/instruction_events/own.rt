@@ -5,7 +5,7 @@ ghost use Rattle.machine_state.specs.linked_frames.Frames.{CanRun, DoesOwn};
 ghost use Rattle.machine_threads.specs.instruction_events.Families.{is_call};
 
 use crate::instruction_events::fields::field_instruction;
-use linked_code::thread_stacks::ThreadStack;
+use thread_stacks::ThreadStack;
 use linked_code::{LinkedInstruction, LinkedProgram};
 use machine_instructions::field_instructions::{
     array_length, get_system_out, load_element, store_int, store_narrow,

@@ -7,7 +7,7 @@ use crate::machine_opening::objects::opening_heap;
 use crate::machine_opening::readiness::{opening_ready, opening_statuses};
 use heap::java_threads::Threads;
 use linked_code::LinkedProgram;
-use linked_code::thread_stacks::ThreadStack;
+use thread_stacks::ThreadStack;
 use machine_state::Shared;
 use model::Limits;
 use std::alloc::{AllocError, Global};

@@ -5,7 +5,7 @@ ghost use Rattle.machine_threads.specs.pending_exceptions.Pending.{DoesPending, 
 use crate::pending_exceptions::catching::catch_in;
 use crate::pending_exceptions::finding::handler_on_top;
 use linked_code::LinkedProgram;
-use linked_code::thread_stacks::{ThreadStack, Top};
+use thread_stacks::{ThreadStack, Top};
 use machine_instructions::returns::unwind;
 use machine_state::class_initialisation::fail;
 use machine_state::exception_handlers::is_error;

@@ -3,7 +3,7 @@
 ghost use Rattle.std.specs.Prelude.{◌≡◌, IfSome, Some, None, if◌then◌else◌};
 ghost use Rattle.machine_threads.specs.thread_begins.Callees.{IsCalleeAt, MayEnter};
 
-use linked_code::thread_stacks::Callee;
+use thread_stacks::Callee;
 use linked_code::{LinkedProgram, MethodBody};
 use machine_state::method_selection::{method_at, methods_are_read};
 

@@ -5,7 +5,7 @@ ghost use Rattle.machine_state.specs.invocations.Entering.{IsThere};
 ghost use Rattle.machine_threads.specs.thread_begins.First.{PushesFirst};
 
 use crate::thread_begins::begun::begin_where_done;
-use linked_code::thread_stacks::{Callee, ThreadStack};
+use thread_stacks::{Callee, ThreadStack};
 use machine_state::invocations::first_call;
 use machine_state::{Effect, EventRefusal, MachineException, Shared};
 

@@ -8,7 +8,7 @@ ghost use Rattle.machine_threads.specs.thread_begins.Initial.{IsOfProgram, IsIni
 use crate::thread_begins::callees::callee_at;
 use crate::thread_begins::first_frames::push_first;
 use linked_code::LinkedProgram;
-use linked_code::thread_stacks::{Callee, ThreadStack};
+use thread_stacks::{Callee, ThreadStack};
 use machine_state::class_initialisation::need_class;
 use machine_state::method_selection::{method_at, methods_are_read};
 use machine_state::raised_exceptions::apply;

@@ -7,7 +7,7 @@ ghost use Rattle.machine_threads.specs.thread_begins.Threads.{BeginsStarted, Beg
 use crate::thread_begins::initial::begin_main;
 use crate::thread_begins::runs::begin_run;
 use linked_code::LinkedProgram;
-use linked_code::thread_stacks::ThreadStack;
+use thread_stacks::ThreadStack;
 use machine_state::raised_exceptions::apply;
 use machine_state::{Answer, EventRefusal, Shared};
 

@@ -8,7 +8,7 @@ ghost use Rattle.machine_threads.specs.thread_events.Events.{HasThread, DoesRunn
 use crate::instruction_events::instruction_event;
 use crate::thread_events::unpicked::{begin, initialisation};
 use linked_code::LinkedProgram;
-use linked_code::thread_stacks::{ThreadStack, Top};
+use thread_stacks::{ThreadStack, Top};
 use machine_state::{Answer, EventRefusal, Shared};
 
 /// By what is on top of its stack: with a frame the event is that of its instruction (JVMS 2.6), with a class that

@@ -3,7 +3,7 @@
 ghost use Rattle.machine_threads.specs.thread_events.Settling.{SettlesEvent};
 
 use crate::thread_wakes::settle;
-use linked_code::thread_stacks::ThreadStack;
+use thread_stacks::ThreadStack;
 use machine_state::{Answer, EventRefusal, Shared};
 
 /// What an event of a thread came to, with the end of the thread that may belong to it: where the event is done, the

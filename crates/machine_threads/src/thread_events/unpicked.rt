@@ -13,7 +13,7 @@ use crate::thread_begins::begin_thread;
 use crate::thread_wakes::relock_event;
 use heap::java_threads::WakeCause;
 use linked_code::LinkedProgram;
-use linked_code::thread_stacks::{Phase, ThreadStack};
+use thread_stacks::{Phase, ThreadStack};
 use machine_state::class_initialisation::initialise;
 use machine_state::{Answer, EventRefusal, Shared};
 

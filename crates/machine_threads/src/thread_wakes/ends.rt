@@ -9,7 +9,7 @@ ghost use Rattle.machine_threads.specs.thread_wakes.Ends.{Ends, Settles};
 
 use heap::java_threads::{ThreadStatus, Threads};
 use heap::monitor_events::end;
-use linked_code::thread_stacks::ThreadStack;
+use thread_stacks::ThreadStack;
 use machine_state::Shared;
 
 /// Whether a thread whose stack is empty has ended: it has begun, or an exception is pending.

@@ -10,7 +10,7 @@ use heap::Heap;
 use heap::java_threads::WakeCause;
 use heap::monitor_events::relock;
 use linked_code::LinkedProgram;
-use linked_code::thread_stacks::ThreadStack;
+use thread_stacks::ThreadStack;
 use machine_instructions::returns::next_place_of_top;
 use machine_state::raised_exceptions::raise_interrupt;
 use machine_state::{Answer, EventRefusal, Shared};

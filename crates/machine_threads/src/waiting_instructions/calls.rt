@@ -9,7 +9,7 @@ use crate::waiting_instructions::kinds::Standing;
 use crate::waiting_instructions::methods::call_standing;
 use heap::Heap;
 use linked_code::LinkedProgram;
-use linked_code::thread_stacks::ThreadStack;
+use thread_stacks::ThreadStack;
 use machine_state::Shared;
 use machine_state::method_selection::{class_of_kind, select_interface, select_virtual};
 

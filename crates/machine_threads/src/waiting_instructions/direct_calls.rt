@@ -9,7 +9,7 @@ use crate::waiting_instructions::frames::receiver;
 use crate::waiting_instructions::kinds::Standing;
 use crate::waiting_instructions::methods::call_standing;
 use linked_code::LinkedProgram;
-use linked_code::thread_stacks::ThreadStack;
+use thread_stacks::ThreadStack;
 use machine_state::Shared;
 use machine_state::method_selection::{method_at, methods_are_read};
 

@@ -4,7 +4,7 @@ ghost use Rattle.std.specs.Prelude.{◌≡◌, ◌-◌};
 ghost use Rattle.machine_instructions.specs.called_methods.Frames.{object_under};
 ghost use Rattle.machine_instructions.specs.thread_methods.Moves.{operand_of};
 
-use linked_code::thread_stacks::ThreadStack;
+use thread_stacks::ThreadStack;
 
 /// The object of the reference under so many operands, if it is not null.
 pub(crate) fn receiver(stack: &ThreadStack, parameters: u8) -> Option<u32>

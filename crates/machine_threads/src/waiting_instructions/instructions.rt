@@ -6,7 +6,7 @@ ghost use Rattle.machine_threads.specs.waiting_instructions.Held.{StandsAt};
 use crate::waiting_instructions::kinds::Standing;
 use crate::waiting_instructions::looks::look_of;
 use crate::waiting_instructions::ready::ready_standing;
-use linked_code::thread_stacks::ThreadStack;
+use thread_stacks::ThreadStack;
 use linked_code::{LinkedInstruction, LinkedProgram};
 use machine_state::class_initialisation::ClassLook;
 use machine_state::linked_frames::instruction_at;

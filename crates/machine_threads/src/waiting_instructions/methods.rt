@@ -9,7 +9,7 @@ use crate::waiting_instructions::kinds::Standing;
 use crate::waiting_instructions::monitors::may_enter_there;
 use heap::Heap;
 use heap::monitor_events::is_alive;
-use linked_code::thread_stacks::ThreadStack;
+use thread_stacks::ThreadStack;
 use linked_code::{BuiltInMethod, LinkedProgram, MethodBody};
 use machine_state::Shared;
 use machine_state::method_selection::{method_at, methods_are_run};

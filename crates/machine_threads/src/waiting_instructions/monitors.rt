@@ -7,7 +7,7 @@ ghost use Rattle.machine_threads.specs.waiting_instructions.Held.{SaysMayEnterTo
 use crate::waiting_instructions::frames::receiver;
 use heap::Heap;
 use heap::monitor_events::may_enter;
-use linked_code::thread_stacks::ThreadStack;
+use thread_stacks::ThreadStack;
 use machine_state::Shared;
 
 /// Whether no other thread owns the monitor of an object that is there (JLS 17.1).

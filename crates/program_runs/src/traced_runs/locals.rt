@@ -3,7 +3,7 @@
 ghost use Rattle.std.specs.Prelude.{◌≡◌, IsTrue, option_map, slice_get};
 ghost use Rattle.program_runs.specs.traced_runs.Locals.{IsNextLocal, StandsAtLocal, divides_by_zero as is_division};
 
-use linked_code::thread_stacks::ThreadStack;
+use thread_stacks::ThreadStack;
 use linked_code::{LinkedInstruction, LinkedProgram};
 use machine::Machine;
 use machine::top_frames::goes_on;

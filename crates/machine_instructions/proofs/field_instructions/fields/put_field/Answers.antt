@@ -1,5 +1,5 @@
 use Rattle.std.proofs.Common.{sym, ap, ◌∙◌}
-use Rattle.linked_code.specs.thread_stacks.Stacks.{shown_frame}
+use Rattle.thread_stacks.specs.Stacks.{shown_frame}
 use Rattle.heap.specs.Heap.{put_field}
 use Rattle.machine_instructions.specs.field_instructions.Puts.{put_field_instruction}
 use Rattle.machine_instructions.proofs.field_instructions.OnTop.{kept}

@@ -1,5 +1,5 @@
 use Rattle.std.proofs.Common.{ap, slice_index, ◌∙◌}
-use Rattle.linked_code.specs.thread_stacks.Stacks.{shown_frame}
+use Rattle.thread_stacks.specs.Stacks.{shown_frame}
 use Rattle.machine_instructions.proofs.field_instructions.StaticSlots.{get_static_done}
 use Rattle.machine_instructions.proofs.field_instructions.statics.get_static.Goals as goal
 

@@ -1,4 +1,4 @@
-use Rattle.linked_code.specs.thread_stacks.Stacks.{shown_frame}
+use Rattle.thread_stacks.specs.Stacks.{shown_frame}
 use Rattle.machine_instructions.proofs.field_instructions.StaticSlots.{get_system_out_done}
 use Rattle.machine_instructions.proofs.field_instructions.statics.get_system_out.Goals as goal
 

@@ -1,5 +1,5 @@
 use Rattle.std.proofs.Common.{sym}
-use Rattle.linked_code.specs.thread_stacks.Stacks.{shown_frame}
+use Rattle.thread_stacks.specs.Stacks.{shown_frame}
 use Rattle.machine_instructions.proofs.field_instructions.StaticSlots.{put_static_done}
 use Rattle.machine_instructions.proofs.field_instructions.statics.put_static.Goals as goal
 

@@ -1,6 +1,6 @@
 use Rattle.std.proofs.Common.{◌≡◌, ◌+◌, ◌-◌, ◌≤◌, ℕ, List, length, reverse, take, sym, ap, arith, ◌∙◌}
 use Rattle.std.proofs.Math.ListN.{set}
-use Rattle.linked_code.specs.thread_stacks.Stacks.{shown_frame}
+use Rattle.thread_stacks.specs.Stacks.{shown_frame}
 use Rattle.linked_code.proofs.thread_stacks.Turned.{set_turned}
 use Rattle.machine_instructions.proofs.type_instructions.leaving.set_top.Goals as goal
 

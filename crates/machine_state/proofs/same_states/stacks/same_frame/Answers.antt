@@ -1,6 +1,6 @@
 use Rattle.std.proofs.Common.{◌≡◌, ◌≤◌, ℕ, List, Option, length, reverse, take, refl, sym, ap, ◌∙◌, arith}
 use Rattle.std.proofs.lemmas.List.{reverse-reverse, take_all}
-use Rattle.linked_code.specs.thread_stacks.Stacks.{ShownFrame, shown_frame}
+use Rattle.thread_stacks.specs.Stacks.{ShownFrame, shown_frame}
 use Rattle.machine_state.proofs.same_states.stacks.same_frame.Goals as goal
 
 abbrev frame_of : ℕ → ℕ → Option ℕ → List ℕ → List ℕ → ShownFrame
