@@ -1,6 +1,7 @@
 //! New frames.
 
-ghost use Rattle.std.specs.Prelude.{◌<◌};
+ghost use Rattle.std.specs.Prelude.{◌≡◌, ◌<◌};
+ghost use Rattle.thread_stacks.specs.Stacks.{operands_on};
 ghost use Rattle.machine_state.specs.invocations.Entering.{IsThere};
 ghost use Rattle.machine_state.specs.invocations.Calls.{DoesCall, DoesFirstCall};
 
