@@ -1,23 +1,24 @@
 //! How an instruction that is done leaves the frame on top.
 
-ghost use Rattle.std.specs.Prelude.{◌∷◌, [], Ok};
+ghost use Rattle.std.specs.Prelude.{◌≡◌, ◌+◌, ◌<◌, ◌^◌, ◌∷◌, [], Ok, Some};
+ghost use Rattle.thread_stacks.specs.Stacks.{ShownFrame, IsTopFrame};
 ghost use Rattle.machine_instructions.specs.Leaving.{LeavesTop};
 
 use machine_state::{Effect, EventRefusal};
 use thread_stacks::ThreadStack;
 
-/// The frame on top goes on at the next place.
+/// The place behind that of the frame on top; 0 where no frame is on top.
 #[inline]
-pub(crate) fn go_on(stack: &mut ThreadStack)
-    ensures { LeavesTop (Ok effect.Done) 0 [] stack.old stack.new }
+pub(crate) fn next_place(stack: &ThreadStack) -> usize
+    ensures { (f : ShownFrame) → IsTopFrame stack.now (Some f) → f.place < 2 ^ 63 → result ≡ f.place + 1 }
 {
-    if let Some(frame) = stack.frame() {
-        let next = frame.place.saturating_add(1);
-        stack.go_on(next);
+    match stack.frame() {
+        Some(frame) => frame.place.saturating_add(1),
+        None => 0,
     }
 }
 
-/// A word takes the place of so many operands, and the frame goes on at the next place.
+/// A word takes the place of so many operands of the frame on top, and that goes on at the next place.
 ///
 /// # Errors
 ///
@@ -30,17 +31,19 @@ pub(crate) fn leave(
 ) -> Result<Effect, EventRefusal>
     ensures { LeavesTop result count (word ∷ []) stack.old stack.new }
 {
+    let next = next_place(stack);
     stack.replace(count, word)?;
-    go_on(stack);
+    stack.go_on(next);
     Ok(Effect::Done)
 }
 
-/// So many operands go, and the frame goes on at the next place.
+/// So many operands of the frame on top go, and that goes on at the next place.
 #[inline]
 pub(crate) fn leave_nothing(stack: &mut ThreadStack, count: usize) -> Effect
     ensures { LeavesTop (Ok result) count [] stack.old stack.new }
 {
+    let next = next_place(stack);
     stack.pop(count);
-    go_on(stack);
+    stack.go_on(next);
     Effect::Done
 }

@@ -34,7 +34,7 @@ use Rattle.machine_state.proofs.Memory.{grown_frame, takes_by_growth}
 use Rattle.machine_state.specs.linked_frames.Frames.{IsRunning, IsTopShown}
 use Rattle.machine_state.proofs.linked_frames.Frames.{top_shown, finds_shown, meaning_is, top_frame, with_top_is}
 use Rattle.machine_state.proofs.linked_frames.Moves.{free_done, replaced_shown}
-use Rattle.machine_instructions.specs.field_instructions.Puts.{gone_on, Leaves}
+use Rattle.machine_instructions.specs.Leaving.{gone_on, Leaves}
 
 module _ (trees : Program) (p : LinkedProgram) (bounds : Bounds) (inflated : List ℕ) (t : ℕ) (old : Shared) (stack : List ShownEntry) (state : StateOf ℕ) (frame : FrameOf ℕ) (rest : StackOf ℕ) (code : LinkedCode) (site : Site) (meaning : MeaningOf ℕ) (instruction : LinkedInstruction) (is : IsRunning trees p bounds inflated t old stack state frame rest code site meaning instruction) where
   -- ---- its operands

@@ -45,7 +45,8 @@ use Rattle.machine_state.specs.Events.{MayBeRefused}
 use Rattle.machine_state.specs.allocations.Allocated.{IsMade}
 use Rattle.machine_state.proofs.allocations.Allocating.{made, refused}
 use Rattle.machine_state.specs.linked_frames.Frames.{IsRunning}
-use Rattle.machine_instructions.specs.type_instructions.Leaving.{gone_on, IsUnmade, LeavesNew}
+use Rattle.machine_instructions.specs.Leaving.{gone_on}
+use Rattle.machine_instructions.specs.type_instructions.Leaving.{IsUnmade, LeavesNew}
 use Rattle.machine_instructions.specs.type_instructions.Arrays.{kind_of_array, AreArrays}
 use Rattle.machine_instructions.proofs.type_instructions.Events.{IsEvent, DoesSo, own_after, slots_after, place_small, operand_is, operands_there, unchanged, event_by, goes_on, shows_after, stays}
 

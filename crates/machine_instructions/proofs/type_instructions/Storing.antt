@@ -37,7 +37,7 @@ use Rattle.machine_state.specs.declared.state.Shared.{Shared}
 use Rattle.machine_state.specs.Shown.{Represents}
 use Rattle.machine_state.specs.linked_frames.Frames.{IsRunning}
 use Rattle.machine_state.proofs.linked_frames.Frames.{finds_shown, meaning_is}
-use Rattle.machine_instructions.specs.type_instructions.Leaving.{Leaves}
+use Rattle.machine_instructions.specs.Leaving.{Leaves}
 use Rattle.machine_instructions.specs.type_instructions.Words.{component_by, component_in, TestsWord, TestsStore}
 use Rattle.machine_instructions.proofs.type_instructions.Events.{IsEvent, DoesSo, slots_after, operand_is, event_by, goes_on, done_free, stays}
 

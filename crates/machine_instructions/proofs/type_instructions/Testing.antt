@@ -25,7 +25,7 @@ use Rattle.machine_state.specs.declared.answers.MachineException.TheVariants as 
 use Rattle.machine_state.specs.declared.refusals.EventRefusal.{EventRefusal}
 use Rattle.machine_state.specs.declared.state.Shared.{Shared}
 use Rattle.machine_state.specs.linked_frames.Frames.{IsRunning}
-use Rattle.machine_instructions.specs.type_instructions.Leaving.{Leaves}
+use Rattle.machine_instructions.specs.Leaving.{Leaves}
 use Rattle.machine_instructions.specs.type_instructions.Words.{TestsWord, TestsInstance}
 use Rattle.machine_instructions.proofs.type_instructions.Events.{IsEvent, DoesSo, slots_after, top_and_rest, operands_are, operand_is, operands_there, event_by, goes_on, done_free, does_own, stays}
 

@@ -3,9 +3,9 @@
 ghost use Rattle.std.specs.Prelude.{◌≡◌};
 ghost use Rattle.heap.specs.Heap.{Allocates};
 ghost use Rattle.thread_stacks.specs.Stacks.{shown_frame};
-ghost use Rattle.machine_instructions.specs.type_instructions.Leaving.{LeavesNew};
+ghost use Rattle.machine_instructions.specs.type_instructions.Leaving.{LeavesNewTop};
 
-use crate::leaving::go_on;
+use crate::leaving::next_place;
 use heap::{AllocRefusal, Heap, ObjectKind};
 use thread_stacks::ThreadStack;
 use machine_state::{Effect, EventRefusal};
@@ -35,13 +35,14 @@ pub(crate) fn leave_new(
     kind: ObjectKind,
     cells: u32,
 ) -> Result<Effect, EventRefusal>
-    ensures { LeavesNew result kind cells 0 heap.old heap.new stack.old stack.new }
+    ensures { LeavesNewTop result kind cells 0 heap.old heap.new stack.old stack.new }
 {
+    let next = next_place(stack);
     stack.replace(0, 0)?;
     match allocate(heap, kind, cells) {
         Ok(reference) => {
             stack.set_top(reference + 1);
-            go_on(stack);
+            stack.go_on(next);
             Ok(Effect::Done)
         }
         Err(refusal) => {
@@ -63,10 +64,11 @@ pub(crate) fn leave_new_on_top(
     kind: ObjectKind,
     cells: u32,
 ) -> Result<Effect, EventRefusal>
-    ensures { LeavesNew result kind cells 1 heap.old heap.new stack.old stack.new }
+    ensures { LeavesNewTop result kind cells 1 heap.old heap.new stack.old stack.new }
 {
+    let next = next_place(stack);
     let reference = allocate(heap, kind, cells)?;
     stack.set_top(reference + 1);
-    go_on(stack);
+    stack.go_on(next);
     Ok(Effect::Done)
 }
