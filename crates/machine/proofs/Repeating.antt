@@ -9,22 +9,9 @@ use Rattle.machine_state.specs.declared.answers.Answer.TheVariants as answer
 use Rattle.machine_state.specs.declared.refusals.EventRefusal.{EventRefusal}
 use Rattle.machine_state.specs.declared.state.Shared.{Shared}
 use Rattle.machine.specs.declared.machine.Stopped.TheVariants as stopped
-use Rattle.machine.specs.Machines.{MachineOf, Shows, Steps, IsRepeated, HasRepeated, Repeats}
+use Rattle.machine.specs.Machines.{MachineOf, Shows, Steps, IsRepeated, HasRepeated, Repeats, HasLed, IsSoFar}
 use Rattle.machine_state.proofs.shown_runs.Same.{shown_still}
 use Rattle.machine.proofs.Turning.{with_shared}
-
--- where so many events led
-pub record HasLed (old : MachineOf) (shared : Shared) (files : List (List ℕ)) (trees : Program) (event : Event) (n : ℕ) (inflated : List ℕ)
-    (state : StateOf ℕ) : Type 0 where
-  pub locks : List ℕ
-  pub next : StateOf ℕ
-  pub repeated : IsRepeated trees (bounds_of old.limits) event n inflated state locks next
-  pub shows : Shows (with_shared old shared) files trees locks next
-
-pub record IsSoFar (event : Event) (n : ℕ) (old new : MachineOf) : Type 0 where
-  pub same : new ≡ with_shared old new.shared
-  pub led : (files : List (List ℕ)) (trees : Program) (inflated : List ℕ) (state : StateOf ℕ) → Shows old files trees inflated state
-      → HasLed old new.shared files trees event n inflated state
 
 pub begins : (event : Event) (m : MachineOf) → IsSoFar event 0 m m
 begins event m =
