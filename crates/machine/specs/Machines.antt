@@ -128,6 +128,7 @@ pub record HasLed (old : MachineOf) (shared : Shared) (files : List (List ℕ)) 
   pub repeated : IsRepeated trees (bounds_of old.limits) event n inflated state locks next
   pub shows : Shows (record old { shared = shared }) files trees locks next
 
+-- it is the machine to which so many events led, in whatever state of whatever files
 pub record IsSoFar (event : Event) (n : ℕ) (old new : MachineOf) : Type 0 where
   pub same : new ≡ record old { shared = new.shared }
   pub led : (files : List (List ℕ)) (trees : Program) (inflated : List ℕ) (state : StateOf ℕ) → Shows old files trees inflated state
