@@ -1,7 +1,7 @@
 //! A frame that goes on at its handler.
 
 ghost use Rattle.std.specs.Prelude.{◌≡◌, ◌+◌, ◌<◌, ◌^◌, length, OnOk, OnErr};
-ghost use Rattle.thread_stacks.specs.Stacks.{shown_frame, caught};
+ghost use Rattle.thread_stacks.specs.Stacks.{operands_on};
 ghost use Rattle.machine_threads.specs.pending_exceptions.Caught.{IsCaughtOnTop, HasNoOperand, IsCleared, Catches};
 
 use heap::Heap;
