@@ -10,11 +10,11 @@ ghost use Rattle.explanations.specs.thread_explanations.Waits as waits;
 
 use heap::Heap;
 use heap::java_threads::ThreadStatus;
-use thread_stacks::{Frame, ThreadStack, Top};
 use linked_code::{LinkedInstruction, LinkedProgram, MethodBody};
 use machine_state::method_selection::method_at;
 use machine_state::{ClassStatus, Shared};
 use model::EndState;
+use thread_stacks::{Frame, ThreadStack, Top};
 use traces::class_object_of;
 
 /// The thread that runs `main`.

@@ -1,7 +1,7 @@
 //! The frames of a stack (JVMS 2.6).
 
-use thread_stacks::{Frame, ThreadStack};
 use std::alloc::{AllocError, Global};
+use thread_stacks::{Frame, ThreadStack};
 
 /// How many frames of a stack are told.
 pub(crate) const MOST_FRAMES: usize = 32;

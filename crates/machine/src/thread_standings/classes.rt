@@ -5,11 +5,11 @@ ghost use Rattle.thread_stacks.specs.declared.entry.Phase.{Phase};
 ghost use Rattle.machine_state.specs.class_initialisation.Steps.{IsBefore};
 
 use linked_code::LinkedProgram;
-use thread_stacks::Phase;
 use machine_state::Shared;
 use machine_state::class_initialisation::{ClassLook, look};
 use machine_state::method_selection::{class_at, classes_are_read};
 use machine_threads::waiting_instructions::Standing;
+use thread_stacks::Phase;
 
 /// Whether another thread initialises a class.
 pub(crate) fn is_held(shared: &Shared, thread: u16, class: u16) -> bool

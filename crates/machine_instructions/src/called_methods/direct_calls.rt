@@ -8,9 +8,9 @@ ghost use Rattle.machine_instructions.specs.called_methods.Selected.{IsClassObje
 use crate::called_methods::frames::{raised, receiver};
 use crate::called_methods::running::{Call, run_method};
 use linked_code::LinkedProgram;
-use thread_stacks::ThreadStack;
 use machine_state::method_selection::{method_at, methods_are_read};
 use machine_state::{Effect, EventRefusal, MachineException, Shared};
+use thread_stacks::ThreadStack;
 
 /// The reference to the first of the Class objects, which stand in the order of the classes behind the PrintStream of
 /// System.out, the arguments and the Thread of `main`.

@@ -6,8 +6,8 @@ ghost use Rattle.linked_code.specs.declared.program.LinkedProgram.{LinkedProgram
 ghost use Rattle.machine_state.specs.linked_frames.Frames.{DoesOwn};
 
 use crate::leaving::{leave, leave_nothing};
-use thread_stacks::ThreadStack;
 use machine_state::{Effect, EventRefusal, MachineException, Shared};
+use thread_stacks::ThreadStack;
 
 /// `iaload`, `aaload`, `baload`, `caload`, `saload`: the element at the index on top, of the array under it, takes
 /// their place.

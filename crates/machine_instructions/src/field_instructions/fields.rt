@@ -6,11 +6,11 @@ ghost use Rattle.linked_code.specs.declared.program.LinkedProgram.{LinkedProgram
 ghost use Rattle.machine_state.specs.linked_frames.Frames.{DoesOwn};
 ghost use Rattle.machine_instructions.specs.field_instructions.Puts.{put_field_instruction};
 
-use crate::leaving::{leave, leave_nothing};
 use crate::field_instructions::narrowing::kept;
-use thread_stacks::ThreadStack;
+use crate::leaving::{leave, leave_nothing};
 use machine_state::{Effect, EventRefusal, MachineException, Shared};
 use model::Primitive;
+use thread_stacks::ThreadStack;
 
 /// `getfield`: the field in a slot of the object of the operand on top takes the operand's place.
 ///

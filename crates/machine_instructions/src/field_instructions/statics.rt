@@ -7,11 +7,11 @@ ghost use Rattle.machine_state.specs.declared.state.Shared.{Shared};
 ghost use Rattle.machine_state.specs.linked_frames.Frames.{DoesOwn};
 ghost use Rattle.machine_instructions.specs.field_instructions.Puts.{put_static_instruction};
 
-use crate::leaving::{leave, leave_nothing};
 use crate::field_instructions::narrowing::kept;
-use thread_stacks::ThreadStack;
+use crate::leaving::{leave, leave_nothing};
 use machine_state::{Effect, EventRefusal, Shared};
 use model::Primitive;
+use thread_stacks::ThreadStack;
 
 /// The word of the PrintStream, which is the first of all objects.
 const PRINT_STREAM: u32 = 1;

@@ -4,8 +4,8 @@ ghost use Rattle.std.specs.Prelude.{◌≡◌, ◌-◌, [], ◌∷◌};
 ghost use Rattle.thread_stacks.specs.Stacks.{on_top, without};
 ghost use Rattle.machine_instructions.specs.thread_methods.Moves.{operand_of, went_on, Answers};
 
-use thread_stacks::ThreadStack;
 use machine_state::{Effect, EventRefusal};
+use thread_stacks::ThreadStack;
 
 /// The operand under so many others, 0 where there is none.
 #[inline]

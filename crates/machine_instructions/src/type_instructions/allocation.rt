@@ -7,8 +7,8 @@ ghost use Rattle.machine_instructions.specs.type_instructions.Leaving.{LeavesNew
 
 use crate::leaving::next_place;
 use heap::{AllocRefusal, Heap, ObjectKind};
-use thread_stacks::ThreadStack;
 use machine_state::{Effect, EventRefusal};
+use thread_stacks::ThreadStack;
 
 /// One more object of a kind, with so many words, which are 0.
 #[inline]

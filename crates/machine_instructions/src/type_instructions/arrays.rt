@@ -9,9 +9,9 @@ ghost use Rattle.machine_instructions.specs.type_instructions.Arrays.{MakesArray
 
 use crate::type_instructions::allocation::leave_new_on_top;
 use heap::{NarrowKind, ObjectKind};
-use thread_stacks::ThreadStack;
 use machine_state::{Effect, EventRefusal, MachineException, Shared};
 use model::Primitive;
+use thread_stacks::ThreadStack;
 
 /// The kind of the arrays of a primitive type.
 #[inline]

@@ -7,10 +7,10 @@ ghost use Rattle.machine_instructions.specs.type_instructions.Words.{TestsWord, 
 
 use crate::leaving::{leave, leave_nothing};
 use heap::Heap;
-use thread_stacks::ThreadStack;
 use linked_code::{LinkedProgram, LinkedType};
 use machine_state::type_tests::is_object_below;
 use machine_state::{Effect, EventRefusal, MachineException, Shared};
+use thread_stacks::ThreadStack;
 
 /// Whether a word is null or that of an instance of a type.
 #[inline]

@@ -6,11 +6,11 @@ ghost use Rattle.linked_code.specs.declared.program.LinkedProgram.{LinkedProgram
 ghost use Rattle.machine_state.specs.declared.state.Shared.{Shared};
 ghost use Rattle.machine_state.specs.linked_frames.Frames.{DoesOwn};
 
-use crate::type_instructions::allocation::leave_new;
 use crate::leaving::leave;
+use crate::type_instructions::allocation::leave_new;
 use heap::ObjectKind;
-use thread_stacks::ThreadStack;
 use machine_state::{Effect, EventRefusal, MachineException, Shared};
+use thread_stacks::ThreadStack;
 
 /// `ldc` of an object that is there from the start: its word, the reference and one, goes onto the stack.
 ///

@@ -6,12 +6,12 @@ ghost use Rattle.linked_code.specs.declared.instruction.LinkedInstruction.TheVar
 ghost use Rattle.machine_state.specs.linked_frames.Frames.{DoesOwn};
 ghost use Rattle.machine_instructions.specs.type_instructions.Words.{component_in, TestsStore};
 
-use crate::type_instructions::casts::may_be;
 use crate::leaving::leave_nothing;
+use crate::type_instructions::casts::may_be;
 use heap::{Heap, ObjectKind};
-use thread_stacks::ThreadStack;
 use linked_code::{LinkedProgram, LinkedType};
 use machine_state::{Effect, MachineException, Shared};
+use thread_stacks::ThreadStack;
 
 /// The component type of an array of references.
 #[inline]

@@ -19,9 +19,7 @@ fn same_frame(one: &Frame<'_>, other: &Frame<'_>) -> bool
     if !same_numbers(one.locals, other.locals) {
         return false;
     }
-    same_numbers(
-        one.operands, other.operands,
-    )
+    same_numbers(one.operands, other.operands)
 }
 
 /// Whether the same is on top of both stacks.

@@ -5,9 +5,9 @@ ghost use Rattle.thread_stacks.specs.Stacks.{operands_on};
 ghost use Rattle.machine_threads.specs.pending_exceptions.Caught.{IsCaughtOnTop, HasNoOperand, IsCleared, Catches};
 
 use heap::Heap;
-use thread_stacks::ThreadStack;
 use machine_state::{Answer, EventRefusal, Shared};
 use std::alloc::AllocError;
+use thread_stacks::ThreadStack;
 
 /// The word of the reference of an object, which is one of 32 bits, or 0 where there is no such object.
 #[inline]

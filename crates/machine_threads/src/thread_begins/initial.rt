@@ -7,12 +7,12 @@ ghost use Rattle.machine_threads.specs.thread_begins.Initial.{IsOfProgram, IsIni
 use crate::thread_begins::callees::callee_at;
 use crate::thread_begins::first_frames::push_first;
 use linked_code::LinkedProgram;
-use thread_stacks::{Callee, ThreadStack};
 use machine_instructions::called_methods::class_object_of;
 use machine_state::class_initialisation::need_class;
 use machine_state::method_selection::{method_at, methods_are_read};
 use machine_state::raised_exceptions::apply;
 use machine_state::{Answer, EventRefusal, Shared};
+use thread_stacks::{Callee, ThreadStack};
 
 /// The word of the reference to the empty array that `main` gets, one of the objects of the opening heap.
 const ARGUMENTS: u32 = 2;

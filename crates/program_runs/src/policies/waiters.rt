@@ -2,12 +2,12 @@
 
 use heap::Heap;
 use heap::java_threads::{ThreadStatus, Threads};
-use thread_stacks::Frame;
 use linked_code::{BuiltInMethod, LinkedInstruction, LinkedProgram, MethodBody};
 use machine::Machine;
 use machine::top_frames::goes_on;
 use machine_state::linked_frames::instruction_at;
 use machine_state::method_selection::{class_of_kind, method_at, select_interface, select_virtual};
+use thread_stacks::Frame;
 
 /// How many threads are in a wait set.
 pub(crate) fn waiting(threads: &Threads) -> u16 {

@@ -4,8 +4,8 @@ ghost use Rattle.std.specs.Prelude.{◌<◌, length};
 
 use heap::Heap;
 use heap::java_threads::{ThreadStatus, Threads};
-use thread_stacks::{Frame, ThreadStack};
 use machine_state::{ClassStatus, Shared};
+use thread_stacks::{Frame, ThreadStack};
 
 /// The hash once a number is mixed in.
 fn with_number(hash: u64, number: u64) -> u64 {

@@ -9,11 +9,11 @@ use crate::traced_events::calls::{called_method, receiver_place};
 use crate::traced_events::frames::{FrameBefore, frame_on_top};
 use crate::traced_events::monitors::waiting_on;
 use crate::traced_events::rules::{Rule, rule_of};
-use thread_stacks::{Frame, ThreadStack, Top};
 use linked_code::{BuiltInMethod, LinkedInstruction, LinkedProgram};
 use machine_state::Shared;
 use machine_state::linked_frames::instruction_at;
 use std::alloc::{AllocError, Global};
+use thread_stacks::{Frame, ThreadStack, Top};
 
 /// What is known of a thread before its event. It serves for one event after another.
 #[derive(Drop)]

@@ -5,9 +5,9 @@ ghost use Rattle.thread_stacks.specs.Stacks.{shown_frame};
 ghost use Rattle.machine_state.specs.shown_stacks.Shown.{offset_at, starts_of as starts_in};
 ghost use Rattle.traces.specs.traced_events.Seen.{IsFrameSeen};
 
-use thread_stacks::{Frame, ThreadStack};
 use linked_code::{LinkedProgram, MethodBody};
 use machine_state::method_selection::method_at;
+use thread_stacks::{Frame, ThreadStack};
 
 /// What stands for the offset of a place at which no instruction begins.
 const NO_OFFSET: u16 = 65535;
