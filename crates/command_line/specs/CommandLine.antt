@@ -5,6 +5,7 @@ use Rattle.std.specs.List.{All, slice_split}
 use Rattle.std.specs.Option.{option_map, option_map_or}
 use Rattle.std.specs.Str.{bytes_eq}
 use Rattle.std.specs.Str.Parse.{IsNumeral, digits_value}
+use Rattle.model.specs.BuiltInNumbers.{most_threads}
 use Rattle.clap.specs.Words.{App, IsAmong, Row, Rule, Shape, Text, all_of, fault_of, first_of, kind_of, new_app, new_rule, subcommand_of, takes, with_rule, with_subcommand}
 use Rattle.clap.specs.declared.error.Error.{Error}
 use Rattle.clap.specs.declared.error.kind.ErrorKind.{ErrorKind}
@@ -91,7 +92,7 @@ with_limits app = with_rule (with_rule (with_rule (with_rule (with_rule app
     (number_option (codes "objects") 0 4000000000))
     (number_option (codes "cells") 0 4294967295))
     (number_option (codes "monitors") 0 8388608))
-    (number_option (codes "threads") 1 32767))
+    (number_option (codes "threads") 1 most_threads))
     (number_option (codes "frames") 1 65535)
 
 -- `--main NAME`, the class whose main is run
@@ -212,7 +213,7 @@ pub record AreLimitNumbers (rows : List Row) (limits : LimitOptions) : Type 0 wh
   pub objects : IsNumber 0 4000000000 (first_of (codes "objects") rows) limits.objects
   pub cells : IsNumber 0 4294967295 (first_of (codes "cells") rows) limits.cells
   pub monitors : IsNumber 0 8388608 (first_of (codes "monitors") rows) limits.monitors
-  pub threads : IsNumber 1 32767 (first_of (codes "threads") rows) limits.threads
+  pub threads : IsNumber 1 most_threads (first_of (codes "threads") rows) limits.threads
   pub frames : IsNumber 1 65535 (first_of (codes "frames") rows) limits.frames
 
 -- a flag is there

@@ -133,7 +133,7 @@ impl NumberOption {
             .help(self.help)
     }
 
-    /// The same, where it takes numbers with commas between them. The parser takes any text for them.
+    /// The option, for the parser, where it takes numbers with commas between them. The parser takes any text for them.
     pub(crate) fn list_argument<'a>(self, alloc: Global) -> Arg<'a>
         ensures rule { rule_of result ≡ path_option self.name.now }
         ensures local { result.global ≡ false }
@@ -202,7 +202,7 @@ impl NumberOption {
         Ok(numbers)
     }
 
-    /// That a part of a list is no number of the option's.
+    /// The fault that a part of a list is no number of the option's.
     fn part_refusal(self, alloc: Global, part: &str) -> Usage
         ensures { Asks result → ⊥ }
     {
@@ -215,7 +215,7 @@ impl NumberOption {
         }
     }
 
-    /// That a text is no number of the option's.
+    /// The fault that a text is no number of the option's.
     fn refusal(self, alloc: Global, text: &str) -> Usage
         ensures { Asks result → ⊥ }
     {
@@ -226,16 +226,16 @@ impl NumberOption {
 /// The names of the options of `replay`, `run`, `search` and `trace` that take a number.
 const OF_ALL: [&str; 5] = ["objects", "cells", "monitors", "threads", "frames"];
 
-/// Those of `run`.
+/// The options of `run` that take a number.
 const OF_RUN: [&str; 4] = ["workers", "budget", "quantum", SEED];
 
-/// Those of `replay`.
+/// The options of `replay` that take a number.
 const OF_REPLAY: [&str; 1] = ["budget"];
 
-/// Those of `trace`.
+/// The options of `trace` that take numbers.
 const OF_TRACE: [&str; 3] = ["from", "to", "only"];
 
-/// Those of `search`.
+/// The options of `search` that take a number.
 const OF_SEARCH: [&str; 2] = ["states", "memory"];
 
 /// The name behind two hyphens, where it is that of an option of the subcommand which takes a number.

@@ -1,6 +1,7 @@
 //! What the program is asked to do.
 
 ghost use Rattle.std.specs.Prelude.{◌≡◌, ◌≤◌, ◌↔◌, IsTrue, unwrap_or};
+ghost use Rattle.model.specs.BuiltInNumbers.{most_threads};
 
 use crate::run_options::RunOptions;
 use model::Limits;
@@ -93,7 +94,7 @@ pub enum TraceForm {
     Plain,
     /// In words, with a column for each thread.
     Columns,
-    /// As an object of JSON.
+    /// An object of JSON.
     Json,
 }
 
@@ -126,7 +127,7 @@ pub enum Goal {
     Deadlock,
     /// An exception that nothing caught ended a thread.
     Uncaught,
-    /// These numbers were printed, in this order, and no others.
+    /// The run printed these numbers, in this order, and no others.
     Output(Vec<i32>),
     /// Something else was printed than the file with this path has.
     Differs(String),
@@ -218,7 +219,7 @@ pub struct LimitOptions {
     pub frames: Option<u32>,
     pub ghost objects_fit: { unwrap_or objects 1000000 ≤ 4000000000 },
     pub ghost monitors_fit: { unwrap_or monitors 65536 ≤ 8388608 },
-    pub ghost threads_fit: { (1 ≤ unwrap_or threads 256) × (unwrap_or threads 256 ≤ 32767) },
+    pub ghost threads_fit: { (1 ≤ unwrap_or threads 256) × (unwrap_or threads 256 ≤ most_threads) },
     pub ghost frames_fit: { (1 ≤ unwrap_or frames 1024) × (unwrap_or frames 1024 ≤ 65535) },
 }
 

@@ -85,7 +85,7 @@ fn parser_usage(alloc: Global, words: &[String], error: clap::Error) -> Usage
     Usage::from(error)
 }
 
-/// That the words lack something. The parser says so first, so that this text is never seen.
+/// The fault that the words lack something. The parser says so first, so that this text is never seen.
 fn missing(alloc: Global, what: &str) -> Usage
     ensures { Asks result → ⊥ }
 {

@@ -15,9 +15,9 @@ use std::io::Write;
 pub enum Complaint {
     /// The words are no command.
     Usage(Usage),
-    /// They are one, and stand for no files that are handed on.
+    /// The words are a command, and stand for no files that are handed on.
     Files(FilesFault),
-    /// They are one, and something keeps it from its end.
+    /// The words are a command, and something keeps it from its end.
     Fault(Fault),
 }
 

@@ -15,18 +15,18 @@ pub(crate) struct NamedFile<'a, F: Folder> {
     folder: &'a F,
     path: &'a str,
     reading: Reading,
-    /// It has failed only where the folder may fail.
+    /// The file has failed only where the folder may fail.
     ghost failed: { IsTrue (has_failed reading) → IsTrue (F.may_fail folder.now path.now) },
 }
 
 /// How far the reading of a file came.
 #[derive(Clone, Copy)]
 pub(crate) enum Reading {
-    /// It was not read.
+    /// The file was not read.
     Ahead,
-    /// It was.
+    /// The file was read.
     Behind,
-    /// It couldn't be.
+    /// The file couldn't be read.
     Failed,
 }
 

@@ -27,7 +27,7 @@ pub(crate) fn limits_of(
     }
 }
 
-/// The same of a schedule file that says with what it was recorded.
+/// The limits of a schedule file that says with what it was recorded.
 fn recorded_limits(
     recording: &Recording,
     files: &[Vec<u8>],

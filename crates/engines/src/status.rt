@@ -31,7 +31,7 @@ pub enum Status {
 }
 
 impl Status {
-    /// That of a run.
+    /// The status of a run.
     pub fn of(report: &Report, end: End) -> Status
         ensures { result ≡ status_of report.now.threads.items end }
     {
@@ -42,7 +42,7 @@ impl Status {
         }
     }
 
-    /// That of a run after which no thread can go on.
+    /// The status of a run after which no thread can go on.
     fn of_quiet(threads: &[EndState]) -> Status
         ensures { result ≡ status_of threads.now End.Quiet }
     {
@@ -55,7 +55,7 @@ impl Status {
         }
     }
 
-    /// That of a search.
+    /// The status of a search.
     pub fn of_search(answer: &Answer) -> Status
         ensures { result ≡ search_status answer.now }
     {
@@ -66,7 +66,7 @@ impl Status {
         }
     }
 
-    /// That of a complaint.
+    /// The status of a complaint.
     pub fn of_complaint(complaint: &Complaint) -> Status
         ensures { result ≡ complaint_status complaint.now }
     {
@@ -77,7 +77,7 @@ impl Status {
         }
     }
 
-    /// That of a fault.
+    /// The status of a fault.
     pub fn of_fault(fault: &Fault) -> Status
         ensures { result ≡ fault_status fault.now }
     {
@@ -88,7 +88,7 @@ impl Status {
         }
     }
 
-    /// That of words that stand for no files.
+    /// The status of words that stand for no files.
     pub fn of_files(fault: &FilesFault) -> Status
         ensures { result ≡ files_status fault.now }
     {
@@ -98,7 +98,7 @@ impl Status {
         }
     }
 
-    /// That of words that are no command. Words that ask for help get it.
+    /// The status of words that are no command. Words that ask for help get it.
     pub fn of_usage(usage: &Usage) -> Status
         ensures { result ≡ usage_status usage.now }
     {

@@ -29,7 +29,7 @@ pub(crate) fn told_schedule<F: Folder>(
     told_threads(alloc, folder, bytes.as_slice(), files, limits, most).ok()?
 }
 
-/// The same of the schedule file that was made, if one was.
+/// What the threads are about after the events of the schedule file that was made, if one was.
 pub(crate) fn told_record<F: Folder>(
     alloc: Global,
     folder: &F,
@@ -44,7 +44,7 @@ pub(crate) fn told_record<F: Folder>(
     }
 }
 
-/// The same of these bytes of a schedule.
+/// What the threads are about after the events of a schedule of these bytes.
 fn told_threads<F: Folder>(
     alloc: Global,
     folder: &F,
@@ -64,7 +64,7 @@ fn told_threads<F: Folder>(
     Ok(Some(threads_after(alloc, &verified, &schedule, limits)?))
 }
 
-/// The same of these class files, which are accepted, with these limits.
+/// What the threads are about of these class files, which are accepted, with these limits.
 fn threads_after(
     alloc: Global,
     verified: &Verified,

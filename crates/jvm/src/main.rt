@@ -1,4 +1,13 @@
 //! The program `jvm`, which runs class files.
+//!
+//! # Proved
+//!
+//! - Where there is a complaint, the status is the one that is its (`complaint_status`); that it is safe.
+//!
+//! # Not proved
+//!
+//! - Shown by running it alone: that the words and files of the system get to `engines`, and the texts to the terminal;
+//!   what a terminal shows while a run goes on.
 #![tactic(auto)]
 
 ghost use Rattle.std.specs.Prelude.{◌≡◌, MatchResult};

@@ -1,5 +1,6 @@
 -- Reading a schedule file from left to right, with the first fault that is met.
 use Rattle.std.specs.Prelude.{◌≡◌, ℕ, zero, suc, List, [], ◌∷◌, length, drop, Option, Some, None, Result, Ok, Err, Bool, nat_lt, ◌==◌, ◌&&◌, ◌||◌, if◌then◌else◌}
+use Rattle.model.specs.BuiltInNumbers.{most_threads}
 use Rattle.byteorder.specs.Endian.{big_number}
 use Rattle.model.specs.declared.event.ScheduleEntry.{ScheduleEntry}
 use Rattle.model.specs.declared.limits.Limits.{Limits}
@@ -51,7 +52,7 @@ table_at bytes = do
 
 -- the least and the most of each limit, in the order of the file
 abbrev pub limit_ranges : List (ℕ × ℕ)
-limit_ranges = (0, 4000000000) ∷ (0, 4294967295) ∷ (0, 8388608) ∷ (1, 32767) ∷ (1, 65535) ∷ []
+limit_ranges = (0, 4000000000) ∷ (0, 4294967295) ∷ (0, 8388608) ∷ (1, most_threads) ∷ (1, 65535) ∷ []
 
 unfoldable pub limit_at : ℕ → ℕ → List ℕ → Read ℕ
 limit_at least most bytes = do

@@ -1,4 +1,27 @@
 //! Schedules: which thread does the next step, as lists of events that are kept as runs of equal ones.
+//!
+//! # Proved
+//!
+//! - `read_schedule`, of both versions: what is answered stands for events that the bytes spell, and for what they say
+//!   of the recording, if they are of version 2 (`found`), and the bytes are those of the entries as they are answered
+//!   (`entries`); where they spell a list, it is answered, memory aside (`only`). A fault stands in the bytes, memory
+//!   aside (`refused`, the definition `StandsIn`): `Magic` only where the first four bytes are there and aren't `JSCH`;
+//!   `Version` only behind `JSCH`, where the fifth byte is there and is neither 1 nor 2; `Trailing` only where bytes
+//!   follow the last entry; `Truncated`, `Limits` and `Repeat` only where reading from left to right ends so. It never
+//!   answers `Files`.
+//! - `write_schedule` spells its schedule, and with what it was recorded, where that is told (`written`, `spells`);
+//!   `Schedule::count` is the number of events, and the other getters what they say; no bytes spell two lists of events
+//!   (`bytes_spell_one_list`). The name of a fault is the definition's (`fault_name`).
+//!
+//! # Not proved
+//!
+//! - Shown by cases alone: that the reading of that definition is the one that the rules want, where bytes spell no
+//!   list.
+//!
+//! # Wrong bodies
+//!
+//! - Planted by `rt plant`: 35 functions, 8 untried; 83 bodies judged, 2 not judged, 0 not run; proved 3: the real
+//!   ones.
 #![tactic(auto)]
 
 mod fault;

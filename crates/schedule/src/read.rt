@@ -1,4 +1,4 @@
-//! Reading schedule files.
+//! Reading schedule files, of both versions.
 
 ghost use Rattle.std.specs.Prelude.{◌≡◌, ◌≤◌, ◌<◌, ◌^◌, List, Option, IfOk, IfErr, length};
 ghost use Rattle.std.specs.Option.{option_map};

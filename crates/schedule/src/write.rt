@@ -1,4 +1,4 @@
-//! Writing schedule files.
+//! Writing schedule files, of both versions.
 
 ghost use Rattle.std.specs.Prelude.{◌≡◌, ◌∷◌, [], ◌++◌, IfOk, OnOk};
 ghost use Rattle.std.specs.List.{flat_map};

@@ -1,4 +1,4 @@
-//! The search.
+//! The search over all schedules.
 
 ghost use Rattle.std.specs.Prelude.{◌<◌, ◌≤◌, [], length, IfOk};
 ghost use Rattle.std.specs.Arc.{arc_value};
@@ -43,9 +43,10 @@ pub struct Searched {
 /// What a search comes to at a state.
 #[derive(Drop)]
 pub(crate) enum Visit {
-    /// Its outcome is listed, if no thread may step there, and the states to which events lead from it are met.
+    /// The outcome of the state is listed, if no thread may step there, and the states to which events lead from it are
+    /// met.
     Visited,
-    /// Its outcome is wanted.
+    /// The outcome of the state is wanted.
     Found(Schedule),
     GaveUp,
 }
@@ -69,7 +70,7 @@ fn is_found(
     Ok(false)
 }
 
-/// The same of the outcome of the state in which a machine is.
+/// Whether an outcome is wanted, of the state in which a machine is.
 fn is_found_at(
     alloc: Global,
     classes: &ClassSet,

@@ -1,4 +1,4 @@
-//! `trace`.
+//! What the command `trace` does.
 
 ghost use Rattle.std.specs.Prelude.{◌≡◌, IfErr, IfOk, None, map, string_bytes};
 ghost use Rattle.std.specs.Io.KnownBytes.{Appends};

@@ -1,4 +1,4 @@
-//! `verify` and `disasm`.
+//! What the commands `verify` and `disasm` do.
 
 ghost use Rattle.std.specs.Prelude.{◌≡◌, ◌⊎◌, ◌+◌, IfErr, IfOk, map, string_bytes, sum_by};
 ghost use Rattle.std.specs.Io.KnownBytes.{Appends};

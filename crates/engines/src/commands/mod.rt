@@ -1,4 +1,8 @@
 //! What each command does over a folder, by its engine.
+//!
+//! # Proved
+//!
+//! - Each function of a command is what `IsDone` and `IsUndone` say of it; `run` takes it whole.
 
 mod event_traces;
 mod given_files;

@@ -1,4 +1,4 @@
-//! `run`.
+//! What the command `run` does.
 
 ghost use Rattle.std.specs.Prelude.{IfErr, IfOk, IsTrue, is_some, vec_items, map, string_bytes};
 ghost use Rattle.std.specs.Option.{option_map};

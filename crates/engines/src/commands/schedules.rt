@@ -1,4 +1,4 @@
-//! `schedule`.
+//! What the command `schedule` does.
 
 ghost use Rattle.std.specs.Prelude.{◌≡◌, ◌+◌, IfErr, IfOk, None, Some, string_bytes};
 ghost use Rattle.engines.specs.Commands.{IsScheduleDone, IsScheduleUndone, Leaves, LeavesAt};

@@ -1,4 +1,4 @@
-//! `search`.
+//! What the command `search` does.
 
 ghost use Rattle.std.specs.Prelude.{◌≡◌, ◌⊎◌, IfErr, IfOk, None, Some, is_some, vec_items, map, string_bytes};
 ghost use Rattle.std.specs.Option.{option_map};

@@ -2,6 +2,7 @@
 
 ghost use Rattle.std.specs.Prelude.{◌≡◌, ◌<◌, [], ◌∷◌, ◌++◌, length, true, false, Some, IfOk, OnOk, OnErr, IfSome, MatchOption, count_by};
 ghost use Rattle.std.specs.List.{remove};
+ghost use Rattle.model.specs.BuiltInNumbers.{most_threads};
 ghost use Rattle.model.specs.Monitors.{owns, without, unlocked};
 ghost use Rattle.heap.specs.monitor.Locks.{inflates, is_count_full_by, answered_by, joins_by};
 
@@ -276,9 +277,9 @@ impl MonitorCalls for PlainMonitors {
             return false;
         }
         match call {
-            Call::Enter { thread, .. } | Call::Wait { thread, .. } => thread < 32767,
+            Call::Enter { thread, .. } | Call::Wait { thread, .. } => thread < most_threads,
             Call::Relock { thread, count, .. } => {
-                thread < 32767 && 0 < count && (count <= 256 || self.fat[object])
+                thread < most_threads && 0 < count && (count <= 256 || self.fat[object])
             }
             _ => true,
         }

@@ -24,8 +24,8 @@ use verifier::Verified;
 pub enum Continued {
     /// The events of the schedule were done, as far as the budget allows, and then the threads went on in turn.
     Whole(Recorded),
-    /// One of them within the budget is not enabled, or a limit refuses it: the report of those before it, and the
-    /// end, which says so.
+    /// An event of the schedule within the budget is not enabled, or a limit refuses it: the report of those before it,
+    /// and the end, which says so.
     Part(Report, End),
 }
 

@@ -1,5 +1,23 @@
 //! Policies of a run by one worker: which thread has the next turn, how many events the turn has at most, and which
-//! waiter is woken. `docs/FORMATS.md`, "The schedule of a seed", defines them to the bit.
+//! waiter is woken. `docs/REFERENCE.md`, "The schedule of a seed", defines them to the bit.
+//!
+//! # Proved
+//!
+//! - `run_by_policy`, for each policy, memory aside: it is the record of a run of these files, under these limits and
+//!   with this budget, as `worlds` says it. So the report and the end are those of the schedule that is recorded.
+//! - `Policy::has_turns` tells whether each turn is of one event at least, which `run_by_policy` asks for. Where that
+//!   refuses, what it was handed is given up.
+//! - Of what it is made of: `below`, `short_length` and `long_length` draw the numbers that the documents
+//!   (docs/REFERENCE.md) say, of the words that the generator answers; `TurnLengths::next` counts short turns and draws
+//!   the length as they say (`HasLength`); `first_enabled_downwards` finds the first thread in rotation downwards
+//!   (`IsFoundDownwards`), and `enabled_at` a thread that has an event which is enabled.
+//!
+//! # Not proved
+//!
+//! - Shown by tests (`policy_tests` of `run_tests`), and not said by any clause: which turns a policy takes, that is
+//!   the schedule of a seed; that the same seed takes the same ones; how many threads wait, and how many waiters an
+//!   event may pick from. `oracle/seeds.py` makes the schedules once more, by the documents and by `oracle/machine.py`
+//!   alone.
 
 mod draws;
 mod mixed;

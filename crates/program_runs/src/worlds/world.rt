@@ -1,4 +1,4 @@
-//! A world.
+//! The world that workers share, and what is always so of it.
 
 ghost use Rattle.std.specs.Prelude.{◌≡◌, length, IfOk};
 ghost use Rattle.std.specs.Arc.{arc_value};

@@ -13,9 +13,9 @@ use std::alloc::Global;
 /// Why bytes are no schedule.
 #[derive(Clone, Copy)]
 pub enum EitherFault {
-    /// They are read as a schedule file, and are none.
+    /// The bytes are read as a schedule file, and are none.
     File(ScheduleFault),
-    /// They are read as text, and spell no schedule.
+    /// The bytes are read as text, and spell no schedule.
     Text(TextFault),
 }
 
@@ -31,11 +31,11 @@ fn is_text(bytes: &[u8]) -> bool
 
 /// The schedule that bytes give, and with what it was recorded, where they tell that.
 ///
-/// They are read as text where the first is a digit, `#`, or white space, and else as a schedule file.
+/// The bytes are read as text where the first is a digit, `#`, or white space, and else as a schedule file.
 ///
 /// # Errors
 ///
-/// Those of `parse` and those of `read_schedule`.
+/// The errors of `parse` and those of `read_schedule`.
 pub fn read_either(
     alloc: Global,
     bytes: &[u8],

@@ -1,4 +1,12 @@
 //! What runs that have ended leave to be seen: which of it is wanted, and a list of it.
+//!
+//! # Proved
+//!
+//! - `Wanted::is`, memory aside: whether an outcome is the one that is wanted (`IsWanted`): a thread waits for ever,
+//!   one ended with an exception, what was printed is a text, or is another one.
+//! - `printed_lines`, memory aside: it makes of ints the text that a run prints of them (`printed_text`).
+//! - `Outcomes`: its outcomes are in an order, each once (`AreInOrder`); `add` lists one more and keeps the others
+//!   (`IsAdded`).
 
 mod order;
 mod outcomes;
