@@ -126,8 +126,12 @@ with_files app files = with_rule (with_rule (with_rule app (flag (codes "explain
 abbrev pub jvm_run : App
 jvm_run = with_files (with_program (with_rule (with_run_options (new_app (codes "run"))) record_option)) class_files
 
+-- under which schedule they run, and whether over any class files
+abbrev pub with_schedule : App → App
+with_schedule app = with_rule (with_rule app schedule_option) (flag (codes "any-files"))
+
 abbrev pub jvm_replay : App
-jvm_replay = with_files (with_program (with_then_run (with_rule (new_app (codes "replay")) schedule_option))) class_files
+jvm_replay = with_files (with_program (with_then_run (with_schedule (new_app (codes "replay"))))) class_files
 
 -- which events are told: from one number up to another, of some threads
 abbrev pub with_window : App → App
@@ -141,7 +145,7 @@ abbrev pub with_form : App → App
 with_form app = with_rule (with_rule (with_rule app (flag (codes "columns"))) (flag (codes "json"))) (flag (codes "summary"))
 
 abbrev pub jvm_trace : App
-jvm_trace = with_files (with_program (with_form (with_window (with_rule (new_app (codes "trace")) schedule_option)))) class_files
+jvm_trace = with_files (with_program (with_form (with_window (with_schedule (new_app (codes "trace")))))) class_files
 
 -- which outcome is to be found, among how many states, in how much memory, and where its schedule is recorded
 abbrev pub with_search_options : App → App
@@ -161,7 +165,7 @@ abbrev pub jvm_disasm : App
 jvm_disasm = with_files (with_rule (new_app (codes "disasm")) (flag (codes "names"))) class_files
 
 abbrev pub jvm_schedule : App
-jvm_schedule = with_files (with_rule (new_app (codes "schedule")) (flag (codes "write"))) one_file
+jvm_schedule = with_files (with_rule (with_rule (new_app (codes "schedule")) (flag (codes "write"))) (number_option (codes "as-version") 1 3)) one_file
 
 -- it has `--version`, and a command has to be there
 abbrev pub with_version : Shape → Shape
@@ -254,6 +258,7 @@ IsThenRun rows None = (is_set (first_of (codes "then-run") rows) ≡ false)
 -- the values that the words give to `jvm replay`
 pub record AreValues (rows : List Row) (replay : Replay) : Type 0 where
   pub schedule : first_of (codes "schedule") rows ≡ Some (string_bytes replay.schedule)
+  pub any_files : replay.any_files ≡ is_set (first_of (codes "any-files") rows)
   pub then_run : IsThenRun rows replay.then_run
   pub limits : AreLimitNumbers rows replay.limits
   pub main : first_of (codes "main") rows ≡ option_map string_bytes replay.main
@@ -272,6 +277,7 @@ IsTraceForm rows forms.Json = (is_set (first_of (codes "columns") rows) ≡ fals
 -- the values that the words give to `jvm trace`
 pub record AreTraceValues (rows : List Row) (trace : Trace) : Type 0 where
   pub schedule : first_of (codes "schedule") rows ≡ Some (string_bytes trace.schedule)
+  pub any_files : trace.any_files ≡ is_set (first_of (codes "any-files") rows)
   pub from : IsNumber 0 4294967295 (first_of (codes "from") rows) trace.from
   pub to : IsNumber 0 4294967295 (first_of (codes "to") rows) trace.to
   pub only : AreNumbers 0 65535 (first_of (codes "only") rows) (option_map vec_items trace.only)
@@ -323,6 +329,7 @@ pub record AreDisasmValues (rows : List Row) (disasm : Disasm) : Type 0 where
 pub record AreScheduleValues (rows : List Row) (schedule : Schedule) : Type 0 where
   pub file : first_of (codes "file") rows ≡ Some (string_bytes schedule.file)
   pub write : schedule.write ≡ is_set (first_of (codes "write") rows)
+  pub as_version : IsNumber 1 3 (first_of (codes "as-version") rows) schedule.as_version
   pub explain : schedule.explain ≡ is_set (first_of (codes "explain") rows)
   pub quiet : schedule.quiet ≡ is_set (first_of (codes "quiet") rows)
 

@@ -49,6 +49,13 @@ pub(crate) const QUANTUM: NumberOption = NumberOption {
     help: "How many events a turn of a rotation has [default: 1000], or of a worker [default: 1]",
 };
 
+pub(crate) const AS_VERSION: NumberOption = NumberOption {
+    name: "as-version",
+    least: 1,
+    most: 3,
+    help: "The version that the schedule file is of at most",
+};
+
 pub(crate) const FROM: NumberOption = NumberOption {
     name: "from",
     least: 0,

@@ -47,8 +47,10 @@ pub struct Run {
 /// `jvm replay`: class files are run under a schedule, and what comes of it is reported.
 #[derive(Drop)]
 pub struct Replay {
-    /// The path of the schedule file.
+    /// The path of the schedule file, or the schedule itself.
     pub schedule: String,
+    /// Whether any class files will do, whatever the schedule was recorded over.
+    pub any_files: bool,
     /// How the run goes on where the schedule ends, if it does.
     pub then_run: Option<ThenRun>,
     pub limits: LimitOptions,
@@ -65,8 +67,10 @@ pub struct Replay {
 /// `jvm trace`: class files are run under a schedule, and the run is told event by event.
 #[derive(Drop)]
 pub struct Trace {
-    /// The path of the schedule file.
+    /// The path of the schedule file, or the schedule itself.
     pub schedule: String,
+    /// Whether any class files will do, whatever the schedule was recorded over.
+    pub any_files: bool,
     /// The number of the first event that is told, and `None` for 0.
     pub from: Option<u32>,
     /// The number of the last event that is told, and `None` for that of the run.
@@ -203,6 +207,8 @@ pub struct Schedule {
     pub file: String,
     /// Whether the file is made.
     pub write: bool,
+    /// The version that the file that is made is of at most, and `None` for any.
+    pub as_version: Option<u32>,
     /// Whether a refusal is explained.
     pub explain: bool,
     /// Whether standard error tells no more than why there is no output.

@@ -8,7 +8,7 @@ ghost use Rattle.command_line.specs.CommandLine.{AreDisasmValues, AreLimitNumber
 
 use crate::goal::goal_by;
 use crate::numbers::{
-    BUDGET, CELLS, FRAMES, FROM, MEMORY, MONITORS, OBJECTS, ONLY, QUANTUM, STATES, THREADS, TO,
+    AS_VERSION, BUDGET, CELLS, FRAMES, FROM, MEMORY, MONITORS, OBJECTS, ONLY, QUANTUM, STATES, THREADS, TO,
     WHOLE_BUDGET, WORKERS, negative_number,
 };
 use crate::options;
@@ -152,6 +152,7 @@ fn replay_of(alloc: Global, matches: &ArgMatches<'_>) -> Result<Replay, Usage>
         files,
         explain: is_set(matches, "explain"),
         quiet: is_set(matches, "quiet"),
+        any_files: is_set(matches, "any-files"),
     })
 }
 
@@ -180,6 +181,7 @@ fn trace_of(alloc: Global, matches: &ArgMatches<'_>) -> Result<Trace, Usage>
         files,
         explain: is_set(matches, "explain"),
         quiet: is_set(matches, "quiet"),
+        any_files: is_set(matches, "any-files"),
     })
 }
 
@@ -258,11 +260,13 @@ fn schedule_of(alloc: Global, matches: &ArgMatches<'_>) -> Result<Schedule, Usag
         → AreScheduleValues (rows_of (found_of matches.now)) schedule → ⊥)) }
 {
     let file = required_path_of(alloc, matches, "file")?;
+    let as_version = AS_VERSION.number(alloc, matches)?;
     Ok(Schedule {
         file,
         write: is_set(matches, "write"),
         explain: is_set(matches, "explain"),
         quiet: is_set(matches, "quiet"),
+        as_version,
     })
 }
 

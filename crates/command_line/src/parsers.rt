@@ -10,7 +10,7 @@ use crate::help::{
     SEARCH_PAGE, TRACE_PAGE, VERIFY_PAGE, VERSION,
 };
 use crate::numbers::{
-    BUDGET, CELLS, FRAMES, FROM, MEMORY, MONITORS, OBJECTS, ONLY, QUANTUM, STATES, THREADS, TO,
+    AS_VERSION, BUDGET, CELLS, FRAMES, FROM, MEMORY, MONITORS, OBJECTS, ONLY, QUANTUM, STATES, THREADS, TO,
     WHOLE_BUDGET, WORKERS,
 };
 use crate::run_arguments::{policy_argument, seed_argument};
@@ -93,6 +93,7 @@ fn replay_parser<'a>(alloc: Global) -> Result<clap::Command<'a>, AllocError>
         REPLAY_PAGE,
     )
     .arg(schedule_argument(alloc))?
+    .arg(any_files_argument(alloc))?
     .arg(flag_argument(
         alloc,
         "then-run",
@@ -117,6 +118,7 @@ fn trace_parser<'a>(alloc: Global) -> Result<clap::Command<'a>, AllocError>
         TRACE_PAGE,
     )
     .arg(schedule_argument(alloc))?
+    .arg(any_files_argument(alloc))?
     .arg(FROM.argument(alloc))?
     .arg(TO.argument(alloc))?
     .arg(ONLY.list_argument(alloc))?
@@ -195,7 +197,8 @@ fn schedule_parser<'a>(alloc: Global) -> Result<clap::Command<'a>, AllocError>
         "Prints a schedule file as text, or makes one of a text",
         SCHEDULE_PAGE,
     )
-    .arg(write)?;
+    .arg(write)?
+    .arg(AS_VERSION.argument(alloc))?;
     with_files(alloc, schedule, file_argument(alloc, "The schedule file"))
 }
 
@@ -204,7 +207,19 @@ fn schedule_argument<'a>(alloc: Global) -> Arg<'a>
     ensures rule { rule_of result ≡ schedule_option }
     ensures local { result.global ≡ false }
 {
-    path_argument(alloc, "schedule", "The schedule file, or its text").required(true)
+    path_argument(alloc, "schedule", "The schedule file, or its text, or '0*22 1'").required(true)
+}
+
+/// Whether the schedule is for any class files.
+fn any_files_argument<'a>(alloc: Global) -> Arg<'a>
+    ensures rule { rule_of result ≡ flag (codes "any-files") }
+    ensures local { result.global ≡ false }
+{
+    flag_argument(
+        alloc,
+        "any-files",
+        "Takes any class files, whatever the schedule was recorded over",
+    )
 }
 
 /// The file that a schedule is written to.

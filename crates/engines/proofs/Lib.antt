@@ -9,7 +9,6 @@ pub mod ListingLemmas
 pub mod OpeningLemmas
 pub mod OutcomeLemmas
 pub mod RecordLemmas
-pub mod RecordingLemmas
 pub mod RunLemmas
 pub mod ScheduleLemmas
 pub mod SearchLemmas

@@ -15,13 +15,15 @@ use Rattle.program_files.specs.Folders.{Held}
 use Rattle.engines.specs.Commands.{IsContinuationUndone, IsRunUndone, IsSearchUndone, IsUnrecorded, LeavesAt}
 use Rattle.engines.specs.Continuations.{Continues, IsUncontinued}
 use Rattle.engines.specs.Devices.{IsUnable}
-use Rattle.engines.specs.Files.{written_at}
+use Rattle.engines.specs.Files.{OfSchedule, written_at}
+use Rattle.engines.specs.Recordings.{conditions_of}
 use Rattle.engines.specs.Goals.{IsAskedFor}
 use Rattle.engines.specs.Runs.{IsUnrun, Runs}
 use Rattle.engines.specs.Searches.{IsUnsearched, Searches, most_states}
 use Rattle.engines.specs.declared.fault.Fault.{Fault}
 use Rattle.engines.specs.declared.fault.Fault.TheVariants as faults
 use Rattle.engines.specs.declared.status.Status.{Status}
+use Rattle.engines.specs.declared.recording.Conditions.{Conditions}
 
 -- all of a text is a front of it
 all_front : (old new : Option (List ℕ)) (text : List ℕ) → Appends old new text → AppendsFront old new text
@@ -38,7 +40,7 @@ whole_is_unrun lefts asked options old new made (faults.Refusal refusal) unable 
 whole_is_unrun lefts asked options old new made (faults.Schedule fault) unable whole = absurd unable
 whole_is_unrun lefts asked options old new made (faults.Text fault) unable whole = absurd unable
 
-whole_is_uncontinued : (left : Option (List ℕ)) (lefts : List (Option (List ℕ))) (asked : LimitOptions) (budget : ℕ) (old new made : Option (List ℕ))
+whole_is_uncontinued : (left : Option (List ℕ)) (lefts : List (Option (List ℕ))) (asked : Conditions) (budget : ℕ) (old new made : Option (List ℕ))
     (fault : Fault) → IsUnable fault → (text : List ℕ) × (status : Status) × Continues left lefts asked budget text made status × Appends old new text
     → IsUncontinued left lefts asked budget old new None made fault
 whole_is_uncontinued left lefts asked budget old new made faults.Device unable (text, status, runs, all) = inr (text, status, runs, all_front old new text all)
@@ -81,15 +83,16 @@ module _ (held holds : Held) (lefts : List (Option (List ℕ))) (old new made : 
 
   module _ (replay : Replay) (then_run : ThenRun) where
     abbrev ReplayDone : Status → Type 0
-    ReplayDone status = (text : List ℕ) × Continues (held (string_bytes replay.schedule)) lefts replay.limits
-        (unwrap_or then_run.budget 10000000) text made status × Appends old new text
+    ReplayDone status = (text : List ℕ) × OfSchedule held (string_bytes replay.schedule) (λ left. Continues left lefts (conditions_of replay.limits replay.any_files)
+        (unwrap_or then_run.budget 10000000) text made status) × Appends old new text
 
     abbrev ReplayUndone : Fault → Type 0
-    ReplayUndone told = IsUncontinued (held (string_bytes replay.schedule)) lefts replay.limits
-        (unwrap_or then_run.budget 10000000) old new None made told
+    ReplayUndone told = OfSchedule held (string_bytes replay.schedule) (λ left. IsUncontinued left lefts (conditions_of replay.limits replay.any_files)
+        (unwrap_or then_run.budget 10000000) old new None made told)
 
     replay_whole : (status : Status) → IsUnable fault → ReplayDone status → ReplayUndone fault
-    replay_whole status unable (text, continues, all) = whole_is_uncontinued _ _ _ _ old new made fault unable (text, status, continues, all)
+    replay_whole status unable (text, (left, at, continues), all) =
+        (left, at, whole_is_uncontinued _ _ _ _ old new made fault unable (text, status, continues, all))
 
     pub replay_undone : IsUnrecorded outcome held holds (written_at then_run.record made) fault → IfOk outcome ReplayDone
         → IfErr outcome ReplayUndone → LeavesAt (IsContinuationUndone held lefts replay then_run old new) held holds fault

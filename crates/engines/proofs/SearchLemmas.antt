@@ -6,7 +6,9 @@ use Rattle.model.specs.declared.device.DeviceFault.{DeviceFault}
 use Rattle.model.specs.declared.device.DeviceFault.TheVariants as devices
 use Rattle.model.specs.declared.event.ScheduleEntry.{ScheduleEntry}
 use Rattle.model.specs.declared.report.Report.{Report}
-use Rattle.model.specs.Schedule.{Recording, ScheduleFile, events_of}
+use Rattle.model.specs.Schedule.{events_of}
+use Rattle.schedule.specs.Files.{Recording}
+use Rattle.schedule.specs.Joined.{RecordedFile}
 use Rattle.command_line.specs.declared.options.LimitOptions.{LimitOptions}
 use Rattle.search.specs.declared.run_outcomes.wanted.Wanted.{Wanted}
 use Rattle.search.specs.declared.search_reports.answers.Answer.TheVariants as answers
@@ -35,7 +37,7 @@ module _ (lefts : List (Option (List ℕ))) (asked : LimitOptions) (want : Wante
 -- the file that is recorded is that of the schedule that was found
 pub file_of_found : {F E : Type 0} (bytes : F → List ℕ) (recording : Recording) (recorded : Bool) (schedule : List ScheduleEntry) (report : Report) (result : Result (Option F) E)
     → IfOk result (λ file. is_some file ≡ recorded)
-    → IfOk result (λ file. IfSome (option_map bytes file) (λ spelled. ScheduleFile spelled (Some recording) (events_of schedule)))
+    → IfOk result (λ file. IfSome (option_map bytes file) (λ spelled. RecordedFile spelled (Some recording) (events_of schedule)))
     → IfOk result (λ file. IsFileOf recording recorded (answers.Found schedule report) (option_map bytes file))
 file_of_found bytes recording recorded schedule report (Ok (Some file)) asked spelled = (asked, spelled)
 file_of_found bytes recording recorded schedule report (Ok None) asked spelled = (asked, spelled)

@@ -22,13 +22,14 @@ use Rattle.command_line.specs.declared.options.TraceForm.TheVariants as forms
 use Rattle.command_line.specs.declared.usage.Usage.{Usage}
 use Rattle.engines.specs.Continuations.{Continues, IsUncontinued}
 use Rattle.engines.specs.Devices.{IsUnable}
-use Rattle.engines.specs.Files.{Held, IsWith, Listed, Path, Written, held_at, written_at}
+use Rattle.engines.specs.Files.{Held, IsWith, Listed, OfSchedule, Path, Written, held_at, written_at}
 use Rattle.program_files.specs.Given.{AreGiven, IsUnable as IsUnableFor, IsUngiven, is_given}
 use Rattle.program_files.specs.Handed.{AreHandedOn, IsUnhanded}
 use Rattle.program_files.specs.declared.files_fault.FilesFault.{FilesFault}
 use Rattle.engines.specs.Goals.{IsAskedFor}
 use Rattle.engines.specs.Libraries.{IsUnacceptedLibrary, VerifiesLibrary}
 use Rattle.engines.specs.Listings.{AreClassFiles, IsUnlisted, IsUnnamed, Lists}
+use Rattle.engines.specs.Recordings.{conditions_of}
 use Rattle.engines.specs.Replays.{IsFaulty, Replays}
 use Rattle.engines.specs.Runs.{IsUnrun, Runs}
 use Rattle.engines.specs.Searches.{IsUnsearched, Searches, most_states}
@@ -122,25 +123,25 @@ pub record IsRunUndone (lefts : List (Option (List ℕ))) (run : Run) (old new :
 
 pub record IsContinuationDone (held : Held) (lefts : List (Option (List ℕ))) (replay : Replay) (then_run : ThenRun) (text : List ℕ) (written : Written) (status : Status) : Type 0 where
   pub file : Option (List ℕ)
-  pub continues : Continues (held (string_bytes replay.schedule)) lefts replay.limits
-      (unwrap_or then_run.budget 10000000) text file status
+  pub continues : OfSchedule held (string_bytes replay.schedule) (λ left. Continues left lefts (conditions_of replay.limits replay.any_files)
+      (unwrap_or then_run.budget 10000000) text file status)
   pub made : IsTrue (is_some then_run.record) → IsTrue (is_some file)
   pub recorded : written ≡ written_at then_run.record file
 
 pub record IsContinuationUndone (held : Held) (lefts : List (Option (List ℕ))) (replay : Replay) (then_run : ThenRun) (old new : Option (List ℕ)) (fault : Fault) (written : Written) : Type 0 where
   pub file : Option (List ℕ)
-  pub uncontinued : IsUncontinued (held (string_bytes replay.schedule)) lefts replay.limits
-      (unwrap_or then_run.budget 10000000) old new None file fault
+  pub uncontinued : OfSchedule held (string_bytes replay.schedule) (λ left. IsUncontinued left lefts (conditions_of replay.limits replay.any_files)
+      (unwrap_or then_run.budget 10000000) old new None file fault)
   pub recorded : (written ≡ None) ⊎ (written ≡ written_at then_run.record file)
 
 abbrev pub IsReplayDone : Held → (lefts : List (Option (List ℕ))) → Replay → Option ThenRun → List ℕ → Written → Status → Type 0
 IsReplayDone held lefts replay None text written status =
-    Replays (held (string_bytes replay.schedule)) lefts replay.limits text status × (written ≡ None)
+    OfSchedule held (string_bytes replay.schedule) (λ left. Replays left lefts (conditions_of replay.limits replay.any_files) text status) × (written ≡ None)
 IsReplayDone held lefts replay (Some then_run) text written status = IsContinuationDone held lefts replay then_run text written status
 
 abbrev pub IsReplayUndone : Held → (lefts : List (Option (List ℕ))) → Replay → Option ThenRun → (old new : Option (List ℕ)) → Fault → Written → Type 0
 IsReplayUndone held lefts replay None old new fault written =
-    IsFaulty (held (string_bytes replay.schedule)) lefts replay.limits old new fault × (written ≡ None)
+    OfSchedule held (string_bytes replay.schedule) (λ left. IsFaulty left lefts (conditions_of replay.limits replay.any_files) old new fault) × (written ≡ None)
 IsReplayUndone held lefts replay (Some then_run) old new fault written = IsContinuationUndone held lefts replay then_run old new fault written
 
 -- ---- trace
@@ -161,11 +162,11 @@ pub record IsWindow (trace : Trace) (window : Window) : Type 0 where
 
 abbrev pub IsTraceDone : Held → (lefts : List (Option (List ℕ))) → Trace → List ℕ → Written → Status → Type 0
 IsTraceDone held lefts trace text written status = (window : Window) × IsWindow trace window
-    × Traces (held (string_bytes trace.schedule)) lefts trace.limits window text status × (written ≡ None)
+    × OfSchedule held (string_bytes trace.schedule) (λ left. Traces left lefts (conditions_of trace.limits trace.any_files) window text status) × (written ≡ None)
 
 abbrev pub IsTraceUndone : Held → (lefts : List (Option (List ℕ))) → Trace → (old new : Option (List ℕ)) → Fault → Written → Type 0
 IsTraceUndone held lefts trace old new fault written = (window : Window) × IsWindow trace window
-    × IsUntraced (held (string_bytes trace.schedule)) lefts trace.limits window old new fault × (written ≡ None)
+    × OfSchedule held (string_bytes trace.schedule) (λ left. IsUntraced left lefts (conditions_of trace.limits trace.any_files) window old new fault) × (written ≡ None)
 
 -- ---- search
 
@@ -205,14 +206,14 @@ IsUnlistedAs false lefts old new fault = IsUnlisted lefts old new fault
 -- ---- schedule
 
 abbrev pub IsScheduleDone : Held → (input : Option (List ℕ)) → Schedule → (write : Bool) → List ℕ → Written → Status → Type 0
-IsScheduleDone held input schedule true text written status = (bytes : List ℕ) × Transcribes input bytes
+IsScheduleDone held input schedule true text written status = (bytes : List ℕ) × Transcribes schedule.as_version input bytes
     × (text ≡ []) × (written ≡ Some (string_bytes schedule.file, bytes)) × (status ≡ Returned)
 IsScheduleDone held input schedule false text written status = Prints (held (string_bytes schedule.file)) text
     × (written ≡ None) × (status ≡ Returned)
 
 abbrev pub IsScheduleUndone : Held → (input : Option (List ℕ)) → Schedule → (write : Bool) → (old new : Option (List ℕ)) → Fault → Written → Type 0
 IsScheduleUndone held input schedule true old new fault written = (new ≡ old) × (written ≡ None)
-    × ((kept made : Option (List ℕ)) × IsUntranscribed input kept made fault)
+    × ((kept made : Option (List ℕ)) × IsUntranscribed schedule.as_version input kept made fault)
 IsScheduleUndone held input schedule false old new fault written = IsUnprinted (held (string_bytes schedule.file)) old new fault × (written ≡ None)
 
 -- ---- any command

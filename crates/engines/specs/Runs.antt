@@ -1,6 +1,6 @@
 -- What the engine of runs answers and writes, by the bytes that its devices hold. Where a device says nothing of its bytes,
 -- they are any that it may have handed over.
-use Rattle.std.specs.Prelude.{◌≡◌, ◌⊎◌, ℕ, List, length, map, Option, Some, IfSome, unwrap_or}
+use Rattle.std.specs.Prelude.{◌≡◌, ◌⊎◌, ℕ, List, length, Option, Some, IfSome, unwrap_or}
 use Rattle.model.specs.declared.event.Event.{Event}
 use Rattle.model.specs.declared.limits.Limits.{Limits}
 use Rattle.model.specs.declared.report.Report.{Report}
@@ -8,8 +8,9 @@ use Rattle.model.specs.declared.end.End.{End}
 use Rattle.model.specs.Devices.{AppendsFront}
 use Rattle.model.specs.Classes.{Program}
 use Rattle.model.specs.Accepted.{IsAccepted}
-use Rattle.model.specs.Schedule.{Recording, ScheduleFile}
 use Rattle.machine.specs.machine_replay.Replays.{text_of}
+use Rattle.schedule.specs.Files.{recording_of}
+use Rattle.schedule.specs.Joined.{RecordedFile}
 use Rattle.program_runs.specs.worlds.Records.{IsRecorded}
 use Rattle.command_line.specs.Choices.{AreChosen}
 use Rattle.command_line.specs.declared.options.LimitOptions.{LimitOptions}
@@ -24,12 +25,9 @@ use Rattle.engines.specs.declared.status.Status.{Status}
 
 -- ---- what is written
 
--- with what a run is recorded: its limits, and the lengths of its class files in bytes
-abbrev pub recording_of : Limits → List (List ℕ) → Recording
-recording_of limits files = record { limits = limits; lengths = map length files }
-
 -- The class files are accepted. Workers, or one by its policy, have run their program within the limits and the budget, and this is the text of
--- their report, and its status. The bytes of a file spell the events that were done, the limits, and the lengths of the class files.
+-- their report, and its status. The bytes of a file spell the events that were done, in as few entries as they can have, the limits, and the
+-- lengths and checksums of the class files.
 pub record IsRun (files : List (List ℕ)) (asked : LimitOptions) (options : RunOptions) (text : List ℕ) (file : Option (List ℕ))
     (status : Status) : Type 0 where
   pub trees : Program
@@ -42,7 +40,7 @@ pub record IsRun (files : List (List ℕ)) (asked : LimitOptions) (options : Run
   pub recorded : IsRecorded trees limits (unwrap_or options.budget 4294967295) events report end
   pub told : text ≡ text_of report end
   pub ended : status ≡ status_of report.threads.items end
-  pub spelled : IfSome file (λ bytes. ScheduleFile bytes (Some (recording_of limits files)) events)
+  pub spelled : IfSome file (λ bytes. RecordedFile bytes (Some (recording_of limits files)) events)
 
 -- the same of what these sources hold
 abbrev pub Runs : List (Option (List ℕ)) → LimitOptions → RunOptions → List ℕ → Option (List ℕ) → Status → Type 0

@@ -5,7 +5,9 @@ use Rattle.model.specs.declared.limits.Limits.{Limits}
 use Rattle.model.specs.Accepted.{IsAccepted}
 use Rattle.model.specs.Classes.{Program}
 use Rattle.model.specs.Devices.{AppendsFront}
-use Rattle.model.specs.Schedule.{Recording, ScheduleFile, events_of}
+use Rattle.model.specs.Schedule.{events_of}
+use Rattle.schedule.specs.Files.{Recording, recording_of}
+use Rattle.schedule.specs.Joined.{RecordedFile}
 use Rattle.command_line.specs.Choices.{AreChosen}
 use Rattle.command_line.specs.declared.options.LimitOptions.{LimitOptions}
 use Rattle.command_line.specs.declared.options.Search.{Search}
@@ -16,7 +18,6 @@ use Rattle.search.specs.declared.search_reports.answers.Answer.{Answer}
 use Rattle.search.specs.declared.search_reports.answers.Answer.TheVariants as answers
 use Rattle.engines.specs.Engines.{ReadsEach}
 use Rattle.engines.specs.Refusals.{IsRefused}
-use Rattle.engines.specs.Runs.{recording_of}
 use Rattle.engines.specs.Statuses.{search_status}
 use Rattle.engines.specs.Verifications.{IsUnread}
 use Rattle.engines.specs.declared.fault.Fault.{Fault}
@@ -28,7 +29,7 @@ use Rattle.engines.specs.declared.status.Status.{Status}
 -- The bytes of the file spell the schedule that was found, and with what it is recorded; there is one where it is asked for. Where
 -- none was found there is no file.
 abbrev pub IsFileOf : Recording → (asked : Bool) → Answer → Option (List ℕ) → Type 0
-IsFileOf recording asked (answers.Found schedule report) file = (is_some file ≡ asked) × IfSome file (λ bytes. ScheduleFile bytes (Some recording) (events_of schedule))
+IsFileOf recording asked (answers.Found schedule report) file = (is_some file ≡ asked) × IfSome file (λ bytes. RecordedFile bytes (Some recording) (events_of schedule))
 IsFileOf recording asked (answers.Complete outcomes) file = file ≡ None
 IsFileOf recording asked answers.GaveUp file = file ≡ None
 

@@ -6,6 +6,7 @@ ghost use Rattle.engines.specs.Advised.{IsExplained, IsToldOf, is_quiet};
 use crate::advised::{advised, named_files};
 use crate::command_files::{command_files, record_path};
 use crate::complaint::Complaint;
+use crate::differing_files::differing;
 use crate::explanation::Explanation;
 use crate::fault::Fault;
 use crate::main_hints::add_mains;
@@ -13,6 +14,8 @@ use command_line::{Command, Goal, Usage, command};
 use explanations::refusal_explanations::{explain, explain_schedule, explain_text};
 use link_conditions::refusal::RefusalKind;
 use program_files::{Folder, first_unlisted, given_paths};
+use schedule::ScheduleFault;
+use schedule::schedule_text::is_schedule_word;
 use std::alloc::{AllocError, Global};
 use std::fmt::Display;
 use std::io;
@@ -125,7 +128,7 @@ fn indented(alloc: Global, line: Told) -> Option<Vec<u8>> {
     Some(bytes)
 }
 
-/// The path of the schedule that is read.
+/// The schedule that is read: its path, or the word that it is.
 fn schedule_of(command: &Command) -> Option<&str> {
     match command {
         Command::Replay(options) => Some(options.schedule.as_str()),
@@ -142,7 +145,10 @@ fn first_of(command: &Command) -> Option<&str> {
             Some(Goal::Differs(path)) => Some(path.as_str()),
             _ => None,
         },
-        _ => schedule_of(command),
+        _ => match schedule_of(command) {
+            Some(word) if is_schedule_word(word.as_bytes()) => None,
+            other => other,
+        },
     }
 }
 
@@ -173,7 +179,7 @@ fn line_of<F: Folder>(alloc: Global, folder: &F, command: &Command, fault: &Faul
     match fault {
         Fault::Device | Fault::Memory => Ok(None),
         Fault::Schedule(fault) => match schedule {
-            Some(path) => Ok(Some(explain_schedule(alloc, path, *fault)?)),
+            Some(path) => Ok(Some(of_schedule(alloc, folder, command, path, *fault)?)),
             None => Ok(None),
         },
         Fault::Text(fault) => {
@@ -194,6 +200,24 @@ fn line_of<F: Folder>(alloc: Global, folder: &F, command: &Command, fault: &Faul
             Ok(Some(line))
         }
     }
+}
+
+/// What is known of a fault of the schedule at a path.
+fn of_schedule<F: Folder>(
+    alloc: Global,
+    folder: &F,
+    command: &Command,
+    path: &str,
+    fault: ScheduleFault,
+) -> Result<Vec<u8>, AllocError> {
+    if let ScheduleFault::Files = fault {
+        if let Ok(paths) = command_files(alloc, folder, command) {
+            if let Some(line) = differing(alloc, folder, path, &paths) {
+                return Ok(line);
+            }
+        }
+    }
+    explain_schedule(alloc, path, fault)
 }
 
 /// What failed, and the system's reason: the file that was to be written, the output, the input, or the first file that

@@ -1,15 +1,16 @@
 //! Files of a folder, as sources.
 
 ghost use Rattle.std.specs.Prelude.{◌≡◌, IfErr, IfOk, IsTrue, map, string_bytes, sum_by};
-ghost use Rattle.engines.specs.Files.{failures_of, has_failed, held_at, left_of};
+ghost use Rattle.engines.specs.Files.{IsScheduleAt, failures_of, has_failed, held_at, left_of};
 ghost use Rattle.engines.specs.declared.fault.Fault.TheVariants.{Memory};
 
 use crate::fault::{Fault, device_fault};
 use model::{DeviceFault, Source};
 use program_files::Folder;
+use schedule::schedule_text::is_schedule_word;
 use std::alloc::Global;
 
-/// The file at a path of a folder, which is read at once.
+/// The file at a path of a folder, or a word in its place, which is read at once.
 #[derive(Drop)]
 pub(crate) struct NamedFile<'a, F: Folder> {
     folder: &'a F,
@@ -24,6 +25,8 @@ pub(crate) struct NamedFile<'a, F: Folder> {
 pub(crate) enum Reading {
     /// The file was not read.
     Ahead,
+    /// The file was not read, and is the word itself.
+    Given,
     /// The file was read.
     Behind,
     /// The file couldn't be read.
@@ -31,11 +34,16 @@ pub(crate) enum Reading {
 }
 
 impl<F: Folder> Source for NamedFile<'_, F> {
-    ghost remaining = { λ file. left_of (F.held file.folder.now file.path.now) file.reading };
+    ghost remaining = { λ file. left_of (F.held file.folder.now file.path.now) file.path.now file.reading };
 
     ghost failures = { λ file. failures_of file.reading };
 
     fn read_all(&mut self, alloc: Global) -> Result<Vec<u8>, DeviceFault> {
+        if let Reading::Given = self.reading {
+            let word = Vec::from_slice(alloc, self.path.as_bytes())?;
+            self.reading = Reading::Behind;
+            return Ok(word);
+        }
         let Reading::Ahead = self.reading else {
             return Ok(Vec::new(alloc));
         };
@@ -64,6 +72,23 @@ pub(crate) fn source<'a, F: Folder>(folder: &'a F, path: &'a str) -> NamedFile<'
         folder,
         path,
         reading: Reading::Ahead,
+    }
+}
+
+/// The schedule that a word is, or whose path it is, as a source.
+pub(crate) fn schedule_source<'a, F: Folder>(folder: &'a F, word: &'a str) -> NamedFile<'a, F>
+    ensures at { IsScheduleAt (F.held folder.now) word.now (⟦<NamedFile<'a, F> as Source>⟧.remaining result) }
+    ensures none { ⟦<NamedFile<'a, F> as Source>⟧.failures result ≡ 0 }
+{
+    let reading = if is_schedule_word(word.as_bytes()) {
+        Reading::Given
+    } else {
+        Reading::Ahead
+    };
+    NamedFile {
+        folder,
+        path: word,
+        reading,
     }
 }
 

@@ -4,12 +4,14 @@ ghost use Rattle.std.specs.Prelude.{◌≡◌, ◌+◌, ◌<◌, ◌^◌, Some, 
 ghost use Rattle.std.specs.Option.{option_map};
 ghost use Rattle.std.specs.Io.KnownBytes.{Appends};
 ghost use Rattle.model.specs.Accepted.{IsAccepted};
-ghost use Rattle.model.specs.Schedule.{ScheduleFile, events_of};
+ghost use Rattle.model.specs.Schedule.{events_of};
 ghost use Rattle.machine.specs.machine_replay.Replays.{text_of};
 ghost use Rattle.program_runs.specs.worlds.Records.{IsRecordOf};
 ghost use Rattle.engines.specs.Engines.{CountsFailure};
 ghost use Rattle.engines.specs.Statuses.{status_of};
-ghost use Rattle.engines.specs.Runs.{IsRun, IsUnrun, Runs, recording_of};
+ghost use Rattle.engines.specs.Runs.{IsRun, IsUnrun, Runs};
+ghost use Rattle.schedule.specs.Files.{recording_of};
+ghost use Rattle.schedule.specs.Joined.{RecordedFile};
 
 use crate::class_files::read_class_files;
 use crate::fault::Fault;
@@ -115,7 +117,7 @@ pub(crate) fn outcome_of(
     ensures ended { IfOk result (λ outcome. outcome.status ≡ status_of report.now.threads.items end) }
     ensures asked { IfOk result (λ outcome. IsTrue is_recorded → IsTrue (is_some outcome.file)) }
     ensures spelled { IfOk result (λ outcome. IfSome (option_map vec_items outcome.file) (λ bytes.
-        ScheduleFile bytes (Some (recording_of limits (map vec_items files.now))) (events_of schedule.now))) }
+        RecordedFile bytes (Some (recording_of limits (map vec_items files.now))) (events_of schedule.now))) }
 {
     let text = text(alloc, report, &end)?;
     let status = Status::of(report, end);
@@ -137,7 +139,7 @@ fn told_file(
 ) -> Option<Vec<u8>>
     requires { length files.now < 2 ^ 32 }
     ensures { IfSome (option_map vec_items result) (λ bytes.
-        ScheduleFile bytes (Some (recording_of limits (map vec_items files.now))) (events_of schedule.now)) }
+        RecordedFile bytes (Some (recording_of limits (map vec_items files.now))) (events_of schedule.now)) }
 {
     file_of(alloc, files, limits, schedule).ok()
 }
@@ -185,7 +187,7 @@ pub(crate) fn recorded_file(
     requires { length files.now < 2 ^ 32 }
     ensures asked { IfOk result (λ file. is_some file ≡ is_recorded) }
     ensures spelled { IfOk result (λ file. IfSome (option_map vec_items file) (λ bytes.
-        ScheduleFile bytes (Some (recording_of limits (map vec_items files.now))) (events_of schedule.now))) }
+        RecordedFile bytes (Some (recording_of limits (map vec_items files.now))) (events_of schedule.now))) }
 {
     if is_recorded {
         Ok(Some(file_of(alloc, files, limits, schedule)?))
@@ -202,20 +204,10 @@ fn file_of(
     schedule: &Schedule,
 ) -> Result<Vec<u8>, AllocError>
     requires { length files.now < 2 ^ 32 }
-    ensures { IfOk result (λ bytes. ScheduleFile bytes.items (Some (recording_of limits (map vec_items files.now)))
+    ensures { IfOk result (λ bytes. RecordedFile bytes.items (Some (recording_of limits (map vec_items files.now)))
         (events_of schedule.now)) }
 {
-    let recording = Recording::new(limits, lengths_of(alloc, files)?);
-    write_schedule(alloc, schedule, Some(&recording))
-}
-
-/// The lengths of the class files in bytes.
-fn lengths_of(alloc: Global, files: &[Vec<u8>]) -> Result<Vec<u64>, AllocError>
-    ensures { IfOk result (λ lengths. lengths.items ≡ map length (map vec_items files.now)) }
-{
-    let mut lengths = Vec::new(alloc);
-    'files: for file in files {
-        lengths.push(file.len() as u64)?;
-    }
-    Ok(lengths)
+    let recording = Recording::of_files(alloc, limits, files)?;
+    let joined = schedule.joined(alloc)?;
+    write_schedule(alloc, &joined, Some(&recording))
 }

@@ -5,7 +5,7 @@ ghost use Rattle.std.specs.Option.{option_map};
 ghost use Rattle.std.specs.Io.KnownBytes.{Appends};
 ghost use Rattle.model.specs.Accepted.{IsAccepted};
 ghost use Rattle.engines.specs.Engines.{CountsFailure};
-ghost use Rattle.engines.specs.Runs.{recording_of};
+ghost use Rattle.schedule.specs.Files.{recording_of};
 ghost use Rattle.engines.specs.Searches.{IsFileOf, IsSearched, IsUnsearched, Searches, most_states};
 
 use crate::class_files::read_class_files;

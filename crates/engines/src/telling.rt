@@ -2,12 +2,12 @@
 
 use crate::class_files::read_class_files;
 use crate::fault::Fault;
-use crate::named_file::sources;
-use crate::recording::limits_of;
+use crate::named_file::{schedule_source, sources};
+use crate::recording::{Conditions, limits_of};
 use crate::verification::accepted;
 use command_line::LimitOptions;
 use explanations::thread_explanations::explain_threads;
-use model::Limits;
+use model::{Limits, Source};
 use program_files::Folder;
 use program_runs::verified_programs::verified_program;
 use schedule::Schedule;
@@ -15,18 +15,18 @@ use schedule::schedule_text::read_either;
 use std::alloc::{AllocError, Global};
 use verifier::Verified;
 
-/// What the threads are about that did not end normally, after the events of the schedule at a path, if they are not
-/// too many.
+/// What the threads are about that did not end normally, after the events of the schedule that a word is, or whose
+/// path it is, if they are not too many.
 pub(crate) fn told_schedule<F: Folder>(
     alloc: Global,
     folder: &F,
-    path: &String,
+    word: &String,
     files: &[String],
-    limits: &LimitOptions,
+    conditions: &Conditions,
     most: u64,
 ) -> Option<Vec<u8>> {
-    let bytes = folder.read(alloc, path.as_str()).ok()?;
-    told_threads(alloc, folder, bytes.as_slice(), files, limits, most).ok()?
+    let bytes = schedule_source(folder, word.as_str()).read_all(alloc).ok()?;
+    told_threads(alloc, folder, bytes.as_slice(), files, conditions, most).ok()?
 }
 
 /// What the threads are about after the events of the schedule file that was made, if one was.
@@ -38,8 +38,12 @@ pub(crate) fn told_record<F: Folder>(
     limits: &LimitOptions,
     most: u64,
 ) -> Option<Vec<u8>> {
+    let conditions = Conditions {
+        limits: *limits,
+        any_files: false,
+    };
     match file {
-        Some(bytes) => { told_threads(alloc, folder, bytes.as_slice(), files, limits, most).ok()? }
+        Some(bytes) => { told_threads(alloc, folder, bytes.as_slice(), files, &conditions, most).ok()? }
         None => None,
     }
 }
@@ -50,7 +54,7 @@ fn told_threads<F: Folder>(
     folder: &F,
     bytes: &[u8],
     files: &[String],
-    limits: &LimitOptions,
+    conditions: &Conditions,
     most: u64,
 ) -> Result<Option<Vec<u8>>, Fault> {
     let (schedule, recorded) = read_either(alloc, bytes)?;
@@ -59,7 +63,7 @@ fn told_threads<F: Folder>(
     }
     let mut sources = sources(alloc, folder, files)?;
     let files = read_class_files(alloc, sources.as_mut_slice())?;
-    let limits = limits_of(&recorded, files.as_slice(), limits)?;
+    let limits = limits_of(&recorded, files.as_slice(), conditions)?;
     let verified = accepted(alloc, files.as_slice())?;
     Ok(Some(threads_after(alloc, &verified, &schedule, limits)?))
 }

@@ -25,6 +25,8 @@
 #![tactic(auto)]
 
 mod fault;
+mod file_checksums;
+mod joining;
 mod read;
 mod reader;
 pub mod recorded_events;
@@ -37,9 +39,11 @@ mod spelling;
 mod write;
 
 pub use fault::ScheduleFault;
+pub use file_checksums::{Difference, checksum};
+pub use joining::joined_entries_are_fewest;
 pub use model::{Event, ScheduleEntry};
 pub use read::read_schedule;
-pub use recording::Recording;
+pub use recording::{Checksums, Recording};
 pub use runs::Schedule;
-pub use spelling::bytes_spell_one_list;
+pub use spelling::{bytes_spell_one_list, schedule_files};
 pub use write::write_schedule;

@@ -25,7 +25,7 @@ use std::sync::Arc;
 /// What a search answers.
 #[derive(Drop)]
 pub enum Verdict {
-    /// A schedule of a run whose outcome is wanted.
+    /// A schedule of a run whose outcome is wanted, in as few entries as its events can have.
     Found(Schedule),
     /// The outcomes of all runs that end, none of which is wanted.
     Complete(Outcomes),
@@ -123,7 +123,8 @@ fn visit_state(
 {
     met_states_are_kept();
     let Some(machine) = listed_at(alloc, classes, wanted, states, outcomes, number)? else {
-        return Ok(Visit::Found(states.schedule(number)?));
+        let schedule = states.schedule(number)?;
+        return Ok(Visit::Found(schedule.joined(alloc)?));
     };
     if expand(alloc, states, number, machine, most)? {
         Ok(Visit::Visited)

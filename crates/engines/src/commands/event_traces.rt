@@ -4,11 +4,13 @@ ghost use Rattle.std.specs.Prelude.{◌≡◌, IfErr, IfOk, None, map, string_by
 ghost use Rattle.std.specs.Io.KnownBytes.{Appends};
 ghost use Rattle.engines.specs.Commands.{IsTraceDone, IsTraceUndone, IsWindow, form_of};
 ghost use Rattle.engines.specs.Files.{held_at};
+ghost use Rattle.engines.specs.Recordings.{conditions_of};
 ghost use Rattle.engines.specs.Failures.{FolderMayFail, TellsFailures};
 
 use crate::explanation::Explanation;
 use crate::fault::Fault;
-use crate::named_file::{source, sources};
+use crate::named_file::{schedule_source, sources};
+use crate::recording::Conditions;
 use crate::status::Status;
 use crate::telling::told_schedule;
 use crate::tracing::trace_engine;
@@ -43,7 +45,7 @@ pub(crate) fn trace<F: Folder, W: Sink>(
             folder,
             &options.schedule,
             files,
-            &options.limits,
+            &conditions_of(options),
             most,
         );
         explanation.tell(lines);
@@ -68,18 +70,28 @@ fn traced<'a, F: Folder, W: Sink>(
         (W.contents output.old) (W.contents output.new) fault None) }
     ensures told { TellsFailures (FolderMayFail F.may_fail) result (W.failures output.old) (W.failures output.new) }
 {
-    let limits = &options.limits;
+    let conditions = conditions_of(options);
     let window = window_of(options);
-    let mut schedule = source(folder, options.schedule.as_str());
+    let mut schedule = schedule_source(folder, options.schedule.as_str());
     let mut sources = sources(alloc, folder, files)?;
     trace_engine(
         alloc,
         &mut schedule,
         sources.as_mut_slice(),
-        limits,
+        &conditions,
         window,
         output,
     )
+}
+
+/// Under what the schedule is to run.
+fn conditions_of(options: &Trace) -> Conditions
+    ensures { result ≡ conditions_of options.now.limits options.now.any_files }
+{
+    Conditions {
+        limits: options.limits,
+        any_files: options.any_files,
+    }
 }
 
 /// Which events are told, and in which form: from the first one on, to the last one, and of all threads, where the

@@ -5,7 +5,8 @@ ghost use Rattle.std.specs.Option.{option_map};
 ghost use Rattle.std.specs.Io.KnownBytes.{Appends};
 ghost use Rattle.engines.specs.Commands.{IsContinuationDone, IsContinuationUndone, IsReplayDone, IsReplayUndone, Leaves, LeavesAt};
 ghost use Rattle.engines.specs.Continuations.{Continues, IsUncontinued};
-ghost use Rattle.engines.specs.Files.{held_at};
+ghost use Rattle.engines.specs.Files.{OfSchedule, held_at};
+ghost use Rattle.engines.specs.Recordings.{conditions_of};
 ghost use Rattle.engines.specs.Failures.{FolderMayFail, TellsFailures};
 ghost use Rattle.engines.specs.Replays.{IsFaulty, Replays};
 
@@ -13,7 +14,8 @@ use crate::commands::storing::{recorded, try_record};
 use crate::continuing::continue_engine;
 use crate::explanation::Explanation;
 use crate::fault::Fault;
-use crate::named_file::{source, sources};
+use crate::named_file::{schedule_source, sources};
+use crate::recording::Conditions;
 use crate::replaying::replay_engine;
 use crate::status::Status;
 use crate::telling::{told_record, told_schedule};
@@ -51,7 +53,7 @@ pub(crate) fn replay<F: Folder, W: Sink>(
             folder,
             &options.schedule,
             files,
-            &options.limits,
+            &conditions_of(options),
             most,
         );
         explanation.tell(lines);
@@ -68,24 +70,36 @@ fn replayed<'a, F: Folder, W: Sink>(
     output: &mut W,
 ) -> Result<Status, Fault>
     ensures replayed { IfOk result (λ status. (text : _)
-        × Replays (F.held folder.now (string_bytes options.now.schedule))
+        × OfSchedule (F.held folder.now) (string_bytes options.now.schedule) (λ left. Replays left
         (held_at (F.held folder.now) (map string_bytes files.now))
-        options.now.limits text status
+        (conditions_of options.now.limits options.now.any_files) text status)
         × Appends (W.contents output.old) (W.contents output.new) text) }
-    ensures faulty { IfErr result (IsFaulty (F.held folder.now (string_bytes options.now.schedule))
-        (held_at (F.held folder.now) (map string_bytes files.now)) options.now.limits (W.contents output.old)
-        (W.contents output.new)) }
+    ensures faulty { IfErr result (λ fault.
+        OfSchedule (F.held folder.now) (string_bytes options.now.schedule) (λ left. IsFaulty left
+        (held_at (F.held folder.now) (map string_bytes files.now))
+        (conditions_of options.now.limits options.now.any_files) (W.contents output.old)
+        (W.contents output.new) fault)) }
     ensures told { TellsFailures (FolderMayFail F.may_fail) result (W.failures output.old) (W.failures output.new) }
 {
-    let mut schedule = source(folder, options.schedule.as_str());
+    let mut schedule = schedule_source(folder, options.schedule.as_str());
     let mut sources = sources(alloc, folder, files)?;
     replay_engine(
         alloc,
         &mut schedule,
         sources.as_mut_slice(),
-        &options.limits,
+        &conditions_of(options),
         output,
     )
+}
+
+/// Under what the schedule is to run.
+fn conditions_of(options: &Replay) -> Conditions
+    ensures { result ≡ conditions_of options.now.limits options.now.any_files }
+{
+    Conditions {
+        limits: options.limits,
+        any_files: options.any_files,
+    }
 }
 
 /// `replay --then-run`.
@@ -130,25 +144,27 @@ fn continued<'a, F: Folder, W: Sink>(
     file: &mut Option<Vec<u8>>,
 ) -> Result<Status, Fault>
     ensures continued { IfOk result (λ status. (text : _)
-        × Continues (F.held folder.now (string_bytes options.now.schedule))
+        × OfSchedule (F.held folder.now) (string_bytes options.now.schedule) (λ left. Continues left
         (held_at (F.held folder.now) (map string_bytes files.now))
-        options.now.limits (unwrap_or then_run.now.budget 10000000) text (option_map vec_items file.new) status
+        (conditions_of options.now.limits options.now.any_files) (unwrap_or then_run.now.budget 10000000) text (option_map vec_items file.new) status)
         × Appends (W.contents output.old) (W.contents output.new) text) }
     ensures asked { IfOk result (λ _. IsTrue (is_some then_run.now.record) → IsTrue (is_some file.new)) }
-    ensures faulty { IfErr result (IsUncontinued (F.held folder.now (string_bytes options.now.schedule))
-        (held_at (F.held folder.now) (map string_bytes files.now)) options.now.limits
+    ensures faulty { IfErr result (λ fault.
+        OfSchedule (F.held folder.now) (string_bytes options.now.schedule) (λ left. IsUncontinued left
+        (held_at (F.held folder.now) (map string_bytes files.now))
+        (conditions_of options.now.limits options.now.any_files)
         (unwrap_or then_run.now.budget 10000000)
         (W.contents output.old) (W.contents output.new) (option_map vec_items file.old)
-        (option_map vec_items file.new)) }
+        (option_map vec_items file.new) fault)) }
     ensures told { TellsFailures (FolderMayFail F.may_fail) result (W.failures output.old) (W.failures output.new) }
 {
-    let mut schedule = source(folder, options.schedule.as_str());
+    let mut schedule = schedule_source(folder, options.schedule.as_str());
     let mut sources = sources(alloc, folder, files)?;
     continue_engine(
         alloc,
         &mut schedule,
         sources.as_mut_slice(),
-        &options.limits,
+        &conditions_of(options),
         then_run,
         output,
         file,

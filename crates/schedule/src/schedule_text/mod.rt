@@ -25,9 +25,12 @@
 //!
 //! - Shown by cases alone: which fault of a text is answered, and its line.
 
+mod checksum_words;
+mod command_word;
 mod either;
 mod entries;
 mod fault;
+mod hex_words;
 mod numbers;
 mod read;
 mod recordings;
@@ -35,6 +38,7 @@ mod spelling;
 mod words;
 mod write;
 
+pub use command_word::is_schedule_word;
 pub use either::{EitherFault, read_either};
 pub use fault::TextFault;
 pub use read::parse;

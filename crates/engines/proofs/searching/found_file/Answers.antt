@@ -1,5 +1,5 @@
 use Rattle.std.proofs.Common.{map, vec_items}
-use Rattle.engines.specs.Runs.{recording_of}
+use Rattle.schedule.specs.Files.{recording_of}
 use Rattle.engines.proofs.SearchLemmas.{file_of_found}
 use Rattle.engines.proofs.searching.found_file.Goals as goal
 

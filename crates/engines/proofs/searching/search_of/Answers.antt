@@ -5,7 +5,7 @@ use Rattle.model.specs.Classes.{Program}
 use Rattle.machine.specs.Machines.{IsProgramOf}
 use Rattle.search.specs.search_reports.Answers.{Answers}
 use Rattle.std.specs.Option.{option_map}
-use Rattle.engines.specs.Runs.{recording_of}
+use Rattle.schedule.specs.Files.{recording_of}
 use Rattle.engines.specs.Searches.{IsFileOf}
 use Rattle.engines.proofs.RunLemmas.{few_files}
 use Rattle.engines.proofs.searching.search_of.Goals as goal

@@ -9,4 +9,4 @@ returns-clause-told g c =
     let none = ap (sum_by (λ file. failures_of file.reading)) c.as_mut_slice.ensures.value ∙ c.in_ok-sources.ensures.none in
     told_by_more (λ file. failures_of file.reading) (FolderMayFail g.F.Folder.may_fail)
     (λ file n failed. (file.folder.now, file.path.now, file.failed (failed_of file.reading n failed)))
-    c.replay_engine.result c.replay_engine.new.schedule c.replay_engine.new.files _ _ _ _ c.source-schedule.ensures.none none c.replay_engine.ensures.counted
+    c.replay_engine.result c.replay_engine.new.schedule c.replay_engine.new.files _ _ _ _ c.schedule_source-schedule.ensures.none none c.replay_engine.ensures.counted
