@@ -69,7 +69,6 @@ ghost use Rattle.run_laws.specs.examples.PrintsSeven.{PrintsSeven, EventByEvent}
 ghost use Rattle.run_laws.specs.examples.ProgramsLink.{ProgramsLink};
 ghost use Rattle.run_laws.specs.examples.Refusals.{BadHierarchies, MalformedCodes, OtherRefusals, OutsideProfiles, Unresolveds};
 ghost use Rattle.run_laws.specs.examples.SameString.{SameString};
-ghost use Rattle.run_laws.specs.examples.ScheduleFiles.{ScheduleFiles};
 ghost use Rattle.run_laws.specs.examples.ShadowedFields.{ShadowedFields};
 ghost use Rattle.run_laws.specs.examples.StackMoves.{StackMoves};
 ghost use Rattle.run_laws.specs.examples.StackOverflow.{StackOverflow};
@@ -413,11 +412,6 @@ pub fn accepted_threads()
 /// The listing of a class file, line by line.
 pub fn listing_of_the_first_file()
     ensures holds { ListedFile }
-{}
-
-/// Eight events as a schedule file of either version, and bytes that are no schedule.
-pub fn schedule_files()
-    ensures holds { ScheduleFiles }
 {}
 
 /// Calls on two monitors: a waiting thread is notified, and enters again as often as it had entered.
