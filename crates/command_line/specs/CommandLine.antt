@@ -14,15 +14,16 @@ use Rattle.clap.specs.declared.builder.command.Command as parser
 use Rattle.clap.specs.declared.builder.command.Command.TheViews.{out-Command}
 use Rattle.clap.specs.declared.builder.ArgAction.TheVariants.{Set, SetTrue, Append}
 use Rattle.clap.specs.declared.builder.value_parser.ValueParser.TheVariants.{Unsigned}
-use Rattle.command_line.specs.Goals.{IsGoalWord}
+use Rattle.command_line.specs.Goals.{IsGoal}
+use Rattle.command_line.specs.Numerals.{IsNumeralWithin}
 use Rattle.command_line.specs.Paths.{IsApart, IsGoalApart}
 use Rattle.command_line.specs.Policies.{GoTogether, IsPolicy}
+use Rattle.command_line.specs.Sweeps.{IsSweep}
 use Rattle.command_line.specs.declared.usage.Usage.{Usage}
 use Rattle.command_line.specs.declared.usage.Usage.TheVariants.{Parser, Number, Asked, OutOfMemory}
 use Rattle.command_line.specs.declared.options.Command.{Command}
 use Rattle.command_line.specs.declared.options.Command.TheVariants as commands
 use Rattle.command_line.specs.declared.options.Disasm.{Disasm}
-use Rattle.command_line.specs.declared.options.Goal.{Goal}
 use Rattle.command_line.specs.declared.options.LimitOptions.{LimitOptions}
 use Rattle.command_line.specs.declared.options.Replay.{Replay}
 use Rattle.command_line.specs.declared.options.Run.{Run}
@@ -112,6 +113,10 @@ with_run_options app = with_rule (with_rule (with_rule (with_rule (with_rule app
     (number_option (codes "seed") 0 18446744073709551615))
     (path_option (codes "policy"))
 
+-- over which seeds, and which outcome is to be found
+abbrev pub with_sweep_options : App → App
+with_sweep_options app = with_rule (with_rule app (path_option (codes "seeds"))) goal_option
+
 -- where a run goes on behind its schedule, up to how many events in all, and where it is recorded
 abbrev pub with_then_run : App → App
 with_then_run app = with_rule (with_rule (with_rule app
@@ -124,7 +129,7 @@ abbrev pub with_files : App → Rule → App
 with_files app files = with_rule (with_rule (with_rule app (flag (codes "explain"))) (flag (codes "quiet"))) files
 
 abbrev pub jvm_run : App
-jvm_run = with_files (with_program (with_rule (with_run_options (new_app (codes "run"))) record_option)) class_files
+jvm_run = with_files (with_program (with_rule (with_sweep_options (with_run_options (new_app (codes "run")))) record_option)) class_files
 
 -- under which schedule they run, and whether over any class files
 abbrev pub with_schedule : App → App
@@ -197,10 +202,6 @@ IsNumber least most (Some text) None = ⊥
 abbrev pub parts_of : Text → List Text
 parts_of text = slice_split (λ b. b == 0x2c) text
 
--- digits alone spell a number from least to most
-abbrev pub IsNumeralWithin : (least most : ℕ) → Text → Type 0
-IsNumeralWithin least most text = IsNumeral 10 text × (least ≤ digits_value 10 text) × (digits_value 10 text ≤ most)
-
 -- the texts spell these numbers, each one of them
 pub record AreNumerals (least most : ℕ) (texts : List Text) (numbers : List ℕ) : Type 0 where
   pub each : All (IsNumeralWithin least most) texts
@@ -236,6 +237,7 @@ pub record AreRunNumbers (rows : List Row) (options : RunOptions) : Type 0 where
 -- the values that the words give to `jvm run`
 pub record AreRunValues (rows : List Row) (run : Run) : Type 0 where
   pub options : AreRunNumbers rows run.options
+  pub sweep : IsSweep rows run.sweep
   pub recording : first_of (codes "record") rows ≡ option_map string_bytes run.record
   pub limits : AreLimitNumbers rows run.limits
   pub main : first_of (codes "main") rows ≡ option_map string_bytes run.main
@@ -288,13 +290,6 @@ pub record AreTraceValues (rows : List Row) (trace : Trace) : Type 0 where
   pub files : all_of (codes "files") rows ≡ Some (map string_bytes trace.files.items)
   pub explain : trace.explain ≡ is_set (first_of (codes "explain") rows)
   pub quiet : trace.quiet ≡ is_set (first_of (codes "quiet") rows)
-
--- the outcome that is asked for, where one is
-abbrev pub IsGoal : Option Text → Option Goal → Type 0
-IsGoal None None = Unit {0}
-IsGoal (Some word) (Some goal) = IsGoalWord word goal
-IsGoal None (Some goal) = ⊥
-IsGoal (Some word) None = ⊥
 
 -- the values that the words give to `jvm search`
 pub record AreSearchValues (rows : List Row) (search : Search) : Type 0 where

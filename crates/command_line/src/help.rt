@@ -49,18 +49,24 @@ What it does:
   --seed 4711 the run is the same again. Without --policy a --quantum asks for a
   rotation. --workers has as many workers run the threads side by side; no run of
   theirs need be the same as another.
+  With --seeds 1..100 there is a run for each of these seeds, of --budget events
+  at most (10000000 where none is given). What they print and how the threads
+  stand is listed once, with how many runs show it and the first seed. --for ends
+  the sweep at the first seed that shows an outcome: deadlock, uncaught,
+  output=NUMBERS (what is printed, with commas), or differs=FILE (another text).
 
 Statuses:
-  0  all threads have ended
-  1  all threads have ended, some by an exception
+  0  all threads have ended; or a run for each seed is done
+  1  all threads have ended, some by an exception; or a seed shows what is wanted
   2  a class file is refused
   3  an event was refused for a limit, or memory was missing
   4  nothing can go on, and a thread hasn't ended
   5  the budget is used up, and a thread can go on
   6  the command is wrong, or a file can't be read, or the output not written
 
-Example:
-  jvm run --seed 1 --record a.schedule A.class";
+Examples:
+  jvm run --seed 1 --record a.schedule A.class
+  jvm run --seeds 1..1000 --for deadlock A.class";
 
 /// What stands below the options of `replay`.
 pub(crate) const REPLAY_PAGE: &str = "\

@@ -31,6 +31,8 @@ mod parsers;
 mod paths;
 mod run_arguments;
 mod run_options;
+mod sweep_arguments;
+mod sweep_options;
 mod usage;
 
 pub use options::{
@@ -40,4 +42,5 @@ pub use options::{
 pub use parse::command;
 pub use paths::is_same_path;
 pub use run_options::{PolicyName, RunOptions};
+pub use sweep_options::{SeedRange, SweepOptions, SweepPolicy};
 pub use usage::Usage;

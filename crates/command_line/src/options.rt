@@ -4,6 +4,7 @@ ghost use Rattle.std.specs.Prelude.{◌≡◌, ◌≤◌, ◌↔◌, IsTrue, unw
 ghost use Rattle.model.specs.BuiltInNumbers.{most_threads};
 
 use crate::run_options::RunOptions;
+use crate::sweep_options::SweepOptions;
 use model::Limits;
 
 /// A subcommand with the values of its options.
@@ -18,8 +19,8 @@ pub enum Command {
     Schedule(Schedule),
 }
 
-/// The usual budget of a run that goes on behind a schedule, in events.
-const USUAL_BUDGET: u32 = 10_000_000;
+/// The usual budget of a run of a sweep, and of one that goes on behind a schedule, in events.
+pub(crate) const USUAL_BUDGET: u32 = 10_000_000;
 
 /// How many states a search may meet, unless another number is asked for.
 const USUAL_STATES: u32 = 10_000_000;
@@ -31,6 +32,8 @@ const USUAL_MEMORY: u32 = 1_000_000_000;
 #[derive(Drop)]
 pub struct Run {
     pub options: RunOptions,
+    /// A run for each of some seeds, where these are asked for.
+    pub sweep: Option<SweepOptions>,
     /// The path of the file that the schedule of the run is written to, if any.
     pub record: Option<String>,
     pub limits: LimitOptions,

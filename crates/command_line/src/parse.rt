@@ -4,7 +4,8 @@ ghost use Rattle.std.specs.Prelude.{◌≡◌, ◌⊎◌, List, false, Some, cod
 ghost use Rattle.std.specs.Option.{option_map};
 ghost use Rattle.clap.specs.Words.{HasMatchesOf, all_of, first_of, found_of, kind_of, rows_of, Text};
 ghost use Rattle.clap.specs.declared.error.kind.ErrorKind.TheVariants.{UnknownArgument as unknown_argument};
-ghost use Rattle.command_line.specs.CommandLine.{AreDisasmValues, AreLimitNumbers, AreRunNumbers, AreRunValues, AreScheduleValues, AreSearchValues, AreTraceValues, AreValues, AreVerifyValues, Asks, Fails, IsGoal, IsThenRun, IsTraceForm, Refuses, Spells, is_set as is_true, jvm, usage_of};
+ghost use Rattle.command_line.specs.CommandLine.{AreDisasmValues, AreLimitNumbers, AreRunNumbers, AreRunValues, AreScheduleValues, AreSearchValues, AreTraceValues, AreValues, AreVerifyValues, Asks, Fails, IsThenRun, IsTraceForm, Refuses, Spells, is_set as is_true, jvm, usage_of};
+ghost use Rattle.command_line.specs.Goals.{IsGoal};
 
 use crate::goal::goal_by;
 use crate::numbers::{
@@ -19,6 +20,7 @@ use crate::parsers::program;
 use crate::paths::{check_file, check_files, check_goal};
 use crate::run_arguments::{policy_of, seed_of};
 use crate::run_options::RunOptions;
+use crate::sweep_arguments::sweep_of;
 use crate::usage::Usage;
 use clap::ArgMatches;
 use clap::error::ErrorKind;
@@ -116,6 +118,7 @@ fn run_of(alloc: Global, matches: &ArgMatches<'_>) -> Result<Run, Usage>
         → AreRunValues (rows_of (found_of matches.now)) run → ⊥)) }
 {
     let options = run_options_of(alloc, matches)?;
+    let sweep = sweep_of(alloc, matches)?;
     let record = path_of(alloc, matches, "record")?;
     let limits = limits_of(alloc, matches)?;
     let main = path_of(alloc, matches, "main")?;
@@ -123,6 +126,7 @@ fn run_of(alloc: Global, matches: &ArgMatches<'_>) -> Result<Run, Usage>
     check_files(alloc, matches, &files)?;
     Ok(Run {
         options,
+        sweep,
         record,
         limits,
         main,
@@ -213,7 +217,7 @@ fn search_of(alloc: Global, matches: &ArgMatches<'_>) -> Result<Search, Usage>
 }
 
 /// The outcome that a search is to find, where one is asked for.
-fn goal_of(alloc: Global, matches: &ArgMatches<'_>) -> Result<Option<Goal>, Usage>
+pub(crate) fn goal_of(alloc: Global, matches: &ArgMatches<'_>) -> Result<Option<Goal>, Usage>
     ensures goal { IfOk result (IsGoal (first_of (codes "for") (rows_of (found_of matches.now)))) }
     ensures none { IfErr result (λ usage. Refuses usage ((goal : _)
         → IsGoal (first_of (codes "for") (rows_of (found_of matches.now))) goal → ⊥)) }

@@ -14,6 +14,7 @@ use crate::numbers::{
     WHOLE_BUDGET, WORKERS,
 };
 use crate::run_arguments::{policy_argument, seed_argument};
+use crate::sweep_arguments::seeds_argument;
 use clap::{Arg, ArgAction};
 use std::alloc::{AllocError, Global};
 
@@ -75,6 +76,8 @@ fn run_parser<'a>(alloc: Global) -> Result<clap::Command<'a>, AllocError>
     .arg(QUANTUM.argument(alloc))?
     .arg(seed_argument(alloc))?
     .arg(policy_argument(alloc))?
+    .arg(seeds_argument(alloc))?
+    .arg(goal_argument(alloc))?
     .arg(record_argument(alloc))?;
     with_files(
         alloc,
@@ -246,7 +249,7 @@ fn main_argument<'a>(alloc: Global) -> Arg<'a>
         .help("The class whose main method is run, as bank.Main or bank/Main")
 }
 
-/// The outcome that a search is to find.
+/// The outcome that a search or a sweep is to find.
 fn goal_argument<'a>(alloc: Global) -> Arg<'a>
     ensures rule { rule_of result ≡ goal_option }
     ensures local { result.global ≡ false }

@@ -109,6 +109,33 @@ impl Usage {
         ))
     }
 
+    /// That `--seeds` is missing, in the parser's words for what has to be there.
+    pub(crate) fn no_sweep(alloc: Global) -> Usage
+        ensures { Asks result → ⊥ }
+    {
+        Usage::told(format!(in alloc;
+            "error: the following required arguments were not provided:\n  --seeds <A..B>\n\n{MORE}\n"
+        ))
+    }
+
+    /// That a text names no seeds, in the parser's words for a value that it refuses.
+    pub(crate) fn no_seeds(alloc: Global, text: &str) -> Usage
+        ensures { Asks result → ⊥ }
+    {
+        Usage::told(format!(in alloc;
+            "error: invalid value '{text}' for '--seeds <A..B>': not two seeds from 0 to 18446744073709551615 with two dots between them\n\n{MORE}\n"
+        ))
+    }
+
+    /// That no seed is in a range, in the parser's words for a value that it refuses.
+    pub(crate) fn empty_seeds(alloc: Global, text: &str) -> Usage
+        ensures { Asks result → ⊥ }
+    {
+        Usage::told(format!(in alloc;
+            "error: invalid value '{text}' for '--seeds <A..B>': there is no seed in this range\n\n{MORE}\n"
+        ))
+    }
+
     /// What a text says, where there was memory for it.
     fn told(text: Result<String, AllocError>) -> Usage
         ensures { Asks result → ⊥ }

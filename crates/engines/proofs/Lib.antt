@@ -12,5 +12,6 @@ pub mod RecordLemmas
 pub mod RunLemmas
 pub mod ScheduleLemmas
 pub mod SearchLemmas
+pub mod SweepLemmas
 pub mod TraceLemmas
 pub mod VerificationLemmas

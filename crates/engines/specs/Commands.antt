@@ -19,6 +19,7 @@ use Rattle.command_line.specs.declared.options.ThenRun.{ThenRun}
 use Rattle.command_line.specs.declared.options.Trace.{Trace}
 use Rattle.command_line.specs.declared.options.TraceForm.{TraceForm}
 use Rattle.command_line.specs.declared.options.TraceForm.TheVariants as forms
+use Rattle.command_line.specs.declared.sweep_options.SweepOptions.{SweepOptions}
 use Rattle.command_line.specs.declared.usage.Usage.{Usage}
 use Rattle.engines.specs.Continuations.{Continues, IsUncontinued}
 use Rattle.engines.specs.Devices.{IsUnable}
@@ -33,6 +34,7 @@ use Rattle.engines.specs.Recordings.{conditions_of}
 use Rattle.engines.specs.Replays.{IsFaulty, Replays}
 use Rattle.engines.specs.Runs.{IsUnrun, Runs}
 use Rattle.engines.specs.Searches.{IsUnsearched, Searches, most_states}
+use Rattle.engines.specs.Sweeps.{IsUnswept, SweepsOver}
 use Rattle.engines.specs.Traces.{IsUntraced, Traces}
 use Rattle.engines.specs.Transcriptions.{IsUnprinted, IsUntranscribed, Prints, Transcribes}
 use Rattle.engines.specs.Verifications.{IsUnaccepted, Verifies}
@@ -118,6 +120,31 @@ pub record IsRunUndone (lefts : List (Option (List ℕ))) (run : Run) (old new :
   pub file : Option (List ℕ)
   pub unrun : IsUnrun lefts run.limits run.options old new None file fault
   pub recorded : (written ≡ None) ⊎ (written ≡ written_at run.record file)
+
+-- ---- run over seeds
+
+-- nothing is recorded
+pub record IsSweepDone (held : Held) (lefts : List (Option (List ℕ))) (run : Run) (sweep : SweepOptions) (text : List ℕ) (written : Written) (status : Status) : Type 0 where
+  pub want : Wanted
+  pub asked : IsAskedFor held sweep.goal want
+  pub sweeps : SweepsOver lefts run sweep false want text status
+  pub recorded : written ≡ None
+
+pub record IsSweepUndone (held : Held) (lefts : List (Option (List ℕ))) (run : Run) (sweep : SweepOptions) (old new : Option (List ℕ)) (fault : Fault) (written : Written) : Type 0 where
+  pub want : Wanted
+  pub asked : IsAskedFor held sweep.goal want
+  pub unswept : IsUnswept lefts run sweep false want old new fault
+  pub recorded : written ≡ None
+
+-- one run, or one for each of the seeds that are asked for
+abbrev pub IsRunDoneBy : Held → (lefts : List (Option (List ℕ))) → Run → Option SweepOptions → List ℕ → Written → Status → Type 0
+IsRunDoneBy held lefts run None text written status = IsRunDone lefts run text written status
+IsRunDoneBy held lefts run (Some sweep) text written status = IsSweepDone held lefts run sweep text written status
+
+abbrev pub IsRunUndoneBy : Held → (lefts : List (Option (List ℕ))) → Run → Option SweepOptions → (old new : Option (List ℕ)) → Fault → Written → Type 0
+IsRunUndoneBy held lefts run None old new fault written = IsRunUndone lefts run old new fault written
+IsRunUndoneBy held lefts run (Some sweep) old new fault written =
+    (IsUnable fault × (new ≡ old) × (written ≡ None)) ⊎ IsSweepUndone held lefts run sweep old new fault written
 
 -- ---- replay
 
@@ -220,7 +247,7 @@ IsScheduleUndone held input schedule false old new fault written = IsUnprinted (
 
 -- What a command does where it has a status, by what its class files hold.
 abbrev pub IsDoneOver : Held → (lefts : List (Option (List ℕ))) → (input : Option (List ℕ)) → Command → List ℕ → Written → Status → Type 0
-IsDoneOver held lefts input (commands.Run run) text written status = IsRunDone lefts run text written status
+IsDoneOver held lefts input (commands.Run run) text written status = IsRunDoneBy held lefts run run.sweep text written status
 IsDoneOver held lefts input (commands.Replay replay) text written status = IsReplayDone held lefts replay replay.then_run text written status
 IsDoneOver held lefts input (commands.Trace trace) text written status = IsTraceDone held lefts trace text written status
 IsDoneOver held lefts input (commands.Search search) text written status = IsSearchDone held lefts search text written status
@@ -232,7 +259,7 @@ IsDoneOver held lefts input (commands.Schedule schedule) text written status = I
 
 -- What keeps a command from a status, what is on the output then, and what is written.
 abbrev pub IsUndoneOver : Held → (lefts : List (Option (List ℕ))) → (input : Option (List ℕ)) → Command → (old new : Option (List ℕ)) → Fault → Written → Type 0
-IsUndoneOver held lefts input (commands.Run run) old new fault written = IsRunUndone lefts run old new fault written
+IsUndoneOver held lefts input (commands.Run run) old new fault written = IsRunUndoneBy held lefts run run.sweep old new fault written
 IsUndoneOver held lefts input (commands.Replay replay) old new fault written = IsReplayUndone held lefts replay replay.then_run old new fault written
 IsUndoneOver held lefts input (commands.Trace trace) old new fault written = IsTraceUndone held lefts trace old new fault written
 IsUndoneOver held lefts input (commands.Search search) old new fault written =

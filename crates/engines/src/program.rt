@@ -9,7 +9,7 @@ ghost use Rattle.engines.specs.Files.{held_at};
 ghost use Rattle.engines.specs.Failures.{FolderMayFail, TellsComplaint, TellsFailures};
 
 use crate::command_files::{check_record, command_files};
-use crate::commands::{disasm, replay, run_files, schedule, search, trace, verify};
+use crate::commands::{disasm, replay, run as run_command, schedule, search, trace, verify};
 use crate::complaint::Complaint;
 use crate::explanation::Explanation;
 use crate::fault::Fault;
@@ -171,7 +171,7 @@ fn done_over<
         (I.failures input.old + W.failures output.old) (I.failures input.new + W.failures output.new) }
 {
     match command {
-        Command::Run(options) => run_files(
+        Command::Run(options) => run_command(
             rt,
             alloc,
             gate,

@@ -2,7 +2,7 @@
 
 ghost use Rattle.std.specs.Prelude.{◌≡◌};
 ghost use Rattle.std.specs.List.{list_all};
-ghost use Rattle.engines.specs.Statuses.{has_ended, has_returned, code_of, complaint_status, fault_status, files_status, usage_status, search_status, status_of};
+ghost use Rattle.engines.specs.Statuses.{has_ended, has_returned, code_of, complaint_status, fault_status, files_status, usage_status, search_status, status_of, sweep_status};
 
 use crate::complaint::Complaint;
 use crate::fault::Fault;
@@ -10,13 +10,14 @@ use command_line::Usage;
 use model::{End, EndState, Report};
 use program_files::FilesFault;
 use search::search_reports::Answer;
+use sweeps::SweepEnd;
 
 #[derive(Clone, Copy)]
 pub enum Status {
     /// No thread can go on, and all have ended, none with an exception. Of what runs nothing: it is done.
     Returned,
-    /// No thread can go on, and all have ended, some with an exception. Of a search: it found a run whose outcome is
-    /// wanted.
+    /// No thread can go on, and all have ended, some with an exception. Of a search or a sweep: it found a run whose
+    /// outcome is wanted.
     Threw,
     /// A class file or the schedule is refused.
     Refused,
@@ -24,7 +25,7 @@ pub enum Status {
     Stopped,
     /// No thread can go on, and some haven't ended.
     Stuck,
-    /// The schedule is used up, or the budget, and some thread can go on. Of a search: it gave up.
+    /// The schedule is used up, or the budget, and some thread can go on. Of a search or a sweep: it gave up.
     UsedUp,
     /// The command line is no command, or a device failed.
     Unusable,
@@ -63,6 +64,17 @@ impl Status {
             Answer::Found(_, _) => Status::Threw,
             Answer::Complete(_) => Status::Returned,
             Answer::GaveUp => Status::UsedUp,
+        }
+    }
+
+    /// The status of a sweep.
+    pub fn of_sweep(end: SweepEnd) -> Status
+        ensures { result ≡ sweep_status end }
+    {
+        match end {
+            SweepEnd::Done => Status::Returned,
+            SweepEnd::Found => Status::Threw,
+            SweepEnd::GaveUp => Status::UsedUp,
         }
     }
 

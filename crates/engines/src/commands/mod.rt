@@ -11,11 +11,12 @@ mod replays;
 mod runs;
 mod schedules;
 mod searches;
+mod seed_sweeps;
 mod storing;
 
 pub(crate) use event_traces::trace;
 pub(crate) use given_files::{disasm, verify};
 pub(crate) use replays::replay;
-pub(crate) use runs::run_files;
+pub(crate) use runs::run;
 pub(crate) use schedules::schedule;
 pub(crate) use searches::search;

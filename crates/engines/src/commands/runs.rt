@@ -3,11 +3,12 @@
 ghost use Rattle.std.specs.Prelude.{IfErr, IfOk, IsTrue, is_some, vec_items, map, string_bytes};
 ghost use Rattle.std.specs.Option.{option_map};
 ghost use Rattle.std.specs.Io.KnownBytes.{Appends};
-ghost use Rattle.engines.specs.Commands.{IsRunDone, IsRunUndone, Leaves, LeavesAt};
+ghost use Rattle.engines.specs.Commands.{IsRunDone, IsRunDoneBy, IsRunUndone, IsRunUndoneBy, Leaves, LeavesAt};
 ghost use Rattle.engines.specs.Files.{held_at};
 ghost use Rattle.engines.specs.Failures.{FolderMayFail, TellsFailures};
 ghost use Rattle.engines.specs.Runs.{IsUnrun, Runs};
 
+use crate::commands::seed_sweeps::sweep_files;
 use crate::commands::storing::{recorded, try_record};
 use crate::explanation::Explanation;
 use crate::fault::Fault;
@@ -25,8 +26,35 @@ use std::alloc::Global;
 use std::sync::Wait;
 use std::thread::Threads;
 
-/// `run`.
-pub(crate) fn run_files<R: Threads + Wait + Sync, G: Gate + Seeds + Sync, F: Folder, W: Sink>(
+/// `run`: once, or for each of the seeds that are asked for.
+pub(crate) fn run<R: Threads + Wait + Sync, G: Gate + Seeds + Sync, F: Folder, W: Sink>(
+    rt: &R,
+    alloc: Global,
+    gate: &G,
+    folder: &mut F,
+    files: &[String],
+    options: &Run,
+    output: &mut W,
+    explanation: &mut Explanation,
+) -> Result<Status, Fault>
+    ensures done { IfOk result
+        (Leaves (IsRunDoneBy (F.held folder.old) (held_at (F.held folder.old) (map string_bytes files.now)) options.now
+        options.now.sweep)
+        (W.contents output.old) (W.contents output.new) (F.held folder.old) (F.held folder.new)) }
+    ensures faulty { IfErr result
+        (LeavesAt (IsRunUndoneBy (F.held folder.old) (held_at (F.held folder.old) (map string_bytes files.now))
+        options.now options.now.sweep (W.contents output.old) (W.contents output.new))
+        (F.held folder.old) (F.held folder.new)) }
+    ensures told { TellsFailures (FolderMayFail F.may_fail) result (W.failures output.old) (W.failures output.new) }
+{
+    match &options.sweep {
+        Some(sweep) => sweep_files(alloc, folder, files, options, sweep, output),
+        None => run_files(rt, alloc, gate, folder, files, options, output, explanation),
+    }
+}
+
+/// `run`, once.
+fn run_files<R: Threads + Wait + Sync, G: Gate + Seeds + Sync, F: Folder, W: Sink>(
     rt: &R,
     alloc: Global,
     gate: &G,

@@ -123,7 +123,11 @@ fn searched<P: Progress, F: Folder, W: Sink>(
 }
 
 /// The outcome that a search is to find, where one is asked for.
-fn wanted_by<F: Folder>(alloc: Global, folder: &F, goal: &Option<Goal>) -> Result<Wanted, Fault>
+pub(crate) fn wanted_by<F: Folder>(
+    alloc: Global,
+    folder: &F,
+    goal: &Option<Goal>,
+) -> Result<Wanted, Fault>
     ensures asked { IfOk result (IsAskedFor (F.held folder.now) goal.now) }
     ensures unable { IfErr result IsUnable }
     ensures failed { IfErr result (λ fault. fault ≡ Device → FolderMayFail F.may_fail) }

@@ -19,4 +19,4 @@ mod following;
 mod rotation;
 mod run;
 
-pub use run::{Continued, run_on};
+pub use run::{Continued, run_linked_on, run_on};

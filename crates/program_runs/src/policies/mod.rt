@@ -27,4 +27,4 @@ mod rotation;
 mod turn_lengths;
 mod waiters;
 
-pub use policy::{Policy, run_by_policy};
+pub use policy::{Policy, run_by_policy, run_linked};

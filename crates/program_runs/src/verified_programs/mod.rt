@@ -9,4 +9,5 @@
 
 mod program;
 
+pub(crate) use program::open_linked_machine;
 pub use program::{open_machine, replay, verified_program};

@@ -11,6 +11,7 @@
 mod order;
 mod outcomes;
 mod printed;
+mod same;
 mod wanted;
 
 pub use outcomes::{Outcome, Outcomes};

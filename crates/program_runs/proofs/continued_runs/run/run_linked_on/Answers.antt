@@ -1,7 +1,7 @@
 use Rattle.std.specs.Arc.{arc_value}
 use Rattle.model.specs.Schedule.{events_of}
 use Rattle.program_runs.proofs.continued_runs.Continuing.{cut, whole_of}
-use Rattle.program_runs.proofs.continued_runs.run.run_on.Goals as goal
+use Rattle.program_runs.proofs.continued_runs.run.run_linked_on.Goals as goal
 
 pub returns-in-Most : goal.returns-in-Most
 returns-in-Most c =

@@ -1,0 +1,34 @@
+//! How often a schedule goes from a thread to another one.
+
+ghost use Rattle.std.specs.Prelude.{◌≡◌};
+ghost use Rattle.shrinking.specs.Switches.{switches, switches_behind};
+
+use model::ScheduleEntry;
+use schedule::Schedule;
+
+/// How many of these entries are of another thread than the one before them, where this is the thread before the
+/// first one.
+fn switches_from(before: u16, entries: &[ScheduleEntry]) -> usize
+    ensures { result ≡ switches_behind before entries.now }
+{
+    let mut count = 0usize;
+    let mut thread = before;
+    'entries: for entry in entries {
+        if entry.event.thread != thread {
+            count += 1;
+        }
+        thread = entry.event.thread;
+    }
+    count
+}
+
+/// How many entries of a schedule are of another thread than the one before them.
+pub fn switch_count(schedule: &Schedule) -> usize
+    ensures { result ≡ switches schedule.now }
+{
+    let entries = schedule.entries();
+    match entries.first() {
+        Some(first) => switches_from(first.event.thread, entries),
+        None => 0,
+    }
+}
