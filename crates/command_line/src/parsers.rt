@@ -1,6 +1,6 @@
 //! The parsers of the command line.
 
-ghost use Rattle.std.specs.Prelude.{◌≡◌, false, IfOk, IfErr};
+ghost use Rattle.std.specs.Prelude.{◌≡◌, codes, false, IfOk, IfErr};
 ghost use Rattle.clap.specs.Words.{App, app_of, kind_of, new_app, rule_of, with_subcommand};
 ghost use Rattle.clap.specs.declared.error.kind.ErrorKind.TheVariants.{OutOfMemory as no_memory};
 ghost use Rattle.command_line.specs.CommandLine.{IsLocal, class_files, flag, goal_option, jvm, jvm_disasm, jvm_replay, jvm_run, jvm_schedule, jvm_search, jvm_trace, jvm_verify, main_option, one_file, path_option, record_option, schedule_option, with_files as over_files, with_limits as limited, with_main as started, with_program as programmed, alone_flag};
