@@ -2,7 +2,7 @@
 -- that are added to them.
 use Rattle.std.specs.Prelude.{◌≡◌, ◌⊎◌, ℕ, Bool, List, [], Option, if◌then◌else◌}
 use Rattle.library_files.specs.Adding.{LibraryFile}
-use Rattle.library_files.specs.Completing.{IsCompleted}
+use Rattle.library_files.specs.Completing.{AreOwnOf, IsCompleted}
 use Rattle.command_line.specs.declared.options.Command.{Command}
 use Rattle.command_line.specs.declared.options.Command.TheVariants as commands
 use Rattle.engines.specs.Engines.{IsOfFile, ReadsEach}
@@ -23,9 +23,10 @@ library_of (commands.Verify verify) library = unless_alone verify.files_alone li
 library_of (commands.Disasm disasm) library = []
 library_of (commands.Schedule schedule) library = []
 
--- these are the files that are read, and those that the library adds to them
-abbrev pub AreHanded : List LibraryFile → Command → (lefts : List (Option (List ℕ))) → List (List ℕ) → Type 0
-AreHanded library command lefts files = (given : List (List ℕ)) × ReadsEach lefts given × IsCompleted (library_of command library) given files
+-- these are the files that are read, and those that the library adds to them, which has these classes in whose place they have their own
+abbrev pub AreHanded : List LibraryFile → Command → (lefts : List (Option (List ℕ))) → List (List ℕ) → (own : List LibraryFile) → Type 0
+AreHanded library command lefts files own = (given : List (List ℕ)) × ReadsEach lefts given
+    × IsCompleted (library_of command library) given files × AreOwnOf (library_of command library) given own
 
 -- a class file can't be read, or memory is wanted
 abbrev pub IsUnread : Fault → Type 0

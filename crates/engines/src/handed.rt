@@ -12,7 +12,7 @@ use crate::class_files::read_class_files;
 use crate::fault::Fault;
 use crate::named_file::path_sources;
 use command_line::Command;
-use library_files::{LibraryClass, completed};
+use library_files::{LibraryClass, completed, own_of};
 use program_files::Folder;
 use std::alloc::Global;
 
@@ -52,20 +52,32 @@ fn library_of<'a, 'b>(command: &Command, library: &'a [LibraryClass<'b>]) -> &'a
     }
 }
 
-/// The bytes of the files at these paths, and behind them those of the classes of the library that are added to them.
-pub(crate) fn handed_files<F: Folder>(
+/// The class files that a command hands on.
+#[derive(Drop)]
+pub(crate) struct Handed<'a> {
+    /// The bytes of those that are given, and behind them those of the classes that the library adds.
+    pub(crate) files: Vec<Vec<u8>>,
+    /// The classes of the library in whose place the files have their own.
+    pub(crate) own: Vec<LibraryClass<'a>>,
+}
+
+/// The files at these paths, and behind them those of the classes of the library that are added to them.
+pub(crate) fn handed_files<'a, F: Folder>(
     alloc: Global,
     folder: &F,
     command: &Command,
-    library: &[LibraryClass<'_>],
+    library: &[LibraryClass<'a>],
     paths: &[String],
-) -> Result<Vec<Vec<u8>>, Fault>
-    ensures handed { IfOk result (λ files. AreHanded (map library_file library.now) command.now
-        (held_at (F.held folder.now) (map string_bytes paths.now)) (map vec_items files.items)) }
+) -> Result<Handed<'a>, Fault>
+    ensures handed { IfOk result (λ handed. AreHanded (map library_file library.now) command.now
+        (held_at (F.held folder.now) (map string_bytes paths.now)) (map vec_items handed.files.items)
+        (map library_file handed.own.items)) }
     ensures unread { IfErr result IsUnread }
     ensures told { (n : ℕ) → TellsFailures (FolderMayFail F.may_fail) result n n }
 {
     let given = read_files(alloc, folder, paths)?;
-    let files = completed(alloc, given, library_of(command, library))?;
-    Ok(files)
+    let library = library_of(command, library);
+    let own = own_of(alloc, given.as_slice(), library)?;
+    let files = completed(alloc, given, library)?;
+    Ok(Handed { files, own })
 }

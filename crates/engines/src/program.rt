@@ -14,7 +14,7 @@ use crate::commands::{disasm, replay, run as run_command, schedule, search, trac
 use crate::complaint::Complaint;
 use crate::explanation::Explanation;
 use crate::fault::Fault;
-use crate::handed::handed_files;
+use crate::handed::{Handed, handed_files};
 use crate::seeds::Seeds;
 use crate::status::Status;
 use command_line::{Command, Usage, command};
@@ -138,13 +138,13 @@ fn done<R: Threads + Wait + Sync, G: Gate + Progress + Seeds + Sync, F: Folder, 
     let paths = files.as_slice();
     check_record(alloc, command, paths)?;
     let handed = handed_files(alloc, folder, command, library, paths)?;
-    let whole = handed.as_slice();
     let status = done_over(
         rt,
         alloc,
         gate,
         folder,
-        whole,
+        &handed,
+        paths.len(),
         command,
         input,
         output,
@@ -153,7 +153,7 @@ fn done<R: Threads + Wait + Sync, G: Gate + Progress + Seeds + Sync, F: Folder, 
     Ok(status)
 }
 
-/// Does what a command says, over files of these bytes.
+/// Does what a command says, over these files, of which the first so many are given.
 fn done_over<
     R: Threads + Wait + Sync,
     G: Gate + Progress + Seeds + Sync,
@@ -165,23 +165,25 @@ fn done_over<
     alloc: Global,
     gate: &G,
     folder: &mut F,
-    files: &[Vec<u8>],
+    handed: &Handed<'_>,
+    given: usize,
     command: &Command,
     input: &mut I,
     output: &mut W,
     explanation: &mut Explanation,
 ) -> Result<Status, Fault>
     ensures done { IfOk result (Leaves
-        (IsDoneOver (F.held folder.old) (known (map vec_items files.now))
+        (IsDoneOver (F.held folder.old) given (map library_file handed.now.own.items) (known (map vec_items handed.now.files.items))
         (I.remaining input.old) command.now)
         (W.contents output.old) (W.contents output.new) (F.held folder.old) (F.held folder.new)) }
     ensures faulty { IfErr result
-        (LeavesAt (IsUndoneOver (F.held folder.old) (known (map vec_items files.now))
+        (LeavesAt (IsUndoneOver (F.held folder.old) given (map library_file handed.now.own.items) (known (map vec_items handed.now.files.items))
         (I.remaining input.old)
         command.now (W.contents output.old) (W.contents output.new)) (F.held folder.old) (F.held folder.new)) }
     ensures told { TellsFailures (FolderMayFail F.may_fail) result
         (I.failures input.old + W.failures output.old) (I.failures input.new + W.failures output.new) }
 {
+    let files = handed.files.as_slice();
     match command {
         Command::Run(options) => run_command(
             rt,
@@ -189,22 +191,40 @@ fn done_over<
             gate,
             folder,
             files,
+            given,
             options,
             output,
             explanation,
         ),
-        Command::Replay(options) => replay(alloc, folder, files, options, output, explanation),
-        Command::Trace(options) => trace(alloc, folder, files, options, output, explanation),
+        Command::Replay(options) => replay(
+            alloc,
+            folder,
+            files,
+            given,
+            options,
+            output,
+            explanation,
+        ),
+        Command::Trace(options) => trace(alloc, folder, files, given, options, output, explanation),
         Command::Search(options) => search(
             alloc,
             gate,
             folder,
             files,
+            given,
             options,
             output,
             explanation,
         ),
-        Command::Verify(options) => verify(alloc, folder, files, options, output),
+        Command::Verify(options) => verify(
+            alloc,
+            folder,
+            files,
+            given,
+            handed.own.as_slice(),
+            options,
+            output,
+        ),
         Command::Disasm(options) => disasm(alloc, folder, files, options, output),
         Command::Schedule(options) => schedule(alloc, folder, options, input, output, explanation),
     }
