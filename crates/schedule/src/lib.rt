@@ -15,9 +15,10 @@
 //!   is the definition's (`fault_name`).
 //! - `Schedule::joined`: the same events, and no entry could stand for an event of the next one, too (`AreJoined`).
 //!   Such entries are the fewest of their events (`joined_entries_are_fewest`).
-//! - `checksum` is the first eight bytes of the file's SHA-256 (`checksum_of`, by `sha2`); `Recording::of_files` is
-//!   what `recording_of` says of class files; and `Recording::difference` answers nothing exactly where they are as
-//!   many, each as long and with its checksum, where these are told (`AreRecorded`).
+//! - `checksum` is the first eight bytes of the file's SHA-256 (`checksum_of`, by `sha2`), and that of a library is of
+//!   its files together (`library_checksum`); `Recording::of_files` is what `recording_of` says of class files and of
+//!   what a library adds; and `Recording::difference` answers nothing exactly where they are as many, each as long and
+//!   with its checksum, where these are told (`AreRecorded`).
 //!
 //! # Not proved
 //!
