@@ -11,7 +11,7 @@ loop-init c =
     (begins c.classes_are_read.ensures.holds c.args.program.now c.args.class)
 
 -- src/exception_handlers/errors.rt
-pub returns-then-nearest : goal.returns-then-nearest-eq-ERROR
+pub returns-then-nearest : goal.returns-then-nearest
 returns-then-nearest c =
     let is : (c.loop.nearest == 8) ≡ true = grind (arith, nat_tests, c.if-nearest.true) in
     found c.classes_are_read.ensures.holds c.args.program.now c.args.class c.loop.nearest (c.len-end.result - c.loop.counter) c.loop.invariant is
