@@ -1,9 +1,9 @@
 -- What a command does over the files that its words stand for.
-use Rattle.std.proofs.Common.{arith, ◌≡◌, ℕ, List, Option, inl, inr, map, refl, string_bytes, subst, sym, vec_items}
+use Rattle.std.proofs.Common.{arith, ◌≡◌, ◌∙◌, ℕ, List, Option, inl, inr, length, map, refl, string_bytes, subst, sym}
+use Rattle.std.proofs.lemmas.List.{length-map}
 use Rattle.std.specs.Prelude.{None}
 use Rattle.std.specs.declared.string.String.{String}
 use Rattle.std.specs.Global.{Global}
-use Rattle.std.specs.declared.vec.Vec.{Vec}
 use Rattle.command_line.specs.CommandLine.{Refuses, Spells}
 use Rattle.command_line.proofs.CommandLineLemmas.{refuses_more}
 use Rattle.command_line.specs.declared.options.Command.{Command}
@@ -43,20 +43,23 @@ module _ (library : List LibraryFile) (held : Held) (listed : Listed) (input : O
         → IsUndone library held listed input command old new (complaints.Usage usage) None
     read_too usage read kept = (refuses_more usage _ _ (λ too. (map string_bytes paths, are_paths, too)) read, kept, refl)
 
-    module _ (handed whole : List (Vec ℕ Global)) (same_files : whole ≡ handed) (read : AreHanded library command (held_at held (map string_bytes paths)) (map vec_items handed)) where
-      are_handed : AreHanded library command (held_at held (map string_bytes paths)) (map vec_items whole)
-      are_handed = subst (λ files. AreHanded library command (held_at held (map string_bytes paths)) (map vec_items files)) (sym same_files)
-          read
+    module _ (files : List (List ℕ)) (own : List LibraryFile) (handed : AreHanded library command (held_at held (map string_bytes paths)) files own) (given : ℕ) (counted : given ≡ length paths) where
+      all : given ≡ length (map string_bytes paths)
+      all = counted ∙ sym (length-map paths string_bytes)
 
       pub undone_over : (fault : Fault) (written : Written) → IsUnread (record_path command) (map string_bytes paths)
-          → IsUndoneOver held (known (map vec_items whole)) input command old new fault written
+          → IsUndoneOver held given own (known files) input command old new fault written
           → IsUndone library held listed input command old new (complaints.Fault fault) written
-      undone_over fault written unread undone = inr (map string_bytes paths, are_paths, unread, map vec_items whole, are_handed, undone)
+      undone_over fault written unread undone =
+          let over = subst (λ n. IsUndoneOver held n own (known files) input command old new fault written) all undone in
+          inr (map string_bytes paths, are_paths, unread, files, own, handed, over)
 
       pub done_over : (text : List ℕ) (written : Written) (status : Status) → IsUnread (record_path command) (map string_bytes paths)
-          → IsDoneOver held (known (map vec_items whole)) input command text written status
+          → IsDoneOver held given own (known files) input command text written status
           → IsDone library held listed input command text written status
-      done_over text written status unread done = (map string_bytes paths, are_paths, unread, map vec_items whole, are_handed, done)
+      done_over text written status unread done =
+          let over = subst (λ n. IsDoneOver held n own (known files) input command text written status) all done in
+          (map string_bytes paths, are_paths, unread, files, own, handed, over)
 
   -- where a file can't be read, nothing is done
   pub unread_over : (fault : Fault) → IsUnreadFile fault → new ≡ old → IsUndone library held listed input command old new (complaints.Fault fault) None

@@ -200,7 +200,7 @@ fn line_of<F: Folder>(
     match fault {
         Fault::Device | Fault::Memory => Ok(None),
         Fault::Schedule(fault) => match schedule {
-            Some(path) => Ok(Some(of_schedule(alloc, folder, command, path, *fault)?)),
+            Some(path) => Ok(Some(of_schedule(alloc, folder, command, library, path, *fault)?)),
             None => Ok(None),
         },
         Fault::Text(fault) => {
@@ -228,12 +228,13 @@ fn of_schedule<F: Folder>(
     alloc: Global,
     folder: &F,
     command: &Command,
+    library: &[LibraryClass<'_>],
     path: &str,
     fault: ScheduleFault,
 ) -> Result<Vec<u8>, AllocError> {
     if let ScheduleFault::Files = fault {
         if let Ok(paths) = command_files(alloc, folder, command) {
-            if let Some(line) = differing(alloc, folder, path, &paths) {
+            if let Some(line) = differing(alloc, folder, command, library, path, &paths) {
                 return Ok(line);
             }
         }

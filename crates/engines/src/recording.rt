@@ -18,14 +18,14 @@ pub struct Conditions {
 }
 
 /// Those of class files that are given: the first so many.
-fn given_files(files: &[Vec<u8>], given: usize) -> &[Vec<u8>]
+pub(crate) fn given_files(files: &[Vec<u8>], given: usize) -> &[Vec<u8>]
     ensures { result.now ≡ take given files.now }
 {
     files.get(..given).unwrap_or(files)
 }
 
 /// Those that a library adds to them: the others.
-fn added_files(files: &[Vec<u8>], given: usize) -> &[Vec<u8>]
+pub(crate) fn added_files(files: &[Vec<u8>], given: usize) -> &[Vec<u8>]
     ensures { result.now ≡ drop given files.now }
 {
     files.get(given..).unwrap_or(&[])

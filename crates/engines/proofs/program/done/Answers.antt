@@ -30,7 +30,7 @@ returns-in_err-status-clause-faulty g c =
     let undone = c.in_err-status.ensures.faulty in
     rw (p.1, p.2) (
       undone.0,
-      undone_over _ _ _ _ _ _ _ _ _ c.as_slice-paths.ensures.value c.in_ok-files.ensures.files _ _ c.as_slice-whole.ensures.value c.in_ok-handed.ensures.handed
+      undone_over _ _ _ _ _ _ _ _ _ c.as_slice-paths.ensures.value c.in_ok-files.ensures.files _ _ c.in_ok-handed.ensures.handed _ c.len.ensures
           c.in_err-status.field-0.0 undone.0 c.in_ok-check_record.ensures.apart undone.1,
       undone.2,
     )
@@ -40,7 +40,7 @@ returns-clause-done g c =
     let done = c.in_ok-status.ensures.done in (
       done.0,
       done.1,
-      done_over _ _ _ _ _ None None _ _ c.as_slice-paths.ensures.value c.in_ok-files.ensures.files _ _ c.as_slice-whole.ensures.value c.in_ok-handed.ensures.handed
+      done_over _ _ _ _ _ None None _ _ c.as_slice-paths.ensures.value c.in_ok-files.ensures.files _ _ c.in_ok-handed.ensures.handed _ c.len.ensures
           done.0 done.1 c.in_ok-status.status c.in_ok-check_record.ensures.apart done.2,
       done.3,
       done.4,
