@@ -14,7 +14,7 @@ loop-class-preserved c =
     let d : LibraryClass = record { name = record { ref_ptr = (0, 0); now = [] }; bytes = record { ref_ptr = (0, 0); now = [] } } in
     elim c.if-is_declared.branch [
       | then-is_declared+in_ok-push w ↦
-          own_more files c.args.library.now c.loop-class.class-index d c.loop-class.own.items c.if-is_declared.own.items true c.loop-class-test.true ? (ap (λ (v : Vec LibraryClass Global). v.items) w.own-is ∙ w.in_ok-push.ensures.items) c.loop-class.invariant
+          own_more files c.args.library.now c.loop-class.class-index d c.loop-class.own.items c.if-is_declared.own.items true c.loop-class-test.true (sym c.is_declared.ensures ∙ w.if-is_declared.true) (ap (λ (v : Vec LibraryClass Global). v.items) w.own-is ∙ w.in_ok-push.ensures.items) c.loop-class.invariant
       | else-is_declared w ↦
-          own_more files c.args.library.now c.loop-class.class-index d c.loop-class.own.items c.if-is_declared.own.items false c.loop-class-test.true ? (ap (λ (v : Vec LibraryClass Global). v.items) w.own-is ∙ sym (append-nil c.loop-class.own.items)) c.loop-class.invariant
+          own_more files c.args.library.now c.loop-class.class-index d c.loop-class.own.items c.if-is_declared.own.items false c.loop-class-test.true (sym c.is_declared.ensures ∙ w.if-is_declared.false) (ap (λ (v : Vec LibraryClass Global). v.items) w.own-is ∙ sym (append-nil c.loop-class.own.items)) c.loop-class.invariant
     ]
