@@ -25,7 +25,7 @@ use Rattle.engines.specs.Continuations.{Continues, IsUncontinued}
 use Rattle.engines.specs.Devices.{IsUnable}
 use Rattle.engines.specs.Files.{Held, IsWith, Listed, OfSchedule, Path, Written, held_at, known, written_at}
 use Rattle.library_files.specs.Adding.{LibraryFile}
-use Rattle.engines.specs.Handed.{AreHanded, IsUnread as IsUnreadFile}
+use Rattle.engines.specs.Handed.{AreHanded, IsUnread as IsUnreadFile, refused_name}
 use Rattle.program_files.specs.Given.{AreGiven, IsUnable as IsUnableFor, IsUngiven, is_given}
 use Rattle.program_files.specs.Handed.{AreHandedOn, IsUnhanded}
 use Rattle.program_files.specs.declared.files_fault.FilesFault.{FilesFault}
@@ -101,7 +101,7 @@ IsReadToo (Some path) files = is_given files path ≡ true
 -- this is so of the files that a command hands on
 abbrev pub OfFiles : List LibraryFile → Held → Listed → Command → (List (Option (List ℕ)) → Type 0) → Type 0
 OfFiles library held listed command P = (paths : List Path) × AreFiles held listed command paths
-    × (files : List (List ℕ)) × (own : List LibraryFile) × AreHanded library command (held_at held paths) files own × P (known files)
+    × (files : List (List ℕ)) × (added own : List LibraryFile) × AreHanded library command (held_at held paths) files added own × P (known files)
 
 -- ---- what is recorded
 
@@ -277,20 +277,27 @@ IsUndoneOver held given own lefts input (commands.Schedule schedule) old new fau
 -- the same over the files that it hands on, none of which is written
 abbrev pub IsDone : List LibraryFile → Held → Listed → (input : Option (List ℕ)) → Command → List ℕ → Written → Status → Type 0
 IsDone library held listed input command text written status = (paths : List Path) × AreFiles held listed command paths
-    × IsUnread (record_path command) paths × (files : List (List ℕ)) × (own : List LibraryFile) × AreHanded library command (held_at held paths) files own
+    × IsUnread (record_path command) paths × (files : List (List ℕ)) × (added own : List LibraryFile) × AreHanded library command (held_at held paths) files added own
     × IsDoneOver held (length paths) own (known files) input command text written status
 
--- and what keeps it from a status: one of them is to be written, or its words stand for none, and nothing is done; or there is a fault
+-- the same of what keeps it from a status; the class of the library that is refused has this name, if it is one
+abbrev pub IsUndoneAs : List LibraryFile → Held → Listed → (input : Option (List ℕ)) → Command → (old new : Option (List ℕ)) → Fault → (refused : Option (List ℕ)) → Written → Type 0
+IsUndoneAs library held listed input command old new fault refused written = (paths : List Path) × AreFiles held listed command paths
+    × IsUnread (record_path command) paths × (files : List (List ℕ)) × (added own : List LibraryFile)
+    × AreHanded library command (held_at held paths) files added own × (refused ≡ refused_name (length paths) added fault)
+    × IsUndoneOver held (length paths) own (known files) input command old new fault written
+
+-- What keeps a command from a status: one of its files is to be written, or its words stand for none, and nothing is done; or there is a
+-- fault.
 abbrev pub IsUndone : List LibraryFile → Held → Listed → (input : Option (List ℕ)) → Command → (old new : Option (List ℕ)) → Complaint → Written → Type 0
 IsUndone library held listed input command old new (complaints.Usage usage) written =
     Refuses usage ((files : List Path) × AreFiles held listed command files × IsReadToo (record_path command) files)
     × (new ≡ old) × (written ≡ None)
 IsUndone library held listed input command old new (complaints.Files fault) written = HasNoFiles held listed command fault × (new ≡ old) × (written ≡ None)
 IsUndone library held listed input command old new (complaints.Fault fault) written =
-    ((IsUnable fault ⊎ IsUnreadFile fault) × (new ≡ old) × (written ≡ None))
-    ⊎ ((paths : List Path) × AreFiles held listed command paths × IsUnread (record_path command) paths
-    × (files : List (List ℕ)) × (own : List LibraryFile) × AreHanded library command (held_at held paths) files own
-    × IsUndoneOver held (length paths) own (known files) input command old new fault written)
+    ((IsUnable fault ⊎ IsUnreadFile fault) × (new ≡ old) × (written ≡ None)) ⊎ IsUndoneAs library held listed input command old new fault None written
+IsUndone library held listed input command old new (complaints.Library fault name) written =
+    IsUndoneAs library held listed input command old new fault (Some name.now) written
 
 -- ---- the words of a command line
 
@@ -310,6 +317,8 @@ Stops library held listed input words old new (complaints.Usage usage) written =
     ⊎ ((command : Command) × Spells words command × IsUndone library held listed input command old new (complaints.Usage usage) written)
 Stops library held listed input words old new (complaints.Files fault) written =
     (command : Command) × Spells words command × IsUndone library held listed input command old new (complaints.Files fault) written
+Stops library held listed input words old new (complaints.Library fault name) written =
+    (command : Command) × Spells words command × IsUndone library held listed input command old new (complaints.Library fault name) written
 Stops library held listed input words old new (complaints.Fault fault) written =
     (AskForHelp words × IsUnable fault × ((text : List ℕ) × AppendsFront old new text) × (written ≡ None))
     ⊎ ((command : Command) × Spells words command × IsUndone library held listed input command old new (complaints.Fault fault) written)
@@ -318,6 +327,7 @@ Stops library held listed input words old new (complaints.Fault fault) written =
 abbrev pub IsUntold : Usage → (old new : Option (List ℕ)) → Complaint → Type 0
 IsUntold usage old new (complaints.Usage told) = (told ≡ usage) × (Asks usage → ⊥) × (new ≡ old)
 IsUntold usage old new (complaints.Files fault) = ⊥
+IsUntold usage old new (complaints.Library fault name) = ⊥
 IsUntold usage old new (complaints.Fault fault) = Asks usage × IsUnable fault × ((text : List ℕ) × AppendsFront old new text)
 
 -- ---- what a call leaves

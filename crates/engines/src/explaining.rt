@@ -2,7 +2,8 @@
 
 ghost use Rattle.std.specs.Prelude.{◌≡◌, ◌⊎◌, map, string_bytes};
 ghost use Rattle.library_files.specs.Adding.{library_file};
-ghost use Rattle.engines.specs.Advised.{IsExplained, IsToldOf, is_quiet};
+ghost use Rattle.std.specs.Option.{option_map};
+ghost use Rattle.engines.specs.Advised.{IsExplained, IsToldOf, complaint_fault, is_quiet};
 
 use crate::advised::{advised, named_files};
 use crate::command_files::{command_files, record_path};
@@ -45,7 +46,7 @@ pub fn explain_complaint<F: Folder>(
     library: &[LibraryClass<'_>],
     folder: &F,
     words: &[String],
-    complaint: &Complaint,
+    complaint: &Complaint<'_>,
     failures: Failures<'_>,
     explanation: &mut Explanation,
 )
@@ -53,7 +54,7 @@ pub fn explain_complaint<F: Folder>(
         (map string_bytes words.now) complaint.now
         explanation.old explanation.new }
 {
-    let Complaint::Fault(fault) = complaint else {
+    let Some(fault) = fault_of(complaint) else {
         return;
     };
     match command(alloc, words) {
@@ -71,6 +72,16 @@ pub fn explain_complaint<F: Folder>(
             explanation.tell(indented(alloc, of_streams(alloc, failures)));
         }
         Err(_) => {}
+    }
+}
+
+/// What keeps the command from its end, where the words are one that stands for files.
+fn fault_of<'a>(complaint: &'a Complaint<'_>) -> Option<&'a Fault>
+    ensures { option_map (λ fault. fault.now) result ≡ complaint_fault complaint.now }
+{
+    match complaint {
+        Complaint::Usage(_) | Complaint::Files(_) => None,
+        Complaint::Fault(fault) | Complaint::Library(fault, _) => Some(fault),
     }
 }
 

@@ -37,6 +37,7 @@ use std::thread::Threads;
 /// complaint is for the caller to tell, and so is the explanation, which gets what the threads of a run are about that
 /// did not end normally, where it is due.
 pub fn run<
+    'a,
     R: Threads + Wait + Sync,
     G: Gate + Progress + Seeds + Sync,
     F: Folder,
@@ -46,13 +47,13 @@ pub fn run<
     rt: &R,
     alloc: Global,
     gate: &G,
-    library: &[LibraryClass<'_>],
+    library: &[LibraryClass<'a>],
     folder: &mut F,
     words: &[String],
     input: &mut I,
     output: &mut W,
     explanation: &mut Explanation,
-) -> Result<Status, Complaint>
+) -> Result<Status, Complaint<'a>>
     // What the command that the words spell does with the files that they name is done, and nothing else.
     ensures done { IfOk result (Leaves
         (Does (map library_file library.now) (F.held folder.old) (F.listed folder.old) (I.remaining input.old) (map string_bytes words.now))
@@ -84,7 +85,7 @@ pub fn run<
 }
 
 /// Writes help or the version, where the words ask for it.
-fn told<W: Sink>(alloc: Global, usage: Usage, output: &mut W) -> Result<Status, Complaint>
+fn told<'a, W: Sink>(alloc: Global, usage: Usage, output: &mut W) -> Result<Status, Complaint<'a>>
     ensures told { IfOk result (λ status. (text : _) × (status ≡ Status.Returned) × Asks usage
         × Appends (W.contents output.old) (W.contents output.new) text) }
     ensures untold { IfErr result (IsUntold usage (W.contents output.old) (W.contents output.new)) }
@@ -111,17 +112,24 @@ fn write_help<W: Sink>(alloc: Global, usage: &Usage, output: &mut W) -> Result<(
 }
 
 /// Does what a command says, over the files that its words stand for.
-fn done<R: Threads + Wait + Sync, G: Gate + Progress + Seeds + Sync, F: Folder, I: Source, W: Sink>(
+fn done<
+    'a,
+    R: Threads + Wait + Sync,
+    G: Gate + Progress + Seeds + Sync,
+    F: Folder,
+    I: Source,
+    W: Sink,
+>(
     rt: &R,
     alloc: Global,
     gate: &G,
-    library: &[LibraryClass<'_>],
+    library: &[LibraryClass<'a>],
     folder: &mut F,
     command: &Command,
     input: &mut I,
     output: &mut W,
     explanation: &mut Explanation,
-) -> Result<Status, Complaint>
+) -> Result<Status, Complaint<'a>>
     ensures done { IfOk result (Leaves
         (IsDone (map library_file library.now) (F.held folder.old) (F.listed folder.old) (I.remaining input.old)
         command.now)
@@ -138,19 +146,23 @@ fn done<R: Threads + Wait + Sync, G: Gate + Progress + Seeds + Sync, F: Folder, 
     let paths = files.as_slice();
     check_record(alloc, command, paths)?;
     let handed = handed_files(alloc, folder, command, library, paths)?;
-    let status = done_over(
+    let given = paths.len();
+    let outcome = done_over(
         rt,
         alloc,
         gate,
         folder,
         &handed,
-        paths.len(),
+        given,
         command,
         input,
         output,
         explanation,
-    )?;
-    Ok(status)
+    );
+    match outcome {
+        Ok(status) => Ok(status),
+        Err(fault) => Err(handed.complaint(given, fault)),
+    }
 }
 
 /// Does what a command says, over these files, of which the first so many are given.

@@ -53,8 +53,8 @@ pub fn added_to<'a>(
     }
 }
 
-/// The files, and behind them the bytes of the classes.
-fn with_bytes(
+/// The files, and behind them the bytes of the classes. `AllocError` for want of memory.
+pub fn with_bytes(
     alloc: Global,
     files: Vec<Vec<u8>>,
     added: &[LibraryClass<'_>],
