@@ -1,7 +1,7 @@
 use Rattle.std.proofs.Common.{refl}
 use Rattle.std.specs.Prelude.{None}
 use Rattle.std.proofs.lemmas.Result.{err_from_is_err_and}
-use Rattle.engines.proofs.CommandLemmas.{done_over, no_files, read_too, told_complaint, told_files, undone_over, unread_over}
+use Rattle.engines.proofs.CommandLemmas.{done_over, no_files, read_too, told_complaint, told_files, told_first, undone_over, unread_over}
 use Rattle.engines.proofs.program.done.Goals as goal
 
 pub returns-in_err-files-clause-faulty : goal.returns-in_err-files-clause-faulty
@@ -24,8 +24,8 @@ returns-in_err-check_record-clause-faulty g c =
       λ path. refl,
     )
 
-pub returns-in-Err-clause-faulty : goal.returns-in-Err-clause-faulty
-returns-in-Err-clause-faulty g c =
+pub returns-in-Err-2-clause-faulty : goal.returns-in-Err-2-clause-faulty
+returns-in-Err-2-clause-faulty g c =
     let fault = c.in-Err.fault in
     let undone = ? in (
       undone.0,
@@ -34,11 +34,11 @@ returns-in-Err-clause-faulty g c =
       undone.2,
     )
 
-pub returns-in-Err-clause-told : goal.returns-in-Err-clause-told
-returns-in-Err-clause-told g c = told_complaint _ _ _ c.in-Err.fault c.complaint.result _ _ c.complaint.ensures ?
+pub returns-in-Err-2-clause-told : goal.returns-in-Err-2-clause-told
+returns-in-Err-2-clause-told g c = told_complaint _ _ _ c.in-Err.fault c.complaint.result _ _ c.complaint.ensures ?
 
-pub returns-in-Ok-clause-done : goal.returns-in-Ok-clause-done
-returns-in-Ok-clause-done g c =
+pub returns-in-Ok-2-clause-done : goal.returns-in-Ok-2-clause-done
+returns-in-Ok-2-clause-done g c =
     let done = ? in (
       done.0,
       done.1,
@@ -48,7 +48,8 @@ returns-in-Ok-clause-done g c =
       done.4,
     )
 
-pub returns-in_err-handed-clause-faulty : goal.returns-in_err-handed-clause-faulty
-returns-in_err-handed-clause-faulty g c =
-    let p = err_from_is_err_and c.from_residual-in_err-handed.result c.from_residual-in_err-handed.ensures.1 in
-    rw (p.1, p.2) (None, unread_over _ _ _ _ _ _ _ c.in_err-handed.field-0.0 c.in_err-handed.ensures.unread refl, λ path. refl)
+pub returns-in-Err-clause-faulty : goal.returns-in-Err-clause-faulty
+returns-in-Err-clause-faulty g c = (None, unread_over _ _ _ _ _ _ _ c.in-Err.fault c.unread-first.result c.in-Err.ensures.unread c.unread-first.ensures.first refl, λ path. refl)
+
+pub returns-in-Err-clause-told : goal.returns-in-Err-clause-told
+returns-in-Err-clause-told g c = told_first _ c.in-Err.fault c.unread-first.result _ ? c.unread-first.ensures.told
