@@ -11,16 +11,16 @@ loop-init c =
     (begins c.classes_are_read.ensures.holds c.args.program.now c.args.class)
 
 -- src/errors.rt:31:13
-pub returns-then-nearest-eq-ERROR : goal.returns-then-nearest-eq-ERROR
-returns-then-nearest-eq-ERROR c =
-    let is : (c.loop.nearest == 8) ≡ true = grind (arith, nat_tests, c.if-nearest-eq-ERROR.true) in
+pub returns-then-nearest : goal.returns-then-nearest
+returns-then-nearest c =
+    let is : (c.loop.nearest == 8) ≡ true = grind (arith, nat_tests, c.if-nearest.true) in
     found c.classes_are_read.ensures.holds c.args.program.now c.args.class c.loop.nearest (c.len-end.result - c.loop.counter) c.loop.invariant is
 
 -- src/errors.rt:35:21
 pub returns-in-None : goal.returns-in-None
 returns-in-None c =
     let left : c.len-end.result - c.loop.counter ≡ suc (c.len-end.result - suc c.loop.counter) = omega (arith, c.loop-test.true) in
-    let not : (c.loop.nearest == 8) ≡ false = grind (arith, nat_tests, c.if-nearest-eq-ERROR.false) in
+    let not : (c.loop.nearest == 8) ≡ false = grind (arith, nat_tests, c.if-nearest.false) in
     is_top c.classes_are_read.ensures.holds c.args.program.now c.args.class c.loop.nearest (c.len-end.result - suc c.loop.counter)
     (subst (Climbs c.args.program.now c.args.class c.loop.nearest) left c.loop.invariant) not c.in-None.ensures
 
@@ -28,7 +28,7 @@ returns-in-None c =
 pub loop-preserved : goal.loop-preserved
 loop-preserved c =
     let left : c.len-end.result - c.loop.counter ≡ suc (c.len-end.result - (c.loop.counter + 1)) = omega (arith, c.loop-test.true) in
-    let not : (c.loop.nearest == 8) ≡ false = grind (arith, nat_tests, c.if-nearest-eq-ERROR.false) in
+    let not : (c.loop.nearest == 8) ≡ false = grind (arith, nat_tests, c.if-nearest.false) in
     goes_up c.classes_are_read.ensures.holds c.args.program.now c.args.class c.loop.nearest (c.len-end.result - (c.loop.counter + 1)) c.in-Some.above
     (subst (Climbs c.args.program.now c.args.class c.loop.nearest) left c.loop.invariant) not c.in-Some.ensures
 
