@@ -4,7 +4,8 @@
 //! # Proved
 //!
 //! - `run_by_policy`, for each policy, memory aside: it is the record of a run of these files, under these limits and
-//!   with this budget, as `worlds` says it. So the report and the end are those of the schedule that is recorded.
+//!   with this budget, as `worlds` says it. So the report and the end are those of the schedule that is recorded. The
+//!   same of `run_linked`, which is handed the linked program of the files (`IsProgramOf`).
 //! - `Policy::has_turns` tells whether each turn is of one event at least, which `run_by_policy` asks for. Where that
 //!   refuses, what it was handed is given up.
 //! - Of what it is made of: `below`, `short_length` and `long_length` draw the numbers that the documents
