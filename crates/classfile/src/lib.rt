@@ -23,7 +23,7 @@
 //! - Only measured (docs/MEASURES.md): that the time is in proportion to the length of a file. Each text of the
 //!   constant pool is looked at once; to find those that are the same, each is compared with up to some dozens of
 //!   others.
-//! - No `#[test]` can make an allocation fail. The program `bench decode` was tried on the stored class file with the
+//! - No test can make an allocation fail. The program `bench decode` was tried on the stored class file with the
 //!   10th, 15th, 20th, 25th and 30th allocation failing (`rt try --fail-alloc N`), and answered `OutOfMemory` each
 //!   time.
 #![tactic(auto)]

@@ -100,9 +100,17 @@ with_limits app = with_rule (with_rule (with_rule (with_rule (with_rule app
 abbrev pub main_option : Rule
 main_option = path_option (codes "main")
 
+-- that no class is added from the library
+abbrev pub alone_flag : Rule
+alone_flag = flag (codes "files-alone")
+
 -- within which limits a program is run, and from which class on
+abbrev pub with_main : App → App
+with_main app = with_rule (with_limits app) main_option
+
+-- the same, and whether with the library
 abbrev pub with_program : App → App
-with_program app = with_rule (with_limits app) main_option
+with_program app = with_rule (with_main app) alone_flag
 
 -- how many workers, how many events in all and in a row, and by which seed and policy
 abbrev pub with_run_options : App → App
@@ -164,7 +172,7 @@ abbrev pub jvm_search : App
 jvm_search = with_files (with_program (with_search_options (new_app (codes "search")))) class_files
 
 abbrev pub jvm_verify : App
-jvm_verify = with_files (with_rule (with_rule (new_app (codes "verify")) (flag (codes "library"))) main_option) class_files
+jvm_verify = with_files (with_rule (with_rule (with_rule (new_app (codes "verify")) (flag (codes "library"))) main_option) alone_flag) class_files
 
 abbrev pub jvm_disasm : App
 jvm_disasm = with_files (with_rule (new_app (codes "disasm")) (flag (codes "names"))) class_files
@@ -245,6 +253,7 @@ pub record AreRunValues (rows : List Row) (run : Run) : Type 0 where
   pub other_files : All (IsApart (first_of (codes "record") rows)) (map string_bytes run.files.items)
   pub explain : run.explain ≡ is_set (first_of (codes "explain") rows)
   pub quiet : run.quiet ≡ is_set (first_of (codes "quiet") rows)
+  pub files_alone : run.files_alone ≡ is_set (first_of (codes "files-alone") rows)
 
 -- the values that the words give to a run behind a schedule
 pub record AreThenRunValues (rows : List Row) (then_run : ThenRun) : Type 0 where
@@ -269,6 +278,7 @@ pub record AreValues (rows : List Row) (replay : Replay) : Type 0 where
   pub other_files : All (IsApart (first_of (codes "record") rows)) (map string_bytes replay.files.items)
   pub explain : replay.explain ≡ is_set (first_of (codes "explain") rows)
   pub quiet : replay.quiet ≡ is_set (first_of (codes "quiet") rows)
+  pub files_alone : replay.files_alone ≡ is_set (first_of (codes "files-alone") rows)
 
 -- the words ask for this form of a trace, and for no other
 abbrev pub IsTraceForm : List Row → TraceForm → Type 0
@@ -290,6 +300,7 @@ pub record AreTraceValues (rows : List Row) (trace : Trace) : Type 0 where
   pub files : all_of (codes "files") rows ≡ Some (map string_bytes trace.files.items)
   pub explain : trace.explain ≡ is_set (first_of (codes "explain") rows)
   pub quiet : trace.quiet ≡ is_set (first_of (codes "quiet") rows)
+  pub files_alone : trace.files_alone ≡ is_set (first_of (codes "files-alone") rows)
 
 -- the values that the words give to `jvm search`
 pub record AreSearchValues (rows : List Row) (search : Search) : Type 0 where
@@ -304,6 +315,7 @@ pub record AreSearchValues (rows : List Row) (search : Search) : Type 0 where
   pub other_files : All (IsApart (first_of (codes "record") rows)) (map string_bytes search.files.items)
   pub explain : search.explain ≡ is_set (first_of (codes "explain") rows)
   pub quiet : search.quiet ≡ is_set (first_of (codes "quiet") rows)
+  pub files_alone : search.files_alone ≡ is_set (first_of (codes "files-alone") rows)
 
 -- the values that the words give to `jvm verify`
 pub record AreVerifyValues (rows : List Row) (verify : Verify) : Type 0 where
@@ -312,6 +324,7 @@ pub record AreVerifyValues (rows : List Row) (verify : Verify) : Type 0 where
   pub library : verify.library ≡ is_set (first_of (codes "library") rows)
   pub explain : verify.explain ≡ is_set (first_of (codes "explain") rows)
   pub quiet : verify.quiet ≡ is_set (first_of (codes "quiet") rows)
+  pub files_alone : verify.files_alone ≡ is_set (first_of (codes "files-alone") rows)
 
 -- the values that the words give to `jvm disasm`
 pub record AreDisasmValues (rows : List Row) (disasm : Disasm) : Type 0 where

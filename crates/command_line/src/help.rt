@@ -38,7 +38,8 @@ What it does:
   Links and verifies the class files, and runs the main method of the first one;
   a folder stands for those in it and below it. Where a folder comes first, it is
   that of the one class that has a main method, and with --main that of the class
-  which is named.
+  which is named. A class that they need and that isn't there is added from the
+  library, as those of java.util.concurrent; not so with --files-alone.
   The threads take turns by a policy; each event that is done is one more of the
   schedule, which --record keeps for `jvm replay`. The report has the printed
   numbers, how each thread stands, how many events there were, and why no more.
@@ -138,9 +139,10 @@ pub(crate) const VERIFY_PAGE: &str = "\
 What it does:
   Links the class files and verifies the code of their methods; nothing is run.
   A folder stands for the class files in it and below it, sorted by their paths.
-  Each class that they need has to be among them, or to be a built-in one. One
-  has to have a main method, which is found as by `jvm run`. It prints how many
-  classes there are, or tells why they are refused.
+  Each class that they need has to be among them, to be a built-in one, or to be
+  in the library, from which it is added; not so with --files-alone. One has to
+  have a main method, which is found as by `jvm run`. It prints how many classes
+  there are, and how many of the library, or tells why they are refused.
 
 Statuses:
   0  the class files are verified

@@ -45,6 +45,8 @@ pub struct Run {
     pub explain: bool,
     /// Whether standard error tells no more than why there is no report.
     pub quiet: bool,
+    /// Whether no class is added from the library.
+    pub files_alone: bool,
 }
 
 /// `jvm replay`: class files are run under a schedule, and what comes of it is reported.
@@ -65,6 +67,8 @@ pub struct Replay {
     pub explain: bool,
     /// Whether standard error tells no more than why there is no report.
     pub quiet: bool,
+    /// Whether no class is added from the library.
+    pub files_alone: bool,
 }
 
 /// `jvm trace`: class files are run under a schedule, and the run is told event by event.
@@ -92,6 +96,8 @@ pub struct Trace {
     pub explain: bool,
     /// Whether standard error tells no more than why there is no report.
     pub quiet: bool,
+    /// Whether no class is added from the library.
+    pub files_alone: bool,
 }
 
 /// How a trace tells each event.
@@ -125,6 +131,8 @@ pub struct Search {
     pub explain: bool,
     /// Whether standard error tells no more than why there is no output.
     pub quiet: bool,
+    /// Whether no class is added from the library.
+    pub files_alone: bool,
 }
 
 /// Which outcome of a run a search is to find.
@@ -187,6 +195,8 @@ pub struct Verify {
     pub explain: bool,
     /// Whether standard error tells no more than why there is no output.
     pub quiet: bool,
+    /// Whether no class is added from the library.
+    pub files_alone: bool,
 }
 
 /// `jvm disasm`: the listings of class files are written.

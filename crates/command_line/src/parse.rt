@@ -9,8 +9,8 @@ ghost use Rattle.command_line.specs.Goals.{IsGoal};
 
 use crate::goal::goal_by;
 use crate::numbers::{
-    AS_VERSION, BUDGET, CELLS, FRAMES, FROM, MEMORY, MONITORS, OBJECTS, ONLY, QUANTUM, STATES, THREADS, TO,
-    WHOLE_BUDGET, WORKERS, negative_number,
+    AS_VERSION, BUDGET, CELLS, FRAMES, FROM, MEMORY, MONITORS, OBJECTS, ONLY, QUANTUM, STATES,
+    THREADS, TO, WHOLE_BUDGET, WORKERS, negative_number,
 };
 use crate::options;
 use crate::options::{
@@ -133,6 +133,7 @@ fn run_of(alloc: Global, matches: &ArgMatches<'_>) -> Result<Run, Usage>
         files,
         explain: is_set(matches, "explain"),
         quiet: is_set(matches, "quiet"),
+        files_alone: is_set(matches, "files-alone"),
     })
 }
 
@@ -157,6 +158,7 @@ fn replay_of(alloc: Global, matches: &ArgMatches<'_>) -> Result<Replay, Usage>
         explain: is_set(matches, "explain"),
         quiet: is_set(matches, "quiet"),
         any_files: is_set(matches, "any-files"),
+        files_alone: is_set(matches, "files-alone"),
     })
 }
 
@@ -186,6 +188,7 @@ fn trace_of(alloc: Global, matches: &ArgMatches<'_>) -> Result<Trace, Usage>
         explain: is_set(matches, "explain"),
         quiet: is_set(matches, "quiet"),
         any_files: is_set(matches, "any-files"),
+        files_alone: is_set(matches, "files-alone"),
     })
 }
 
@@ -213,6 +216,7 @@ fn search_of(alloc: Global, matches: &ArgMatches<'_>) -> Result<Search, Usage>
         files,
         explain: is_set(matches, "explain"),
         quiet: is_set(matches, "quiet"),
+        files_alone: is_set(matches, "files-alone"),
     })
 }
 
@@ -241,6 +245,7 @@ fn verify_of(alloc: Global, matches: &ArgMatches<'_>) -> Result<Verify, Usage>
         library: is_set(matches, "library"),
         explain: is_set(matches, "explain"),
         quiet: is_set(matches, "quiet"),
+        files_alone: is_set(matches, "files-alone"),
     })
 }
 

@@ -1,17 +1,17 @@
 //! The parsers of the command line.
 
-ghost use Rattle.std.specs.Prelude.{◌≡◌, false, IfOk, IfErr};
+ghost use Rattle.std.specs.Prelude.{◌≡◌, codes, false, IfOk, IfErr};
 ghost use Rattle.clap.specs.Words.{App, app_of, kind_of, new_app, rule_of, with_subcommand};
 ghost use Rattle.clap.specs.declared.error.kind.ErrorKind.TheVariants.{OutOfMemory as no_memory};
-ghost use Rattle.command_line.specs.CommandLine.{IsLocal, class_files, flag, goal_option, jvm, jvm_disasm, jvm_replay, jvm_run, jvm_schedule, jvm_search, jvm_trace, jvm_verify, main_option, one_file, path_option, record_option, schedule_option, with_files as over_files, with_limits as limited, with_program as programmed};
+ghost use Rattle.command_line.specs.CommandLine.{IsLocal, class_files, flag, goal_option, jvm, jvm_disasm, jvm_replay, jvm_run, jvm_schedule, jvm_search, jvm_trace, jvm_verify, main_option, one_file, path_option, record_option, schedule_option, with_files as over_files, with_limits as limited, with_main as started, with_program as programmed, alone_flag};
 
 use crate::help::{
     ABOUT, AFTER, DISASM_PAGE, FILES_HELP, LISTED_HELP, REPLAY_PAGE, RUN_PAGE, SCHEDULE_PAGE,
     SEARCH_PAGE, TRACE_PAGE, VERIFY_PAGE, VERSION,
 };
 use crate::numbers::{
-    AS_VERSION, BUDGET, CELLS, FRAMES, FROM, MEMORY, MONITORS, OBJECTS, ONLY, QUANTUM, STATES, THREADS, TO,
-    WHOLE_BUDGET, WORKERS,
+    AS_VERSION, BUDGET, CELLS, FRAMES, FROM, MEMORY, MONITORS, OBJECTS, ONLY, QUANTUM, STATES,
+    THREADS, TO, WHOLE_BUDGET, WORKERS,
 };
 use crate::run_arguments::{policy_argument, seed_argument};
 use crate::sweep_arguments::seeds_argument;
@@ -170,7 +170,8 @@ fn verify_parser<'a>(alloc: Global) -> Result<clap::Command<'a>, AllocError>
         VERIFY_PAGE,
     )
     .arg(library)?
-    .arg(main_argument(alloc))?;
+    .arg(main_argument(alloc))?
+    .arg(alone_argument(alloc))?;
     with_files(alloc, verify, files_argument(alloc, FILES_HELP))
 }
 
@@ -210,7 +211,12 @@ fn schedule_argument<'a>(alloc: Global) -> Arg<'a>
     ensures rule { rule_of result ≡ schedule_option }
     ensures local { result.global ≡ false }
 {
-    path_argument(alloc, "schedule", "The schedule file, or its text, or '0*22 1'").required(true)
+    path_argument(
+        alloc,
+        "schedule",
+        "The schedule file, or its text, or '0*22 1'",
+    )
+    .required(true)
 }
 
 /// Whether the schedule is for any class files.
@@ -247,6 +253,18 @@ fn main_argument<'a>(alloc: Global) -> Arg<'a>
         .value_name("NAME")
         .action(ArgAction::Set)
         .help("The class whose main method is run, as bank.Main or bank/Main")
+}
+
+/// That no class is added from the library.
+fn alone_argument<'a>(alloc: Global) -> Arg<'a>
+    ensures rule { rule_of result ≡ alone_flag }
+    ensures local { result.global ≡ false }
+{
+    flag_argument(
+        alloc,
+        "files-alone",
+        "Adds no class of the library to the class files",
+    )
 }
 
 /// The outcome that a search or a sweep is to find.
@@ -326,6 +344,14 @@ fn with_limits<'a>(
 }
 
 /// The command with the options of the limits, and with the one that names the class whose main is run.
+fn with_main<'a>(alloc: Global, command: clap::Command<'a>) -> Result<clap::Command<'a>, AllocError>
+    ensures app { IfOk result (λ main. app_of main ≡ started (app_of command.entry)) }
+    ensures local { IsLocal command.entry → IfOk result IsLocal }
+{
+    with_limits(alloc, command)?.arg(main_argument(alloc))
+}
+
+/// The same command with the flag that leaves the library out.
 fn with_program<'a>(
     alloc: Global,
     command: clap::Command<'a>,
@@ -333,7 +359,7 @@ fn with_program<'a>(
     ensures app { IfOk result (λ program. app_of program ≡ programmed (app_of command.entry)) }
     ensures local { IsLocal command.entry → IfOk result IsLocal }
 {
-    with_limits(alloc, command)?.arg(main_argument(alloc))
+    with_main(alloc, command)?.arg(alone_argument(alloc))
 }
 
 /// The command with the flags that say how much standard error tells, and with files behind all options.

@@ -6,13 +6,14 @@ use Rattle.engines.specs.Engines.{CountsFailure, CountsWith}
 use Rattle.engines.specs.Failures.{TellsFailure, TellsFailures}
 use Rattle.engines.specs.Files.{failures_of, has_failed}
 use Rattle.engines.specs.declared.named_file.Reading.{Reading}
-use Rattle.engines.specs.declared.named_file.Reading.TheVariants.{Ahead, Behind, Failed}
+use Rattle.engines.specs.declared.named_file.Reading.TheVariants.{Ahead, There, Behind, Failed}
 use Rattle.engines.specs.declared.fault.Fault.{Fault}
 use Rattle.engines.specs.declared.fault.Fault.TheVariants as faults
 
 -- a file with a failure has failed
 pub failed_of : (reading : Reading) (n : ℕ) → failures_of reading ≡ suc n → IsTrue (has_failed reading)
 failed_of Ahead n failures = absurd (omega (arith, failures))
+failed_of (There bytes) n failures = absurd (omega (arith, failures))
 failed_of Behind n failures = absurd (omega (arith, failures))
 failed_of Failed n failures = refl
 

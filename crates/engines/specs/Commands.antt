@@ -23,7 +23,9 @@ use Rattle.command_line.specs.declared.sweep_options.SweepOptions.{SweepOptions}
 use Rattle.command_line.specs.declared.usage.Usage.{Usage}
 use Rattle.engines.specs.Continuations.{Continues, IsUncontinued}
 use Rattle.engines.specs.Devices.{IsUnable}
-use Rattle.engines.specs.Files.{Held, IsWith, Listed, OfSchedule, Path, Written, held_at, written_at}
+use Rattle.engines.specs.Files.{Held, IsWith, Listed, OfSchedule, Path, Written, held_at, known, written_at}
+use Rattle.library_files.specs.Adding.{LibraryFile}
+use Rattle.engines.specs.Handed.{AreHanded, IsUnread as IsUnreadFile}
 use Rattle.program_files.specs.Given.{AreGiven, IsUnable as IsUnableFor, IsUngiven, is_given}
 use Rattle.program_files.specs.Handed.{AreHandedOn, IsUnhanded}
 use Rattle.program_files.specs.declared.files_fault.FilesFault.{FilesFault}
@@ -96,9 +98,10 @@ abbrev pub IsReadToo : (written : Option Path) → (files : List Path) → Type 
 IsReadToo None files = ⊥
 IsReadToo (Some path) files = is_given files path ≡ true
 
--- this is so of the files of a command, by what they hold
-abbrev pub OfFiles : Held → Listed → Command → (List (Option (List ℕ)) → Type 0) → Type 0
-OfFiles held listed command P = (files : List Path) × AreFiles held listed command files × P (held_at held files)
+-- this is so of the files that a command hands on
+abbrev pub OfFiles : List LibraryFile → Held → Listed → Command → (List (Option (List ℕ)) → Type 0) → Type 0
+OfFiles library held listed command P = (paths : List Path) × AreFiles held listed command paths
+    × (files : List (List ℕ)) × AreHanded library command (held_at held paths) files × P (known files)
 
 -- ---- what is recorded
 
@@ -270,20 +273,22 @@ IsUndoneOver held lefts input (commands.Disasm disasm) old new fault written =
     ((IsUnable fault × (new ≡ old)) ⊎ IsUnlistedAs disasm.names lefts old new fault) × (written ≡ None)
 IsUndoneOver held lefts input (commands.Schedule schedule) old new fault written = IsScheduleUndone held input schedule schedule.write old new fault written
 
--- the same over the files that its words stand for, none of which is written
-abbrev pub IsDone : Held → Listed → (input : Option (List ℕ)) → Command → List ℕ → Written → Status → Type 0
-IsDone held listed input command text written status = (files : List Path) × AreFiles held listed command files
-    × IsUnread (record_path command) files × IsDoneOver held (held_at held files) input command text written status
+-- the same over the files that it hands on, none of which is written
+abbrev pub IsDone : List LibraryFile → Held → Listed → (input : Option (List ℕ)) → Command → List ℕ → Written → Status → Type 0
+IsDone library held listed input command text written status = (paths : List Path) × AreFiles held listed command paths
+    × IsUnread (record_path command) paths × (files : List (List ℕ)) × AreHanded library command (held_at held paths) files
+    × IsDoneOver held (known files) input command text written status
 
 -- and what keeps it from a status: one of them is to be written, or its words stand for none, and nothing is done; or there is a fault
-abbrev pub IsUndone : Held → Listed → (input : Option (List ℕ)) → Command → (old new : Option (List ℕ)) → Complaint → Written → Type 0
-IsUndone held listed input command old new (complaints.Usage usage) written =
+abbrev pub IsUndone : List LibraryFile → Held → Listed → (input : Option (List ℕ)) → Command → (old new : Option (List ℕ)) → Complaint → Written → Type 0
+IsUndone library held listed input command old new (complaints.Usage usage) written =
     Refuses usage ((files : List Path) × AreFiles held listed command files × IsReadToo (record_path command) files)
     × (new ≡ old) × (written ≡ None)
-IsUndone held listed input command old new (complaints.Files fault) written = HasNoFiles held listed command fault × (new ≡ old) × (written ≡ None)
-IsUndone held listed input command old new (complaints.Fault fault) written = (IsUnable fault × (new ≡ old) × (written ≡ None))
-    ⊎ ((files : List Path) × AreFiles held listed command files × IsUnread (record_path command) files
-    × IsUndoneOver held (held_at held files) input command old new fault written)
+IsUndone library held listed input command old new (complaints.Files fault) written = HasNoFiles held listed command fault × (new ≡ old) × (written ≡ None)
+IsUndone library held listed input command old new (complaints.Fault fault) written =
+    ((IsUnable fault ⊎ IsUnreadFile fault) × (new ≡ old) × (written ≡ None))
+    ⊎ ((paths : List Path) × AreFiles held listed command paths × IsUnread (record_path command) paths
+    × (files : List (List ℕ)) × AreHanded library command (held_at held paths) files × IsUndoneOver held (known files) input command old new fault written)
 
 -- ---- the words of a command line
 
@@ -292,20 +297,20 @@ abbrev pub AskForHelp : (words : List (List ℕ)) → Type 0
 AskForHelp words = (usage : Usage) × Fails words usage × Asks usage
 
 -- They do, and it is written, of which nothing more is said; or they spell a command, and it is done.
-abbrev pub Does : Held → Listed → (input : Option (List ℕ)) → (words : List (List ℕ)) → List ℕ → Written → Status → Type 0
-Does held listed input words text written status = (AskForHelp words × (written ≡ None) × (status ≡ Returned))
-    ⊎ ((command : Command) × Spells words command × IsDone held listed input command text written status)
+abbrev pub Does : List LibraryFile → Held → Listed → (input : Option (List ℕ)) → (words : List (List ℕ)) → List ℕ → Written → Status → Type 0
+Does library held listed input words text written status = (AskForHelp words × (written ≡ None) × (status ≡ Returned))
+    ⊎ ((command : Command) × Spells words command × IsDone library held listed input command text written status)
 
 -- The words are no command, and nothing is written; or help can't be written; or they spell a command, and it isn't done.
-abbrev pub Stops : Held → Listed → (input : Option (List ℕ)) → (words : List (List ℕ)) → (old new : Option (List ℕ)) → Complaint → Written → Type 0
-Stops held listed input words old new (complaints.Usage usage) written =
+abbrev pub Stops : List LibraryFile → Held → Listed → (input : Option (List ℕ)) → (words : List (List ℕ)) → (old new : Option (List ℕ)) → Complaint → Written → Type 0
+Stops library held listed input words old new (complaints.Usage usage) written =
     (Fails words usage × (Asks usage → ⊥) × (new ≡ old) × (written ≡ None))
-    ⊎ ((command : Command) × Spells words command × IsUndone held listed input command old new (complaints.Usage usage) written)
-Stops held listed input words old new (complaints.Files fault) written =
-    (command : Command) × Spells words command × IsUndone held listed input command old new (complaints.Files fault) written
-Stops held listed input words old new (complaints.Fault fault) written =
+    ⊎ ((command : Command) × Spells words command × IsUndone library held listed input command old new (complaints.Usage usage) written)
+Stops library held listed input words old new (complaints.Files fault) written =
+    (command : Command) × Spells words command × IsUndone library held listed input command old new (complaints.Files fault) written
+Stops library held listed input words old new (complaints.Fault fault) written =
     (AskForHelp words × IsUnable fault × ((text : List ℕ) × AppendsFront old new text) × (written ≡ None))
-    ⊎ ((command : Command) × Spells words command × IsUndone held listed input command old new (complaints.Fault fault) written)
+    ⊎ ((command : Command) × Spells words command × IsUndone library held listed input command old new (complaints.Fault fault) written)
 
 -- what comes of words that are no command, where it is no help
 abbrev pub IsUntold : Usage → (old new : Option (List ℕ)) → Complaint → Type 0

@@ -5,28 +5,28 @@ use Rattle.std.specs.Global.{Global}
 pub use Rattle.program_files.specs.Folders.{Held, IsWith, Listed, Path, Written}
 use Rattle.schedule.specs.schedule_text.CommandWord.{IsScheduleWord}
 use Rattle.engines.specs.declared.named_file.Reading.{Reading}
-use Rattle.engines.specs.declared.named_file.Reading.TheVariants.{Ahead, Behind, Failed, Given}
+use Rattle.engines.specs.declared.named_file.Reading.TheVariants.{Ahead, There, Behind, Failed}
 
 -- ---- what is read
 
--- of the bytes of a file, or of a word in its place, what is left to read
-abbrev pub left_of : (held : Option (List ℕ)) → (word : List ℕ) → Reading → Option (List ℕ)
-left_of held word Ahead = held
-left_of held word Given = Some word
-left_of held word Behind = Some []
-left_of held word Failed = Some []
+-- of the bytes of a file what is left to read
+abbrev pub left_of : Option (List ℕ) → Reading → Option (List ℕ)
+left_of held Ahead = held
+left_of held (There bytes) = Some bytes.now
+left_of held Behind = Some []
+left_of held Failed = Some []
 
 -- it failed
 abbrev pub has_failed : Reading → Bool
 has_failed Ahead = false
-has_failed Given = false
+has_failed (There bytes) = false
 has_failed Behind = false
 has_failed Failed = true
 
 -- how often it failed
 abbrev pub failures_of : Reading → ℕ
 failures_of Ahead = 0
-failures_of Given = 0
+failures_of (There bytes) = 0
 failures_of Behind = 0
 failures_of Failed = 1
 
@@ -41,6 +41,10 @@ OfSchedule held word Is = (left : Option (List ℕ)) × IsScheduleAt held word l
 -- the files at these paths, in their order
 abbrev pub held_at : (List ℕ → Option (List ℕ)) → List (List ℕ) → List (Option (List ℕ))
 held_at held paths = map held paths
+
+-- files of these bytes
+abbrev pub known : List (List ℕ) → List (Option (List ℕ))
+known files = map (λ bytes. Some bytes) files
 
 -- ---- what is written
 

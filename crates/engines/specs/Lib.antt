@@ -22,3 +22,4 @@ pub mod Statuses
 pub mod Traces
 pub mod Transcriptions
 pub mod Verifications
+pub mod Handed

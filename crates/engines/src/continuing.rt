@@ -11,9 +11,9 @@ ghost use Rattle.engines.specs.Opening.{IsAfterFiles, IsOfSchedule, IsOpened};
 
 use crate::fault::Fault;
 use crate::opening::open;
+use crate::recording::Conditions;
 use crate::running::{Outcome, outcome_of};
 use crate::status::Status;
-use crate::recording::Conditions;
 use command_line::ThenRun;
 use model::{Limits, Sink, Source};
 use program_runs::continued_runs::{Continued, run_on};

@@ -1,6 +1,7 @@
 //! The line that tells a person why a command was not done. For it the files are read a second time.
 
 ghost use Rattle.std.specs.Prelude.{◌≡◌, ◌⊎◌, map, string_bytes};
+ghost use Rattle.library_files.specs.Adding.{library_file};
 ghost use Rattle.engines.specs.Advised.{IsExplained, IsToldOf, is_quiet};
 
 use crate::advised::{advised, named_files};
@@ -12,6 +13,7 @@ use crate::fault::Fault;
 use crate::main_hints::add_mains;
 use command_line::{Command, Goal, Usage, command};
 use explanations::refusal_explanations::{explain, explain_schedule, explain_text};
+use library_files::LibraryClass;
 use link_conditions::refusal::RefusalKind;
 use program_files::{Folder, first_unlisted, given_paths};
 use schedule::ScheduleFault;
@@ -40,20 +42,30 @@ pub struct Failures<'a> {
 /// wanted anyway; and nothing with `--quiet`.
 pub fn explain_complaint<F: Folder>(
     alloc: Global,
+    library: &[LibraryClass<'_>],
     folder: &F,
     words: &[String],
     complaint: &Complaint,
     failures: Failures<'_>,
     explanation: &mut Explanation,
 )
-    ensures { IsExplained (F.held folder.now) (F.listed folder.now) (map string_bytes words.now) complaint.now
+    ensures { IsExplained (map library_file library.now) (F.held folder.now) (F.listed folder.now)
+        (map string_bytes words.now) complaint.now
         explanation.old explanation.new }
 {
     let Complaint::Fault(fault) = complaint else {
         return;
     };
     match command(alloc, words) {
-        Ok(command) => explain_fault(alloc, folder, &command, fault, failures, explanation),
+        Ok(command) => explain_fault(
+            alloc,
+            library,
+            folder,
+            &command,
+            fault,
+            failures,
+            explanation,
+        ),
         // help that can't be written
         Err(Usage::Asked(_)) if explanation.is_wanted() => {
             explanation.tell(indented(alloc, of_streams(alloc, failures)));
@@ -65,6 +77,7 @@ pub fn explain_complaint<F: Folder>(
 /// Tells why a command has this fault, and behind it the advice on files that `verify` refuses.
 fn explain_fault<F: Folder>(
     alloc: Global,
+    library: &[LibraryClass<'_>],
     folder: &F,
     command: &Command,
     fault: &Fault,
@@ -72,7 +85,7 @@ fn explain_fault<F: Folder>(
     explanation: &mut Explanation,
 )
     ensures { (explanation.new ≡ explanation.old)
-        ⊎ IsToldOf (F.held folder.now) (F.listed folder.now) command.now fault.now explanation.new }
+        ⊎ IsToldOf (map library_file library.now) (F.held folder.now) (F.listed folder.now) command.now fault.now explanation.new }
 {
     let (is_explained, is_quiet) = flags_of(command);
     if is_quiet || !(is_explained || explanation.is_wanted()) {
@@ -80,6 +93,7 @@ fn explain_fault<F: Folder>(
     }
     let line = told_line(
         alloc,
+        library,
         folder,
         command,
         fault,
@@ -87,12 +101,13 @@ fn explain_fault<F: Folder>(
         explanation.reason(),
     );
     explanation.tell(indented(alloc, line));
-    explanation.add(advised(alloc, folder, command, fault));
+    explanation.add(advised(alloc, folder, command, library, fault));
 }
 
 /// What is known of a fault of a command.
 fn told_line<F: Folder>(
     alloc: Global,
+    library: &[LibraryClass<'_>],
     folder: &F,
     command: &Command,
     fault: &Fault,
@@ -101,7 +116,7 @@ fn told_line<F: Folder>(
 ) -> Told {
     match fault {
         Fault::Device => of_device(alloc, folder, command, failures, recording),
-        _ => line_of(alloc, folder, command, fault),
+        _ => line_of(alloc, library, folder, command, fault),
     }
 }
 
@@ -174,7 +189,13 @@ fn words_of(command: &Command) -> &[String] {
 }
 
 /// What is known of a fault that is no failure of a device.
-fn line_of<F: Folder>(alloc: Global, folder: &F, command: &Command, fault: &Fault) -> Told {
+fn line_of<F: Folder>(
+    alloc: Global,
+    library: &[LibraryClass<'_>],
+    folder: &F,
+    command: &Command,
+    fault: &Fault,
+) -> Told {
     let schedule = schedule_of(command);
     match fault {
         Fault::Device | Fault::Memory => Ok(None),
@@ -190,7 +211,7 @@ fn line_of<F: Folder>(alloc: Global, folder: &F, command: &Command, fault: &Faul
             let Ok(paths) = command_files(alloc, folder, command) else {
                 return Ok(None);
             };
-            let Ok(files) = named_files(alloc, folder, &paths) else {
+            let Ok(files) = named_files(alloc, folder, command, library, &paths) else {
                 return Ok(None);
             };
             let mut line = explain(alloc, refusal, &files)?;

@@ -1,11 +1,12 @@
 //! What the words of a command line ask for.
 
-ghost use Rattle.std.specs.Prelude.{◌≡◌, ◌≤◌, ◌+◌, IfErr, IfOk, MatchResult, OnErr, OnOk, map, string_bytes};
+ghost use Rattle.std.specs.Prelude.{◌≡◌, ◌≤◌, ◌+◌, IfErr, IfOk, MatchResult, OnErr, OnOk, map, string_bytes, vec_items};
 ghost use Rattle.std.specs.Io.KnownBytes.{Appends};
 ghost use Rattle.model.specs.Devices.{AppendsFront, Counts};
 ghost use Rattle.command_line.specs.CommandLine.{Asks};
 ghost use Rattle.engines.specs.Commands.{Does, IsDone, IsDoneOver, IsUndone, IsUndoneOver, IsUntold, Leaves, LeavesAt, Stops};
-ghost use Rattle.engines.specs.Files.{held_at};
+ghost use Rattle.engines.specs.Files.{known};
+ghost use Rattle.library_files.specs.Adding.{library_file};
 ghost use Rattle.engines.specs.Failures.{FolderMayFail, TellsComplaint, TellsFailures};
 
 use crate::command_files::{check_record, command_files};
@@ -13,9 +14,11 @@ use crate::commands::{disasm, replay, run as run_command, schedule, search, trac
 use crate::complaint::Complaint;
 use crate::explanation::Explanation;
 use crate::fault::Fault;
+use crate::handed::handed_files;
 use crate::seeds::Seeds;
 use crate::status::Status;
 use command_line::{Command, Usage, command};
+use library_files::LibraryClass;
 use model::{DeviceFault, Sink, Source};
 use program_files::Folder;
 use program_runs::workers::Gate;
@@ -26,12 +29,13 @@ use std::thread::Threads;
 
 /// Does what the words say, the program's name first, and answers the status or why there is none.
 ///
-/// The files that they name are those of the folder; the text of a schedule that is to become a file is read from the
-/// input. A report, a listing, the line of a verification, the text of a schedule, or the help or the version that
-/// the words ask for is written to the output, and nothing else but a schedule file, where one is asked for, to the
-/// folder. The gate is told what the workers of a run do, and how far a run or a search has come; and it draws the
-/// seed of a run for which none is asked. The complaint is for the caller to tell, and so is the explanation, which
-/// gets what the threads of a run are about that did not end normally, where it is due.
+/// The files that they name are those of the folder, and behind them come those of the library's classes that they
+/// need; the text of a schedule that is to become a file is read from the input. A report, a listing, the line of a
+/// verification, the text of a schedule, or the help or the version that the words ask for is written to the output,
+/// and nothing else but a schedule file, where one is asked for, to the folder. The gate is told what the workers of a
+/// run do, and how far a run or a search has come; and it draws the seed of a run for which none is asked. The
+/// complaint is for the caller to tell, and so is the explanation, which gets what the threads of a run are about that
+/// did not end normally, where it is due.
 pub fn run<
     R: Threads + Wait + Sync,
     G: Gate + Progress + Seeds + Sync,
@@ -42,6 +46,7 @@ pub fn run<
     rt: &R,
     alloc: Global,
     gate: &G,
+    library: &[LibraryClass<'_>],
     folder: &mut F,
     words: &[String],
     input: &mut I,
@@ -50,9 +55,10 @@ pub fn run<
 ) -> Result<Status, Complaint>
     // What the command that the words spell does with the files that they name is done, and nothing else.
     ensures done { IfOk result (Leaves
-        (Does (F.held folder.old) (F.listed folder.old) (I.remaining input.old) (map string_bytes words.now))
+        (Does (map library_file library.now) (F.held folder.old) (F.listed folder.old) (I.remaining input.old) (map string_bytes words.now))
         (W.contents output.old) (W.contents output.new) (F.held folder.old) (F.held folder.new)) }
-    ensures faulty { IfErr result (LeavesAt (Stops (F.held folder.old) (F.listed folder.old) (I.remaining input.old)
+    ensures faulty { IfErr result (LeavesAt (Stops (map library_file library.now) (F.held folder.old) (F.listed folder.old)
+        (I.remaining input.old)
         (map string_bytes words.now) (W.contents output.old) (W.contents output.new))
         (F.held folder.old) (F.held folder.new)) }
     // It is told that a device failed where the input, the output or the folder did, and only there.
@@ -66,6 +72,7 @@ pub fn run<
             rt,
             alloc,
             gate,
+            library,
             folder,
             &command,
             input,
@@ -108,6 +115,7 @@ fn done<R: Threads + Wait + Sync, G: Gate + Progress + Seeds + Sync, F: Folder, 
     rt: &R,
     alloc: Global,
     gate: &G,
+    library: &[LibraryClass<'_>],
     folder: &mut F,
     command: &Command,
     input: &mut I,
@@ -115,9 +123,11 @@ fn done<R: Threads + Wait + Sync, G: Gate + Progress + Seeds + Sync, F: Folder, 
     explanation: &mut Explanation,
 ) -> Result<Status, Complaint>
     ensures done { IfOk result (Leaves
-        (IsDone (F.held folder.old) (F.listed folder.old) (I.remaining input.old) command.now)
+        (IsDone (map library_file library.now) (F.held folder.old) (F.listed folder.old) (I.remaining input.old)
+        command.now)
         (W.contents output.old) (W.contents output.new) (F.held folder.old) (F.held folder.new)) }
-    ensures faulty { IfErr result (LeavesAt (IsUndone (F.held folder.old) (F.listed folder.old) (I.remaining input.old)
+    ensures faulty { IfErr result (LeavesAt (IsUndone (map library_file library.now) (F.held folder.old) (F.listed folder.old)
+        (I.remaining input.old)
         command.now (W.contents output.old) (W.contents output.new)) (F.held folder.old) (F.held folder.new)) }
     ensures told { MatchResult result
         (λ _. I.failures input.new + W.failures output.new ≤ I.failures input.old + W.failures output.old)
@@ -127,12 +137,14 @@ fn done<R: Threads + Wait + Sync, G: Gate + Progress + Seeds + Sync, F: Folder, 
     let files = command_files(alloc, folder, command)?;
     let paths = files.as_slice();
     check_record(alloc, command, paths)?;
+    let handed = handed_files(alloc, folder, command, library, paths)?;
+    let whole = handed.as_slice();
     let status = done_over(
         rt,
         alloc,
         gate,
         folder,
-        paths,
+        whole,
         command,
         input,
         output,
@@ -141,7 +153,7 @@ fn done<R: Threads + Wait + Sync, G: Gate + Progress + Seeds + Sync, F: Folder, 
     Ok(status)
 }
 
-/// Does what a command says, over the files at these paths.
+/// Does what a command says, over files of these bytes.
 fn done_over<
     R: Threads + Wait + Sync,
     G: Gate + Progress + Seeds + Sync,
@@ -153,18 +165,18 @@ fn done_over<
     alloc: Global,
     gate: &G,
     folder: &mut F,
-    files: &[String],
+    files: &[Vec<u8>],
     command: &Command,
     input: &mut I,
     output: &mut W,
     explanation: &mut Explanation,
 ) -> Result<Status, Fault>
     ensures done { IfOk result (Leaves
-        (IsDoneOver (F.held folder.old) (held_at (F.held folder.old) (map string_bytes files.now))
+        (IsDoneOver (F.held folder.old) (known (map vec_items files.now))
         (I.remaining input.old) command.now)
         (W.contents output.old) (W.contents output.new) (F.held folder.old) (F.held folder.new)) }
     ensures faulty { IfErr result
-        (LeavesAt (IsUndoneOver (F.held folder.old) (held_at (F.held folder.old) (map string_bytes files.now))
+        (LeavesAt (IsUndoneOver (F.held folder.old) (known (map vec_items files.now))
         (I.remaining input.old)
         command.now (W.contents output.old) (W.contents output.new)) (F.held folder.old) (F.held folder.new)) }
     ensures told { TellsFailures (FolderMayFail F.may_fail) result

@@ -8,8 +8,8 @@ ghost use Rattle.engines.specs.Opening.{IsAfterFiles, IsOfSchedule, IsOpened};
 ghost use Rattle.engines.specs.Replays.{IsFaulty, IsReplayed, Replays};
 
 use crate::fault::Fault;
-use crate::recording::Conditions;
 use crate::opening::{Opened, open};
+use crate::recording::Conditions;
 use crate::status::Status;
 use model::{Sink, Source};
 use program_runs::verified_programs::replay;

@@ -1,8 +1,7 @@
-//! What is told of the threads of a run. For it the class files are read, and the events are done, a second time.
+//! What is told of the threads of a run. For it the events are done a second time.
 
-use crate::class_files::read_class_files;
 use crate::fault::Fault;
-use crate::named_file::{schedule_source, sources};
+use crate::named_file::schedule_source;
 use crate::recording::{Conditions, limits_of};
 use crate::verification::accepted;
 use command_line::LimitOptions;
@@ -21,20 +20,19 @@ pub(crate) fn told_schedule<F: Folder>(
     alloc: Global,
     folder: &F,
     word: &String,
-    files: &[String],
+    files: &[Vec<u8>],
     conditions: &Conditions,
     most: u64,
 ) -> Option<Vec<u8>> {
     let bytes = schedule_source(folder, word.as_str()).read_all(alloc).ok()?;
-    told_threads(alloc, folder, bytes.as_slice(), files, conditions, most).ok()?
+    told_threads(alloc, bytes.as_slice(), files, conditions, most).ok()?
 }
 
 /// What the threads are about after the events of the schedule file that was made, if one was.
-pub(crate) fn told_record<F: Folder>(
+pub(crate) fn told_record(
     alloc: Global,
-    folder: &F,
     file: &Option<Vec<u8>>,
-    files: &[String],
+    files: &[Vec<u8>],
     limits: &LimitOptions,
     most: u64,
 ) -> Option<Vec<u8>> {
@@ -43,17 +41,16 @@ pub(crate) fn told_record<F: Folder>(
         any_files: false,
     };
     match file {
-        Some(bytes) => { told_threads(alloc, folder, bytes.as_slice(), files, &conditions, most).ok()? }
+        Some(bytes) => { told_threads(alloc, bytes.as_slice(), files, &conditions, most).ok()? }
         None => None,
     }
 }
 
 /// What the threads are about after the events of a schedule of these bytes.
-fn told_threads<F: Folder>(
+fn told_threads(
     alloc: Global,
-    folder: &F,
     bytes: &[u8],
-    files: &[String],
+    files: &[Vec<u8>],
     conditions: &Conditions,
     most: u64,
 ) -> Result<Option<Vec<u8>>, Fault> {
@@ -61,10 +58,8 @@ fn told_threads<F: Folder>(
     if schedule.count() > most {
         return Ok(None);
     }
-    let mut sources = sources(alloc, folder, files)?;
-    let files = read_class_files(alloc, sources.as_mut_slice())?;
-    let limits = limits_of(&recorded, files.as_slice(), conditions)?;
-    let verified = accepted(alloc, files.as_slice())?;
+    let limits = limits_of(&recorded, files, conditions)?;
+    let verified = accepted(alloc, files)?;
     Ok(Some(threads_after(alloc, &verified, &schedule, limits)?))
 }
 

@@ -9,8 +9,8 @@ ghost use Rattle.engines.specs.Opening.{IsAfterFiles, IsOfSchedule, IsOpened};
 ghost use Rattle.engines.specs.Traces.{IsTraced, IsUntraced, Traces, TracesFront};
 
 use crate::fault::Fault;
-use crate::recording::Conditions;
 use crate::opening::{Opened, open};
+use crate::recording::Conditions;
 use crate::status::Status;
 use model::{DeviceFault, Sink, Source};
 use program_runs::traced_runs::{Window, trace};

@@ -15,10 +15,13 @@ ghost use Rattle.engines.specs.Statuses.{complaint_status};
 
 mod progress;
 
+use class_library::library_classes;
 use engines::{
-    Complaint, Counted, Explanation, Failures, Fault, Status, SystemFolder, explain_complaint, run,
+    Complaint, Counted, Explanation, Failures, Fault, LibraryClass, Status, SystemFolder,
+    explain_complaint, run,
 };
 use progress::{Cleared, Progress};
+use std::alloc::AllocError;
 use std::io::{ErrorKind, IsTerminal, Write};
 use std::process::ExitCode;
 use std::random::RandomSource;
@@ -35,7 +38,16 @@ fn main(rt: HostRuntime) -> ExitCode {
         Ok(words) => words,
         Err(error) => return ExitCode::from(without_words(&rt, &error).code()),
     };
-    let ending = done(&rt, words.as_slice(), rt.stderr().is_terminal());
+    let library = match library_classes(rt.alloc()) {
+        Ok(library) => library,
+        Err(AllocError) => return ExitCode::from(without_memory(&rt).code()),
+    };
+    let ending = done(
+        &rt,
+        library.as_slice(),
+        words.as_slice(),
+        rt.stderr().is_terminal(),
+    );
     if ending.is_closed {
         return ExitCode::from(CLOSED_PIPE);
     }
@@ -65,11 +77,11 @@ fn is_closed(failure: Option<&io::Error>) -> bool {
     }
 }
 
-/// Does what the words say over the files of the system, the standard input and the standard output. The standard
-/// error shows how far a run or a search is, if it is a terminal.
+/// Does what the words say over the files of the system, with the library, the standard input and the standard output.
+/// The standard error shows how far a run or a search is, if it is a terminal.
 fn done<
     R: Files + Input + Print + Eprint + Clock + RandomSource + AllocGlobal + Threads + Wait + Sync,
->(rt: &R, words: &[String], is_terminal: bool) -> Ending {
+>(rt: &R, library: &[LibraryClass<'_>], words: &[String], is_terminal: bool) -> Ending {
     let progress = Progress::new(rt, is_terminal);
     let mut output = Counted::new(rt.alloc(), Cleared::new(&progress, io::writer(rt)));
     let mut input = Counted::new(rt.alloc(), rt.reader());
@@ -79,6 +91,7 @@ fn done<
         rt,
         rt.alloc(),
         &progress,
+        library,
         &mut folder,
         words,
         &mut input,
@@ -93,6 +106,7 @@ fn done<
     if let Err(complaint) = &outcome {
         explain_complaint(
             rt.alloc(),
+            library,
             &folder,
             words,
             complaint,
@@ -108,10 +122,15 @@ fn done<
     }
 }
 
+/// The status where there is no memory for the words or the library.
+fn without_memory(rt: &HostRuntime) -> Status {
+    told(rt, Err(Complaint::Fault(Fault::Memory)), &[])
+}
+
 /// The status where the words can't be had: they aren't text, or there is no memory for them.
 fn without_words(rt: &HostRuntime, error: &io::Error) -> Status {
     match error.kind() {
-        ErrorKind::OutOfMemory => return told(rt, Err(Complaint::Fault(Fault::Memory)), &[]),
+        ErrorKind::OutOfMemory => return without_memory(rt),
         ErrorKind::InvalidData => {
             let _ = rt.eprintln("error: a word of the command line is no UTF-8");
         }

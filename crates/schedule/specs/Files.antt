@@ -1,6 +1,6 @@
 -- Schedule files of three versions (own). Numbers are big-endian.
 use Rattle.std.specs.Prelude.{◌≡◌, ◌<◌, ℕ, ◌^◌, List, [], ◌∷◌, ◌++◌, length, map, codes, Option, Some, None, refl}
-use Rattle.std.specs.List.{flat_map, AllByRecursion}
+use Rattle.std.specs.List.{concat, flat_map, AllByRecursion}
 use Rattle.std.proofs.Math.Dec.{lit≤}
 use Rattle.byteorder.specs.Endian.{big_bytes, big_number}
 use Rattle.sha2.specs.Sha256.{sha256}
@@ -85,12 +85,17 @@ pub record ScheduleFile (bytes : List ℕ) (recorded : Option Recording) (events
 abbrev pub checksum_of : List ℕ → ℕ
 checksum_of file = big_number 8 (sha256 file)
 
--- of a run of these class files within these limits, to which no library adds anything
-abbrev pub recording_of : Limits → List (List ℕ) → Recording
-recording_of limits files = record {
+-- of what a class library adds: that of its files together, 0 where there are none
+abbrev pub library_checksum : List (List ℕ) → ℕ
+library_checksum [] = 0
+library_checksum (file ∷ files) = checksum_of (concat (file ∷ files))
+
+-- of a run of these class files, to which a library adds those, within these limits
+abbrev pub recording_of : Limits → (files added : List (List ℕ)) → Recording
+recording_of limits files added = record {
   limits = limits;
   lengths = map length files;
-  checksums = Some (record { files = map checksum_of files; library = 0 });
+  checksums = Some (record { files = map checksum_of files; library = library_checksum added });
 }
 
 -- the same as version 2 tells it
@@ -99,14 +104,14 @@ without_checksums r = record { limits = r.limits; lengths = r.lengths; checksums
 
 -- ---- whether class files are those that were recorded
 
--- each has its checksum, where these are told, and no library adds anything
-abbrev pub AreChecked : Option Checksums → List (List ℕ) → Type 0
-AreChecked None files = Unit {0}
-AreChecked (Some c) files = (map checksum_of files ≡ c.files) × (c.library ≡ 0)
+-- each has its checksum, and so has what a library adds, where these are told
+abbrev pub AreChecked : Option Checksums → (files added : List (List ℕ)) → Type 0
+AreChecked None files added = Unit {0}
+AreChecked (Some c) files added = (map checksum_of files ≡ c.files) × (library_checksum added ≡ c.library)
 
 -- they are as many, each as long, and have their checksums
-abbrev pub AreRecorded : Recording → List (List ℕ) → Type 0
-AreRecorded r files = (map length files ≡ r.lengths) × AreChecked r.checksums files
+abbrev pub AreRecorded : Recording → (files added : List (List ℕ)) → Type 0
+AreRecorded r files added = (map length files ≡ r.lengths) × AreChecked r.checksums files added
 
 -- ---- examples
 

@@ -1,7 +1,7 @@
 //! What is recorded of class files.
 
 ghost use Rattle.std.specs.Prelude.{◌≡◌, ◌↔◌, ◌<◌, ◌^◌, IfOk, IfSome, IsNone, Some, length, map, vec_items};
-ghost use Rattle.schedule.specs.Files.{AreChecked, AreRecorded, checksum_of, recording_of};
+ghost use Rattle.schedule.specs.Files.{AreChecked, AreRecorded, checksum_of, library_checksum, recording_of};
 
 use crate::recording::{Checksums, Recording};
 use byteorder::{BigEndian, ByteOrder};
@@ -39,6 +39,21 @@ fn checksums(alloc: Global, files: &[Vec<u8>]) -> Result<Vec<u64>, AllocError>
     Ok(checksums)
 }
 
+/// The checksum of what a class library adds, in the order in which it adds its files.
+fn checksum_of_library(added: &[Vec<u8>]) -> u64
+    ensures { result ≡ library_checksum (map vec_items added.now) }
+{
+    if added.is_empty() {
+        return 0;
+    }
+    let mut hasher = Sha256::new();
+    'files: for file in added {
+        hasher.update(file.as_slice());
+    }
+    let digest = hasher.finalize();
+    BigEndian::read_u64(&digest)
+}
+
 /// The first way in which class files are others than those that were recorded.
 #[derive(Clone, Copy, Debug, PartialEq, Eq)]
 pub enum Difference {
@@ -48,7 +63,7 @@ pub enum Difference {
     Length(usize),
     /// This file, counted from 0, has another checksum.
     Checksum(usize),
-    /// What a library added to them isn't there.
+    /// A library adds something else to them.
     Library,
 }
 
@@ -81,15 +96,15 @@ fn other_checksum(files: &[Vec<u8>], checksums: &[u64]) -> Option<usize>
 }
 
 impl Checksums {
-    /// The first of as many files that hasn't its checksum, or else that a library added something.
-    fn difference(&self, files: &[Vec<u8>]) -> Option<Difference>
+    /// The first of as many files that hasn't its checksum, or else what a library adds, where that hasn't its own.
+    fn difference(&self, files: &[Vec<u8>], added: &[Vec<u8>]) -> Option<Difference>
         requires { length files.now ≡ length self.now.files }
-        ensures { IsNone result ↔ AreChecked (Some self.now) (map vec_items files.now) }
+        ensures { IsNone result ↔ AreChecked (Some self.now) (map vec_items files.now) (map vec_items added.now) }
     {
         if let Some(number) = other_checksum(files, self.files()) {
             return Some(Difference::Checksum(number));
         }
-        if self.library() != 0 {
+        if checksum_of_library(added) != self.library() {
             return Some(Difference::Library);
         }
         None
@@ -97,9 +112,9 @@ impl Checksums {
 }
 
 impl Recording {
-    /// How these class files differ from those that were recorded, if they do.
-    pub fn difference(&self, files: &[Vec<u8>]) -> Option<Difference>
-        ensures { IsNone result ↔ AreRecorded self.now (map vec_items files.now) }
+    /// How these class files, to which a library adds those, differ from those that were recorded, if they do.
+    pub fn difference(&self, files: &[Vec<u8>], added: &[Vec<u8>]) -> Option<Difference>
+        ensures { IsNone result ↔ AreRecorded self.now (map vec_items files.now) (map vec_items added.now) }
     {
         let lengths = self.lengths();
         if files.len() != lengths.len() {
@@ -108,21 +123,22 @@ impl Recording {
         if let Some(number) = other_length(files, lengths) {
             return Some(Difference::Length(number));
         }
-        self.checksums()?.difference(files)
+        self.checksums()?.difference(files, added)
     }
 
-    /// That of a run of these class files within these limits, to which no library adds anything. The only error is a
-    /// want of memory.
+    /// The recording of a run of these class files, to which a library adds those, within these limits. The only error
+    /// is a want of memory.
     pub fn of_files(
         alloc: Global,
         limits: Limits,
         files: &[Vec<u8>],
+        added: &[Vec<u8>],
     ) -> Result<Recording, AllocError>
         requires { length files.now < 2 ^ 32 }
-        ensures { IfOk result (λ r. r ≡ recording_of limits (map vec_items files.now)) }
+        ensures { IfOk result (λ r. r ≡ recording_of limits (map vec_items files.now) (map vec_items added.now)) }
     {
         let lengths = lengths(alloc, files)?;
-        let checksums = Checksums::new(checksums(alloc, files)?, 0);
+        let checksums = Checksums::new(checksums(alloc, files)?, checksum_of_library(added));
         Ok(Recording::new(limits, lengths, Some(checksums)))
     }
 }

@@ -3,10 +3,10 @@
 //! # Proved
 //!
 //! - `search`, memory aside, for the linked program of all accepted files (`IsProgramOf`), limits and numbers of
-//!   states: *Found* is a schedule whose events lead to a state in which no thread may step, with an outcome that is
-//!   wanted, and no limit stood at any of them; its entries are joined (`AreJoined` of `schedule`). *Complete* has the
-//!   outcomes of all runs that end, and no other, and none is wanted; *GaveUp* comes only where as many states were met
-//!   as may be, or some run can't be gone on with (`Says`, `GivesUp`). Of runs that never end nothing is said.
+//!   states: *Found* is a schedule, in entries that are joined, whose events lead to a state in which no thread may
+//!   step, with an outcome that is wanted, and no limit stood at any of them; *Complete* has the outcomes of all runs
+//!   that end, and no other, and none is wanted; *GaveUp* comes only where as many states were met as may be, or some
+//!   run can't be gone on with (`Says`, `GivesUp`). Of runs that never end nothing is said.
 //! - The number of states that is told is at most the number that may be met, if that is at least 1 (`few`); of
 //!   *Complete* it is that of schedules among which the search is whole (`HasMetAll`). `states_within` is a 128th of
 //!   the bytes.

@@ -57,6 +57,7 @@ impl Gate for Unwatched {
 }
 
 /// Runs of verified class files by a policy, under limits and with a budget of events for each.
+#[derive(Drop)]
 pub struct PolicyRuns<'a> {
     verified: &'a Arc<Verified>,
     program: &'a Arc<LinkedProgram>,

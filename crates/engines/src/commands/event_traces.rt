@@ -1,9 +1,9 @@
 //! What the command `trace` does.
 
-ghost use Rattle.std.specs.Prelude.{◌≡◌, IfErr, IfOk, None, map, string_bytes};
+ghost use Rattle.std.specs.Prelude.{◌≡◌, IfErr, IfOk, None, map, vec_items};
 ghost use Rattle.std.specs.Io.KnownBytes.{Appends};
 ghost use Rattle.engines.specs.Commands.{IsTraceDone, IsTraceUndone, IsWindow, form_of};
-ghost use Rattle.engines.specs.Files.{held_at};
+ghost use Rattle.engines.specs.Files.{known};
 ghost use Rattle.engines.specs.Recordings.{conditions_of};
 ghost use Rattle.engines.specs.Failures.{FolderMayFail, TellsFailures};
 
@@ -24,17 +24,17 @@ use std::alloc::Global;
 pub(crate) fn trace<F: Folder, W: Sink>(
     alloc: Global,
     folder: &F,
-    files: &[String],
+    files: &[Vec<u8>],
     options: &Trace,
     output: &mut W,
     explanation: &mut Explanation,
 ) -> Result<Status, Fault>
     ensures traced { IfOk result (λ status. (text : _)
         × IsTraceDone (F.held folder.now)
-        (held_at (F.held folder.now) (map string_bytes files.now)) options.now text None status
+        (known (map vec_items files.now)) options.now text None status
         × Appends (W.contents output.old) (W.contents output.new) text) }
     ensures faulty { IfErr result (λ fault.
-        IsTraceUndone (F.held folder.now) (held_at (F.held folder.now) (map string_bytes files.now)) options.now
+        IsTraceUndone (F.held folder.now) (known (map vec_items files.now)) options.now
         (W.contents output.old) (W.contents output.new) fault None) }
     ensures told { TellsFailures (FolderMayFail F.may_fail) result (W.failures output.old) (W.failures output.new) }
 {
@@ -57,16 +57,16 @@ pub(crate) fn trace<F: Folder, W: Sink>(
 fn traced<'a, F: Folder, W: Sink>(
     alloc: Global,
     folder: &'a F,
-    files: &'a [String],
+    files: &'a [Vec<u8>],
     options: &'a Trace,
     output: &mut W,
 ) -> Result<Status, Fault>
     ensures traced { IfOk result (λ status. (text : _)
         × IsTraceDone (F.held folder.now)
-        (held_at (F.held folder.now) (map string_bytes files.now)) options.now text None status
+        (known (map vec_items files.now)) options.now text None status
         × Appends (W.contents output.old) (W.contents output.new) text) }
     ensures faulty { IfErr result (λ fault.
-        IsTraceUndone (F.held folder.now) (held_at (F.held folder.now) (map string_bytes files.now)) options.now
+        IsTraceUndone (F.held folder.now) (known (map vec_items files.now)) options.now
         (W.contents output.old) (W.contents output.new) fault None) }
     ensures told { TellsFailures (FolderMayFail F.may_fail) result (W.failures output.old) (W.failures output.new) }
 {

@@ -1,10 +1,10 @@
 //! What the commands `verify` and `disasm` do.
 
-ghost use Rattle.std.specs.Prelude.{◌≡◌, ◌⊎◌, ◌+◌, IfErr, IfOk, map, string_bytes, sum_by};
+ghost use Rattle.std.specs.Prelude.{◌≡◌, ◌⊎◌, ◌+◌, IfErr, IfOk, map, sum_by, vec_items};
 ghost use Rattle.std.specs.Io.KnownBytes.{Appends};
 ghost use Rattle.engines.specs.Commands.{IsUnacceptedAs, IsUnlistedAs, ListsAs, VerifiesAs};
 ghost use Rattle.engines.specs.Devices.{IsUnable};
-ghost use Rattle.engines.specs.Files.{held_at};
+ghost use Rattle.engines.specs.Files.{known};
 ghost use Rattle.engines.specs.Engines.{CountsFailure};
 ghost use Rattle.engines.specs.Failures.{FolderMayFail, TellsFailures};
 
@@ -24,15 +24,15 @@ use std::alloc::Global;
 pub(crate) fn verify<F: Folder, W: Sink>(
     alloc: Global,
     folder: &F,
-    files: &[String],
+    files: &[Vec<u8>],
     options: &Verify,
     output: &mut W,
 ) -> Result<Status, Fault>
     ensures verified { IfOk result (λ status. (text : _) × (status ≡ Status.Returned)
-        × VerifiesAs options.now.library (held_at (F.held folder.now) (map string_bytes files.now)) text
+        × VerifiesAs options.now.library (known (map vec_items files.now)) text
         × Appends (W.contents output.old) (W.contents output.new) text) }
     ensures faulty { IfErr result (λ fault. (IsUnable fault × (W.contents output.new ≡ W.contents output.old))
-        ⊎ IsUnacceptedAs options.now.library (held_at (F.held folder.now) (map string_bytes files.now))
+        ⊎ IsUnacceptedAs options.now.library (known (map vec_items files.now))
         (W.contents output.old) (W.contents output.new) fault) }
     ensures told { TellsFailures (FolderMayFail F.may_fail) result (W.failures output.old) (W.failures output.new) }
 {
@@ -67,15 +67,15 @@ fn verified<S: Source, W: Sink>(
 pub(crate) fn disasm<F: Folder, W: Sink>(
     alloc: Global,
     folder: &F,
-    files: &[String],
+    files: &[Vec<u8>],
     options: &Disasm,
     output: &mut W,
 ) -> Result<Status, Fault>
     ensures listed { IfOk result (λ status. (text : _) × (status ≡ Status.Returned)
-        × ListsAs options.now.names (held_at (F.held folder.now) (map string_bytes files.now)) text
+        × ListsAs options.now.names (known (map vec_items files.now)) text
         × Appends (W.contents output.old) (W.contents output.new) text) }
     ensures faulty { IfErr result (λ fault. (IsUnable fault × (W.contents output.new ≡ W.contents output.old))
-        ⊎ IsUnlistedAs options.now.names (held_at (F.held folder.now) (map string_bytes files.now))
+        ⊎ IsUnlistedAs options.now.names (known (map vec_items files.now))
         (W.contents output.old) (W.contents output.new) fault) }
     ensures told { TellsFailures (FolderMayFail F.may_fail) result (W.failures output.old) (W.failures output.new) }
 {

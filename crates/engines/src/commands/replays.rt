@@ -5,7 +5,7 @@ ghost use Rattle.std.specs.Option.{option_map};
 ghost use Rattle.std.specs.Io.KnownBytes.{Appends};
 ghost use Rattle.engines.specs.Commands.{IsContinuationDone, IsContinuationUndone, IsReplayDone, IsReplayUndone, Leaves, LeavesAt};
 ghost use Rattle.engines.specs.Continuations.{Continues, IsUncontinued};
-ghost use Rattle.engines.specs.Files.{OfSchedule, held_at};
+ghost use Rattle.engines.specs.Files.{OfSchedule, known};
 ghost use Rattle.engines.specs.Recordings.{conditions_of};
 ghost use Rattle.engines.specs.Failures.{FolderMayFail, TellsFailures};
 ghost use Rattle.engines.specs.Replays.{IsFaulty, Replays};
@@ -28,18 +28,18 @@ use std::alloc::Global;
 pub(crate) fn replay<F: Folder, W: Sink>(
     alloc: Global,
     folder: &mut F,
-    files: &[String],
+    files: &[Vec<u8>],
     options: &Replay,
     output: &mut W,
     explanation: &mut Explanation,
 ) -> Result<Status, Fault>
     ensures done { IfOk result
         (Leaves (IsReplayDone (F.held folder.old)
-        (held_at (F.held folder.old) (map string_bytes files.now)) options.now options.now.then_run)
+        (known (map vec_items files.now)) options.now options.now.then_run)
         (W.contents output.old) (W.contents output.new) (F.held folder.old) (F.held folder.new)) }
     ensures faulty { IfErr result
         (LeavesAt (IsReplayUndone (F.held folder.old)
-        (held_at (F.held folder.old) (map string_bytes files.now)) options.now options.now.then_run
+        (known (map vec_items files.now)) options.now options.now.then_run
         (W.contents output.old) (W.contents output.new)) (F.held folder.old) (F.held folder.new)) }
     ensures told { TellsFailures (FolderMayFail F.may_fail) result (W.failures output.old) (W.failures output.new) }
 {
@@ -65,18 +65,18 @@ pub(crate) fn replay<F: Folder, W: Sink>(
 fn replayed<'a, F: Folder, W: Sink>(
     alloc: Global,
     folder: &'a F,
-    files: &'a [String],
+    files: &'a [Vec<u8>],
     options: &'a Replay,
     output: &mut W,
 ) -> Result<Status, Fault>
     ensures replayed { IfOk result (λ status. (text : _)
         × OfSchedule (F.held folder.now) (string_bytes options.now.schedule) (λ left. Replays left
-        (held_at (F.held folder.now) (map string_bytes files.now))
+        (known (map vec_items files.now))
         (conditions_of options.now.limits options.now.any_files) text status)
         × Appends (W.contents output.old) (W.contents output.new) text) }
     ensures faulty { IfErr result (λ fault.
         OfSchedule (F.held folder.now) (string_bytes options.now.schedule) (λ left. IsFaulty left
-        (held_at (F.held folder.now) (map string_bytes files.now))
+        (known (map vec_items files.now))
         (conditions_of options.now.limits options.now.any_files) (W.contents output.old)
         (W.contents output.new) fault)) }
     ensures told { TellsFailures (FolderMayFail F.may_fail) result (W.failures output.old) (W.failures output.new) }
@@ -106,7 +106,7 @@ fn conditions_of(options: &Replay) -> Conditions
 fn replay_on<F: Folder, W: Sink>(
     alloc: Global,
     folder: &mut F,
-    files: &[String],
+    files: &[Vec<u8>],
     options: &Replay,
     then_run: &ThenRun,
     output: &mut W,
@@ -114,11 +114,11 @@ fn replay_on<F: Folder, W: Sink>(
 ) -> Result<Status, Fault>
     ensures done { IfOk result
         (Leaves (IsContinuationDone (F.held folder.old)
-        (held_at (F.held folder.old) (map string_bytes files.now)) options.now then_run.now)
+        (known (map vec_items files.now)) options.now then_run.now)
         (W.contents output.old) (W.contents output.new) (F.held folder.old) (F.held folder.new)) }
     ensures faulty { IfErr result
         (LeavesAt (IsContinuationUndone (F.held folder.old)
-        (held_at (F.held folder.old) (map string_bytes files.now)) options.now then_run.now
+        (known (map vec_items files.now)) options.now then_run.now
         (W.contents output.old) (W.contents output.new)) (F.held folder.old) (F.held folder.new)) }
     ensures told { TellsFailures (FolderMayFail F.may_fail) result (W.failures output.old) (W.failures output.new) }
 {
@@ -127,7 +127,7 @@ fn replay_on<F: Folder, W: Sink>(
     let outcome = continued(alloc, folder, files, options, then_run, output, &mut file);
     let status = recorded(alloc, folder, &then_run.record, &file, outcome, explanation)?;
     if let Some(most) = explanation.most_events(status, options.explain, options.quiet) {
-        let lines = told_record(alloc, folder, &file, files, &options.limits, most);
+        let lines = told_record(alloc, &file, files, &options.limits, most);
         explanation.tell(lines);
     }
     Ok(status)
@@ -137,7 +137,7 @@ fn replay_on<F: Folder, W: Sink>(
 fn continued<'a, F: Folder, W: Sink>(
     alloc: Global,
     folder: &'a F,
-    files: &'a [String],
+    files: &'a [Vec<u8>],
     options: &'a Replay,
     then_run: &ThenRun,
     output: &mut W,
@@ -145,13 +145,13 @@ fn continued<'a, F: Folder, W: Sink>(
 ) -> Result<Status, Fault>
     ensures continued { IfOk result (λ status. (text : _)
         × OfSchedule (F.held folder.now) (string_bytes options.now.schedule) (λ left. Continues left
-        (held_at (F.held folder.now) (map string_bytes files.now))
+        (known (map vec_items files.now))
         (conditions_of options.now.limits options.now.any_files) (unwrap_or then_run.now.budget 10000000) text (option_map vec_items file.new) status)
         × Appends (W.contents output.old) (W.contents output.new) text) }
     ensures asked { IfOk result (λ _. IsTrue (is_some then_run.now.record) → IsTrue (is_some file.new)) }
     ensures faulty { IfErr result (λ fault.
         OfSchedule (F.held folder.now) (string_bytes options.now.schedule) (λ left. IsUncontinued left
-        (held_at (F.held folder.now) (map string_bytes files.now))
+        (known (map vec_items files.now))
         (conditions_of options.now.limits options.now.any_files)
         (unwrap_or then_run.now.budget 10000000)
         (W.contents output.old) (W.contents output.new) (option_map vec_items file.old)

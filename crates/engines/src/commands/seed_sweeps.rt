@@ -1,10 +1,10 @@
 //! `run` over seeds.
 
-ghost use Rattle.std.specs.Prelude.{◌≡◌, ◌⊎◌, IfErr, IfOk, false, map, string_bytes};
+ghost use Rattle.std.specs.Prelude.{◌≡◌, ◌⊎◌, IfErr, IfOk, false, map, vec_items};
 ghost use Rattle.std.specs.Io.KnownBytes.{Appends};
 ghost use Rattle.engines.specs.Devices.{IsUnable};
 ghost use Rattle.engines.specs.Failures.{FolderMayFail, TellsFailures};
-ghost use Rattle.engines.specs.Files.{held_at};
+ghost use Rattle.engines.specs.Files.{known};
 ghost use Rattle.engines.specs.Goals.{IsAskedFor};
 ghost use Rattle.engines.specs.Sweeps.{IsUnswept, SweepsOver};
 
@@ -39,19 +39,19 @@ impl Watch for Unstopped {
 pub(crate) fn sweep_files<F: Folder, W: Sink>(
     alloc: Global,
     folder: &F,
-    files: &[String],
+    files: &[Vec<u8>],
     options: &Run,
     sweep: &SweepOptions,
     output: &mut W,
 ) -> Result<Status, Fault>
     ensures swept { IfOk result (λ status. (want : _) × (text : _)
         × IsAskedFor (F.held folder.now) sweep.now.goal want
-        × SweepsOver (held_at (F.held folder.now) (map string_bytes files.now)) options.now sweep.now false want text
+        × SweepsOver (known (map vec_items files.now)) options.now sweep.now false want text
         status
         × Appends (W.contents output.old) (W.contents output.new) text) }
     ensures faulty { IfErr result (λ fault. (IsUnable fault × (W.contents output.new ≡ W.contents output.old))
         ⊎ ((want : _) × IsAskedFor (F.held folder.now) sweep.now.goal want
-        × IsUnswept (held_at (F.held folder.now) (map string_bytes files.now)) options.now sweep.now false want
+        × IsUnswept (known (map vec_items files.now)) options.now sweep.now false want
         (W.contents output.old) (W.contents output.new) fault)) }
     ensures told { TellsFailures (FolderMayFail F.may_fail) result (W.failures output.old) (W.failures output.new) }
 {
@@ -63,18 +63,18 @@ pub(crate) fn sweep_files<F: Folder, W: Sink>(
 fn sweep_for<F: Folder, W: Sink>(
     alloc: Global,
     folder: &F,
-    files: &[String],
+    files: &[Vec<u8>],
     options: &Run,
     sweep: &SweepOptions,
     wanted: &Wanted,
     output: &mut W,
 ) -> Result<Status, Fault>
     ensures swept { IfOk result (λ status. (text : _)
-        × SweepsOver (held_at (F.held folder.now) (map string_bytes files.now)) options.now sweep.now false wanted.now
+        × SweepsOver (known (map vec_items files.now)) options.now sweep.now false wanted.now
         text status
         × Appends (W.contents output.old) (W.contents output.new) text) }
     ensures faulty { IfErr result
-        (IsUnswept (held_at (F.held folder.now) (map string_bytes files.now)) options.now sweep.now false wanted.now
+        (IsUnswept (known (map vec_items files.now)) options.now sweep.now false wanted.now
         (W.contents output.old) (W.contents output.new)) }
     ensures told { TellsFailures (FolderMayFail F.may_fail) result (W.failures output.old) (W.failures output.new) }
 {

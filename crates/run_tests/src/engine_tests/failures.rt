@@ -138,6 +138,7 @@ fn outcome<R: Threads + Wait + Sync>(
         rt,
         alloc,
         &Open,
+        &[],
         &mut folder,
         texts.as_slice(),
         &mut input,

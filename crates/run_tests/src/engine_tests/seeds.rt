@@ -80,6 +80,7 @@ fn seen<R: Threads + Wait + Sync>(
         rt,
         alloc,
         &watch,
+        &[],
         &mut folder,
         texts.as_slice(),
         &mut Counted::new(alloc, none),

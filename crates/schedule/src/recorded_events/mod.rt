@@ -3,10 +3,11 @@
 //! # Proved
 //!
 //! - `RecordedEvents` is a list of events that grows at its end, kept as entries for runs of equal ones; its type keeps
-//!   that each entry fits a schedule file, that neighbours are one entry wherever they can be, and that there are fewer
-//!   than 2^32 events (`IsRecord`).
+//!   that each entry fits a schedule file, that they are joined, and that there are fewer than 2^32 events
+//!   (`IsRecord`).
 //! - `append` adds so many equal events behind the others and takes no memory; `reserve` makes room for one more run
-//!   and changes no event, also where memory is wanted; `into_schedule` has the same events, packed.
+//!   and changes no event, also where memory is wanted; `into_schedule` has the same events, in entries that are joined
+//!   (`AreJoined`).
 //!
 //! # Wrong bodies
 //!

@@ -12,9 +12,12 @@
 //! - `parse`: what is answered is spelled so by the text (`found`); where the text spells entries, they and no others
 //!   are answered, with what they were recorded, memory aside (`only`). So what was printed is read back to the same
 //!   entries and the same recording, and a fault other than `OutOfMemory` comes only where the text spells nothing.
-//! - `read_either`: bytes that begin with a digit, `#` or white space are read as a text, and all others as a schedule
-//!   file; what is answered is given so (`found`, `entries`), what is given so is answered, memory aside (`only`), and
-//!   a fault stands in the bytes (`refused`): as a file that of `read_schedule`, and as a text, that it spells nothing.
+//! - The words of a text begin behind the comments in front, of both kinds (`text_words`), which `Words::new` passes;
+//!   and `is_schedule_word` is true exactly of a word that has entries alone, and a mark (`IsScheduleWord`).
+//! - `read_either`: bytes that begin with a digit, `/`, `#` or white space are read as a text, and all others as a
+//!   schedule file; what is answered is given so (`found`, `entries`), what is given so is answered, memory aside
+//!   (`only`), and a fault stands in the bytes (`refused`): as a file that of `read_schedule`, and as a text, that it
+//!   spells nothing.
 //! - A whole file comes back, too: `read_schedule`, `print`, `parse` and `write_schedule`, one after the other, give
 //!   the bytes that they began with, memory aside. That follows from their contracts (`SpellsSchedule`, and the clauses
 //!   `entries`, `only` and `written`), and no function says it.

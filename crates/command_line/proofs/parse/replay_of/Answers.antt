@@ -41,4 +41,5 @@ returns-clause-values c = record {
   explain = c.is_set.ensures;
   quiet = c.is_set-2.ensures;
   any_files = c.is_set-3.ensures;
+  files_alone = c.is_set-4.ensures;
 }

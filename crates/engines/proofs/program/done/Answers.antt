@@ -1,13 +1,13 @@
 use Rattle.std.proofs.Common.{refl}
 use Rattle.std.specs.Prelude.{None}
 use Rattle.std.proofs.lemmas.Result.{err_from_is_err_and}
-use Rattle.engines.proofs.CommandLemmas.{done_over, no_files, read_too, told_files, undone_over}
+use Rattle.engines.proofs.CommandLemmas.{done_over, no_files, read_too, told_files, undone_over, unread_over}
 use Rattle.engines.proofs.program.done.Goals as goal
 
 pub returns-in_err-files-clause-faulty : goal.returns-in_err-files-clause-faulty
 returns-in_err-files-clause-faulty g c =
     let p = err_from_is_err_and c.from_residual.result c.from_residual.ensures.1 in
-    rw (p.1, p.2) (None, no_files _ _ _ _ _ _ c.in_err-files.field-0.0 c.in_err-files.ensures.faulty refl, λ path. refl)
+    rw (p.1, p.2) (None, no_files _ _ _ _ _ _ _ c.in_err-files.field-0.0 c.in_err-files.ensures.faulty refl, λ path. refl)
 
 pub returns-in_err-files-clause-told : goal.returns-in_err-files-clause-told
 returns-in_err-files-clause-told g c =
@@ -19,7 +19,7 @@ returns-in_err-check_record-clause-faulty g c =
     let p = err_from_is_err_and c.from_residual-in_err-check_record.result c.from_residual-in_err-check_record.ensures.1 in
     rw (p.1, p.2) (
       None,
-      read_too _ _ (g.I.Source.remaining c.args.input.now) _ _ _ _ _ c.as_slice-paths.ensures.value c.in_ok-files.ensures.files
+      read_too _ _ _ (g.I.Source.remaining c.args.input.now) _ _ _ _ _ c.as_slice-paths.ensures.value c.in_ok-files.ensures.files
           c.in_err-check_record.field-0.0 c.in_err-check_record.ensures.read refl,
       λ path. refl,
     )
@@ -30,7 +30,7 @@ returns-in_err-status-clause-faulty g c =
     let undone = c.in_err-status.ensures.faulty in
     rw (p.1, p.2) (
       undone.0,
-      undone_over _ _ _ _ _ _ _ _ c.as_slice-paths.ensures.value c.in_ok-files.ensures.files
+      undone_over _ _ _ _ _ _ _ _ _ c.as_slice-paths.ensures.value c.in_ok-files.ensures.files _ _ c.as_slice-whole.ensures.value c.in_ok-handed.ensures.handed
           c.in_err-status.field-0.0 undone.0 c.in_ok-check_record.ensures.apart undone.1,
       undone.2,
     )
@@ -40,8 +40,13 @@ returns-clause-done g c =
     let done = c.in_ok-status.ensures.done in (
       done.0,
       done.1,
-      done_over _ _ _ _ None None _ _ c.as_slice-paths.ensures.value c.in_ok-files.ensures.files
+      done_over _ _ _ _ _ None None _ _ c.as_slice-paths.ensures.value c.in_ok-files.ensures.files _ _ c.as_slice-whole.ensures.value c.in_ok-handed.ensures.handed
           done.0 done.1 c.in_ok-status.status c.in_ok-check_record.ensures.apart done.2,
       done.3,
       done.4,
     )
+
+pub returns-in_err-handed-clause-faulty : goal.returns-in_err-handed-clause-faulty
+returns-in_err-handed-clause-faulty g c =
+    let p = err_from_is_err_and c.from_residual-in_err-handed.result c.from_residual-in_err-handed.ensures.1 in
+    rw (p.1, p.2) (None, unread_over _ _ _ _ _ _ _ c.in_err-handed.field-0.0 c.in_err-handed.ensures.unread refl, λ path. refl)

@@ -13,9 +13,9 @@ returns g c =
     let swept = c.in_ok-swept.swept in
     let by : SeededPolicy → ℕ → RunsBy = λ policy budget. record { policy = policy; trees = arc_value c.args.verified.now; limits = c.limits-limits.result; budget = budget } in
     let runs : c.new-runs.result ≡ by (seeded_policy c.args.sweep.now.policy) (unwrap_or c.args.options.now.options.budget 10000000) =
-        c.new-runs.ensures
-        ∙ (ap (λ p. by p c.sweep_budget-budget.result) c.seeded_policy-policy.ensures
-        ∙ ap (by (seeded_policy c.args.sweep.now.policy)) c.sweep_budget-budget.ensures)
+    c.new-runs.ensures
+    ∙ (ap (λ p. by p c.sweep_budget-budget.result) c.seeded_policy-policy.ensures
+    ∙ ap (by (seeded_policy c.args.sweep.now.policy)) c.sweep_budget-budget.ensures)
     in
     record {
       limits = c.limits-limits.result;

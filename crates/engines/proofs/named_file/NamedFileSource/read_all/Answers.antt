@@ -6,3 +6,6 @@ returns-in-Device-clause-lost g c = loses_all _
 
 pub returns-in-Memory-clause-lost : goal.returns-in-Memory-clause-lost
 returns-in-Memory-clause-lost g c = loses_nothing _
+
+pub returns-in_err-copy-clause-lost : goal.returns-in_err-copy-clause-lost
+returns-in_err-copy-clause-lost g c = loses_nothing _

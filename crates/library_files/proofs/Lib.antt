@@ -1,0 +1,6 @@
+pub mod Needing
+pub mod Naming
+pub mod Offering
+pub mod Turns
+pub mod Missing
+pub mod Spelled
