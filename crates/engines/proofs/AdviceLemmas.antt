@@ -1,5 +1,5 @@
 -- Files that are read for advice.
-use Rattle.std.proofs.Common.{inl, inr, ◌⊎◌, ◌≡◌, ℕ, ◌+◌, ◌<◌, ◌≤◌, List, [], ◌∷◌, ◌++◌, length, map, take, get_or, Option, string_bytes, refl, sym, ap, subst}
+use Rattle.std.proofs.Common.{inl, inr, ◌⊎◌, ◌≡◌, ℕ, ◌+◌, ◌<◌, ◌≤◌, List, [], ◌∷◌, ◌++◌, length, map, take, get_or, Option, Some, string_bytes, refl, sym, ap, subst}
 use Rattle.std.proofs.lemmas.List.{take_all}
 use Rattle.std.specs.declared.string.String.{String}
 use Rattle.std.specs.Global.{Global}
@@ -9,9 +9,8 @@ use Rattle.library_files.specs.Adding.{LibraryFile}
 use Rattle.command_line.specs.CommandLine.{Spells}
 use Rattle.command_line.specs.declared.options.Command.{Command}
 use Rattle.engines.specs.declared.complaint.Complaint.{Complaint}
-use Rattle.engines.specs.declared.complaint.Complaint.TheVariants as complaints
 use Rattle.engines.specs.declared.fault.Fault.{Fault}
-use Rattle.engines.specs.Advised.{IsExplained, IsToldOf}
+use Rattle.engines.specs.Advised.{IsExplained, IsExplainedBy, IsToldOf, complaint_fault}
 use Rattle.engines.specs.Engines.{ReadsEach}
 use Rattle.engines.specs.Files.{Held, Listed, known}
 
@@ -24,9 +23,9 @@ reads_known (bytes ∷ files) = (refl, reads_known files)
 
 -- it is told of a fault of the command of the words
 pub explained : (library : List LibraryFile) (held : Held) (listed : Listed) (words : List (List ℕ)) (complaint : Complaint) (command : Command) (fault : Fault) (old new : List ℕ)
-    → complaint ≡ complaints.Fault fault → Spells words command → (new ≡ old) ⊎ IsToldOf library held listed command fault new
+    → complaint_fault complaint ≡ Some fault → Spells words command → (new ≡ old) ⊎ IsToldOf library held listed command fault new
     → IsExplained library held listed words complaint old new
 explained library held listed words complaint command fault old new is spelled (inl same) =
-    subst (λ (c : Complaint). IsExplained library held listed words c old new) (sym is) (inl same)
+    subst (λ (f : Option Fault). IsExplainedBy library held listed words f old new) (sym is) (inl same)
 explained library held listed words complaint command fault old new is spelled (inr more) =
-    subst (λ (c : Complaint). IsExplained library held listed words c old new) (sym is) (inr (inl (command, spelled, more)))
+    subst (λ (f : Option Fault). IsExplainedBy library held listed words f old new) (sym is) (inr (inl (command, spelled, more)))

@@ -1,9 +1,10 @@
 -- What a command does over the files that its words stand for.
-use Rattle.std.proofs.Common.{arith, ◌≡◌, ℕ, List, Option, inl, inr, map, refl, string_bytes, subst, sym, vec_items}
-use Rattle.std.specs.Prelude.{None}
+use Rattle.std.proofs.Common.{arith, ◌≡◌, ◌∙◌, ℕ, List, Option, inl, inr, length, map, refl, string_bytes, subst, sym}
+use Rattle.std.proofs.lemmas.List.{length-map}
+use Rattle.std.specs.Prelude.{None, Some}
+use Rattle.model.specs.Names.{Name}
 use Rattle.std.specs.declared.string.String.{String}
 use Rattle.std.specs.Global.{Global}
-use Rattle.std.specs.declared.vec.Vec.{Vec}
 use Rattle.command_line.specs.CommandLine.{Refuses, Spells}
 use Rattle.command_line.proofs.CommandLineLemmas.{refuses_more}
 use Rattle.command_line.specs.declared.options.Command.{Command}
@@ -11,11 +12,11 @@ use Rattle.command_line.specs.declared.usage.Usage.{Usage}
 use Rattle.program_files.specs.Folders.{Held, Listed, Written}
 use Rattle.program_files.specs.declared.files_fault.FilesFault.{FilesFault}
 use Rattle.program_files.specs.declared.files_fault.FilesFault.TheVariants as files
-use Rattle.engines.specs.Commands.{AreFiles, HasNoFiles, IsDone, IsDoneOver, IsReadToo, IsUndone, IsUndoneOver, IsUnread, Stops, record_path}
+use Rattle.engines.specs.Commands.{AreFiles, HasNoFiles, IsDone, IsDoneOver, IsReadToo, IsUndone, IsUndoneAs, IsUndoneOver, IsUnread, Stops, record_path}
 use Rattle.library_files.specs.Adding.{LibraryFile}
 use Rattle.engines.specs.Complaints.{complaint_of}
-use Rattle.engines.specs.Handed.{AreHanded, IsUnread as IsUnreadFile}
-use Rattle.engines.specs.Failures.{TellsComplaint}
+use Rattle.engines.specs.Handed.{AreHanded, IsComplaint, IsUnread as IsUnreadFile, refused_name}
+use Rattle.engines.specs.Failures.{TellsComplaint, TellsFailure}
 use Rattle.engines.specs.Files.{held_at, known}
 use Rattle.engines.specs.declared.fault.Fault.{Fault}
 use Rattle.engines.specs.declared.status.Status.{Status}
@@ -43,20 +44,37 @@ module _ (library : List LibraryFile) (held : Held) (listed : Listed) (input : O
         → IsUndone library held listed input command old new (complaints.Usage usage) None
     read_too usage read kept = (refuses_more usage _ _ (λ too. (map string_bytes paths, are_paths, too)) read, kept, refl)
 
-    module _ (handed whole : List (Vec ℕ Global)) (same_files : whole ≡ handed) (read : AreHanded library command (held_at held (map string_bytes paths)) (map vec_items handed)) where
-      are_handed : AreHanded library command (held_at held (map string_bytes paths)) (map vec_items whole)
-      are_handed = subst (λ files. AreHanded library command (held_at held (map string_bytes paths)) (map vec_items files)) (sym same_files)
-          read
+    module _ (files : List (List ℕ)) (added own : List LibraryFile) (handed : AreHanded library command (held_at held (map string_bytes paths)) files added own)
+        (given : ℕ) (counted : given ≡ length paths) where
+      all : given ≡ length (map string_bytes paths)
+      all = counted ∙ sym (length-map paths string_bytes)
 
-      pub undone_over : (fault : Fault) (written : Written) → IsUnread (record_path command) (map string_bytes paths)
-          → IsUndoneOver held (known (map vec_items whole)) input command old new fault written
-          → IsUndone library held listed input command old new (complaints.Fault fault) written
-      undone_over fault written unread undone = inr (map string_bytes paths, are_paths, unread, map vec_items whole, are_handed, undone)
+      undone_as : (fault : Fault) (refused : Option Name) (written : Written) → refused ≡ refused_name given added fault
+          → IsUnread (record_path command) (map string_bytes paths)
+          → IsUndoneOver held given own (known files) input command old new fault written
+          → IsUndoneAs library held listed input command old new fault refused written
+      undone_as fault refused written named unread undone =
+          let over = subst (λ n. IsUndoneOver held n own (known files) input command old new fault written) all undone in
+          let name = subst (λ n. refused ≡ refused_name n added fault) all named in
+          (map string_bytes paths, are_paths, unread, files, added, own, handed, name, over)
+
+      pub undone_over : (fault : Fault) (complaint : Complaint) (written : Written) → IsComplaint given added fault complaint
+          → IsUnread (record_path command) (map string_bytes paths)
+          → IsUndoneOver held given own (known files) input command old new fault written
+          → IsUndone library held listed input command old new complaint written
+      undone_over fault (complaints.Usage usage) written is unread undone = absurd is
+      undone_over fault (complaints.Files other) written is unread undone = absurd is
+      undone_over fault (complaints.Fault told) written (same, name) unread undone =
+          subst (λ f. IsUndone library held listed input command old new (complaints.Fault f) written) (sym same) (inr (undone_as fault None written (sym name) unread undone))
+      undone_over fault (complaints.Library told name) written (same, is) unread undone =
+          subst (λ f. IsUndoneAs library held listed input command old new f (Some name.now) written) (sym same) (undone_as fault (Some name.now) written (sym is) unread undone)
 
       pub done_over : (text : List ℕ) (written : Written) (status : Status) → IsUnread (record_path command) (map string_bytes paths)
-          → IsDoneOver held (known (map vec_items whole)) input command text written status
+          → IsDoneOver held given own (known files) input command text written status
           → IsDone library held listed input command text written status
-      done_over text written status unread done = (map string_bytes paths, are_paths, unread, map vec_items whole, are_handed, done)
+      done_over text written status unread done =
+          let over = subst (λ n. IsDoneOver held n own (known files) input command text written status) all done in
+          (map string_bytes paths, are_paths, unread, files, added, own, handed, over)
 
   -- where a file can't be read, nothing is done
   pub unread_over : (fault : Fault) → IsUnreadFile fault → new ≡ old → IsUndone library held listed input command old new (complaints.Fault fault) None
@@ -68,6 +86,7 @@ module _ (library : List LibraryFile) (held : Held) (listed : Listed) (input : O
   undone_stops words (complaints.Usage usage) written spells undone = inr (command, spells, undone)
   undone_stops words (complaints.Files fault) written spells undone = (command, spells, undone)
   undone_stops words (complaints.Fault fault) written spells undone = inr (command, spells, undone)
+  undone_stops words (complaints.Library fault name) written spells undone = (command, spells, undone)
 
 -- what keeps files from being handed on is told as it is
 pub told_files : (elsewhere : Type 0) (fault : FilesFault) (n : ℕ) → (fault ≡ files.Device → elsewhere) → TellsComplaint elsewhere (complaint_of fault) n n
@@ -78,3 +97,11 @@ told_files elsewhere (files.TooDeep path) n failed = omega arith
 told_files elsewhere (files.Mains names) n failed = omega arith
 told_files elsewhere (files.NoClass name) n failed = omega arith
 told_files elsewhere (files.NoMain name) n failed = omega arith
+
+-- a complaint of a fault is told as the fault is
+pub told_complaint : (elsewhere : Type 0) (given : ℕ) (added : List LibraryFile) (fault : Fault) (complaint : Complaint) (old new : ℕ) → IsComplaint given added fault complaint
+    → TellsFailure elsewhere fault old new → TellsComplaint elsewhere complaint old new
+told_complaint elsewhere given added fault (complaints.Usage usage) old new is told = absurd is
+told_complaint elsewhere given added fault (complaints.Files other) old new is told = absurd is
+told_complaint elsewhere given added fault (complaints.Fault f) old new (same, name) told = subst (λ g. TellsFailure elsewhere g old new) (sym same) told
+told_complaint elsewhere given added fault (complaints.Library f n) old new (same, name) told = subst (λ g. TellsFailure elsewhere g old new) (sym same) told

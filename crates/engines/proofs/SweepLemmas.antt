@@ -35,34 +35,34 @@ module _ (lefts : List (Option (List ℕ))) (run : Run) (sweep : SweepOptions) (
 
 -- ---- what is left
 
-module _ (held : Held) (lefts : List (Option (List ℕ))) (run : Run) (sweep : SweepOptions) (is : run.sweep ≡ Some sweep) (old new : Option (List ℕ)) (result : Result Status Fault) where
+module _ (held : Held) (given : ℕ) (lefts : List (Option (List ℕ))) (run : Run) (sweep : SweepOptions) (is : run.sweep ≡ Some sweep) (old new : Option (List ℕ)) (result : Result Status Fault) where
   done_by : (status : Status) → (want : Wanted) × (text : List ℕ) × IsAskedFor held sweep.goal want × SweepsOver lefts run sweep false want text status × Appends old new text
-      → Leaves (IsRunDoneBy held lefts run (Some sweep)) old new held held status
+      → Leaves (IsRunDoneBy held given lefts run (Some sweep)) old new held held status
   done_by status (want, text, asked, sweeps, written) = (text, None, record { want = want; asked = asked; sweeps = sweeps; recorded = refl }, written, λ path. refl)
 
   undone_by : (fault : Fault) → ((IsUnable fault × (new ≡ old)) ⊎ ((want : Wanted) × IsAskedFor held sweep.goal want × IsUnswept lefts run sweep false want old new fault))
-      → LeavesAt (IsRunUndoneBy held lefts run (Some sweep) old new) held held fault
+      → LeavesAt (IsRunUndoneBy held given lefts run (Some sweep) old new) held held fault
   undone_by fault (inl (unable, same)) = (None, inl (unable, same, refl), λ path. refl)
   undone_by fault (inr (want, asked, unswept)) = (None, inr (record { want = want; asked = asked; unswept = unswept; recorded = refl }), λ path. refl)
 
   pub sweep_done : IfOk result (λ status. (want : Wanted) × (text : List ℕ) × IsAskedFor held sweep.goal want
       × SweepsOver lefts run sweep false want text status × Appends old new text)
-      → IfOk result (Leaves (IsRunDoneBy held lefts run run.sweep) old new held held)
-  sweep_done done = subst (λ (s : Option SweepOptions). IfOk result (Leaves (IsRunDoneBy held lefts run s) old new held held)) (sym is) (by result done)
+      → IfOk result (Leaves (IsRunDoneBy held given lefts run run.sweep) old new held held)
+  sweep_done done = subst (λ (s : Option SweepOptions). IfOk result (Leaves (IsRunDoneBy held given lefts run s) old new held held)) (sym is) (by result done)
     where
       by : (r : Result Status Fault) → IfOk r (λ status. (want : Wanted) × (text : List ℕ) × IsAskedFor held sweep.goal want
           × SweepsOver lefts run sweep false want text status × Appends old new text)
-          → IfOk r (Leaves (IsRunDoneBy held lefts run (Some sweep)) old new held held)
+          → IfOk r (Leaves (IsRunDoneBy held given lefts run (Some sweep)) old new held held)
       by (Ok status) h = done_by status h
       by (Err fault) h = tt
 
   pub sweep_undone : IfErr result (λ fault. (IsUnable fault × (new ≡ old)) ⊎ ((want : Wanted) × IsAskedFor held sweep.goal want
       × IsUnswept lefts run sweep false want old new fault))
-      → IfErr result (LeavesAt (IsRunUndoneBy held lefts run run.sweep old new) held held)
-  sweep_undone undone = subst (λ (s : Option SweepOptions). IfErr result (LeavesAt (IsRunUndoneBy held lefts run s old new) held held)) (sym is) (by result undone)
+      → IfErr result (LeavesAt (IsRunUndoneBy held given lefts run run.sweep old new) held held)
+  sweep_undone undone = subst (λ (s : Option SweepOptions). IfErr result (LeavesAt (IsRunUndoneBy held given lefts run s old new) held held)) (sym is) (by result undone)
     where
       by : (r : Result Status Fault) → IfErr r (λ fault. (IsUnable fault × (new ≡ old)) ⊎ ((want : Wanted) × IsAskedFor held sweep.goal want
           × IsUnswept lefts run sweep false want old new fault))
-          → IfErr r (LeavesAt (IsRunUndoneBy held lefts run (Some sweep) old new) held held)
+          → IfErr r (LeavesAt (IsRunUndoneBy held given lefts run (Some sweep) old new) held held)
       by (Ok status) h = tt
       by (Err fault) h = undone_by fault h

@@ -1,5 +1,5 @@
 -- What is told behind a complaint, on standard error (own).
-use Rattle.std.specs.Prelude.{◌≡◌, ◌⊎◌, ℕ, List, [], ◌++◌, Option, Bool, false}
+use Rattle.std.specs.Prelude.{◌≡◌, ◌⊎◌, ℕ, List, [], ◌++◌, Option, Some, None, Bool, false}
 use Rattle.advice.specs.Advice.{IsAdvice}
 use Rattle.command_line.specs.CommandLine.{Asks, Fails, Spells}
 use Rattle.command_line.specs.declared.options.Command.{Command}
@@ -38,11 +38,24 @@ abbrev pub IsToldOf : List LibraryFile → Held → Listed → Command → Fault
 IsToldOf library held listed command fault new = (is_quiet command ≡ false)
     × ((front text : List ℕ) × (new ≡ front ++ text) × ((text ≡ []) ⊎ IsAdvised library held listed command fault text))
 
--- Behind words that are no command, or stand for no files, nothing is told. Otherwise the text that was told stands; or another one is told, of the fault of the
--- command of the words; or of help that can't be written, of which nothing is said.
-abbrev pub IsExplained : List LibraryFile → Held → Listed → (words : List (List ℕ)) → Complaint → (old new : List ℕ) → Type 0
-IsExplained library held listed words (complaints.Usage usage) old new = new ≡ old
-IsExplained library held listed words (complaints.Files fault) old new = new ≡ old
-IsExplained library held listed words (complaints.Fault fault) old new = (new ≡ old)
+-- what keeps a command from its end, where the words are one that stands for files
+abbrev pub complaint_fault : Complaint → Option Fault
+complaint_fault (complaints.Usage usage) = None
+complaint_fault (complaints.Files fault) = None
+complaint_fault (complaints.Fault fault) = Some fault
+complaint_fault (complaints.Library fault name) = Some fault
+
+-- the text that was told stands; or another one is told, of the fault of the command of the words; or of help that can't be written, of
+-- which nothing is said
+abbrev pub IsExplainedFault : List LibraryFile → Held → Listed → (words : List (List ℕ)) → Fault → (old new : List ℕ) → Type 0
+IsExplainedFault library held listed words fault old new = (new ≡ old)
     ⊎ (((command : Command) × Spells words command × IsToldOf library held listed command fault new)
     ⊎ ((usage : Usage) × Fails words usage × Asks usage))
+
+-- behind words that are no command, or stand for no files, nothing is told
+abbrev pub IsExplainedBy : List LibraryFile → Held → Listed → (words : List (List ℕ)) → Option Fault → (old new : List ℕ) → Type 0
+IsExplainedBy library held listed words None old new = new ≡ old
+IsExplainedBy library held listed words (Some fault) old new = IsExplainedFault library held listed words fault old new
+
+abbrev pub IsExplained : List LibraryFile → Held → Listed → (words : List (List ℕ)) → Complaint → (old new : List ℕ) → Type 0
+IsExplained library held listed words complaint old new = IsExplainedBy library held listed words (complaint_fault complaint) old new

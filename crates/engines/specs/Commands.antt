@@ -1,6 +1,6 @@
 -- What a command does, by what the files hold that its words stand for: the text that it writes to the output, the file that it writes, and
 -- its status (own). Each does what its engine does, with these files in their order.
-use Rattle.std.specs.Prelude.{◌≡◌, ◌⊎◌, ℕ, ◌-◌, ◌^◌, Bool, true, false, List, [], map, Option, Some, None, IsTrue, is_some, string_bytes, unwrap_or, vec_items, Result, Ok, Err}
+use Rattle.std.specs.Prelude.{◌≡◌, ◌⊎◌, ℕ, ◌-◌, ◌^◌, Bool, true, false, List, [], length, map, Option, Some, None, IsTrue, is_some, string_bytes, unwrap_or, vec_items, Result, Ok, Err}
 use Rattle.std.specs.Option.{option_and_then, option_map}
 use Rattle.std.specs.Io.KnownBytes.{Appends}
 use Rattle.model.specs.Devices.{AppendsFront}
@@ -25,7 +25,7 @@ use Rattle.engines.specs.Continuations.{Continues, IsUncontinued}
 use Rattle.engines.specs.Devices.{IsUnable}
 use Rattle.engines.specs.Files.{Held, IsWith, Listed, OfSchedule, Path, Written, held_at, known, written_at}
 use Rattle.library_files.specs.Adding.{LibraryFile}
-use Rattle.engines.specs.Handed.{AreHanded, IsUnread as IsUnreadFile}
+use Rattle.engines.specs.Handed.{AreHanded, IsUnread as IsUnreadFile, refused_name}
 use Rattle.program_files.specs.Given.{AreGiven, IsUnable as IsUnableFor, IsUngiven, is_given}
 use Rattle.program_files.specs.Handed.{AreHandedOn, IsUnhanded}
 use Rattle.program_files.specs.declared.files_fault.FilesFault.{FilesFault}
@@ -101,7 +101,7 @@ IsReadToo (Some path) files = is_given files path ≡ true
 -- this is so of the files that a command hands on
 abbrev pub OfFiles : List LibraryFile → Held → Listed → Command → (List (Option (List ℕ)) → Type 0) → Type 0
 OfFiles library held listed command P = (paths : List Path) × AreFiles held listed command paths
-    × (files : List (List ℕ)) × AreHanded library command (held_at held paths) files × P (known files)
+    × (files : List (List ℕ)) × (added own : List LibraryFile) × AreHanded library command (held_at held paths) files added own × P (known files)
 
 -- ---- what is recorded
 
@@ -112,16 +112,16 @@ IsUnrecorded outcome held holds written fault = ((outcome ≡ Err fault) × (IsW
 
 -- ---- run
 
-pub record IsRunDone (lefts : List (Option (List ℕ))) (run : Run) (text : List ℕ) (written : Written) (status : Status) : Type 0 where
+pub record IsRunDone (given : ℕ) (lefts : List (Option (List ℕ))) (run : Run) (text : List ℕ) (written : Written) (status : Status) : Type 0 where
   pub file : Option (List ℕ)
-  pub runs : Runs lefts run.limits run.options text file status
+  pub runs : Runs given lefts run.limits run.options text file status
   pub made : IsTrue (is_some run.record) → IsTrue (is_some file)
   pub recorded : written ≡ written_at run.record file
 
 -- what was made may be recorded though the output failed
-pub record IsRunUndone (lefts : List (Option (List ℕ))) (run : Run) (old new : Option (List ℕ)) (fault : Fault) (written : Written) : Type 0 where
+pub record IsRunUndone (given : ℕ) (lefts : List (Option (List ℕ))) (run : Run) (old new : Option (List ℕ)) (fault : Fault) (written : Written) : Type 0 where
   pub file : Option (List ℕ)
-  pub unrun : IsUnrun lefts run.limits run.options old new None file fault
+  pub unrun : IsUnrun given lefts run.limits run.options old new None file fault
   pub recorded : (written ≡ None) ⊎ (written ≡ written_at run.record file)
 
 -- ---- run over seeds
@@ -140,39 +140,39 @@ pub record IsSweepUndone (held : Held) (lefts : List (Option (List ℕ))) (run :
   pub recorded : written ≡ None
 
 -- one run, or one for each of the seeds that are asked for
-abbrev pub IsRunDoneBy : Held → (lefts : List (Option (List ℕ))) → Run → Option SweepOptions → List ℕ → Written → Status → Type 0
-IsRunDoneBy held lefts run None text written status = IsRunDone lefts run text written status
-IsRunDoneBy held lefts run (Some sweep) text written status = IsSweepDone held lefts run sweep text written status
+abbrev pub IsRunDoneBy : Held → (given : ℕ) → (lefts : List (Option (List ℕ))) → Run → Option SweepOptions → List ℕ → Written → Status → Type 0
+IsRunDoneBy held given lefts run None text written status = IsRunDone given lefts run text written status
+IsRunDoneBy held given lefts run (Some sweep) text written status = IsSweepDone held lefts run sweep text written status
 
-abbrev pub IsRunUndoneBy : Held → (lefts : List (Option (List ℕ))) → Run → Option SweepOptions → (old new : Option (List ℕ)) → Fault → Written → Type 0
-IsRunUndoneBy held lefts run None old new fault written = IsRunUndone lefts run old new fault written
-IsRunUndoneBy held lefts run (Some sweep) old new fault written =
+abbrev pub IsRunUndoneBy : Held → (given : ℕ) → (lefts : List (Option (List ℕ))) → Run → Option SweepOptions → (old new : Option (List ℕ)) → Fault → Written → Type 0
+IsRunUndoneBy held given lefts run None old new fault written = IsRunUndone given lefts run old new fault written
+IsRunUndoneBy held given lefts run (Some sweep) old new fault written =
     (IsUnable fault × (new ≡ old) × (written ≡ None)) ⊎ IsSweepUndone held lefts run sweep old new fault written
 
 -- ---- replay
 
-pub record IsContinuationDone (held : Held) (lefts : List (Option (List ℕ))) (replay : Replay) (then_run : ThenRun) (text : List ℕ) (written : Written) (status : Status) : Type 0 where
+pub record IsContinuationDone (held : Held) (given : ℕ) (lefts : List (Option (List ℕ))) (replay : Replay) (then_run : ThenRun) (text : List ℕ) (written : Written) (status : Status) : Type 0 where
   pub file : Option (List ℕ)
-  pub continues : OfSchedule held (string_bytes replay.schedule) (λ left. Continues left lefts (conditions_of replay.limits replay.any_files)
+  pub continues : OfSchedule held (string_bytes replay.schedule) (λ left. Continues left lefts (conditions_of replay.limits replay.any_files given)
       (unwrap_or then_run.budget 10000000) text file status)
   pub made : IsTrue (is_some then_run.record) → IsTrue (is_some file)
   pub recorded : written ≡ written_at then_run.record file
 
-pub record IsContinuationUndone (held : Held) (lefts : List (Option (List ℕ))) (replay : Replay) (then_run : ThenRun) (old new : Option (List ℕ)) (fault : Fault) (written : Written) : Type 0 where
+pub record IsContinuationUndone (held : Held) (given : ℕ) (lefts : List (Option (List ℕ))) (replay : Replay) (then_run : ThenRun) (old new : Option (List ℕ)) (fault : Fault) (written : Written) : Type 0 where
   pub file : Option (List ℕ)
-  pub uncontinued : OfSchedule held (string_bytes replay.schedule) (λ left. IsUncontinued left lefts (conditions_of replay.limits replay.any_files)
+  pub uncontinued : OfSchedule held (string_bytes replay.schedule) (λ left. IsUncontinued left lefts (conditions_of replay.limits replay.any_files given)
       (unwrap_or then_run.budget 10000000) old new None file fault)
   pub recorded : (written ≡ None) ⊎ (written ≡ written_at then_run.record file)
 
-abbrev pub IsReplayDone : Held → (lefts : List (Option (List ℕ))) → Replay → Option ThenRun → List ℕ → Written → Status → Type 0
-IsReplayDone held lefts replay None text written status =
-    OfSchedule held (string_bytes replay.schedule) (λ left. Replays left lefts (conditions_of replay.limits replay.any_files) text status) × (written ≡ None)
-IsReplayDone held lefts replay (Some then_run) text written status = IsContinuationDone held lefts replay then_run text written status
+abbrev pub IsReplayDone : Held → (given : ℕ) → (lefts : List (Option (List ℕ))) → Replay → Option ThenRun → List ℕ → Written → Status → Type 0
+IsReplayDone held given lefts replay None text written status =
+    OfSchedule held (string_bytes replay.schedule) (λ left. Replays left lefts (conditions_of replay.limits replay.any_files given) text status) × (written ≡ None)
+IsReplayDone held given lefts replay (Some then_run) text written status = IsContinuationDone held given lefts replay then_run text written status
 
-abbrev pub IsReplayUndone : Held → (lefts : List (Option (List ℕ))) → Replay → Option ThenRun → (old new : Option (List ℕ)) → Fault → Written → Type 0
-IsReplayUndone held lefts replay None old new fault written =
-    OfSchedule held (string_bytes replay.schedule) (λ left. IsFaulty left lefts (conditions_of replay.limits replay.any_files) old new fault) × (written ≡ None)
-IsReplayUndone held lefts replay (Some then_run) old new fault written = IsContinuationUndone held lefts replay then_run old new fault written
+abbrev pub IsReplayUndone : Held → (given : ℕ) → (lefts : List (Option (List ℕ))) → Replay → Option ThenRun → (old new : Option (List ℕ)) → Fault → Written → Type 0
+IsReplayUndone held given lefts replay None old new fault written =
+    OfSchedule held (string_bytes replay.schedule) (λ left. IsFaulty left lefts (conditions_of replay.limits replay.any_files given) old new fault) × (written ≡ None)
+IsReplayUndone held given lefts replay (Some then_run) old new fault written = IsContinuationUndone held given lefts replay then_run old new fault written
 
 -- ---- trace
 
@@ -190,39 +190,39 @@ pub record IsWindow (trace : Trace) (window : Window) : Type 0 where
   pub form : window.form ≡ form_of trace.form
   pub summary : window.summary ≡ trace.summary
 
-abbrev pub IsTraceDone : Held → (lefts : List (Option (List ℕ))) → Trace → List ℕ → Written → Status → Type 0
-IsTraceDone held lefts trace text written status = (window : Window) × IsWindow trace window
-    × OfSchedule held (string_bytes trace.schedule) (λ left. Traces left lefts (conditions_of trace.limits trace.any_files) window text status) × (written ≡ None)
+abbrev pub IsTraceDone : Held → (given : ℕ) → (lefts : List (Option (List ℕ))) → Trace → List ℕ → Written → Status → Type 0
+IsTraceDone held given lefts trace text written status = (window : Window) × IsWindow trace window
+    × OfSchedule held (string_bytes trace.schedule) (λ left. Traces left lefts (conditions_of trace.limits trace.any_files given) window text status) × (written ≡ None)
 
-abbrev pub IsTraceUndone : Held → (lefts : List (Option (List ℕ))) → Trace → (old new : Option (List ℕ)) → Fault → Written → Type 0
-IsTraceUndone held lefts trace old new fault written = (window : Window) × IsWindow trace window
-    × OfSchedule held (string_bytes trace.schedule) (λ left. IsUntraced left lefts (conditions_of trace.limits trace.any_files) window old new fault) × (written ≡ None)
+abbrev pub IsTraceUndone : Held → (given : ℕ) → (lefts : List (Option (List ℕ))) → Trace → (old new : Option (List ℕ)) → Fault → Written → Type 0
+IsTraceUndone held given lefts trace old new fault written = (window : Window) × IsWindow trace window
+    × OfSchedule held (string_bytes trace.schedule) (λ left. IsUntraced left lefts (conditions_of trace.limits trace.any_files given) window old new fault) × (written ≡ None)
 
 -- ---- search
 
-pub record IsSearchDone (held : Held) (lefts : List (Option (List ℕ))) (search : Search) (text : List ℕ) (written : Written) (status : Status) : Type 0 where
+pub record IsSearchDone (held : Held) (given : ℕ) (lefts : List (Option (List ℕ))) (search : Search) (text : List ℕ) (written : Written) (status : Status) : Type 0 where
   pub want : Wanted
   pub asked : IsAskedFor held search.goal want
   pub file : Option (List ℕ)
-  pub searches : Searches lefts search.limits want (most_states search) (is_some search.record) text file status
+  pub searches : Searches given lefts search.limits want (most_states search) (is_some search.record) text file status
   pub recorded : written ≡ written_at search.record file
 
-pub record IsSearchUndone (held : Held) (lefts : List (Option (List ℕ))) (search : Search) (old new : Option (List ℕ)) (fault : Fault) (written : Written) : Type 0 where
+pub record IsSearchUndone (held : Held) (given : ℕ) (lefts : List (Option (List ℕ))) (search : Search) (old new : Option (List ℕ)) (fault : Fault) (written : Written) : Type 0 where
   pub want : Wanted
   pub asked : IsAskedFor held search.goal want
   pub file : Option (List ℕ)
-  pub unsearched : IsUnsearched lefts search.limits want (most_states search) (is_some search.record) old new None file fault
+  pub unsearched : IsUnsearched given lefts search.limits want (most_states search) (is_some search.record) old new None file fault
   pub recorded : (written ≡ None) ⊎ (written ≡ written_at search.record file)
 
 -- ---- verify and disasm
 
-abbrev pub VerifiesAs : (library : Bool) → List (Option (List ℕ)) → List ℕ → Type 0
-VerifiesAs true lefts text = VerifiesLibrary lefts text
-VerifiesAs false lefts text = Verifies lefts text
+abbrev pub VerifiesAs : (library : Bool) → (given : ℕ) → (own : List LibraryFile) → List (Option (List ℕ)) → List ℕ → Type 0
+VerifiesAs true given own lefts text = VerifiesLibrary given own lefts text
+VerifiesAs false given own lefts text = Verifies given own lefts text
 
-abbrev pub IsUnacceptedAs : (library : Bool) → List (Option (List ℕ)) → (old new : Option (List ℕ)) → Fault → Type 0
-IsUnacceptedAs true lefts old new fault = IsUnacceptedLibrary lefts old new fault
-IsUnacceptedAs false lefts old new fault = IsUnaccepted lefts old new fault
+abbrev pub IsUnacceptedAs : (library : Bool) → (given : ℕ) → (own : List LibraryFile) → List (Option (List ℕ)) → (old new : Option (List ℕ)) → Fault → Type 0
+IsUnacceptedAs true given own lefts old new fault = IsUnacceptedLibrary given own lefts old new fault
+IsUnacceptedAs false given own lefts old new fault = IsUnaccepted given own lefts old new fault
 
 -- of the text with names and line numbers nothing is said
 abbrev pub ListsAs : (names : Bool) → List (Option (List ℕ)) → List ℕ → Type 0
@@ -248,47 +248,56 @@ IsScheduleUndone held input schedule false old new fault written = IsUnprinted (
 
 -- ---- any command
 
--- What a command does where it has a status, by what its class files hold.
-abbrev pub IsDoneOver : Held → (lefts : List (Option (List ℕ))) → (input : Option (List ℕ)) → Command → List ℕ → Written → Status → Type 0
-IsDoneOver held lefts input (commands.Run run) text written status = IsRunDoneBy held lefts run run.sweep text written status
-IsDoneOver held lefts input (commands.Replay replay) text written status = IsReplayDone held lefts replay replay.then_run text written status
-IsDoneOver held lefts input (commands.Trace trace) text written status = IsTraceDone held lefts trace text written status
-IsDoneOver held lefts input (commands.Search search) text written status = IsSearchDone held lefts search text written status
-IsDoneOver held lefts input (commands.Verify verify) text written status =
-    VerifiesAs verify.library lefts text × (written ≡ None) × (status ≡ Returned)
-IsDoneOver held lefts input (commands.Disasm disasm) text written status =
+-- What a command does where it has a status, by what its class files hold. The first so many of them are given, and a library adds the
+-- others, but for its classes in whose place the files have their own.
+abbrev pub IsDoneOver : Held → (given : ℕ) → (own : List LibraryFile) → (lefts : List (Option (List ℕ))) → (input : Option (List ℕ)) → Command → List ℕ → Written → Status → Type 0
+IsDoneOver held given own lefts input (commands.Run run) text written status = IsRunDoneBy held given lefts run run.sweep text written status
+IsDoneOver held given own lefts input (commands.Replay replay) text written status = IsReplayDone held given lefts replay replay.then_run text written status
+IsDoneOver held given own lefts input (commands.Trace trace) text written status = IsTraceDone held given lefts trace text written status
+IsDoneOver held given own lefts input (commands.Search search) text written status = IsSearchDone held given lefts search text written status
+IsDoneOver held given own lefts input (commands.Verify verify) text written status =
+    VerifiesAs verify.library given own lefts text × (written ≡ None) × (status ≡ Returned)
+IsDoneOver held given own lefts input (commands.Disasm disasm) text written status =
     ListsAs disasm.names lefts text × (written ≡ None) × (status ≡ Returned)
-IsDoneOver held lefts input (commands.Schedule schedule) text written status = IsScheduleDone held input schedule schedule.write text written status
+IsDoneOver held given own lefts input (commands.Schedule schedule) text written status = IsScheduleDone held input schedule schedule.write text written status
 
 -- What keeps a command from a status, what is on the output then, and what is written.
-abbrev pub IsUndoneOver : Held → (lefts : List (Option (List ℕ))) → (input : Option (List ℕ)) → Command → (old new : Option (List ℕ)) → Fault → Written → Type 0
-IsUndoneOver held lefts input (commands.Run run) old new fault written = IsRunUndoneBy held lefts run run.sweep old new fault written
-IsUndoneOver held lefts input (commands.Replay replay) old new fault written = IsReplayUndone held lefts replay replay.then_run old new fault written
-IsUndoneOver held lefts input (commands.Trace trace) old new fault written = IsTraceUndone held lefts trace old new fault written
-IsUndoneOver held lefts input (commands.Search search) old new fault written =
-    (IsUnable fault × (new ≡ old) × (written ≡ None)) ⊎ IsSearchUndone held lefts search old new fault written
-IsUndoneOver held lefts input (commands.Verify verify) old new fault written =
-    ((IsUnable fault × (new ≡ old)) ⊎ IsUnacceptedAs verify.library lefts old new fault) × (written ≡ None)
-IsUndoneOver held lefts input (commands.Disasm disasm) old new fault written =
+abbrev pub IsUndoneOver : Held → (given : ℕ) → (own : List LibraryFile) → (lefts : List (Option (List ℕ))) → (input : Option (List ℕ)) → Command → (old new : Option (List ℕ)) → Fault → Written → Type 0
+IsUndoneOver held given own lefts input (commands.Run run) old new fault written = IsRunUndoneBy held given lefts run run.sweep old new fault written
+IsUndoneOver held given own lefts input (commands.Replay replay) old new fault written = IsReplayUndone held given lefts replay replay.then_run old new fault written
+IsUndoneOver held given own lefts input (commands.Trace trace) old new fault written = IsTraceUndone held given lefts trace old new fault written
+IsUndoneOver held given own lefts input (commands.Search search) old new fault written =
+    (IsUnable fault × (new ≡ old) × (written ≡ None)) ⊎ IsSearchUndone held given lefts search old new fault written
+IsUndoneOver held given own lefts input (commands.Verify verify) old new fault written =
+    ((IsUnable fault × (new ≡ old)) ⊎ IsUnacceptedAs verify.library given own lefts old new fault) × (written ≡ None)
+IsUndoneOver held given own lefts input (commands.Disasm disasm) old new fault written =
     ((IsUnable fault × (new ≡ old)) ⊎ IsUnlistedAs disasm.names lefts old new fault) × (written ≡ None)
-IsUndoneOver held lefts input (commands.Schedule schedule) old new fault written = IsScheduleUndone held input schedule schedule.write old new fault written
+IsUndoneOver held given own lefts input (commands.Schedule schedule) old new fault written = IsScheduleUndone held input schedule schedule.write old new fault written
 
 -- the same over the files that it hands on, none of which is written
 abbrev pub IsDone : List LibraryFile → Held → Listed → (input : Option (List ℕ)) → Command → List ℕ → Written → Status → Type 0
 IsDone library held listed input command text written status = (paths : List Path) × AreFiles held listed command paths
-    × IsUnread (record_path command) paths × (files : List (List ℕ)) × AreHanded library command (held_at held paths) files
-    × IsDoneOver held (known files) input command text written status
+    × IsUnread (record_path command) paths × (files : List (List ℕ)) × (added own : List LibraryFile) × AreHanded library command (held_at held paths) files added own
+    × IsDoneOver held (length paths) own (known files) input command text written status
 
--- and what keeps it from a status: one of them is to be written, or its words stand for none, and nothing is done; or there is a fault
+-- the same of what keeps it from a status; the class of the library that is refused has this name, if it is one
+abbrev pub IsUndoneAs : List LibraryFile → Held → Listed → (input : Option (List ℕ)) → Command → (old new : Option (List ℕ)) → Fault → (refused : Option (List ℕ)) → Written → Type 0
+IsUndoneAs library held listed input command old new fault refused written = (paths : List Path) × AreFiles held listed command paths
+    × IsUnread (record_path command) paths × (files : List (List ℕ)) × (added own : List LibraryFile)
+    × AreHanded library command (held_at held paths) files added own × (refused ≡ refused_name (length paths) added fault)
+    × IsUndoneOver held (length paths) own (known files) input command old new fault written
+
+-- What keeps a command from a status: one of its files is to be written, or its words stand for none, and nothing is done; or there is a
+-- fault.
 abbrev pub IsUndone : List LibraryFile → Held → Listed → (input : Option (List ℕ)) → Command → (old new : Option (List ℕ)) → Complaint → Written → Type 0
 IsUndone library held listed input command old new (complaints.Usage usage) written =
     Refuses usage ((files : List Path) × AreFiles held listed command files × IsReadToo (record_path command) files)
     × (new ≡ old) × (written ≡ None)
 IsUndone library held listed input command old new (complaints.Files fault) written = HasNoFiles held listed command fault × (new ≡ old) × (written ≡ None)
 IsUndone library held listed input command old new (complaints.Fault fault) written =
-    ((IsUnable fault ⊎ IsUnreadFile fault) × (new ≡ old) × (written ≡ None))
-    ⊎ ((paths : List Path) × AreFiles held listed command paths × IsUnread (record_path command) paths
-    × (files : List (List ℕ)) × AreHanded library command (held_at held paths) files × IsUndoneOver held (known files) input command old new fault written)
+    ((IsUnable fault ⊎ IsUnreadFile fault) × (new ≡ old) × (written ≡ None)) ⊎ IsUndoneAs library held listed input command old new fault None written
+IsUndone library held listed input command old new (complaints.Library fault name) written =
+    IsUndoneAs library held listed input command old new fault (Some name.now) written
 
 -- ---- the words of a command line
 
@@ -308,6 +317,8 @@ Stops library held listed input words old new (complaints.Usage usage) written =
     ⊎ ((command : Command) × Spells words command × IsUndone library held listed input command old new (complaints.Usage usage) written)
 Stops library held listed input words old new (complaints.Files fault) written =
     (command : Command) × Spells words command × IsUndone library held listed input command old new (complaints.Files fault) written
+Stops library held listed input words old new (complaints.Library fault name) written =
+    (command : Command) × Spells words command × IsUndone library held listed input command old new (complaints.Library fault name) written
 Stops library held listed input words old new (complaints.Fault fault) written =
     (AskForHelp words × IsUnable fault × ((text : List ℕ) × AppendsFront old new text) × (written ≡ None))
     ⊎ ((command : Command) × Spells words command × IsUndone library held listed input command old new (complaints.Fault fault) written)
@@ -316,6 +327,7 @@ Stops library held listed input words old new (complaints.Fault fault) written =
 abbrev pub IsUntold : Usage → (old new : Option (List ℕ)) → Complaint → Type 0
 IsUntold usage old new (complaints.Usage told) = (told ≡ usage) × (Asks usage → ⊥) × (new ≡ old)
 IsUntold usage old new (complaints.Files fault) = ⊥
+IsUntold usage old new (complaints.Library fault name) = ⊥
 IsUntold usage old new (complaints.Fault fault) = Asks usage × IsUnable fault × ((text : List ℕ) × AppendsFront old new text)
 
 -- ---- what a call leaves

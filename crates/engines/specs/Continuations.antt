@@ -7,7 +7,6 @@ use Rattle.model.specs.declared.end.End.{End}
 use Rattle.model.specs.Classes.{Program}
 use Rattle.model.specs.Devices.{AppendsFront}
 use Rattle.model.specs.Schedule.{events_of}
-use Rattle.schedule.specs.Files.{recording_of}
 use Rattle.schedule.specs.Joined.{RecordedFile}
 use Rattle.machine.specs.machine_replay.Replays.{text_of}
 use Rattle.program_runs.specs.continued_runs.Continuing.{GoesOn}
@@ -15,6 +14,7 @@ use Rattle.program_runs.specs.declared.continued_runs.run.Continued.{Continued}
 use Rattle.program_runs.specs.declared.continued_runs.run.Continued.TheVariants.{Whole, Part}
 use Rattle.engines.specs.Engines.{Reads, ReadsEach}
 use Rattle.engines.specs.Opening.{IsKeptBy, IsOpened}
+use Rattle.engines.specs.Recordings.{recording_over}
 use Rattle.engines.specs.Statuses.{status_of}
 use Rattle.engines.specs.declared.fault.Fault.{Fault}
 use Rattle.engines.specs.declared.fault.Fault.TheVariants as faults
@@ -43,7 +43,7 @@ pub record IsContinued (schedule : List ℕ) (files : List (List ℕ)) (options 
   pub comes_to : ComesTo continued events report end whole
   pub told : text ≡ text_of report end
   pub ended : status ≡ status_of report.threads.items end
-  pub spelled : IfSome file (λ bytes. RecordedFile bytes (Some (recording_of limits files)) whole)
+  pub spelled : IfSome file (λ bytes. RecordedFile bytes (Some (recording_over limits options.given files)) whole)
 
 -- the same of what these sources hold
 abbrev pub Continues : Option (List ℕ) → List (Option (List ℕ)) → Conditions → (budget : ℕ) → List ℕ → Option (List ℕ) → Status → Type 0

@@ -28,7 +28,7 @@ pub record IsOpened (schedule : List ℕ) (files : List (List ℕ)) (options : C
     (limits : Limits) : Type 0 where
   pub recorded : Option Recording
   pub given : GivesEvents schedule recorded events
-  pub fits_files : FitsFiles options.any_files recorded files
+  pub fits_files : FitsFiles options.any_files options.given recorded files
   pub fits_options : FitsOptions recorded options.limits
   pub limited : HasLimits recorded options.limits limits
   pub accepted : IsAccepted files trees
@@ -53,7 +53,7 @@ pub record IsUnlinked (left : Option (List ℕ)) (lefts : List (Option (List ℕ
   pub read : Reads left schedule
   pub read_files : ReadsEach lefts files
   pub given : GivesEvents schedule recorded events
-  pub fits_files : FitsFiles options.any_files recorded files
+  pub fits_files : FitsFiles options.any_files options.given recorded files
   pub fits_options : FitsOptions recorded options.limits
   pub refused : IsRefused files refusal
 

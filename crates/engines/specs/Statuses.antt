@@ -93,6 +93,7 @@ abbrev pub complaint_status : Complaint → Status
 complaint_status (complaints.Usage usage) = usage_status usage
 complaint_status (complaints.Files fault) = files_status fault
 complaint_status (complaints.Fault fault) = fault_status fault
+complaint_status (complaints.Library fault name) = fault_status fault
 
 -- the number by which the caller of the program sees it
 abbrev pub code_of : Status → ℕ

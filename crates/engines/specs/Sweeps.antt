@@ -1,6 +1,6 @@
 -- What the engine of sweeps answers and writes, by the bytes that its devices hold. Where a device says nothing of its bytes,
 -- they are any that it may have handed over.
-use Rattle.std.specs.Prelude.{◌≡◌, ◌⊎◌, ◌++◌, ℕ, Bool, List, [], ◌∷◌, Option, Some, None, codes, length, string_bytes, unwrap_or}
+use Rattle.std.specs.Prelude.{◌≡◌, ◌⊎◌, ◌++◌, ℕ, Bool, true, false, List, [], ◌∷◌, Option, Some, None, codes, length, string_bytes, unwrap_or}
 use Rattle.std.specs.List.{flat_map}
 use Rattle.std.specs.declared.string.String.{String}
 use Rattle.std.specs.Global.{Global}
@@ -52,6 +52,11 @@ limit_words limits =
     ++ (number_words (codes " --monitors ") limits.monitors
     ++ (number_words (codes " --threads ") limits.threads ++ number_words (codes " --frames ") limits.frames)))
 
+-- whether no class of the library is added
+abbrev pub alone_words : Bool → List ℕ
+alone_words true = codes " --files-alone"
+alone_words false = []
+
 abbrev pub main_words : Option (String Global) → List ℕ
 main_words None = []
 main_words (Some name) = codes " --main " ++ string_bytes name
@@ -59,9 +64,10 @@ main_words (Some name) = codes " --main " ++ string_bytes name
 abbrev pub file_words : List (String Global) → List ℕ
 file_words files = flat_map (λ file. 32 ∷ string_bytes file) files
 
--- the policy, the limits that are asked for, the class whose main is run, and the files
+-- the policy, the limits that are asked for, whether the files stand alone, the class whose main is run, and the files
 abbrev pub repeat_words : Run → SweepOptions → List ℕ
-repeat_words run sweep = policy_words sweep.policy ++ (limit_words run.limits ++ (main_words run.main ++ file_words run.files.items))
+repeat_words run sweep =
+    policy_words sweep.policy ++ (limit_words run.limits ++ (alone_words run.files_alone ++ (main_words run.main ++ file_words run.files.items)))
 
 -- ---- what is written
 

@@ -28,11 +28,11 @@ pub(crate) fn named_files<'a, F: Folder>(
     library: &[LibraryClass<'_>],
     paths: &'a [String],
 ) -> Result<Vec<GivenFile<'a>>, Fault>
-    ensures { IfOk result (λ files. AreHanded (map library_file library.now) command.now
-        (held_at (F.held folder.now) (map string_bytes paths.now)) (map bytes_of files.items)) }
+    ensures { IfOk result (λ files. (added : _) × (own : _) × AreHanded (map library_file library.now) command.now
+        (held_at (F.held folder.now) (map string_bytes paths.now)) (map bytes_of files.items) added own) }
 {
     let handed = handed_files(alloc, folder, command, library, paths)?;
-    let files = with_names(alloc, handed.as_slice(), paths)?;
+    let files = with_names(alloc, handed.files.as_slice(), paths)?;
     Ok(files)
 }
 

@@ -61,6 +61,7 @@ pub fn continue_engine<S: Source, W: Sink>(
         opened.verified,
         &opened.schedule,
         opened.files.as_slice(),
+        conditions.given,
         opened.limits,
         then_run.budget(),
         then_run.record.is_some(),
@@ -76,13 +77,14 @@ fn ran_on(
     verified: Verified,
     schedule: &Schedule,
     files: &[Vec<u8>],
+    given: usize,
     limits: Limits,
     budget: u32,
     is_recorded: bool,
 ) -> Result<Outcome, AllocError>
     requires { IsAccepted (map vec_items files.now) verified }
     ensures run { IfOk result (λ ran. (bytes : _) (options : _)
-        → IsOpened bytes (map vec_items files.now) options verified (events_of schedule.now) limits
+        → options.given ≡ given → IsOpened bytes (map vec_items files.now) options verified (events_of schedule.now) limits
         → IsContinued bytes (map vec_items files.now) options budget ran.text.items
         (option_map vec_items ran.file) ran.status) }
     ensures asked { IfOk result (λ ran. IsTrue is_recorded → IsTrue (is_some ran.file)) }
@@ -93,6 +95,7 @@ fn ran_on(
             outcome_of(
                 alloc,
                 files,
+                given,
                 limits,
                 &run.report,
                 run.end,
@@ -101,7 +104,16 @@ fn ran_on(
             )
         }
         Continued::Part(report, end) => {
-            outcome_of(alloc, files, limits, &report, end, schedule, is_recorded)
+            outcome_of(
+                alloc,
+                files,
+                given,
+                limits,
+                &report,
+                end,
+                schedule,
+                is_recorded,
+            )
         }
     }
 }

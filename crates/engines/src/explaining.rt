@@ -2,7 +2,8 @@
 
 ghost use Rattle.std.specs.Prelude.{◌≡◌, ◌⊎◌, map, string_bytes};
 ghost use Rattle.library_files.specs.Adding.{library_file};
-ghost use Rattle.engines.specs.Advised.{IsExplained, IsToldOf, is_quiet};
+ghost use Rattle.std.specs.Option.{option_map};
+ghost use Rattle.engines.specs.Advised.{IsExplained, IsToldOf, complaint_fault, is_quiet};
 
 use crate::advised::{advised, named_files};
 use crate::command_files::{command_files, record_path};
@@ -45,7 +46,7 @@ pub fn explain_complaint<F: Folder>(
     library: &[LibraryClass<'_>],
     folder: &F,
     words: &[String],
-    complaint: &Complaint,
+    complaint: &Complaint<'_>,
     failures: Failures<'_>,
     explanation: &mut Explanation,
 )
@@ -53,7 +54,7 @@ pub fn explain_complaint<F: Folder>(
         (map string_bytes words.now) complaint.now
         explanation.old explanation.new }
 {
-    let Complaint::Fault(fault) = complaint else {
+    let Some(fault) = fault_of(complaint) else {
         return;
     };
     match command(alloc, words) {
@@ -71,6 +72,16 @@ pub fn explain_complaint<F: Folder>(
             explanation.tell(indented(alloc, of_streams(alloc, failures)));
         }
         Err(_) => {}
+    }
+}
+
+/// What keeps the command from its end, where the words are one that stands for files.
+fn fault_of<'a>(complaint: &'a Complaint<'_>) -> Option<&'a Fault>
+    ensures { option_map (λ fault. fault.now) result ≡ complaint_fault complaint.now }
+{
+    match complaint {
+        Complaint::Usage(_) | Complaint::Files(_) => None,
+        Complaint::Fault(fault) | Complaint::Library(fault, _) => Some(fault),
     }
 }
 
@@ -200,7 +211,7 @@ fn line_of<F: Folder>(
     match fault {
         Fault::Device | Fault::Memory => Ok(None),
         Fault::Schedule(fault) => match schedule {
-            Some(path) => Ok(Some(of_schedule(alloc, folder, command, path, *fault)?)),
+            Some(path) => Ok(Some(of_schedule(alloc, folder, command, library, path, *fault)?)),
             None => Ok(None),
         },
         Fault::Text(fault) => {
@@ -228,12 +239,13 @@ fn of_schedule<F: Folder>(
     alloc: Global,
     folder: &F,
     command: &Command,
+    library: &[LibraryClass<'_>],
     path: &str,
     fault: ScheduleFault,
 ) -> Result<Vec<u8>, AllocError> {
     if let ScheduleFault::Files = fault {
         if let Ok(paths) = command_files(alloc, folder, command) {
-            if let Some(line) = differing(alloc, folder, path, &paths) {
+            if let Some(line) = differing(alloc, folder, command, library, path, &paths) {
                 return Ok(line);
             }
         }

@@ -14,7 +14,7 @@ use crate::commands::{disasm, replay, run as run_command, schedule, search, trac
 use crate::complaint::Complaint;
 use crate::explanation::Explanation;
 use crate::fault::Fault;
-use crate::handed::handed_files;
+use crate::handed::{Handed, handed_files};
 use crate::seeds::Seeds;
 use crate::status::Status;
 use command_line::{Command, Usage, command};
@@ -37,6 +37,7 @@ use std::thread::Threads;
 /// complaint is for the caller to tell, and so is the explanation, which gets what the threads of a run are about that
 /// did not end normally, where it is due.
 pub fn run<
+    'a,
     R: Threads + Wait + Sync,
     G: Gate + Progress + Seeds + Sync,
     F: Folder,
@@ -46,13 +47,13 @@ pub fn run<
     rt: &R,
     alloc: Global,
     gate: &G,
-    library: &[LibraryClass<'_>],
+    library: &[LibraryClass<'a>],
     folder: &mut F,
     words: &[String],
     input: &mut I,
     output: &mut W,
     explanation: &mut Explanation,
-) -> Result<Status, Complaint>
+) -> Result<Status, Complaint<'a>>
     // What the command that the words spell does with the files that they name is done, and nothing else.
     ensures done { IfOk result (Leaves
         (Does (map library_file library.now) (F.held folder.old) (F.listed folder.old) (I.remaining input.old) (map string_bytes words.now))
@@ -84,7 +85,7 @@ pub fn run<
 }
 
 /// Writes help or the version, where the words ask for it.
-fn told<W: Sink>(alloc: Global, usage: Usage, output: &mut W) -> Result<Status, Complaint>
+fn told<'a, W: Sink>(alloc: Global, usage: Usage, output: &mut W) -> Result<Status, Complaint<'a>>
     ensures told { IfOk result (λ status. (text : _) × (status ≡ Status.Returned) × Asks usage
         × Appends (W.contents output.old) (W.contents output.new) text) }
     ensures untold { IfErr result (IsUntold usage (W.contents output.old) (W.contents output.new)) }
@@ -111,17 +112,24 @@ fn write_help<W: Sink>(alloc: Global, usage: &Usage, output: &mut W) -> Result<(
 }
 
 /// Does what a command says, over the files that its words stand for.
-fn done<R: Threads + Wait + Sync, G: Gate + Progress + Seeds + Sync, F: Folder, I: Source, W: Sink>(
+fn done<
+    'a,
+    R: Threads + Wait + Sync,
+    G: Gate + Progress + Seeds + Sync,
+    F: Folder,
+    I: Source,
+    W: Sink,
+>(
     rt: &R,
     alloc: Global,
     gate: &G,
-    library: &[LibraryClass<'_>],
+    library: &[LibraryClass<'a>],
     folder: &mut F,
     command: &Command,
     input: &mut I,
     output: &mut W,
     explanation: &mut Explanation,
-) -> Result<Status, Complaint>
+) -> Result<Status, Complaint<'a>>
     ensures done { IfOk result (Leaves
         (IsDone (map library_file library.now) (F.held folder.old) (F.listed folder.old) (I.remaining input.old)
         command.now)
@@ -138,22 +146,26 @@ fn done<R: Threads + Wait + Sync, G: Gate + Progress + Seeds + Sync, F: Folder, 
     let paths = files.as_slice();
     check_record(alloc, command, paths)?;
     let handed = handed_files(alloc, folder, command, library, paths)?;
-    let whole = handed.as_slice();
-    let status = done_over(
+    let given = paths.len();
+    let outcome = done_over(
         rt,
         alloc,
         gate,
         folder,
-        whole,
+        &handed,
+        given,
         command,
         input,
         output,
         explanation,
-    )?;
-    Ok(status)
+    );
+    match outcome {
+        Ok(status) => Ok(status),
+        Err(fault) => Err(handed.complaint(given, fault)),
+    }
 }
 
-/// Does what a command says, over files of these bytes.
+/// Does what a command says, over these files, of which the first so many are given.
 fn done_over<
     R: Threads + Wait + Sync,
     G: Gate + Progress + Seeds + Sync,
@@ -165,23 +177,25 @@ fn done_over<
     alloc: Global,
     gate: &G,
     folder: &mut F,
-    files: &[Vec<u8>],
+    handed: &Handed<'_>,
+    given: usize,
     command: &Command,
     input: &mut I,
     output: &mut W,
     explanation: &mut Explanation,
 ) -> Result<Status, Fault>
     ensures done { IfOk result (Leaves
-        (IsDoneOver (F.held folder.old) (known (map vec_items files.now))
+        (IsDoneOver (F.held folder.old) given (map library_file handed.now.own.items) (known (map vec_items handed.now.files.items))
         (I.remaining input.old) command.now)
         (W.contents output.old) (W.contents output.new) (F.held folder.old) (F.held folder.new)) }
     ensures faulty { IfErr result
-        (LeavesAt (IsUndoneOver (F.held folder.old) (known (map vec_items files.now))
+        (LeavesAt (IsUndoneOver (F.held folder.old) given (map library_file handed.now.own.items) (known (map vec_items handed.now.files.items))
         (I.remaining input.old)
         command.now (W.contents output.old) (W.contents output.new)) (F.held folder.old) (F.held folder.new)) }
     ensures told { TellsFailures (FolderMayFail F.may_fail) result
         (I.failures input.old + W.failures output.old) (I.failures input.new + W.failures output.new) }
 {
+    let files = handed.files.as_slice();
     match command {
         Command::Run(options) => run_command(
             rt,
@@ -189,22 +203,40 @@ fn done_over<
             gate,
             folder,
             files,
+            given,
             options,
             output,
             explanation,
         ),
-        Command::Replay(options) => replay(alloc, folder, files, options, output, explanation),
-        Command::Trace(options) => trace(alloc, folder, files, options, output, explanation),
+        Command::Replay(options) => replay(
+            alloc,
+            folder,
+            files,
+            given,
+            options,
+            output,
+            explanation,
+        ),
+        Command::Trace(options) => trace(alloc, folder, files, given, options, output, explanation),
         Command::Search(options) => search(
             alloc,
             gate,
             folder,
             files,
+            given,
             options,
             output,
             explanation,
         ),
-        Command::Verify(options) => verify(alloc, folder, files, options, output),
+        Command::Verify(options) => verify(
+            alloc,
+            folder,
+            files,
+            given,
+            handed.own.as_slice(),
+            options,
+            output,
+        ),
         Command::Disasm(options) => disasm(alloc, folder, files, options, output),
         Command::Schedule(options) => schedule(alloc, folder, options, input, output, explanation),
     }

@@ -32,6 +32,16 @@ fn push_limits(alloc: Global, words: &mut String, limits: &LimitOptions) -> Resu
     push_number(alloc, words, " --frames ", limits.frames)
 }
 
+/// That the files stand alone, where that is asked for.
+fn push_alone(words: &mut String, alone: bool) -> Result<(), AllocError>
+    ensures { OnOk result (string_bytes words.new ≡ string_bytes words.old ++ spec.alone_words alone) }
+{
+    if alone {
+        return words.push_str(" --files-alone");
+    }
+    Ok(())
+}
+
 /// The class whose main is run, where it is named.
 fn push_main(words: &mut String, main: &Option<String>) -> Result<(), AllocError>
     ensures { OnOk result (string_bytes words.new ≡ string_bytes words.old ++ spec.main_words main.now) }
@@ -77,6 +87,7 @@ pub(crate) fn repeat_words(
     let mut words = String::new(alloc);
     push_policy(&mut words, sweep.policy)?;
     push_limits(alloc, &mut words, &run.limits)?;
+    push_alone(&mut words, run.files_alone)?;
     push_main(&mut words, &run.main)?;
     push_files(&mut words, run.files.as_slice())?;
     Ok(words)

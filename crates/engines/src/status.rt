@@ -79,13 +79,14 @@ impl Status {
     }
 
     /// The status of a complaint.
-    pub fn of_complaint(complaint: &Complaint) -> Status
+    pub fn of_complaint(complaint: &Complaint<'_>) -> Status
         ensures { result ≡ complaint_status complaint.now }
     {
         match complaint {
             Complaint::Usage(usage) => Status::of_usage(usage),
             Complaint::Files(fault) => Status::of_files(fault),
             Complaint::Fault(fault) => Status::of_fault(fault),
+            Complaint::Library(fault, _) => Status::of_fault(fault),
         }
     }
 

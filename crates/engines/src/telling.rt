@@ -4,7 +4,6 @@ use crate::fault::Fault;
 use crate::named_file::schedule_source;
 use crate::recording::{Conditions, limits_of};
 use crate::verification::accepted;
-use command_line::LimitOptions;
 use explanations::thread_explanations::explain_threads;
 use model::{Limits, Source};
 use program_files::Folder;
@@ -33,15 +32,11 @@ pub(crate) fn told_record(
     alloc: Global,
     file: &Option<Vec<u8>>,
     files: &[Vec<u8>],
-    limits: &LimitOptions,
+    conditions: &Conditions,
     most: u64,
 ) -> Option<Vec<u8>> {
-    let conditions = Conditions {
-        limits: *limits,
-        any_files: false,
-    };
     match file {
-        Some(bytes) => { told_threads(alloc, bytes.as_slice(), files, &conditions, most).ok()? }
+        Some(bytes) => { told_threads(alloc, bytes.as_slice(), files, conditions, most).ok()? }
         None => None,
     }
 }

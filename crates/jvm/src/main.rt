@@ -62,8 +62,8 @@ fn words(rt: &HostRuntime) -> io::Result<Vec<String>> {
 
 /// What comes of the words.
 #[derive(Drop)]
-struct Ending {
-    outcome: Result<Status, Complaint>,
+struct Ending<'a> {
+    outcome: Result<Status, Complaint<'a>>,
     explanation: Explanation,
     /// Whether no more went wrong than that the output is a pipe that nobody reads.
     is_closed: bool,
@@ -80,8 +80,9 @@ fn is_closed(failure: Option<&io::Error>) -> bool {
 /// Does what the words say over the files of the system, with the library, the standard input and the standard output.
 /// The standard error shows how far a run or a search is, if it is a terminal.
 fn done<
+    'a,
     R: Files + Input + Print + Eprint + Clock + RandomSource + AllocGlobal + Threads + Wait + Sync,
->(rt: &R, library: &[LibraryClass<'_>], words: &[String], is_terminal: bool) -> Ending {
+>(rt: &R, library: &[LibraryClass<'a>], words: &[String], is_terminal: bool) -> Ending<'a> {
     let progress = Progress::new(rt, is_terminal);
     let mut output = Counted::new(rt.alloc(), Cleared::new(&progress, io::writer(rt)));
     let mut input = Counted::new(rt.alloc(), rt.reader());
@@ -143,7 +144,7 @@ fn without_words(rt: &HostRuntime, error: &io::Error) -> Status {
 
 /// The status, after a complaint has been told, and the lines of the explanation. Where the standard error fails, the
 /// status alone tells the complaint.
-fn told(rt: &HostRuntime, outcome: Result<Status, Complaint>, explanation: &[u8]) -> Status
+fn told(rt: &HostRuntime, outcome: Result<Status, Complaint<'_>>, explanation: &[u8]) -> Status
     ensures { MatchResult outcome (λ status. result ≡ status) (λ complaint. result ≡ complaint_status complaint) }
 {
     let status = match outcome {

@@ -4,3 +4,4 @@ pub mod Offering
 pub mod Turns
 pub mod Missing
 pub mod Spelled
+pub mod Own

@@ -1,8 +1,9 @@
 -- Class files that are completed from a library (own).
-use Rattle.std.specs.Prelude.{◌≡◌, ◌⊎◌, List, [], ◌++◌, map, Option, Some, None, ℕ}
+use Rattle.std.specs.Prelude.{◌≡◌, ◌⊎◌, Bool, List, [], ◌++◌, filter, map, Option, Some, None, ℕ}
+use Rattle.std.specs.List.{list_any}
 use Rattle.model.specs.Tree.{FileTree}
 use Rattle.model.specs.Spells.{Spells}
-use Rattle.model.specs.Classes.{Program}
+use Rattle.model.specs.Classes.{Program, is_named}
 use Rattle.model.specs.Linkable.{AreSpelled}
 use Rattle.class_tree.specs.declared.tree.ClassFile.{ClassFile}
 use Rattle.class_tree.specs.View.{file_of}
@@ -29,3 +30,18 @@ bytes_of_added added = map (λ (c : LibraryFile). c.bytes) added
 -- these are the files that are given, and behind them those of the classes that are added to them
 abbrev pub IsCompleted : List LibraryFile → (given whole : List (List ℕ)) → Type 0
 IsCompleted library given whole = (added : List LibraryFile) × AreAddedTo library given added × (whole ≡ given ++ bytes_of_added added)
+
+-- ---- classes in the place of the library's
+
+-- a class file has the name of a class
+abbrev pub has_own : Program → LibraryFile → Bool
+has_own files class = list_any (is_named class.name) files
+
+-- the classes of a library in whose place class files have their own
+abbrev pub own_classes : Program → List LibraryFile → List LibraryFile
+own_classes files library = filter (has_own files) library
+
+-- these are they, of files by their bytes: none where a file is no class file
+abbrev pub AreOwnOf : List LibraryFile → (given : List (List ℕ)) → List LibraryFile → Type 0
+AreOwnOf library given own = ((trees : Program) × AreSpelled given trees × (own ≡ own_classes trees library))
+    ⊎ (((trees : Program) → AreSpelled given trees → ⊥) × (own ≡ []))

@@ -2,10 +2,11 @@
 
 ghost use Rattle.std.specs.Prelude.{◌≡◌, ◌++◌, IfOk, map, option_map, vec_items};
 ghost use Rattle.library_files.specs.Adding.{library_file};
-ghost use Rattle.library_files.specs.Completing.{AreAddedTo, AreClassesOf, IsClassOf, IsCompleted, bytes_of_added};
+ghost use Rattle.library_files.specs.Completing.{AreAddedTo, AreClassesOf, AreOwnOf, IsClassOf, IsCompleted, bytes_of_added};
 
 use crate::adding::added_classes;
 use crate::library_class::LibraryClass;
+use crate::offers::own_classes;
 use classfile::{Cause, ClassFile, decode};
 use std::alloc::{AllocError, Global};
 
@@ -52,8 +53,8 @@ pub fn added_to<'a>(
     }
 }
 
-/// The files, and behind them the bytes of the classes.
-fn with_bytes(
+/// The files, and behind them the bytes of the classes. `AllocError` for want of memory.
+pub fn with_bytes(
     alloc: Global,
     files: Vec<Vec<u8>>,
     added: &[LibraryClass<'_>],
@@ -79,4 +80,20 @@ pub fn completed(
 {
     let added = added_to(alloc, &files, library)?;
     with_bytes(alloc, files, &added)
+}
+
+/// The classes of a library in whose place files have their own: those of the same names. There is none where a file is
+/// no class file. `AllocError` for want of memory.
+pub fn own_of<'a>(
+    alloc: Global,
+    files: &[Vec<u8>],
+    library: &[LibraryClass<'a>],
+) -> Result<Vec<LibraryClass<'a>>, AllocError>
+    ensures { IfOk result (λ own. AreOwnOf (map library_file library.now) (map vec_items files.now)
+        (map library_file own.items)) }
+{
+    match classes_of(alloc, files)? {
+        Some(classes) => own_classes(alloc, &classes, library),
+        None => Ok(Vec::new(alloc)),
+    }
 }

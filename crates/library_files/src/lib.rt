@@ -10,6 +10,6 @@ mod needs;
 mod offers;
 
 pub use adding::added_classes;
-pub use completing::{added_to, completed};
+pub use completing::{added_to, completed, own_of, with_bytes};
 pub use library_class::LibraryClass;
 pub use names::needed_names;

@@ -7,6 +7,7 @@ ghost use Rattle.model.specs.Classes.{Program, is_named};
 ghost use Rattle.model.specs.Resolution.{is_missing};
 ghost use Rattle.class_tree.specs.View.{file_of};
 ghost use Rattle.library_files.specs.Adding.{library_file};
+ghost use Rattle.library_files.specs.Completing.{own_classes};
 ghost use Rattle.library_files.specs.Offers.{FindsOffered, has_name, library_place, offers_of};
 
 use crate::library_class::LibraryClass;
@@ -115,4 +116,22 @@ pub(crate) fn offered_place(
         return Some(place);
     }
     None
+}
+
+/// The classes of a library in whose place class files have their own: those of the same names.
+pub(crate) fn own_classes<'a>(
+    alloc: Global,
+    files: &[ClassFile],
+    library: &[LibraryClass<'a>],
+) -> Result<Vec<LibraryClass<'a>>, AllocError>
+    ensures { IfOk result (λ own.
+        map library_file own.items ≡ own_classes (map file_of files.now) (map library_file library.now)) }
+{
+    let mut own = Vec::new(alloc);
+    for class in library {
+        if is_declared(files, class.name) {
+            own.push(*class)?;
+        }
+    }
+    Ok(own)
 }

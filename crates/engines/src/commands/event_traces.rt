@@ -25,27 +25,28 @@ pub(crate) fn trace<F: Folder, W: Sink>(
     alloc: Global,
     folder: &F,
     files: &[Vec<u8>],
+    given: usize,
     options: &Trace,
     output: &mut W,
     explanation: &mut Explanation,
 ) -> Result<Status, Fault>
     ensures traced { IfOk result (λ status. (text : _)
-        × IsTraceDone (F.held folder.now)
+        × IsTraceDone (F.held folder.now) given
         (known (map vec_items files.now)) options.now text None status
         × Appends (W.contents output.old) (W.contents output.new) text) }
     ensures faulty { IfErr result (λ fault.
-        IsTraceUndone (F.held folder.now) (known (map vec_items files.now)) options.now
+        IsTraceUndone (F.held folder.now) given (known (map vec_items files.now)) options.now
         (W.contents output.old) (W.contents output.new) fault None) }
     ensures told { TellsFailures (FolderMayFail F.may_fail) result (W.failures output.old) (W.failures output.new) }
 {
-    let status = traced(alloc, folder, files, options, output)?;
+    let status = traced(alloc, folder, files, given, options, output)?;
     if let Some(most) = explanation.most_events(status, options.explain, options.quiet) {
         let lines = told_schedule(
             alloc,
             folder,
             &options.schedule,
             files,
-            &conditions_of(options),
+            &conditions_of(options, given),
             most,
         );
         explanation.tell(lines);
@@ -58,19 +59,20 @@ fn traced<'a, F: Folder, W: Sink>(
     alloc: Global,
     folder: &'a F,
     files: &'a [Vec<u8>],
+    given: usize,
     options: &'a Trace,
     output: &mut W,
 ) -> Result<Status, Fault>
     ensures traced { IfOk result (λ status. (text : _)
-        × IsTraceDone (F.held folder.now)
+        × IsTraceDone (F.held folder.now) given
         (known (map vec_items files.now)) options.now text None status
         × Appends (W.contents output.old) (W.contents output.new) text) }
     ensures faulty { IfErr result (λ fault.
-        IsTraceUndone (F.held folder.now) (known (map vec_items files.now)) options.now
+        IsTraceUndone (F.held folder.now) given (known (map vec_items files.now)) options.now
         (W.contents output.old) (W.contents output.new) fault None) }
     ensures told { TellsFailures (FolderMayFail F.may_fail) result (W.failures output.old) (W.failures output.new) }
 {
-    let conditions = conditions_of(options);
+    let conditions = conditions_of(options, given);
     let window = window_of(options);
     let mut schedule = schedule_source(folder, options.schedule.as_str());
     let mut sources = sources(alloc, folder, files)?;
@@ -85,12 +87,13 @@ fn traced<'a, F: Folder, W: Sink>(
 }
 
 /// Under what the schedule is to run.
-fn conditions_of(options: &Trace) -> Conditions
-    ensures { result ≡ conditions_of options.now.limits options.now.any_files }
+fn conditions_of(options: &Trace, given: usize) -> Conditions
+    ensures { result ≡ conditions_of options.now.limits options.now.any_files given }
 {
     Conditions {
         limits: options.limits,
         any_files: options.any_files,
+        given,
     }
 }
 

@@ -29,31 +29,41 @@ pub(crate) fn replay<F: Folder, W: Sink>(
     alloc: Global,
     folder: &mut F,
     files: &[Vec<u8>],
+    given: usize,
     options: &Replay,
     output: &mut W,
     explanation: &mut Explanation,
 ) -> Result<Status, Fault>
     ensures done { IfOk result
-        (Leaves (IsReplayDone (F.held folder.old)
+        (Leaves (IsReplayDone (F.held folder.old) given
         (known (map vec_items files.now)) options.now options.now.then_run)
         (W.contents output.old) (W.contents output.new) (F.held folder.old) (F.held folder.new)) }
     ensures faulty { IfErr result
-        (LeavesAt (IsReplayUndone (F.held folder.old)
+        (LeavesAt (IsReplayUndone (F.held folder.old) given
         (known (map vec_items files.now)) options.now options.now.then_run
         (W.contents output.old) (W.contents output.new)) (F.held folder.old) (F.held folder.new)) }
     ensures told { TellsFailures (FolderMayFail F.may_fail) result (W.failures output.old) (W.failures output.new) }
 {
     if let Some(then_run) = &options.then_run {
-        return replay_on(alloc, folder, files, options, then_run, output, explanation);
+        return replay_on(
+            alloc,
+            folder,
+            files,
+            given,
+            options,
+            then_run,
+            output,
+            explanation,
+        );
     }
-    let status = replayed(alloc, folder, files, options, output)?;
+    let status = replayed(alloc, folder, files, given, options, output)?;
     if let Some(most) = explanation.most_events(status, options.explain, options.quiet) {
         let lines = told_schedule(
             alloc,
             folder,
             &options.schedule,
             files,
-            &conditions_of(options),
+            &conditions_of(options, given),
             most,
         );
         explanation.tell(lines);
@@ -66,18 +76,19 @@ fn replayed<'a, F: Folder, W: Sink>(
     alloc: Global,
     folder: &'a F,
     files: &'a [Vec<u8>],
+    given: usize,
     options: &'a Replay,
     output: &mut W,
 ) -> Result<Status, Fault>
     ensures replayed { IfOk result (λ status. (text : _)
         × OfSchedule (F.held folder.now) (string_bytes options.now.schedule) (λ left. Replays left
         (known (map vec_items files.now))
-        (conditions_of options.now.limits options.now.any_files) text status)
+        (conditions_of options.now.limits options.now.any_files given) text status)
         × Appends (W.contents output.old) (W.contents output.new) text) }
     ensures faulty { IfErr result (λ fault.
         OfSchedule (F.held folder.now) (string_bytes options.now.schedule) (λ left. IsFaulty left
         (known (map vec_items files.now))
-        (conditions_of options.now.limits options.now.any_files) (W.contents output.old)
+        (conditions_of options.now.limits options.now.any_files given) (W.contents output.old)
         (W.contents output.new) fault)) }
     ensures told { TellsFailures (FolderMayFail F.may_fail) result (W.failures output.old) (W.failures output.new) }
 {
@@ -87,18 +98,19 @@ fn replayed<'a, F: Folder, W: Sink>(
         alloc,
         &mut schedule,
         sources.as_mut_slice(),
-        &conditions_of(options),
+        &conditions_of(options, given),
         output,
     )
 }
 
 /// Under what the schedule is to run.
-fn conditions_of(options: &Replay) -> Conditions
-    ensures { result ≡ conditions_of options.now.limits options.now.any_files }
+fn conditions_of(options: &Replay, given: usize) -> Conditions
+    ensures { result ≡ conditions_of options.now.limits options.now.any_files given }
 {
     Conditions {
         limits: options.limits,
         any_files: options.any_files,
+        given,
     }
 }
 
@@ -107,27 +119,30 @@ fn replay_on<F: Folder, W: Sink>(
     alloc: Global,
     folder: &mut F,
     files: &[Vec<u8>],
+    given: usize,
     options: &Replay,
     then_run: &ThenRun,
     output: &mut W,
     explanation: &mut Explanation,
 ) -> Result<Status, Fault>
     ensures done { IfOk result
-        (Leaves (IsContinuationDone (F.held folder.old)
+        (Leaves (IsContinuationDone (F.held folder.old) given
         (known (map vec_items files.now)) options.now then_run.now)
         (W.contents output.old) (W.contents output.new) (F.held folder.old) (F.held folder.new)) }
     ensures faulty { IfErr result
-        (LeavesAt (IsContinuationUndone (F.held folder.old)
+        (LeavesAt (IsContinuationUndone (F.held folder.old) given
         (known (map vec_items files.now)) options.now then_run.now
         (W.contents output.old) (W.contents output.new)) (F.held folder.old) (F.held folder.new)) }
     ensures told { TellsFailures (FolderMayFail F.may_fail) result (W.failures output.old) (W.failures output.new) }
 {
     try_record(alloc, folder, &then_run.record, explanation)?;
     let mut file = None;
-    let outcome = continued(alloc, folder, files, options, then_run, output, &mut file);
+    let outcome = continued(
+        alloc, folder, files, given, options, then_run, output, &mut file,
+    );
     let status = recorded(alloc, folder, &then_run.record, &file, outcome, explanation)?;
     if let Some(most) = explanation.most_events(status, options.explain, options.quiet) {
-        let lines = told_record(alloc, &file, files, &options.limits, most);
+        let lines = told_record(alloc, &file, files, &conditions_of(options, given), most);
         explanation.tell(lines);
     }
     Ok(status)
@@ -138,6 +153,7 @@ fn continued<'a, F: Folder, W: Sink>(
     alloc: Global,
     folder: &'a F,
     files: &'a [Vec<u8>],
+    given: usize,
     options: &'a Replay,
     then_run: &ThenRun,
     output: &mut W,
@@ -146,13 +162,13 @@ fn continued<'a, F: Folder, W: Sink>(
     ensures continued { IfOk result (λ status. (text : _)
         × OfSchedule (F.held folder.now) (string_bytes options.now.schedule) (λ left. Continues left
         (known (map vec_items files.now))
-        (conditions_of options.now.limits options.now.any_files) (unwrap_or then_run.now.budget 10000000) text (option_map vec_items file.new) status)
+        (conditions_of options.now.limits options.now.any_files given) (unwrap_or then_run.now.budget 10000000) text (option_map vec_items file.new) status)
         × Appends (W.contents output.old) (W.contents output.new) text) }
     ensures asked { IfOk result (λ _. IsTrue (is_some then_run.now.record) → IsTrue (is_some file.new)) }
     ensures faulty { IfErr result (λ fault.
         OfSchedule (F.held folder.now) (string_bytes options.now.schedule) (λ left. IsUncontinued left
         (known (map vec_items files.now))
-        (conditions_of options.now.limits options.now.any_files)
+        (conditions_of options.now.limits options.now.any_files given)
         (unwrap_or then_run.now.budget 10000000)
         (W.contents output.old) (W.contents output.new) (option_map vec_items file.old)
         (option_map vec_items file.new) fault)) }
@@ -164,7 +180,7 @@ fn continued<'a, F: Folder, W: Sink>(
         alloc,
         &mut schedule,
         sources.as_mut_slice(),
-        &conditions_of(options),
+        &conditions_of(options, given),
         then_run,
         output,
         file,

@@ -14,6 +14,7 @@ use crate::explanation::Explanation;
 use crate::fault::Fault;
 use crate::going_on::how_to_go_on;
 use crate::named_file::sources;
+use crate::recording::Conditions;
 use crate::running::run_engine;
 use crate::seeds::Seeds;
 use crate::status::Status;
@@ -33,23 +34,34 @@ pub(crate) fn run<R: Threads + Wait + Sync, G: Gate + Seeds + Sync, F: Folder, W
     gate: &G,
     folder: &mut F,
     files: &[Vec<u8>],
+    given: usize,
     options: &Run,
     output: &mut W,
     explanation: &mut Explanation,
 ) -> Result<Status, Fault>
     ensures done { IfOk result
-        (Leaves (IsRunDoneBy (F.held folder.old) (known (map vec_items files.now)) options.now
+        (Leaves (IsRunDoneBy (F.held folder.old) given (known (map vec_items files.now)) options.now
         options.now.sweep)
         (W.contents output.old) (W.contents output.new) (F.held folder.old) (F.held folder.new)) }
     ensures faulty { IfErr result
-        (LeavesAt (IsRunUndoneBy (F.held folder.old) (known (map vec_items files.now))
+        (LeavesAt (IsRunUndoneBy (F.held folder.old) given (known (map vec_items files.now))
         options.now options.now.sweep (W.contents output.old) (W.contents output.new))
         (F.held folder.old) (F.held folder.new)) }
     ensures told { TellsFailures (FolderMayFail F.may_fail) result (W.failures output.old) (W.failures output.new) }
 {
     match &options.sweep {
         Some(sweep) => sweep_files(alloc, folder, files, options, sweep, output),
-        None => run_files(rt, alloc, gate, folder, files, options, output, explanation),
+        None => run_files(
+            rt,
+            alloc,
+            gate,
+            folder,
+            files,
+            given,
+            options,
+            output,
+            explanation,
+        ),
     }
 }
 
@@ -60,23 +72,26 @@ fn run_files<R: Threads + Wait + Sync, G: Gate + Seeds + Sync, F: Folder, W: Sin
     gate: &G,
     folder: &mut F,
     files: &[Vec<u8>],
+    given: usize,
     options: &Run,
     output: &mut W,
     explanation: &mut Explanation,
 ) -> Result<Status, Fault>
     ensures done { IfOk result
-        (Leaves (IsRunDone (known (map vec_items files.now)) options.now)
+        (Leaves (IsRunDone given (known (map vec_items files.now)) options.now)
         (W.contents output.old) (W.contents output.new) (F.held folder.old) (F.held folder.new)) }
     ensures faulty { IfErr result
-        (LeavesAt (IsRunUndone (known (map vec_items files.now)) options.now
+        (LeavesAt (IsRunUndone given (known (map vec_items files.now)) options.now
         (W.contents output.old) (W.contents output.new)) (F.held folder.old) (F.held folder.new)) }
     ensures told { TellsFailures (FolderMayFail F.may_fail) result (W.failures output.old) (W.failures output.new) }
 {
     try_record(alloc, folder, &options.record, explanation)?;
     let mut file = None;
-    let outcome = ran(rt, alloc, gate, folder, files, options, output, &mut file);
+    let outcome = ran(
+        rt, alloc, gate, folder, files, given, options, output, &mut file,
+    );
     let status = recorded(alloc, folder, &options.record, &file, outcome, explanation)?;
-    tell(alloc, files, options, status, &file, explanation);
+    tell(alloc, files, given, options, status, &file, explanation);
     Ok(status)
 }
 
@@ -84,6 +99,7 @@ fn run_files<R: Threads + Wait + Sync, G: Gate + Seeds + Sync, F: Folder, W: Sin
 fn tell(
     alloc: Global,
     files: &[Vec<u8>],
+    given: usize,
     options: &Run,
     status: Status,
     file: &Option<Vec<u8>>,
@@ -92,10 +108,19 @@ fn tell(
     let Some(most) = explanation.most_events(status, options.explain, options.quiet) else {
         return;
     };
-    let lines = told_record(alloc, file, files, &options.limits, most);
+    let lines = told_record(alloc, file, files, &conditions_of(options, given), most);
     explanation.tell(lines);
     if status == Status::UsedUp {
         explanation.tell_more(how_to_go_on(alloc, options));
+    }
+}
+
+/// Under what the schedule that was recorded is to run again.
+fn conditions_of(options: &Run, given: usize) -> Conditions {
+    Conditions {
+        limits: options.limits,
+        any_files: false,
+        given,
     }
 }
 
@@ -106,16 +131,17 @@ fn ran<R: Threads + Wait + Sync, G: Gate + Seeds + Sync, F: Folder, W: Sink>(
     gate: &G,
     folder: &F,
     files: &[Vec<u8>],
+    given: usize,
     options: &Run,
     output: &mut W,
     file: &mut Option<Vec<u8>>,
 ) -> Result<Status, Fault>
     ensures ran { IfOk result (λ status. (text : _)
-        × Runs (known (map vec_items files.now)) options.now.limits options.now.options
+        × Runs given (known (map vec_items files.now)) options.now.limits options.now.options
         text (option_map vec_items file.new) status
         × Appends (W.contents output.old) (W.contents output.new) text) }
     ensures asked { IfOk result (λ _. IsTrue (is_some options.now.record) → IsTrue (is_some file.new)) }
-    ensures faulty { IfErr result (IsUnrun (known (map vec_items files.now))
+    ensures faulty { IfErr result (IsUnrun given (known (map vec_items files.now))
         options.now.limits options.now.options (W.contents output.old) (W.contents output.new)
         (option_map vec_items file.old) (option_map vec_items file.new)) }
     ensures told { TellsFailures (FolderMayFail F.may_fail) result (W.failures output.old) (W.failures output.new) }
@@ -126,6 +152,7 @@ fn ran<R: Threads + Wait + Sync, G: Gate + Seeds + Sync, F: Folder, W: Sink>(
         alloc,
         gate,
         sources.as_mut_slice(),
+        given,
         options,
         output,
         file,

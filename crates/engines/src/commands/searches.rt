@@ -31,17 +31,18 @@ pub(crate) fn search<P: Progress, F: Folder, W: Sink>(
     progress: &P,
     folder: &mut F,
     files: &[Vec<u8>],
+    given: usize,
     options: &Search,
     output: &mut W,
     explanation: &mut Explanation,
 ) -> Result<Status, Fault>
     ensures done { IfOk result
-        (Leaves (IsSearchDone (F.held folder.old)
+        (Leaves (IsSearchDone (F.held folder.old) given
         (known (map vec_items files.now)) options.now)
         (W.contents output.old) (W.contents output.new) (F.held folder.old) (F.held folder.new)) }
     ensures faulty { IfErr result (LeavesAt (λ fault written.
         (IsUnable fault × (W.contents output.new ≡ W.contents output.old) × (written ≡ None))
-        ⊎ IsSearchUndone (F.held folder.old) (known (map vec_items files.now)) options.now
+        ⊎ IsSearchUndone (F.held folder.old) given (known (map vec_items files.now)) options.now
         (W.contents output.old) (W.contents output.new) fault written)
         (F.held folder.old) (F.held folder.new)) }
     ensures told { TellsFailures (FolderMayFail F.may_fail) result (W.failures output.old) (W.failures output.new) }
@@ -53,6 +54,7 @@ pub(crate) fn search<P: Progress, F: Folder, W: Sink>(
         progress,
         folder,
         files,
+        given,
         options,
         &wanted,
         output,
@@ -66,6 +68,7 @@ fn search_for<P: Progress, F: Folder, W: Sink>(
     progress: &P,
     folder: &mut F,
     files: &[Vec<u8>],
+    given: usize,
     options: &Search,
     wanted: &Wanted,
     output: &mut W,
@@ -73,17 +76,17 @@ fn search_for<P: Progress, F: Folder, W: Sink>(
 ) -> Result<Status, Fault>
     ensures done { IsAskedFor (F.held folder.old) options.now.goal wanted.now
         → IfOk result (Leaves
-        (IsSearchDone (F.held folder.old) (known (map vec_items files.now)) options.now)
+        (IsSearchDone (F.held folder.old) given (known (map vec_items files.now)) options.now)
         (W.contents output.old) (W.contents output.new) (F.held folder.old) (F.held folder.new)) }
     ensures faulty { IsAskedFor (F.held folder.old) options.now.goal wanted.now
         → IfErr result (LeavesAt
-        (IsSearchUndone (F.held folder.old) (known (map vec_items files.now)) options.now
+        (IsSearchUndone (F.held folder.old) given (known (map vec_items files.now)) options.now
         (W.contents output.old) (W.contents output.new)) (F.held folder.old) (F.held folder.new)) }
     ensures told { TellsFailures (FolderMayFail F.may_fail) result (W.failures output.old) (W.failures output.new) }
 {
     let mut file = None;
     let outcome = searched(
-        alloc, progress, folder, files, options, wanted, output, &mut file,
+        alloc, progress, folder, files, given, options, wanted, output, &mut file,
     );
     recorded(alloc, folder, &options.record, &file, outcome, explanation)
 }
@@ -94,17 +97,18 @@ fn searched<P: Progress, F: Folder, W: Sink>(
     progress: &P,
     folder: &F,
     files: &[Vec<u8>],
+    given: usize,
     options: &Search,
     wanted: &Wanted,
     output: &mut W,
     file: &mut Option<Vec<u8>>,
 ) -> Result<Status, Fault>
     ensures searched { IfOk result (λ status. (text : _)
-        × Searches (known (map vec_items files.now)) options.now.limits wanted.now
+        × Searches given (known (map vec_items files.now)) options.now.limits wanted.now
         (most_states options.now)
         (is_some options.now.record) text (option_map vec_items file.new) status
         × Appends (W.contents output.old) (W.contents output.new) text) }
-    ensures faulty { IfErr result (IsUnsearched (known (map vec_items files.now))
+    ensures faulty { IfErr result (IsUnsearched given (known (map vec_items files.now))
         options.now.limits wanted.now (most_states options.now) (is_some options.now.record) (W.contents output.old)
         (W.contents output.new)
         (option_map vec_items file.old) (option_map vec_items file.new)) }
@@ -115,6 +119,7 @@ fn searched<P: Progress, F: Folder, W: Sink>(
         alloc,
         progress,
         sources.as_mut_slice(),
+        given,
         options,
         wanted,
         output,

@@ -56,7 +56,7 @@ pub fn explain_difference(
             line.say(named(files, number))?;
             line.say(", with another checksum")?;
         }
-        Difference::Library => line.say(": it was recorded with other files of a class library")?,
+        Difference::Library => line.say(": it was recorded with other classes of the library")?,
     }
     Ok(line.into_bytes())
 }

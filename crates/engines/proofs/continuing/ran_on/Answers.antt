@@ -18,7 +18,7 @@ returns-in-Whole-clause-run c =
     let events = events_of c.args.schedule.now in
     let run = c.in-Whole.run' in
     let goes_on = subst (λ (trees : Program). GoesOn trees events c.args.limits c.args.budget c.in_ok-run.field-0) c.in_ok-verified.ensures.ok c.in_ok-run.ensures in
-    by_three c.outcome_of.result _ _ _ _ (λ outcome told ended spelled bytes options opened. record {
+    by_three c.outcome_of.result _ _ _ _ (λ outcome told ended spelled bytes options same opened. record {
       trees = c.args.verified;
       events = events;
       limits = c.args.limits;
@@ -38,7 +38,7 @@ pub returns-in-Part-clause-run : goal.returns-in-Part-clause-run
 returns-in-Part-clause-run c =
     let events = events_of c.args.schedule.now in
     let goes_on = subst (λ (trees : Program). GoesOn trees events c.args.limits c.args.budget c.in_ok-run.field-0) c.in_ok-verified.ensures.ok c.in_ok-run.ensures in
-    by_three c.outcome_of-in-Part.result _ _ _ _ (λ outcome told ended spelled bytes options opened. record {
+    by_three c.outcome_of-in-Part.result _ _ _ _ (λ outcome told ended spelled bytes options same opened. record {
       trees = c.args.verified;
       events = events;
       limits = c.args.limits;

@@ -1,7 +1,7 @@
 use Rattle.std.proofs.Common.{refl}
 use Rattle.std.specs.Prelude.{None}
 use Rattle.std.proofs.lemmas.Result.{err_from_is_err_and}
-use Rattle.engines.proofs.CommandLemmas.{done_over, no_files, read_too, told_files, undone_over, unread_over}
+use Rattle.engines.proofs.CommandLemmas.{done_over, no_files, read_too, told_complaint, told_files, undone_over, unread_over}
 use Rattle.engines.proofs.program.done.Goals as goal
 
 pub returns-in_err-files-clause-faulty : goal.returns-in_err-files-clause-faulty
@@ -24,24 +24,26 @@ returns-in_err-check_record-clause-faulty g c =
       λ path. refl,
     )
 
-pub returns-in_err-status-clause-faulty : goal.returns-in_err-status-clause-faulty
-returns-in_err-status-clause-faulty g c =
-    let p = err_from_is_err_and c.from_residual-in_err-status.result c.from_residual-in_err-status.ensures.1 in
-    let undone = c.in_err-status.ensures.faulty in
-    rw (p.1, p.2) (
+pub returns-in-Err-clause-faulty : goal.returns-in-Err-clause-faulty
+returns-in-Err-clause-faulty g c =
+    let fault = c.in-Err.fault in
+    let undone = ? in (
       undone.0,
-      undone_over _ _ _ _ _ _ _ _ _ c.as_slice-paths.ensures.value c.in_ok-files.ensures.files _ _ c.as_slice-whole.ensures.value c.in_ok-handed.ensures.handed
-          c.in_err-status.field-0.0 undone.0 c.in_ok-check_record.ensures.apart undone.1,
+      undone_over _ _ _ _ _ _ _ _ _ c.as_slice-paths.ensures.value c.in_ok-files.ensures.files _ _ _ c.in_ok-handed.ensures.handed _ c.len-given.ensures
+          fault c.complaint.result undone.0 c.complaint.ensures c.in_ok-check_record.ensures.apart undone.1,
       undone.2,
     )
 
-pub returns-clause-done : goal.returns-clause-done
-returns-clause-done g c =
-    let done = c.in_ok-status.ensures.done in (
+pub returns-in-Err-clause-told : goal.returns-in-Err-clause-told
+returns-in-Err-clause-told g c = told_complaint _ _ _ c.in-Err.fault c.complaint.result _ _ c.complaint.ensures ?
+
+pub returns-in-Ok-clause-done : goal.returns-in-Ok-clause-done
+returns-in-Ok-clause-done g c =
+    let done = ? in (
       done.0,
       done.1,
-      done_over _ _ _ _ _ None None _ _ c.as_slice-paths.ensures.value c.in_ok-files.ensures.files _ _ c.as_slice-whole.ensures.value c.in_ok-handed.ensures.handed
-          done.0 done.1 c.in_ok-status.status c.in_ok-check_record.ensures.apart done.2,
+      done_over _ _ _ _ _ None None _ _ c.as_slice-paths.ensures.value c.in_ok-files.ensures.files _ _ _ c.in_ok-handed.ensures.handed _ c.len-given.ensures
+          done.0 done.1 c.in-Ok.status c.in_ok-check_record.ensures.apart done.2,
       done.3,
       done.4,
     )
