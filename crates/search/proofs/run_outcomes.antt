@@ -2,3 +2,4 @@ mod Orders
 mod Lists
 mod Places
 pub mod Same
+mod SameLaws
