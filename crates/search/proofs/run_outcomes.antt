@@ -1,5 +1,4 @@
 mod Orders
 mod Lists
 mod Places
-pub mod Same
-mod SameLaws
+pub mod SameLaws
