@@ -1,5 +1,5 @@
 -- Schedules that are shrunk (own).
-use Rattle.std.specs.Prelude.{◌≤◌, ℕ, List, Option, Some, None, map}
+use Rattle.std.specs.Prelude.{◌≤◌, ℕ, List, Option, Some, None, length, map}
 use Rattle.model.specs.declared.end.End.{End}
 use Rattle.model.specs.declared.end.End.TheVariants as ends
 use Rattle.model.specs.declared.event.Event.{Event}
@@ -43,21 +43,21 @@ pub record TriesFor : Type 0 where
   pub budget : ℕ
   pub want : Wanted
 
--- a replay of these events that goes on has the outcome
+-- A replay of these events that goes on comes to it: with this budget, and with each greater one.
 abbrev pub Has : TriesFor → List Event → Type 0
-Has for events = (c : Continued) × GoesOn for.trees events for.limits for.budget c × ComesTo for.want c
+Has for events = (c : Continued) × ComesTo for.want c × ((budget : ℕ) → for.budget ≤ budget → GoesOn for.trees events for.limits budget c)
 
--- one has it not
+-- One with this budget doesn't, or the budget is less than the events.
 abbrev pub Lacks : TriesFor → List Event → Type 0
-Lacks for events = (c : Continued) × GoesOn for.trees events for.limits for.budget c × (ComesTo for.want c → ⊥)
+Lacks for events = (c : Continued) × GoesOn for.trees events for.limits for.budget c × (length events ≤ for.budget → ComesTo for.want c → ⊥)
 
 -- ---- what is answered
 
--- another schedule has what is wanted, too, and no more switches
-abbrev pub IsKept : (has : List Event → Type 0) → (old new : List ScheduleEntry) → Type 0
-IsKept has old new = has (events_of new) × (switches new ≤ switches old)
+-- other events have what is wanted, too, and go from a thread to another one no more often
+abbrev pub IsKept : (has : List Event → Type 0) → (old new : List Event) → Type 0
+IsKept has old new = has new × (switches new ≤ switches old)
 
--- Another schedule that has what is wanted, and no more switches than the given one; none, where that has it not.
-abbrev pub IsShrunk : (has lacks : List Event → Type 0) → (given : List ScheduleEntry) → Option (List ScheduleEntry) → Type 0
-IsShrunk has lacks given (Some shrunk) = IsKept has given shrunk
-IsShrunk has lacks given None = lacks (events_of given)
+-- A schedule that has what is wanted, and goes from a thread to another one no more often than the given events; none, where these have it not.
+abbrev pub IsShrunk : (has lacks : List Event → Type 0) → (given : List Event) → Option (List ScheduleEntry) → Type 0
+IsShrunk has lacks given (Some shrunk) = IsKept has given (events_of shrunk)
+IsShrunk has lacks given None = lacks given

@@ -17,7 +17,9 @@ use std::sync::Arc;
 use verifier::Verified;
 
 /// Tries whether a run has a wanted outcome that does the events of a schedule, and goes on where it ends: the threads
-/// go on in turn. It is of verified class files, under limits and with a budget of events.
+/// go on in turn. It is of verified class files, under limits and with a budget of events. A schedule of more events
+/// than the budget hasn't got it.
+#[derive(Drop)]
 pub struct ContinuedTries<'a> {
     verified: &'a Arc<Verified>,
     program: &'a Arc<LinkedProgram>,
@@ -100,6 +102,7 @@ impl Tries for ContinuedTries<'_> {
         let verified = Arc::try_clone(self.verified)?;
         let program = Arc::try_clone(self.program)?;
         let run = run_linked_on(alloc, verified, program, schedule, self.limits, self.budget)?;
-        comes_to(alloc, self.wanted, run)
+        let comes_to = comes_to(alloc, self.wanted, run)?;
+        Ok(comes_to && schedule.count() <= u64::from(self.budget))
     }
 }

@@ -19,7 +19,7 @@ fn takes<T: Tries>(
     candidate: Schedule,
 ) -> Result<bool, AllocError>
     requires { T.has tries.now (events_of best.old) }
-    ensures { OnOk result (IsKept (T.has tries.now) best.old best.new) }
+    ensures { OnOk result (IsKept (T.has tries.now) (events_of best.old) (events_of best.new)) }
 {
     let switches = switch_count(&candidate);
     let least = switch_count(best);
@@ -43,12 +43,13 @@ fn leave_out<T: Tries>(
 ) -> Result<bool, AllocError>
     requires some { 1 ≤ size }
     requires has { T.has tries.now (events_of best.old) }
-    ensures { OnOk result (IsKept (T.has tries.now) best.old best.new) }
+    ensures { OnOk result (IsKept (T.has tries.now) (events_of best.old) (events_of best.new)) }
 {
     let mut any = false;
     'places: for from in (0..best.len()).rev() {
-        if from % size == 0 {
-            let candidate = without(alloc, best, from, from.saturating_add(size))?;
+        if from % size == 0 && from < best.len() {
+            let to = from.saturating_add(size).min(best.len());
+            let candidate = without(alloc, best, from, to)?;
             let taken = takes(alloc, tries, best, candidate)?;
             any = any || taken;
         }
@@ -60,7 +61,7 @@ fn leave_out<T: Tries>(
 /// Answers whether any is moved. The only error is a want of memory.
 fn gather<T: Tries>(alloc: Global, tries: &T, best: &mut Schedule) -> Result<bool, AllocError>
     requires { T.has tries.now (events_of best.old) }
-    ensures { OnOk result (IsKept (T.has tries.now) best.old best.new) }
+    ensures { OnOk result (IsKept (T.has tries.now) (events_of best.old) (events_of best.new)) }
 {
     let mut any = false;
     'places: for place in (0..best.len()).rev() {
@@ -74,28 +75,51 @@ fn gather<T: Tries>(alloc: Global, tries: &T, best: &mut Schedule) -> Result<boo
     Ok(any)
 }
 
-/// Leaves out half of the entries, a quarter, and so on to single ones; and gathers those that are left. Answers whether
-/// anything has changed. The only error is a want of memory.
-fn go_through<T: Tries>(alloc: Global, tries: &T, best: &mut Schedule) -> Result<bool, AllocError>
+/// Leaves out all entries, half of them, a quarter, and so on to single ones, where what is wanted is there without
+/// them. Answers whether any are left out. The only error is a want of memory.
+fn leave_out_less<T: Tries>(
+    alloc: Global,
+    tries: &T,
+    best: &mut Schedule,
+) -> Result<bool, AllocError>
     requires { T.has tries.now (events_of best.old) }
-    ensures { OnOk result (IsKept (T.has tries.now) best.old best.new) }
+    ensures { OnOk result (IsKept (T.has tries.now) (events_of best.old) (events_of best.new)) }
 {
-    let joined = without(alloc, best, 0, 0)?;
-    let mut any = takes(alloc, tries, best, joined)?;
-    let mut size = best.len();
+    let mut any = false;
+    let mut size = best.len().max(1);
     'sizes: for _ in 0..64 {
-        size = (size + 1) / 2;
-        if size == 0 {
-            break;
-        }
         let fewer = leave_out(alloc, tries, best, size)?;
         any = any || fewer;
         if size == 1 {
             break;
         }
+        size = size.div_ceil(2);
     }
+    Ok(any)
+}
+
+/// Leaves out entries, and gathers those that are left. Answers whether anything has changed. The only error is a want
+/// of memory.
+fn go_through<T: Tries>(alloc: Global, tries: &T, best: &mut Schedule) -> Result<bool, AllocError>
+    requires { T.has tries.now (events_of best.old) }
+    ensures { OnOk result (IsKept (T.has tries.now) (events_of best.old) (events_of best.new)) }
+{
+    let fewer = leave_out_less(alloc, tries, best)?;
     let gathers = gather(alloc, tries, best)?;
-    Ok(any || gathers)
+    Ok(fewer || gathers)
+}
+
+/// Goes through a schedule that has what is wanted until nothing changes. The only error is a want of memory.
+fn shrunk<T: Tries>(alloc: Global, tries: &T, best: &mut Schedule) -> Result<(), AllocError>
+    requires { T.has tries.now (events_of best.old) }
+    ensures { OnOk result (IsKept (T.has tries.now) (events_of best.old) (events_of best.new)) }
+{
+    'rounds: for _ in 0..u32::MAX {
+        if !go_through(alloc, tries, best)? {
+            break;
+        }
+    }
+    Ok(())
 }
 
 /// A schedule that has what is wanted as a given one has it, and as few switches as are found by leaving out entries
@@ -104,18 +128,14 @@ fn go_through<T: Tries>(alloc: Global, tries: &T, best: &mut Schedule) -> Result
 pub fn shrink<T: Tries>(
     alloc: Global,
     tries: &T,
-    given: Schedule,
+    given: &Schedule,
 ) -> Result<Option<Schedule>, AllocError>
-    ensures { IfOk result (IsShrunk (T.has tries.now) (T.lacks tries.now) given) }
+    ensures { IfOk result (IsShrunk (T.has tries.now) (T.lacks tries.now) (events_of given.now)) }
 {
-    if !tries.has(alloc, &given)? {
+    if !tries.has(alloc, given)? {
         return Ok(None);
     }
-    let mut best = given;
-    'rounds: for _ in 0..u32::MAX {
-        if !go_through(alloc, tries, &mut best)? {
-            break;
-        }
-    }
+    let mut best = given.joined(alloc)?;
+    shrunk(alloc, tries, &mut best)?;
     Ok(Some(best))
 }

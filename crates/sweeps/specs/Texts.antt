@@ -70,13 +70,18 @@ abbrev pub unseen_line : SeededPolicy → (runs once : ℕ) → List ℕ
 unseen_line policy runs once =
     line (codes "unseen at most " ++ (number (min (once + 3) runs) ++ (codes " in " ++ (number runs ++ (codes " runs of " ++ name_of policy)))))
 
+-- what is shown, and how many outcomes are among it
+abbrev pub shown_text : (all : ℕ) → List Same → List ℕ
+shown_text all same = outcome_texts all 1 same ++ (line (codes "outcomes " ++ number (outcomes_in same)) ++ cut_texts same)
+
+-- how many runs and events there were, and what may be unseen
+abbrev pub sums_text : SeededPolicy → (first : ℕ) → TallyOf → List ℕ
+sums_text policy first t =
+    seeds_line t.runs first
+    ++ (line (codes "events " ++ number t.events) ++ (line (codes "once " ++ number (once_in t.same)) ++ unseen_line policy t.runs (once_in t.same)))
+
 abbrev pub tally_text : SeededPolicy → (first : ℕ) → TallyOf → List ℕ
-tally_text policy first t =
-    outcome_texts t.runs 1 t.same
-    ++ (line (codes "outcomes " ++ number (outcomes_in t.same))
-    ++ (cut_texts t.same
-    ++ (seeds_line t.runs first
-    ++ (line (codes "events " ++ number t.events) ++ (line (codes "once " ++ number (once_in t.same)) ++ unseen_line policy t.runs (once_in t.same))))))
+tally_text policy first t = shown_text t.runs t.same ++ sums_text policy first t
 
 -- why there are no more runs; with the words behind its seed, the run that shows what is wanted once more
 abbrev pub end_text : SweepEnd → (seed : ℕ) → (words : List ℕ) → List ℕ

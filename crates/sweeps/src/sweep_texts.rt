@@ -205,6 +205,40 @@ fn push_unseen(
     )
 }
 
+/// What runs have shown, and how many outcomes are among it.
+fn push_shown(
+    alloc: Global,
+    text: &mut Vec<u8>,
+    all: u128,
+    listed: &[SameRuns],
+) -> Result<(), AllocError>
+    ensures { OnOk result (text.new.items ≡ text.old.items ++ spec.shown_text all (map same_in listed.now)) }
+{
+    push_outcomes(alloc, text, all, listed)?;
+    let outcomes = outcome_count(listed);
+    push_line(text, format!(in alloc; "outcomes {outcomes}")?.as_bytes())?;
+    push_cuts(alloc, text, listed)
+}
+
+/// How many runs and events there were, and how many of further runs may show what none has shown.
+fn push_sums(
+    alloc: Global,
+    text: &mut Vec<u8>,
+    policy: SeededPolicy,
+    first: u64,
+    tally: &Tally,
+) -> Result<(), AllocError>
+    ensures { OnOk result (text.new.items ≡ text.old.items ++ spec.sums_text policy first tally.now) }
+{
+    let runs = tally.runs();
+    push_seeds(alloc, text, runs, first)?;
+    let events = tally.events();
+    push_line(text, format!(in alloc; "events {events}")?.as_bytes())?;
+    let once = once_count(tally.same());
+    push_line(text, format!(in alloc; "once {once}")?.as_bytes())?;
+    push_unseen(alloc, text, policy, runs, once)
+}
+
 /// What all runs have shown.
 fn push_tally(
     alloc: Global,
@@ -215,18 +249,8 @@ fn push_tally(
 ) -> Result<(), AllocError>
     ensures { OnOk result (text.new.items ≡ text.old.items ++ spec.tally_text policy first tally.now) }
 {
-    let listed = tally.same();
-    let runs = tally.runs();
-    push_outcomes(alloc, text, runs, listed)?;
-    let outcomes = outcome_count(listed);
-    push_line(text, format!(in alloc; "outcomes {outcomes}")?.as_bytes())?;
-    push_cuts(alloc, text, listed)?;
-    push_seeds(alloc, text, runs, first)?;
-    let events = tally.events();
-    push_line(text, format!(in alloc; "events {events}")?.as_bytes())?;
-    let once = once_count(listed);
-    push_line(text, format!(in alloc; "once {once}")?.as_bytes())?;
-    push_unseen(alloc, text, policy, runs, once)
+    push_shown(alloc, text, tally.runs(), tally.same())?;
+    push_sums(alloc, text, policy, first, tally)
 }
 
 /// Why there are no more runs, and where one shows what is wanted, how to have it once more.

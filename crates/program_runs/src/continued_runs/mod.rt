@@ -3,6 +3,7 @@
 //! # Proved
 //!
 //! - `run_on` (`GoesOn`), for all accepted files, schedules, limits and budgets, memory aside: it answers one of two.
+//!   So does `run_linked_on`, which is handed the linked program of the files (`IsProgramOf`).
 //!   - `Whole`: the record of a run of these files, under these limits and with this budget, as `worlds` says it. Its
 //!     events begin with those of the schedule: with all of them, or with as many as the budget (`Continues`). Behind
 //!     them each is of the first thread in rotation that has an enabled event, and picks the first waiter; the rotation

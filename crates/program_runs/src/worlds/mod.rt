@@ -8,7 +8,7 @@
 //!   at none of which a limit stood; that they are no more than the budget; and that an end which is set fits: no
 //!   thread may go on; or the budget is used up, and some thread may; or some event is enabled, and is refused.
 //! - `open` keeps the files, the limits and the budget that it is handed, with no event and no end, and errs for want
-//!   of memory alone; the getters.
+//!   of memory alone; so does `open_linked`, which is handed the linked program, too (`IsProgramOf`); the getters.
 //! - `repeat` (`RepeatsWithin`): where an end is set, nothing changes. Else an event is done so often, of as many times
 //!   as were asked for and the budget has left, and after these it is not done again, for a reason that stands
 //!   (`HasGone`); just these are recorded behind the others. Files, limits, budget and end stay. Where memory for the
@@ -27,10 +27,10 @@
 //!   the frame on top is where the burst has come to. Else it is `Stale`, and nothing has changed; nor has it where
 //!   memory is wanted.
 //! - `into_recorded` (`IsRecordOf`, `Keeps`), memory aside: the record names the world's class files and limits; its
-//!   events lead to a state, and no limit stood at any; they are no more than the budget; the report is their `meaning`
-//!   with the record's end, and that end fits; neither its events nor any next one meets an operand of a wrong kind.
-//!   Where the world had an end, it is that end, and the events are the world's; else turns are taken until there is
-//!   one.
+//!   events lead to a state, and no limit stood at any; they are no more than the budget, and the entries of their
+//!   schedule are joined (`AreJoined` of `schedule`); the report is their `meaning` with the record's end, and that end
+//!   fits; neither its events nor any next one meets an operand of a wrong kind. Where the world had an end, it is that
+//!   end, and the events are the world's; else turns are taken until there is one.
 //! - Where they refuse, `open` gives up what it was handed, `commit` the burst, and `into_recorded` the world.
 //!
 //! # Not proved

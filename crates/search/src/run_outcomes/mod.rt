@@ -7,6 +7,7 @@
 //! - `printed_lines`, memory aside: it makes of ints the text that a run prints of them (`printed_text`).
 //! - `Outcomes`: its outcomes are in an order, each once (`AreInOrder`); `add` lists one more and keeps the others
 //!   (`IsAdded`).
+//! - `Outcome::is_same`: whether two outcomes are equal (`equal`), which is where neither comes first (`is_same`).
 
 mod order;
 mod outcomes;
