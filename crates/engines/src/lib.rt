@@ -82,8 +82,9 @@
 //!     (`faulty`, `IsUnrun`);
 //!   - `Device` exactly with one more failure of a device (`counted`).
 //! - `sweep_engine`, over any readers and writer: with a status, one text was appended and nothing else: that of a
-//!   sweep over the seeds that are asked for (`swept`, `IsSwept`, with `Sweeps` of `sweeps`). With a refusal nothing was
-//!   written, with `memory` or `device` nothing or a beginning of the text (`faulty`, `IsUnswept`); `counted` as above.
+//!   sweep over the seeds that are asked for (`swept`, `IsSwept`, with `Sweeps` of `sweeps`). With a refusal nothing
+//!   was written, with `memory` or `device` nothing or a beginning of the text (`faulty`, `IsUnswept`); `counted` as
+//!   above.
 //! - `policy_for`, by which a run without workers gives turns: it is the policy that the options ask for, with the seed
 //!   or the quantum of these, or the usual quantum, or a seed of 32 bits (`IsAskedFor`). No clause says where a seed
 //!   that is drawn comes from, nor that it is told.
@@ -109,8 +110,8 @@
 //! - `names_engine`: the same as of `disasm_engine`, but that nothing is said of the text (`listed`, `faulty`,
 //!   `counted`).
 //! - The status of each outcome (`Status::of`, `of_complaint`, `of_files`, `of_fault`, `of_usage`, `code`); and that
-//!   the line of a fault (`fault_line`), or of a refused class of the library (`library_line`), is written where no write fails, with
-//!   its end and nothing else (`Fault::write_line`, `Complaint::write_text`).
+//!   the line of a fault (`fault_line`), or of a refused class of the library (`library_line`), is written where no
+//!   write fails, with its end and nothing else (`Fault::write_line`, `Complaint::write_text`).
 //! - No clause refuses a body that always answers a want of memory, or does so in the place of a refusal that stands in
 //!   the files. All cases show that this isn't so, of which some meet each refusal, and the tests of `linking_tests`
 //!   that link 65,000 files and files of half a megabyte.
