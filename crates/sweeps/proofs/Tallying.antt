@@ -7,7 +7,7 @@ use Rattle.std.proofs.lemmas.List.Sums.{sum_by_push}
 use Rattle.model.specs.declared.event.Event.{Event}
 use Rattle.model.specs.Schedule.{events_of}
 use Rattle.program_runs.specs.declared.worlds.records.Recorded.{Recorded}
-use Rattle.search.proofs.run_outcomes.Same.{same_laws}
+use Rattle.search.proofs.run_outcomes.SameLaws.{same_laws}
 use Rattle.sweeps.specs.Firsts.{First, firsts}
 use Rattle.sweeps.specs.Shown.{Shown, Ended, HasNoEnd, IsRefused, is_same_shown, show_same, shown_by}
 use Rattle.sweeps.specs.Tallies.{AreFew, HasRoom, Same, TallyOf, same_as, tally_of, with_one_more, with_run}
