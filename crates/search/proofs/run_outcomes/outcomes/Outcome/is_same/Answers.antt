@@ -3,7 +3,7 @@ use Rattle.std.specs.Prelude.{◌↔◌, Bool, IsTrue}
 use Rattle.std.specs.Ordering.{is_eq}
 use Rattle.search.specs.run_outcomes.Outcomes.{told_by}
 use Rattle.search.proofs.run_outcomes.SameLaws.{same_are_equal}
-use Rattle.search.proofs.run_outcomes.same.Outcome.is_same.Goals as goal
+use Rattle.search.proofs.run_outcomes.outcomes.Outcome.is_same.Goals as goal
 
 pub returns-clause-equal : goal.returns-clause-equal
 returns-clause-equal c =
