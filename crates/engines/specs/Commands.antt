@@ -32,6 +32,7 @@ use Rattle.program_files.specs.declared.files_fault.FilesFault.{FilesFault}
 use Rattle.engines.specs.Goals.{IsAskedFor}
 use Rattle.engines.specs.Libraries.{IsUnacceptedLibrary, VerifiesLibrary}
 use Rattle.engines.specs.Listings.{AreClassFiles, IsUnlisted, IsUnnamed, Lists}
+use Rattle.engines.specs.Opening.{IsKeptBy}
 use Rattle.engines.specs.Recordings.{conditions_of}
 use Rattle.engines.specs.Replays.{IsFaulty, Replays}
 use Rattle.engines.specs.Runs.{IsUnrun, Runs}
@@ -43,6 +44,7 @@ use Rattle.engines.specs.Verifications.{IsUnaccepted, Verifies}
 use Rattle.engines.specs.declared.complaint.Complaint.{Complaint}
 use Rattle.engines.specs.declared.complaint.Complaint.TheVariants as complaints
 use Rattle.engines.specs.declared.fault.Fault.{Fault}
+use Rattle.engines.specs.declared.recording.Conditions.{Conditions}
 use Rattle.engines.specs.declared.status.Status.{Status}
 use Rattle.engines.specs.declared.status.Status.TheVariants.{Returned}
 
@@ -287,15 +289,26 @@ IsUndoneAs library held listed input command old new fault refused written = (pa
     × AreHanded library command (held_at held paths) files added own × (refused ≡ refused_name (length paths) added fault)
     × IsUndoneOver held (length paths) own (known files) input command old new fault written
 
+-- the schedule that a word is, or whose path it is, keeps from a run of any class files
+abbrev pub KeepsSchedule : Held → (word : List ℕ) → Fault → Type 0
+KeepsSchedule held word fault = OfSchedule held word (λ left. (lefts : List (Option (List ℕ))) (options : Conditions) → IsKeptBy left lefts options fault)
+
+-- the schedule of a command does
+abbrev pub IsKeptFirst : Held → Command → Fault → Type 0
+IsKeptFirst held (commands.Replay replay) fault = KeepsSchedule held (string_bytes replay.schedule) fault
+IsKeptFirst held (commands.Trace trace) fault = KeepsSchedule held (string_bytes trace.schedule) fault
+IsKeptFirst held command fault = ⊥
+
 -- What keeps a command from a status: one of its files is to be written, or its words stand for none, and nothing is done; or there is a
--- fault.
+-- fault, of a class file that can't be read, or of the schedule where one can't be.
 abbrev pub IsUndone : List LibraryFile → Held → Listed → (input : Option (List ℕ)) → Command → (old new : Option (List ℕ)) → Complaint → Written → Type 0
 IsUndone library held listed input command old new (complaints.Usage usage) written =
     Refuses usage ((files : List Path) × AreFiles held listed command files × IsReadToo (record_path command) files)
     × (new ≡ old) × (written ≡ None)
 IsUndone library held listed input command old new (complaints.Files fault) written = HasNoFiles held listed command fault × (new ≡ old) × (written ≡ None)
 IsUndone library held listed input command old new (complaints.Fault fault) written =
-    ((IsUnable fault ⊎ IsUnreadFile fault) × (new ≡ old) × (written ≡ None)) ⊎ IsUndoneAs library held listed input command old new fault None written
+    ((IsUnable fault ⊎ (IsUnreadFile fault ⊎ IsKeptFirst held command fault)) × (new ≡ old) × (written ≡ None))
+    ⊎ IsUndoneAs library held listed input command old new fault None written
 IsUndone library held listed input command old new (complaints.Library fault name) written =
     IsUndoneAs library held listed input command old new fault (Some name.now) written
 

@@ -10,7 +10,9 @@ ghost use Rattle.library_files.specs.Adding.{library_file};
 ghost use Rattle.engines.specs.Failures.{FolderMayFail, TellsComplaint, TellsFailures};
 
 use crate::command_files::{check_record, command_files};
-use crate::commands::{disasm, replay, run as run_command, schedule, search, trace, verify};
+use crate::commands::{
+    disasm, replay, run as run_command, schedule, search, trace, unread, verify,
+};
 use crate::complaint::Complaint;
 use crate::explanation::Explanation;
 use crate::fault::Fault;
@@ -145,7 +147,13 @@ fn done<
     let files = command_files(alloc, folder, command)?;
     let paths = files.as_slice();
     check_record(alloc, command, paths)?;
-    let handed = handed_files(alloc, folder, command, library, paths)?;
+    let handed = match handed_files(alloc, folder, command, library, paths) {
+        Ok(handed) => handed,
+        Err(fault) => {
+            let first = unread(alloc, folder, command, fault, explanation);
+            return Err(Complaint::Fault(first));
+        }
+    };
     let given = paths.len();
     let outcome = done_over(
         rt,

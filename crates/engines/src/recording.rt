@@ -55,8 +55,10 @@ fn differ(recording: &Recording, files: &[Vec<u8>], given: usize) -> bool
     ensures fit { result ≡ false → FitsFiles false given (Some recording.now) (map vec_items files.now) }
     ensures differ { result ≡ true → FitsFiles false given (Some recording.now) (map vec_items files.now) → ⊥ }
 {
-    let difference = recording.difference(given_files(files, given), added_files(files, given));
-    difference.is_some()
+    match recording.difference(given_files(files, given), added_files(files, given)) {
+        None => false,
+        Some(_) => true,
+    }
 }
 
 /// The limits of the run: those that were recorded, and else those of the options.

@@ -4,6 +4,7 @@
 //!
 //! - Each function of a command is what `IsDone` and `IsUndone` say of it; `run` takes it whole.
 
+mod before_files;
 mod event_traces;
 mod given_files;
 mod outcome_texts;
@@ -14,6 +15,7 @@ mod searches;
 mod seed_sweeps;
 mod storing;
 
+pub(crate) use before_files::unread;
 pub(crate) use event_traces::trace;
 pub(crate) use given_files::{disasm, verify};
 pub(crate) use replays::replay;
