@@ -48,6 +48,7 @@ fn library_of<'a, 'b>(command: &Command, library: &'a [LibraryClass<'b>]) -> &'a
         Command::Replay(options) => unless_alone(options.files_alone, library),
         Command::Trace(options) => unless_alone(options.files_alone, library),
         Command::Search(options) => unless_alone(options.files_alone, library),
+        Command::Shrink(options) => unless_alone(options.files_alone, library),
         Command::Verify(options) => unless_alone(options.files_alone, library),
         Command::Disasm(_) => &[],
         Command::Schedule(_) => &[],

@@ -11,7 +11,7 @@ ghost use Rattle.engines.specs.Failures.{FolderMayFail, TellsComplaint, TellsFai
 
 use crate::command_files::{check_record, command_files};
 use crate::commands::{
-    disasm, replay, run as run_command, schedule, search, trace, unread, verify,
+    disasm, replay, run as run_command, schedule, search, shrink, trace, unread, verify,
 };
 use crate::complaint::Complaint;
 use crate::explanation::Explanation;
@@ -229,6 +229,15 @@ fn done_over<
         Command::Search(options) => search(
             alloc,
             gate,
+            folder,
+            files,
+            given,
+            options,
+            output,
+            explanation,
+        ),
+        Command::Shrink(options) => shrink(
+            alloc,
             folder,
             files,
             given,

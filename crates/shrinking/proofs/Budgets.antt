@@ -61,3 +61,7 @@ module _ (trees : Program) (events : List Event) (limits : Limits) (budget more 
   pub goes_on : (want : Wanted) (c : Continued) → ComesTo want c → GoesOn trees events limits budget c → GoesOn trees events limits more c
   goes_on want (continued.Whole r) wanted h = ((h.0.0, h.0.1, h.0.2, recorded want _ r.report r.end wanted h.0.3), continues limits.frames _ h.1)
   goes_on want (continued.Part r end) wanted h = elim wanted [ ]
+
+pub has_by : (for : TriesFor) (events : List Event) (c : Continued) → GoesOn for.trees events for.limits for.budget c → ComesTo for.want c
+    → length events ≤ for.budget → Has for events
+has_by for events c goes wanted fits = (c, wanted, λ more le. goes_on for.trees events for.limits for.budget more fits le for.want c wanted goes)

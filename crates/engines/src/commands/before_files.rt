@@ -5,13 +5,13 @@ ghost use Rattle.engines.specs.Commands.{IsKeptFirst, KeepsSchedule};
 ghost use Rattle.engines.specs.Devices.{IsUnable};
 ghost use Rattle.engines.specs.Failures.{FolderMayFail, TellsFailure, TellsFailures};
 
-use crate::commands::searches::wanted_by;
+use crate::commands::searches::{wanted_by, wanted_for};
 use crate::commands::storing::try_record;
 use crate::explanation::Explanation;
 use crate::fault::Fault;
 use crate::named_file::schedule_source;
 use crate::opening::read_given;
-use command_line::{Command, Goal, Replay, Run, Search};
+use command_line::{Command, Goal, Replay, Run, Search, Shrink};
 use program_files::Folder;
 use std::alloc::Global;
 
@@ -48,6 +48,7 @@ fn check_first<F: Folder>(
         Command::Replay(options) => check_replay(alloc, folder, options, explanation),
         Command::Trace(options) => check_schedule(alloc, folder, options.schedule.as_str()),
         Command::Search(options) => check_search(alloc, folder, options, explanation),
+        Command::Shrink(options) => check_shrink(alloc, folder, options, explanation),
         Command::Verify(_) | Command::Disasm(_) | Command::Schedule(_) => Ok(()),
     }
 }
@@ -94,6 +95,21 @@ fn check_search<F: Folder>(
 {
     check_record(alloc, folder, &options.record, explanation)?;
     check_goal(alloc, folder, &options.goal)
+}
+
+fn check_shrink<F: Folder>(
+    alloc: Global,
+    folder: &F,
+    options: &Shrink,
+    explanation: &mut Explanation,
+) -> Result<(), Fault>
+    ensures kept { IfErr result (λ fault. IsUnable fault
+        ⊎ KeepsSchedule (F.held folder.now) (string_bytes options.now.schedule) fault) }
+    ensures told { (n : ℕ) → TellsFailures (FolderMayFail F.may_fail) result n n }
+{
+    check_record(alloc, folder, &options.record, explanation)?;
+    let _ = wanted_for(alloc, folder, &options.goal)?;
+    check_schedule(alloc, folder, options.schedule.as_str())
 }
 
 /// Whether the file that is asked for can be made.

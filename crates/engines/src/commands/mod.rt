@@ -13,6 +13,7 @@ mod runs;
 mod schedules;
 mod searches;
 mod seed_sweeps;
+mod shrinks;
 mod storing;
 
 pub(crate) use before_files::unread;
@@ -22,3 +23,4 @@ pub(crate) use replays::replay;
 pub(crate) use runs::run;
 pub(crate) use schedules::schedule;
 pub(crate) use searches::search;
+pub(crate) use shrinks::shrink;
