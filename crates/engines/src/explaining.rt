@@ -96,7 +96,8 @@ fn explain_fault<F: Folder>(
     explanation: &mut Explanation,
 )
     ensures { (explanation.new ≡ explanation.old)
-        ⊎ IsToldOf (map library_file library.now) (F.held folder.now) (F.listed folder.now) command.now fault.now explanation.new }
+        ⊎ IsToldOf (map library_file library.now) (F.held folder.now) (F.listed folder.now) command.now fault.now
+        explanation.new }
 {
     let (is_explained, is_quiet) = flags_of(command);
     if is_quiet || !(is_explained || explanation.is_wanted()) {

@@ -89,8 +89,8 @@ pub(crate) fn handed_files<'a, F: Folder>(
 }
 
 impl<'a> Handed<'a> {
-    /// What is told of a fault of a command that hands these files on, of which the first so many are given: the name of
-    /// the class, too, where one is refused that the library adds.
+    /// What is told of a fault of a command that hands these files on, of which the first so many are given: the name
+    /// of the class, too, where one is refused that the library adds.
     pub(crate) fn complaint(&self, given: usize, fault: Fault) -> Complaint<'a>
         ensures { IsComplaint given (map library_file self.now.added.items) fault result }
     {

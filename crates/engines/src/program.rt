@@ -58,9 +58,11 @@ pub fn run<
 ) -> Result<Status, Complaint<'a>>
     // What the command that the words spell does with the files that they name is done, and nothing else.
     ensures done { IfOk result (Leaves
-        (Does (map library_file library.now) (F.held folder.old) (F.listed folder.old) (I.remaining input.old) (map string_bytes words.now))
+        (Does (map library_file library.now) (F.held folder.old) (F.listed folder.old)
+        (I.remaining input.old) (map string_bytes words.now))
         (W.contents output.old) (W.contents output.new) (F.held folder.old) (F.held folder.new)) }
-    ensures faulty { IfErr result (LeavesAt (Stops (map library_file library.now) (F.held folder.old) (F.listed folder.old)
+    ensures faulty { IfErr result (LeavesAt
+        (Stops (map library_file library.now) (F.held folder.old) (F.listed folder.old)
         (I.remaining input.old)
         (map string_bytes words.now) (W.contents output.old) (W.contents output.new))
         (F.held folder.old) (F.held folder.new)) }
@@ -136,7 +138,8 @@ fn done<
         (IsDone (map library_file library.now) (F.held folder.old) (F.listed folder.old) (I.remaining input.old)
         command.now)
         (W.contents output.old) (W.contents output.new) (F.held folder.old) (F.held folder.new)) }
-    ensures faulty { IfErr result (LeavesAt (IsUndone (map library_file library.now) (F.held folder.old) (F.listed folder.old)
+    ensures faulty { IfErr result (LeavesAt
+        (IsUndone (map library_file library.now) (F.held folder.old) (F.listed folder.old)
         (I.remaining input.old)
         command.now (W.contents output.old) (W.contents output.new)) (F.held folder.old) (F.held folder.new)) }
     ensures told { MatchResult result
@@ -193,11 +196,13 @@ fn done_over<
     explanation: &mut Explanation,
 ) -> Result<Status, Fault>
     ensures done { IfOk result (Leaves
-        (IsDoneOver (F.held folder.old) given (map library_file handed.now.own.items) (known (map vec_items handed.now.files.items))
+        (IsDoneOver (F.held folder.old) given (map library_file handed.now.own.items)
+        (known (map vec_items handed.now.files.items))
         (I.remaining input.old) command.now)
         (W.contents output.old) (W.contents output.new) (F.held folder.old) (F.held folder.new)) }
     ensures faulty { IfErr result
-        (LeavesAt (IsUndoneOver (F.held folder.old) given (map library_file handed.now.own.items) (known (map vec_items handed.now.files.items))
+        (LeavesAt (IsUndoneOver (F.held folder.old) given (map library_file handed.now.own.items)
+        (known (map vec_items handed.now.files.items))
         (I.remaining input.old)
         command.now (W.contents output.old) (W.contents output.new)) (F.held folder.old) (F.held folder.new)) }
     ensures told { TellsFailures (FolderMayFail F.may_fail) result

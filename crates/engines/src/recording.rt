@@ -70,7 +70,8 @@ pub(crate) fn limits_of(
     files: &[Vec<u8>],
     conditions: &Conditions,
 ) -> Result<Limits, ScheduleFault>
-    ensures files { IfOk result (λ _. FitsFiles conditions.now.any_files conditions.now.given recorded.now (map vec_items files.now)) }
+    ensures files { IfOk result (λ _. FitsFiles conditions.now.any_files conditions.now.given recorded.now
+        (map vec_items files.now)) }
     ensures options { IfOk result (λ _. FitsOptions recorded.now conditions.now.limits) }
     ensures limits { IfOk result (HasLimits recorded.now conditions.now.limits) }
     ensures refused { IfErr result (Disagrees recorded.now (map vec_items files.now) conditions.now) }
@@ -87,7 +88,8 @@ fn recorded_limits(
     files: &[Vec<u8>],
     conditions: &Conditions,
 ) -> Result<Limits, ScheduleFault>
-    ensures files { IfOk result (λ _. FitsFiles conditions.now.any_files conditions.now.given (Some recording.now) (map vec_items files.now)) }
+    ensures files { IfOk result (λ _. FitsFiles conditions.now.any_files conditions.now.given (Some recording.now)
+        (map vec_items files.now)) }
     ensures options { IfOk result (λ _. FitsOptions (Some recording.now) conditions.now.limits) }
     ensures limits { IfOk result (HasLimits (Some recording.now) conditions.now.limits) }
     ensures refused { IfErr result (Disagrees (Some recording.now) (map vec_items files.now) conditions.now) }

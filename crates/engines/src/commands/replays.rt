@@ -162,7 +162,8 @@ fn continued<'a, F: Folder, W: Sink>(
     ensures continued { IfOk result (λ status. (text : _)
         × OfSchedule (F.held folder.now) (string_bytes options.now.schedule) (λ left. Continues left
         (known (map vec_items files.now))
-        (conditions_of options.now.limits options.now.any_files given) (unwrap_or then_run.now.budget 10000000) text (option_map vec_items file.new) status)
+        (conditions_of options.now.limits options.now.any_files given) (unwrap_or then_run.now.budget 10000000) text
+        (option_map vec_items file.new) status)
         × Appends (W.contents output.old) (W.contents output.new) text) }
     ensures asked { IfOk result (λ _. IsTrue (is_some then_run.now.record) → IsTrue (is_some file.new)) }
     ensures faulty { IfErr result (λ fault.
