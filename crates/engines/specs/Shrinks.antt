@@ -27,7 +27,7 @@ use Rattle.engines.specs.declared.status.Status.TheVariants as statuses
 -- the words of the entries alone, without what a schedule is recorded with: where there are none, a line without a word
 abbrev pub shrunk_text : Option (List ScheduleEntry) → List ℕ
 shrunk_text (Some []) = codes "\n"
-shrunk_text (Some (entry ∷ entries)) = printed_schedule (entry ∷ entries) None
+shrunk_text (Some (entry ∷ entries)) = printed_schedule None (entry ∷ entries)
 shrunk_text None = []
 
 -- the given schedule hasn't got the outcome
