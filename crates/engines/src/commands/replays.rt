@@ -1,6 +1,6 @@
 //! `replay`, also one that goes on.
 
-ghost use Rattle.std.specs.Prelude.{IfErr, IfOk, IsTrue, Some, is_some, string_bytes, unwrap_or, vec_items, map};
+ghost use Rattle.std.specs.Prelude.{◌≡◌, IfErr, IfOk, IsTrue, Some, is_some, string_bytes, unwrap_or, vec_items, map};
 ghost use Rattle.std.specs.Option.{option_map};
 ghost use Rattle.std.specs.Io.KnownBytes.{Appends};
 ghost use Rattle.engines.specs.Commands.{IsContinuationDone, IsContinuationUndone, IsReplayDone, IsReplayUndone, Leaves, LeavesAt};

@@ -29,7 +29,7 @@ pub returns-clause-faulty : goal.returns-clause-faulty
 returns-clause-faulty g c =
     let undone = c.in-Err-outcome.ensures.faulty in (
       undone.0,
-      undone_over _ _ _ _ _ _ _ _ _ c.as_slice-paths.ensures.value c.in_ok-files.ensures.files _ _ _ c.in_ok-handed.ensures.handed _ c.len-given.ensures
+      undone_over _ _ _ _ _ _ _ _ _ c.as_slice-paths.ensures.value c.in_ok-files.ensures.files _ _ _ c.in-Ok.ensures.handed _ refl
           c.in-Err-outcome.fault c.complaint.result undone.0 c.complaint.ensures c.in_ok-check_record.ensures.apart undone.1,
       undone.2,
     )
@@ -39,7 +39,7 @@ returns-in-Ok-outcome-clause-done g c =
     let done = c.in-Ok-outcome.ensures.done in (
       done.0,
       done.1,
-      done_over _ _ _ _ _ None None _ _ c.as_slice-paths.ensures.value c.in_ok-files.ensures.files _ _ _ c.in_ok-handed.ensures.handed _ c.len-given.ensures
+      done_over _ _ _ _ _ None None _ _ c.as_slice-paths.ensures.value c.in_ok-files.ensures.files _ _ _ c.in-Ok.ensures.handed _ refl
           done.0 done.1 c.in-Ok-outcome.status c.in_ok-check_record.ensures.apart done.2,
       done.3,
       done.4,
