@@ -327,8 +327,8 @@ fn found_by(
     shrunk: Option<Schedule>,
 ) -> Result<Found, AllocError>
     requires { length files.now < 2 ^ 32 }
-    ensures { IfOk result (λ found. IsShrunkBy limits given (map vec_items files.now) is_recorded shrunk found.text.items
-        (option_map vec_items found.made.file) found.status) }
+    ensures { IfOk result (λ found. IsShrunkBy limits given (map vec_items files.now) is_recorded shrunk
+        found.text.items (option_map vec_items found.made.file) found.status) }
 {
     match shrunk {
         None => Ok(Found {
