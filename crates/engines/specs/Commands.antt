@@ -178,7 +178,8 @@ IsReplayDone held given lefts replay (Some then_run) text written status = IsCon
 abbrev pub IsReplayUndone : Held → (given : ℕ) → (lefts : List (Option (List ℕ))) → Replay → Option ThenRun → (old new : Option (List ℕ)) → Fault → Written → Type 0
 IsReplayUndone held given lefts replay None old new fault written =
     OfSchedule held (string_bytes replay.schedule) (λ left. IsFaulty left lefts (conditions_of replay.limits replay.any_files given) old new fault) × (written ≡ None)
-IsReplayUndone held given lefts replay (Some then_run) old new fault written = IsContinuationUndone held given lefts replay then_run old new fault written
+IsReplayUndone held given lefts replay (Some then_run) old new fault written =
+    (IsUnable fault × (new ≡ old) × (written ≡ None)) ⊎ IsContinuationUndone held given lefts replay then_run old new fault written
 
 -- ---- trace
 

@@ -1,10 +1,11 @@
 //! `replay`, also one that goes on.
 
-ghost use Rattle.std.specs.Prelude.{◌≡◌, IfErr, IfOk, IsTrue, Some, is_some, string_bytes, unwrap_or, vec_items, map};
+ghost use Rattle.std.specs.Prelude.{◌≡◌, ◌⊎◌, IfErr, IfOk, IsTrue, None, Some, is_some, string_bytes, unwrap_or, vec_items, map};
 ghost use Rattle.std.specs.Option.{option_map};
 ghost use Rattle.std.specs.Io.KnownBytes.{Appends};
 ghost use Rattle.engines.specs.Commands.{IsContinuationDone, IsContinuationUndone, IsReplayDone, IsReplayUndone, Leaves, LeavesAt};
 ghost use Rattle.engines.specs.Continuations.{Continues, IsUncontinued};
+ghost use Rattle.engines.specs.Devices.{IsUnable};
 ghost use Rattle.engines.specs.Files.{OfSchedule, known};
 ghost use Rattle.engines.specs.Recordings.{conditions_of};
 ghost use Rattle.engines.specs.Failures.{FolderMayFail, TellsFailures};
@@ -129,10 +130,10 @@ fn replay_on<F: Folder, W: Sink>(
         (Leaves (IsContinuationDone (F.held folder.old) given
         (known (map vec_items files.now)) options.now then_run.now)
         (W.contents output.old) (W.contents output.new) (F.held folder.old) (F.held folder.new)) }
-    ensures faulty { IfErr result
-        (LeavesAt (IsContinuationUndone (F.held folder.old) given
-        (known (map vec_items files.now)) options.now then_run.now
-        (W.contents output.old) (W.contents output.new)) (F.held folder.old) (F.held folder.new)) }
+    ensures faulty { IfErr result (LeavesAt (λ fault written.
+        (IsUnable fault × (W.contents output.new ≡ W.contents output.old) × (written ≡ None))
+        ⊎ IsContinuationUndone (F.held folder.old) given (known (map vec_items files.now)) options.now then_run.now
+        (W.contents output.old) (W.contents output.new) fault written) (F.held folder.old) (F.held folder.new)) }
     ensures told { TellsFailures (FolderMayFail F.may_fail) result (W.failures output.old) (W.failures output.new) }
 {
     try_record(alloc, folder, &then_run.record, explanation)?;

@@ -3,14 +3,16 @@ use Rattle.std.proofs.lemmas.Result.{IfErr-weaker, IfOk-weaker, err_from_is_err_
 use Rattle.engines.specs.Recordings.{conditions_of}
 use Rattle.engines.specs.Traces.{IsUntraced, Traces}
 use Rattle.engines.specs.Failures.{FolderMayFail}
-use Rattle.engines.specs.Files.{failures_of, left_of}
+use Rattle.engines.specs.Files.{IsScheduleAt, failures_of, left_of}
 use Rattle.engines.proofs.FailureLemmas.{failed_of, told_by_more}
 use Rattle.engines.proofs.commands.event_traces.traced.Goals as goal
 
 pub returns-in_err-sources-clause-faulty : goal.returns-in_err-sources-clause-faulty
 returns-in_err-sources-clause-faulty g c =
     let p = err_from_is_err_and c.from_residual.result c.from_residual.ensures.1 in
-    rw (p.1, p.2, c.in_err-sources.ensures.memory) (c.window_of-window.result, c.window_of-window.ensures, (_, c.schedule_source-schedule.ensures.at, inl refl), refl)
+    let held = g.F.Folder.held in
+    let at = subst (λ word. IsScheduleAt (held c.args.folder.now) word (left_of (held c.schedule_source-schedule.result.folder.now c.schedule_source-schedule.result.path.now) c.schedule_source-schedule.result.reading)) c.as_str.ensures.value c.schedule_source-schedule.ensures.at in
+    rw (p.1, p.2, c.in_err-sources.ensures.memory) (c.window_of-window.result, c.window_of-window.ensures, (_, at, inl refl), refl)
 
 pub returns-clause-told : goal.returns-clause-told
 returns-clause-told g c =
@@ -22,6 +24,7 @@ returns-clause-told g c =
 pub returns-clause-traced : goal.returns-clause-traced
 returns-clause-traced g c =
     let held = g.F.Folder.held in
+    let at = subst (λ word. IsScheduleAt (held c.args.folder.now) word (left_of (held c.schedule_source-schedule.result.folder.now c.schedule_source-schedule.result.path.now) c.schedule_source-schedule.result.reading)) c.as_str.ensures.value c.schedule_source-schedule.ensures.at in
     let options = c.args.options.now in
     let conditions = conditions_of options.limits options.any_files c.args.given in
     let left = ap (map (λ file. left_of (held file.folder.now file.path.now) file.reading)) c.as_mut_slice.ensures.value ∙ c.in_ok-sources.ensures.left in
@@ -33,7 +36,7 @@ returns-clause-traced g c =
         c.window_of-window.ensures,
         (
           _,
-          c.schedule_source-schedule.ensures.at,
+          at,
           subst (λ lefts. Traces _ lefts conditions c.window_of-window.result traced.0 status) left over,
         ),
         refl,
@@ -44,6 +47,7 @@ returns-clause-traced g c =
 pub returns-clause-faulty : goal.returns-clause-faulty
 returns-clause-faulty g c =
     let held = g.F.Folder.held in
+    let at = subst (λ word. IsScheduleAt (held c.args.folder.now) word (left_of (held c.schedule_source-schedule.result.folder.now c.schedule_source-schedule.result.path.now) c.schedule_source-schedule.result.reading)) c.as_str.ensures.value c.schedule_source-schedule.ensures.at in
     let options = c.args.options.now in
     let conditions = conditions_of options.limits options.any_files c.args.given in
     let left = ap (map (λ file. left_of (held file.folder.now file.path.now) file.reading)) c.as_mut_slice.ensures.value ∙ c.in_ok-sources.ensures.left in
@@ -53,7 +57,7 @@ returns-clause-faulty g c =
       c.window_of-window.ensures,
       (
         _,
-        c.schedule_source-schedule.ensures.at,
+        at,
         subst (λ lefts. IsUntraced _ lefts conditions c.window_of-window.result _ _ fault) left over,
       ),
       refl,

@@ -3,7 +3,7 @@ use Rattle.std.proofs.lemmas.Result.{IfErr-weaker, IfOk-weaker, err_from_is_err_
 use Rattle.engines.specs.Recordings.{conditions_of}
 use Rattle.engines.specs.Continuations.{Continues, IsUncontinued}
 use Rattle.engines.specs.Failures.{FolderMayFail}
-use Rattle.engines.specs.Files.{failures_of, left_of}
+use Rattle.engines.specs.Files.{IsScheduleAt, failures_of, left_of}
 use Rattle.engines.proofs.FailureLemmas.{failed_of, told_by_more}
 use Rattle.engines.proofs.commands.replays.continued.Goals as goal
 
@@ -17,24 +17,28 @@ returns-clause-told g c =
 pub returns-in_err-sources-clause-faulty : goal.returns-in_err-sources-clause-faulty
 returns-in_err-sources-clause-faulty g c =
     let p = err_from_is_err_and c.from_residual.result c.from_residual.ensures.1 in
-    rw (p.1, p.2, c.in_err-sources.ensures.memory) (_, c.schedule_source-schedule.ensures.at, inl (refl, refl))
+    let held = g.F.Folder.held in
+    let at = subst (λ word. IsScheduleAt (held c.args.folder.now) word (left_of (held c.schedule_source-schedule.result.folder.now c.schedule_source-schedule.result.path.now) c.schedule_source-schedule.result.reading)) c.as_str.ensures.value c.schedule_source-schedule.ensures.at in
+    rw (p.1, p.2, c.in_err-sources.ensures.memory) (_, at, inl (refl, refl))
 
 pub returns-clause-continued : goal.returns-clause-continued
 returns-clause-continued g c =
     let held = g.F.Folder.held in
+    let at = subst (λ word. IsScheduleAt (held c.args.folder.now) word (left_of (held c.schedule_source-schedule.result.folder.now c.schedule_source-schedule.result.path.now) c.schedule_source-schedule.result.reading)) c.as_str.ensures.value c.schedule_source-schedule.ensures.at in
     let options = c.args.options.now in
     let conditions = conditions_of options.limits options.any_files c.args.given in
     let left = ap (map (λ file. left_of (held file.folder.now file.path.now) file.reading)) c.as_mut_slice.ensures.value ∙ c.in_ok-sources.ensures.left in
     IfOk-weaker c.continue_engine.result _ _ (λ status done.
     let over = subst (λ over. Continues _ _ over _ done.0 _ status) c.conditions_of.ensures done.1 in
-    (done.0, (_, c.schedule_source-schedule.ensures.at, subst (λ lefts. Continues _ lefts conditions _ done.0 _ status) left over), done.2)) c.continue_engine.ensures.continued
+    (done.0, (_, at, subst (λ lefts. Continues _ lefts conditions _ done.0 _ status) left over), done.2)) c.continue_engine.ensures.continued
 
 pub returns-clause-faulty : goal.returns-clause-faulty
 returns-clause-faulty g c =
     let held = g.F.Folder.held in
+    let at = subst (λ word. IsScheduleAt (held c.args.folder.now) word (left_of (held c.schedule_source-schedule.result.folder.now c.schedule_source-schedule.result.path.now) c.schedule_source-schedule.result.reading)) c.as_str.ensures.value c.schedule_source-schedule.ensures.at in
     let options = c.args.options.now in
     let conditions = conditions_of options.limits options.any_files c.args.given in
     let left = ap (map (λ file. left_of (held file.folder.now file.path.now) file.reading)) c.as_mut_slice.ensures.value ∙ c.in_ok-sources.ensures.left in
     IfErr-weaker c.continue_engine.result _ _ (λ fault undone.
     let over = subst (λ over. IsUncontinued _ _ over _ _ _ _ _ fault) c.conditions_of.ensures undone in
-    (_, c.schedule_source-schedule.ensures.at, subst (λ lefts. IsUncontinued _ lefts conditions _ _ _ _ _ fault) left over)) c.continue_engine.ensures.faulty
+    (_, at, subst (λ lefts. IsUncontinued _ lefts conditions _ _ _ _ _ fault) left over)) c.continue_engine.ensures.faulty

@@ -3,7 +3,7 @@ use Rattle.std.proofs.lemmas.Result.{IfErr-weaker, IfOk-weaker, err_from_is_err_
 use Rattle.engines.specs.Recordings.{conditions_of}
 use Rattle.engines.specs.Replays.{IsFaulty, Replays}
 use Rattle.engines.specs.Failures.{FolderMayFail}
-use Rattle.engines.specs.Files.{failures_of, left_of}
+use Rattle.engines.specs.Files.{IsScheduleAt, failures_of, left_of}
 use Rattle.engines.proofs.FailureLemmas.{failed_of, told_by_more}
 use Rattle.engines.proofs.commands.replays.replayed.Goals as goal
 
@@ -17,24 +17,28 @@ returns-clause-told g c =
 pub returns-in_err-sources-clause-faulty : goal.returns-in_err-sources-clause-faulty
 returns-in_err-sources-clause-faulty g c =
     let p = err_from_is_err_and c.from_residual.result c.from_residual.ensures.1 in
-    rw (p.1, p.2, c.in_err-sources.ensures.memory) (_, c.schedule_source-schedule.ensures.at, inl refl)
+    let held = g.F.Folder.held in
+    let at = subst (λ word. IsScheduleAt (held c.args.folder.now) word (left_of (held c.schedule_source-schedule.result.folder.now c.schedule_source-schedule.result.path.now) c.schedule_source-schedule.result.reading)) c.as_str.ensures.value c.schedule_source-schedule.ensures.at in
+    rw (p.1, p.2, c.in_err-sources.ensures.memory) (_, at, inl refl)
 
 pub returns-clause-replayed : goal.returns-clause-replayed
 returns-clause-replayed g c =
     let held = g.F.Folder.held in
+    let at = subst (λ word. IsScheduleAt (held c.args.folder.now) word (left_of (held c.schedule_source-schedule.result.folder.now c.schedule_source-schedule.result.path.now) c.schedule_source-schedule.result.reading)) c.as_str.ensures.value c.schedule_source-schedule.ensures.at in
     let options = c.args.options.now in
     let conditions = conditions_of options.limits options.any_files c.args.given in
     let left = ap (map (λ file. left_of (held file.folder.now file.path.now) file.reading)) c.as_mut_slice.ensures.value ∙ c.in_ok-sources.ensures.left in
     IfOk-weaker c.replay_engine.result _ _ (λ status done.
     let over = subst (λ over. Replays _ _ over done.0 status) c.conditions_of.ensures done.1 in
-    (done.0, (_, c.schedule_source-schedule.ensures.at, subst (λ lefts. Replays _ lefts conditions done.0 status) left over), done.2)) c.replay_engine.ensures.replayed
+    (done.0, (_, at, subst (λ lefts. Replays _ lefts conditions done.0 status) left over), done.2)) c.replay_engine.ensures.replayed
 
 pub returns-clause-faulty : goal.returns-clause-faulty
 returns-clause-faulty g c =
     let held = g.F.Folder.held in
+    let at = subst (λ word. IsScheduleAt (held c.args.folder.now) word (left_of (held c.schedule_source-schedule.result.folder.now c.schedule_source-schedule.result.path.now) c.schedule_source-schedule.result.reading)) c.as_str.ensures.value c.schedule_source-schedule.ensures.at in
     let options = c.args.options.now in
     let conditions = conditions_of options.limits options.any_files c.args.given in
     let left = ap (map (λ file. left_of (held file.folder.now file.path.now) file.reading)) c.as_mut_slice.ensures.value ∙ c.in_ok-sources.ensures.left in
     IfErr-weaker c.replay_engine.result _ _ (λ fault undone.
     let over = subst (λ over. IsFaulty _ _ over _ _ fault) c.conditions_of.ensures undone in
-    (_, c.schedule_source-schedule.ensures.at, subst (λ lefts. IsFaulty _ lefts conditions _ _ fault) left over)) c.replay_engine.ensures.faulty
+    (_, at, subst (λ lefts. IsFaulty _ lefts conditions _ _ fault) left over)) c.replay_engine.ensures.faulty
