@@ -24,41 +24,33 @@ returns-clause-told g c =
 pub returns-clause-traced : goal.returns-clause-traced
 returns-clause-traced g c =
     let held = g.F.Folder.held in
-    let at = subst (λ word. IsScheduleAt (held c.args.folder.now) word (left_of (held c.schedule_source-schedule.result.folder.now c.schedule_source-schedule.result.path.now) c.schedule_source-schedule.result.reading)) c.as_str.ensures.value c.schedule_source-schedule.ensures.at in
+    let contents = g.W.Sink.contents in
     let options = c.args.options.now in
     let conditions = conditions_of options.limits options.any_files c.args.given in
+    let schedule = left_of (held c.schedule_source-schedule.result.folder.now c.schedule_source-schedule.result.path.now) c.schedule_source-schedule.result.reading in
+    let at = subst (λ word. IsScheduleAt (held c.args.folder.now) word schedule) c.as_str.ensures.value c.schedule_source-schedule.ensures.at in
+    let sources = map (λ file. left_of (held file.folder.now file.path.now) file.reading) c.as_mut_slice.result.now in
     let left = ap (map (λ file. left_of (held file.folder.now file.path.now) file.reading)) c.as_mut_slice.ensures.value ∙ c.in_ok-sources.ensures.left in
+    let window = c.window_of-window.result in
     IfOk-weaker c.trace_engine.result _ _ (λ status traced.
-    let over = subst (λ over. Traces _ _ over c.window_of-window.result traced.0 status) c.conditions_of-conditions.ensures traced.1 in (
-      traced.0,
-      (
-        c.window_of-window.result,
-        c.window_of-window.ensures,
-        (
-          _,
-          at,
-          subst (λ lefts. Traces _ lefts conditions c.window_of-window.result traced.0 status) left over,
-        ),
-        refl,
-      ),
-      traced.2,
-    )) c.trace_engine.ensures.traced
+    let over = subst (λ over. Traces schedule sources over window traced.0 status) c.conditions_of-conditions.ensures traced.1 in
+    let done = subst (λ lefts. Traces schedule lefts conditions window traced.0 status) left over in
+    (traced.0, (window, c.window_of-window.ensures, (schedule, at, done), refl), traced.2)) c.trace_engine.ensures.traced
 
 pub returns-clause-faulty : goal.returns-clause-faulty
 returns-clause-faulty g c =
     let held = g.F.Folder.held in
-    let at = subst (λ word. IsScheduleAt (held c.args.folder.now) word (left_of (held c.schedule_source-schedule.result.folder.now c.schedule_source-schedule.result.path.now) c.schedule_source-schedule.result.reading)) c.as_str.ensures.value c.schedule_source-schedule.ensures.at in
+    let contents = g.W.Sink.contents in
     let options = c.args.options.now in
     let conditions = conditions_of options.limits options.any_files c.args.given in
+    let schedule = left_of (held c.schedule_source-schedule.result.folder.now c.schedule_source-schedule.result.path.now) c.schedule_source-schedule.result.reading in
+    let at = subst (λ word. IsScheduleAt (held c.args.folder.now) word schedule) c.as_str.ensures.value c.schedule_source-schedule.ensures.at in
+    let sources = map (λ file. left_of (held file.folder.now file.path.now) file.reading) c.as_mut_slice.result.now in
     let left = ap (map (λ file. left_of (held file.folder.now file.path.now) file.reading)) c.as_mut_slice.ensures.value ∙ c.in_ok-sources.ensures.left in
+    let window = c.window_of-window.result in
+    let old = contents c.args.output.now in
+    let new = contents c.trace_engine.new.output in
     IfErr-weaker c.trace_engine.result _ _ (λ fault untraced.
-    let over = subst (λ over. IsUntraced _ _ over c.window_of-window.result _ _ fault) c.conditions_of-conditions.ensures untraced in (
-      c.window_of-window.result,
-      c.window_of-window.ensures,
-      (
-        _,
-        at,
-        subst (λ lefts. IsUntraced _ lefts conditions c.window_of-window.result _ _ fault) left over,
-      ),
-      refl,
-    )) c.trace_engine.ensures.faulty
+    let over = subst (λ over. IsUntraced schedule sources over window old new fault) c.conditions_of-conditions.ensures untraced in
+    let undone = subst (λ lefts. IsUntraced schedule lefts conditions window old new fault) left over in
+    (window, c.window_of-window.ensures, (schedule, at, undone), refl)) c.trace_engine.ensures.faulty

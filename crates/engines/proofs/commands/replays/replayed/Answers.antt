@@ -24,21 +24,31 @@ returns-in_err-sources-clause-faulty g c =
 pub returns-clause-replayed : goal.returns-clause-replayed
 returns-clause-replayed g c =
     let held = g.F.Folder.held in
-    let at = subst (λ word. IsScheduleAt (held c.args.folder.now) word (left_of (held c.schedule_source-schedule.result.folder.now c.schedule_source-schedule.result.path.now) c.schedule_source-schedule.result.reading)) c.as_str.ensures.value c.schedule_source-schedule.ensures.at in
+    let contents = g.W.Sink.contents in
     let options = c.args.options.now in
     let conditions = conditions_of options.limits options.any_files c.args.given in
+    let schedule = left_of (held c.schedule_source-schedule.result.folder.now c.schedule_source-schedule.result.path.now) c.schedule_source-schedule.result.reading in
+    let at = subst (λ word. IsScheduleAt (held c.args.folder.now) word schedule) c.as_str.ensures.value c.schedule_source-schedule.ensures.at in
+    let sources = map (λ file. left_of (held file.folder.now file.path.now) file.reading) c.as_mut_slice.result.now in
     let left = ap (map (λ file. left_of (held file.folder.now file.path.now) file.reading)) c.as_mut_slice.ensures.value ∙ c.in_ok-sources.ensures.left in
-    IfOk-weaker c.replay_engine.result _ _ (λ status done.
-    let over = subst (λ over. Replays _ _ over done.0 status) c.conditions_of.ensures done.1 in
-    (done.0, (_, at, subst (λ lefts. Replays _ lefts conditions done.0 status) left over), done.2)) c.replay_engine.ensures.replayed
+    IfOk-weaker c.replay_engine.result _ _ (λ status replayed.
+    let over = subst (λ over. Replays schedule sources over replayed.0 status) c.conditions_of.ensures replayed.1 in
+    let done = subst (λ lefts. Replays schedule lefts conditions replayed.0 status) left over in
+    (replayed.0, (schedule, at, done), replayed.2)) c.replay_engine.ensures.replayed
 
 pub returns-clause-faulty : goal.returns-clause-faulty
 returns-clause-faulty g c =
     let held = g.F.Folder.held in
-    let at = subst (λ word. IsScheduleAt (held c.args.folder.now) word (left_of (held c.schedule_source-schedule.result.folder.now c.schedule_source-schedule.result.path.now) c.schedule_source-schedule.result.reading)) c.as_str.ensures.value c.schedule_source-schedule.ensures.at in
+    let contents = g.W.Sink.contents in
     let options = c.args.options.now in
     let conditions = conditions_of options.limits options.any_files c.args.given in
+    let schedule = left_of (held c.schedule_source-schedule.result.folder.now c.schedule_source-schedule.result.path.now) c.schedule_source-schedule.result.reading in
+    let at = subst (λ word. IsScheduleAt (held c.args.folder.now) word schedule) c.as_str.ensures.value c.schedule_source-schedule.ensures.at in
+    let sources = map (λ file. left_of (held file.folder.now file.path.now) file.reading) c.as_mut_slice.result.now in
     let left = ap (map (λ file. left_of (held file.folder.now file.path.now) file.reading)) c.as_mut_slice.ensures.value ∙ c.in_ok-sources.ensures.left in
-    IfErr-weaker c.replay_engine.result _ _ (λ fault undone.
-    let over = subst (λ over. IsFaulty _ _ over _ _ fault) c.conditions_of.ensures undone in
-    (_, at, subst (λ lefts. IsFaulty _ lefts conditions _ _ fault) left over)) c.replay_engine.ensures.faulty
+    let old = contents c.args.output.now in
+    let new = contents c.replay_engine.new.report in
+    IfErr-weaker c.replay_engine.result _ _ (λ fault faulty.
+    let over = subst (λ over. IsFaulty schedule sources over old new fault) c.conditions_of.ensures faulty in
+    let undone = subst (λ lefts. IsFaulty schedule lefts conditions old new fault) left over in
+    (schedule, at, undone)) c.replay_engine.ensures.faulty
