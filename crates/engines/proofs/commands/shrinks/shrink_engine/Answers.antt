@@ -12,7 +12,7 @@ pub returns-in_err-opened-clause-faulty : goal.returns-in_err-opened-clause-faul
 returns-in_err-opened-clause-faulty g c =
     let p = err_from_is_err_and c.from_residual.result c.from_residual.ensures.1 in
     let remaining = g.S.Source.remaining in
-    let kept = subst (λ (conditions : Conditions). IsKeptBy (remaining c.args.schedule.now) (map remaining c.args.files.now) conditions c.in_err-opened.field-0)
+    let kept = subst (λ (conditions : Conditions). IsKeptBy (remaining c.args.schedule.now) (map remaining c.args.files.now) conditions c.in_err-opened.field-0.0)
     c.conditions_of.ensures c.in_err-opened.ensures.kept in
     rw (p.1, p.2) (kept_is_unshrunk _ _ _ _ _ _ _ _ kept)
 
