@@ -4,7 +4,7 @@
     oracle/sweeps.py --seeds A..B [--policy NAME] [--budget N] [--for OUTCOME] FILE..
     oracle/sweeps.py --write
 
-There is a run for each seed, by docs/FORMATS.md ("The schedule of a seed") and the plain machine alone. With --write
+There is a run for each seed, by docs/REFERENCE.md ("The schedule of a seed") and the plain machine alone. With --write
 the sweeps of the lessons below become cases of `crates/conformance`, with what they have to print.
 """
 
@@ -136,9 +136,9 @@ def write() -> None:
         text, printed = cases_of(*row)
         lines, shown = [*lines, *text], shown + printed
     (CONFORMANCE / "data/sweeps.cases").write_text("\n".join([*lines, ""]))
-    before, _, after = stored().partition("case search-")
+    before, _, after = stored().partition("case search-lost-update-")
     before = before.split("case sweep-")[0]
-    store(before + shown + "case search-" + after)
+    store(before + shown + "case search-lost-update-" + after)
 
 
 def main() -> int:
