@@ -64,8 +64,8 @@ class Sweep:
             lines += [f"outcome {number}", *lines_of(outcome)]
             lines += [f"runs {len(seeds)} of {self.runs}, first seed {seeds[0]}"]
         lines += [f"outcomes {len(outcomes)}"]
-        for (word, outcome), seeds in self.shown.items():
-            if outcome is None:
+        for (word, shown_outcome), seeds in self.shown.items():
+            if shown_outcome is None:
                 lines += [f"{word} {len(seeds)} runs, first seed {seeds[0]}"]
         once = sum(len(seeds) == 1 for _, seeds in outcomes)
         last = self.first + self.runs - 1
