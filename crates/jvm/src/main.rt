@@ -145,7 +145,7 @@ fn without_words(rt: &HostRuntime, error: &io::Error) -> Status {
 /// The status, after a complaint has been told, and the lines of the explanation. Where the standard error fails, the
 /// status alone tells the complaint.
 fn told(rt: &HostRuntime, outcome: Result<Status, Complaint<'_>>, explanation: &[u8]) -> Status
-    ensures { MatchResult outcome (λ status. result ≡ status) (λ complaint. result ≡ complaint_status complaint) }
+    ensures { MatchResult outcome.entry (λ status. result ≡ status) (λ complaint. result ≡ complaint_status complaint) }
 {
     let status = match outcome {
         Ok(status) => status,
