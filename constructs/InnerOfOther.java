@@ -1,8 +1,8 @@
 /*
  * Classes and interfaces: `other.new Inner()`
  *
- * InnerOfOther.java:13: the class java.util.Objects, of a null check that javac writes: call new Inner() in the
- *     class around it, and make a constant field static
+ * InnerOfOther.java:13: the class java.util.Objects, of a null check that javac writes: write an anonymous class
+ *     for a method reference, call new Inner() in the class around it, make a constant field static
  */
 class InnerOfOther {
     class Step {

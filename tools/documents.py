@@ -20,7 +20,7 @@ PARTS_OF_A_CRATE = ("src", "specs", "proofs", "data", "must-fail", "wrong-bodies
 FOREIGN = {"conflicts_with", "open_file", "open_read"}
 
 # What a path may go without in a document.
-ENDINGS = ("", ".rt", ".antt", ".md")
+ENDINGS = ("", ".rt", ".antt", ".md", ".edit")
 
 FENCE = re.compile(r"^ *```(\w*)")
 LINK = re.compile(r"\[[^\]]*\]\(([^)\s]+)\)")

@@ -4,8 +4,8 @@
     tools/screens.py PROGRAM [DOCUMENT..]
 
 PROGRAM is the built program `jvm`; without a document these are docs/TUTORIAL.md and docs/ERRORS.md. A document is run
-by one bash, from its first line to its last, at the top of a copy of tools/, lessons/ and programs/. In its blocks
-`text` a line that begins with `$ ` is a command, and the lines up to the next one are its screen, standard error
+by one bash, from its first line to its last, at the top of a copy of tools/, lessons/, programs/ and library/. In its
+blocks `text` a line that begins with `$ ` is a command, and the lines up to the next one are its screen, standard error
 included. Its blocks `sh` are run as they stand, but one that begins with `#!`, which becomes the file test.sh. There
 has to be a javac.
 
@@ -71,7 +71,7 @@ def script_and_screens(text: str) -> Tuple[str, List[Screen]]:
 
 def copied(program: str, folder: str) -> Dict[str, str]:
     """Puts the tools, the lessons and the program into a folder. Answers the environment in which `jvm` is found."""
-    for name in ("tools", "lessons", "programs"):
+    for name in ("tools", "lessons", "programs", "library"):
         shutil.copytree(ROOT / name, os.path.join(folder, name))
     place = os.path.join(folder, "bin")
     os.mkdir(place)

@@ -1,4 +1,4 @@
-//! Advice on files.
+//! The advice on files: the walk over all of them, which goes on where linking stops.
 
 ghost use Rattle.std.specs.Prelude.{◌≡◌, false, true, None, IfOk, MatchOption, OnOk, length, map, slice_index_or};
 ghost use Rattle.model.specs.Linkable.{stands, DuplicateClass};

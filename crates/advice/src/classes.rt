@@ -37,7 +37,7 @@ impl Model for Classes {
 }
 
 impl Classes {
-    /// Those of a set.
+    /// The classes of a set.
     pub(crate) fn new(alloc: Global, set: ClassSet) -> Result<Classes, AllocError>
         requires { IsFalse (stands set DuplicateClass) }
         ensures { IfOk result (λ classes. classes ≡ set) }
@@ -52,7 +52,7 @@ impl Classes {
         })
     }
 
-    /// Their set.
+    /// The set of the classes.
     pub(crate) fn set(&self) -> &ClassSet
         ensures { result.now ≡ self.now }
     {

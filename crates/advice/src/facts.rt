@@ -38,7 +38,7 @@ impl<'a> Model for Facts<'a> {
 }
 
 impl<'a> Facts<'a> {
-    /// Those of a class file. This alone takes memory.
+    /// The facts of a class file. This alone takes memory.
     pub(crate) fn new(
         alloc: Global,
         hierarchy: &'a Hierarchy,
@@ -83,7 +83,7 @@ impl<'a> Facts<'a> {
         self.outside.has_field(field) || self.names.lack_field(field)
     }
 
-    /// The same of the declaration of a method.
+    /// Whether the declaration of a method is outside of the profile, or a class of its descriptor is not found.
     pub(crate) fn is_declaration_wrong(&self, method: &Method) -> bool
         ensures { result ≡ is_declaration_wrong self.now.0 self.now.1 (method_of method.now) }
     {

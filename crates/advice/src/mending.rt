@@ -19,7 +19,7 @@ fn put(bytes: &mut [u8], at: usize, byte: u8) {
 struct Entry {
     /// How many bytes it has.
     length: usize,
-    /// It takes two places.
+    /// Whether the entry takes two places.
     is_wide: bool,
 }
 

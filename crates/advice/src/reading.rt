@@ -66,9 +66,9 @@ pub(crate) fn class_of(alloc: Global, bytes: &[u8]) -> Result<Option<ClassFile>,
 /// What is wrong with a whole file.
 #[derive(Clone, Copy)]
 pub(crate) enum FileFault {
-    /// It is no class file that this machine takes.
+    /// The bytes are no class file that this machine takes.
     Malformed(Cause),
-    /// Its class is declared by an earlier file, of this number, or is built in.
+    /// The class is declared by an earlier file, of this number, or is built in.
     Again { first: Option<usize> },
 }
 

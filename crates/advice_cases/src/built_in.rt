@@ -1,4 +1,4 @@
-//! The built-in classes.
+//! The listing of the built-in classes, with the flags of their members.
 
 use class_tree::builtin::built_in_classes;
 use class_tree::{ClassFile, class_name, superclass_name};

@@ -1,4 +1,4 @@
-//! Binary logarithms.
+//! Binary logarithms, in thousandths.
 
 /// The binary logarithm of a number in thousandths, to the lower one; of 0 that of 1.
 pub fn thousandths(number: u64) -> u64 {

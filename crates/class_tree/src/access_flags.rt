@@ -1,4 +1,9 @@
 //! Access flags of classes, fields and methods (JVMS tables 4.1-A, 4.5-A and 4.6-A).
+//!
+//! # Proved
+//!
+//! - `has` is whether the bit of a flag is set; whether a class is an interface, a field or a method static, a method
+//!   private, is as in the definitions.
 
 ghost use Rattle.std.specs.Prelude.{◌≡◌, ◌/◌, ◌%◌, ◌<◌, ◌==◌};
 ghost use Rattle.model.specs.AccessFlags.{is_interface_class, is_static_field, is_static_method, is_private_method};

@@ -14,8 +14,8 @@ use Rattle.std.proofs.lemmas.List.Elements.{All-get_or, All-head, All-push, All-
 use Rattle.clap.proofs.CutLemmas.{Lacks, slice_split-Lacks, slice_split-at}
 use Rattle.clap.specs.Words.{Text}
 use Rattle.model.specs.Report.{signed_number}
-use Rattle.command_line.specs.CommandLine.{IsGoal, Refuses}
-use Rattle.command_line.specs.Goals.{AreInts, AreEachInt, IsGoalWord, IsGoalWith, IsInt, numbers_text}
+use Rattle.command_line.specs.CommandLine.{Refuses}
+use Rattle.command_line.specs.Goals.{IsGoal, AreInts, AreEachInt, IsGoalWord, IsGoalWith, IsInt, numbers_text}
 use Rattle.command_line.specs.declared.usage.Usage.{Usage}
 use Rattle.command_line.specs.declared.options.Goal.{Goal}
 use Rattle.command_line.specs.declared.options.Goal.TheVariants as goals

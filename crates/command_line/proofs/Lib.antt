@@ -4,3 +4,4 @@ pub mod GoalLemmas
 pub mod ParserLemmas
 pub mod PathLemmas
 pub mod PolicyLemmas
+mod SweepLemmas

@@ -4,7 +4,7 @@ use Rattle.std.specs.Prelude.{All}
 use Rattle.std.proofs.lemmas.List.{get_or-map, length-map, map-append, take_more}
 use Rattle.std.proofs.lemmas.List.Elements.{All-get_or, All-push}
 use Rattle.clap.specs.Words.{Row, Text, all_of, first_of}
-use Rattle.command_line.specs.CommandLine.{IsGoal}
+use Rattle.command_line.specs.Goals.{IsGoal}
 use Rattle.command_line.specs.Paths.{IsApart, IsGoalApart}
 use Rattle.command_line.specs.declared.options.Goal.{Goal}
 use Rattle.command_line.specs.declared.options.Goal.TheVariants as goals

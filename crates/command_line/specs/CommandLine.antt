@@ -5,6 +5,7 @@ use Rattle.std.specs.List.{All, slice_split}
 use Rattle.std.specs.Option.{option_map, option_map_or}
 use Rattle.std.specs.Str.{bytes_eq}
 use Rattle.std.specs.Str.Parse.{IsNumeral, digits_value}
+use Rattle.model.specs.BuiltInNumbers.{most_threads}
 use Rattle.clap.specs.Words.{App, IsAmong, Row, Rule, Shape, Text, all_of, fault_of, first_of, kind_of, new_app, new_rule, subcommand_of, takes, with_rule, with_subcommand}
 use Rattle.clap.specs.declared.error.Error.{Error}
 use Rattle.clap.specs.declared.error.kind.ErrorKind.{ErrorKind}
@@ -13,9 +14,11 @@ use Rattle.clap.specs.declared.builder.command.Command as parser
 use Rattle.clap.specs.declared.builder.command.Command.TheViews.{out-Command}
 use Rattle.clap.specs.declared.builder.ArgAction.TheVariants.{Set, SetTrue, Append}
 use Rattle.clap.specs.declared.builder.value_parser.ValueParser.TheVariants.{Unsigned}
-use Rattle.command_line.specs.Goals.{IsGoalWord}
+use Rattle.command_line.specs.Goals.{IsGoal}
+use Rattle.command_line.specs.Numerals.{IsNumeralWithin}
 use Rattle.command_line.specs.Paths.{IsApart, IsGoalApart}
 use Rattle.command_line.specs.Policies.{GoTogether, IsPolicy}
+use Rattle.command_line.specs.Sweeps.{IsSweep}
 use Rattle.command_line.specs.declared.usage.Usage.{Usage}
 use Rattle.command_line.specs.declared.usage.Usage.TheVariants.{Parser, Number, Asked, OutOfMemory}
 use Rattle.command_line.specs.declared.options.Command.{Command}
@@ -27,6 +30,7 @@ use Rattle.command_line.specs.declared.options.Replay.{Replay}
 use Rattle.command_line.specs.declared.options.Run.{Run}
 use Rattle.command_line.specs.declared.options.Schedule.{Schedule}
 use Rattle.command_line.specs.declared.options.Search.{Search}
+use Rattle.command_line.specs.declared.options.Shrink.{Shrink}
 use Rattle.command_line.specs.declared.options.ThenRun.{ThenRun}
 use Rattle.command_line.specs.declared.options.Trace.{Trace}
 use Rattle.command_line.specs.declared.options.TraceForm.{TraceForm}
@@ -57,6 +61,10 @@ record_option = path_option (codes "record")
 -- `--for OUTCOME`
 abbrev pub goal_option : Rule
 goal_option = path_option (codes "for")
+
+-- the same, which has to be there
+abbrev pub required_goal_option : Rule
+required_goal_option = record goal_option { required = true }
 
 -- `--schedule FILE`, which has to be there
 abbrev pub schedule_option : Rule
@@ -91,16 +99,24 @@ with_limits app = with_rule (with_rule (with_rule (with_rule (with_rule app
     (number_option (codes "objects") 0 4000000000))
     (number_option (codes "cells") 0 4294967295))
     (number_option (codes "monitors") 0 8388608))
-    (number_option (codes "threads") 1 32767))
+    (number_option (codes "threads") 1 most_threads))
     (number_option (codes "frames") 1 65535)
 
 -- `--main NAME`, the class whose main is run
 abbrev pub main_option : Rule
 main_option = path_option (codes "main")
 
+-- that no class is added from the library
+abbrev pub alone_flag : Rule
+alone_flag = flag (codes "files-alone")
+
 -- within which limits a program is run, and from which class on
+abbrev pub with_main : App → App
+with_main app = with_rule (with_limits app) main_option
+
+-- the same, and whether with the library
 abbrev pub with_program : App → App
-with_program app = with_rule (with_limits app) main_option
+with_program app = with_rule (with_main app) alone_flag
 
 -- how many workers, how many events in all and in a row, and by which seed and policy
 abbrev pub with_run_options : App → App
@@ -110,6 +126,10 @@ with_run_options app = with_rule (with_rule (with_rule (with_rule (with_rule app
     (number_option (codes "quantum") 1 4294967295))
     (number_option (codes "seed") 0 18446744073709551615))
     (path_option (codes "policy"))
+
+-- over which seeds, and which outcome is to be found
+abbrev pub with_sweep_options : App → App
+with_sweep_options app = with_rule (with_rule app (path_option (codes "seeds"))) goal_option
 
 -- where a run goes on behind its schedule, up to how many events in all, and where it is recorded
 abbrev pub with_then_run : App → App
@@ -123,10 +143,14 @@ abbrev pub with_files : App → Rule → App
 with_files app files = with_rule (with_rule (with_rule app (flag (codes "explain"))) (flag (codes "quiet"))) files
 
 abbrev pub jvm_run : App
-jvm_run = with_files (with_program (with_rule (with_run_options (new_app (codes "run"))) record_option)) class_files
+jvm_run = with_files (with_program (with_rule (with_sweep_options (with_run_options (new_app (codes "run")))) record_option)) class_files
+
+-- under which schedule they run, and whether over any class files
+abbrev pub with_schedule : App → App
+with_schedule app = with_rule (with_rule app schedule_option) (flag (codes "any-files"))
 
 abbrev pub jvm_replay : App
-jvm_replay = with_files (with_program (with_then_run (with_rule (new_app (codes "replay")) schedule_option))) class_files
+jvm_replay = with_files (with_program (with_then_run (with_schedule (new_app (codes "replay"))))) class_files
 
 -- which events are told: from one number up to another, of some threads
 abbrev pub with_window : App → App
@@ -140,7 +164,7 @@ abbrev pub with_form : App → App
 with_form app = with_rule (with_rule (with_rule app (flag (codes "columns"))) (flag (codes "json"))) (flag (codes "summary"))
 
 abbrev pub jvm_trace : App
-jvm_trace = with_files (with_program (with_form (with_window (with_rule (new_app (codes "trace")) schedule_option)))) class_files
+jvm_trace = with_files (with_program (with_form (with_window (with_schedule (new_app (codes "trace")))))) class_files
 
 -- which outcome is to be found, among how many states, in how much memory, and where its schedule is recorded
 abbrev pub with_search_options : App → App
@@ -153,26 +177,34 @@ with_search_options app = with_rule (with_rule (with_rule (with_rule app
 abbrev pub jvm_search : App
 jvm_search = with_files (with_program (with_search_options (new_app (codes "search")))) class_files
 
+-- which outcome is to be kept, under which schedule, with how many events a try, and where the schedule is recorded
+abbrev pub with_shrink_options : App → App
+with_shrink_options app = with_rule (with_rule (with_schedule (with_rule app required_goal_option)) (number_option (codes "budget") 0 4294967295)) record_option
+
+abbrev pub jvm_shrink : App
+jvm_shrink = with_files (with_program (with_shrink_options (new_app (codes "shrink")))) class_files
+
 abbrev pub jvm_verify : App
-jvm_verify = with_files (with_rule (with_rule (new_app (codes "verify")) (flag (codes "library"))) main_option) class_files
+jvm_verify = with_files (with_rule (with_rule (with_rule (new_app (codes "verify")) (flag (codes "library"))) main_option) alone_flag) class_files
 
 abbrev pub jvm_disasm : App
 jvm_disasm = with_files (with_rule (new_app (codes "disasm")) (flag (codes "names"))) class_files
 
 abbrev pub jvm_schedule : App
-jvm_schedule = with_files (with_rule (new_app (codes "schedule")) (flag (codes "write"))) one_file
+jvm_schedule = with_files (with_rule (with_rule (new_app (codes "schedule")) (flag (codes "write"))) (number_option (codes "as-version") 1 3)) one_file
 
 -- it has `--version`, and a command has to be there
 abbrev pub with_version : Shape → Shape
 with_version shape = record shape { has_version = true; subcommand_required = true }
 
 abbrev pub jvm : App
-jvm = with_subcommand (with_subcommand (with_subcommand (with_subcommand (with_subcommand (with_subcommand (with_subcommand
+jvm = with_subcommand (with_subcommand (with_subcommand (with_subcommand (with_subcommand (with_subcommand (with_subcommand (with_subcommand
     (record (new_app (codes "jvm")) { top = with_version (new_app (codes "jvm")).top })
     jvm_run.top)
     jvm_replay.top)
     jvm_trace.top)
     jvm_search.top)
+    jvm_shrink.top)
     jvm_verify.top)
     jvm_disasm.top)
     jvm_schedule.top
@@ -192,10 +224,6 @@ IsNumber least most (Some text) None = ⊥
 abbrev pub parts_of : Text → List Text
 parts_of text = slice_split (λ b. b == 0x2c) text
 
--- digits alone spell a number from least to most
-abbrev pub IsNumeralWithin : (least most : ℕ) → Text → Type 0
-IsNumeralWithin least most text = IsNumeral 10 text × (least ≤ digits_value 10 text) × (digits_value 10 text ≤ most)
-
 -- the texts spell these numbers, each one of them
 pub record AreNumerals (least most : ℕ) (texts : List Text) (numbers : List ℕ) : Type 0 where
   pub each : All (IsNumeralWithin least most) texts
@@ -212,7 +240,7 @@ pub record AreLimitNumbers (rows : List Row) (limits : LimitOptions) : Type 0 wh
   pub objects : IsNumber 0 4000000000 (first_of (codes "objects") rows) limits.objects
   pub cells : IsNumber 0 4294967295 (first_of (codes "cells") rows) limits.cells
   pub monitors : IsNumber 0 8388608 (first_of (codes "monitors") rows) limits.monitors
-  pub threads : IsNumber 1 32767 (first_of (codes "threads") rows) limits.threads
+  pub threads : IsNumber 1 most_threads (first_of (codes "threads") rows) limits.threads
   pub frames : IsNumber 1 65535 (first_of (codes "frames") rows) limits.frames
 
 -- a flag is there
@@ -231,6 +259,7 @@ pub record AreRunNumbers (rows : List Row) (options : RunOptions) : Type 0 where
 -- the values that the words give to `jvm run`
 pub record AreRunValues (rows : List Row) (run : Run) : Type 0 where
   pub options : AreRunNumbers rows run.options
+  pub sweep : IsSweep rows run.sweep
   pub recording : first_of (codes "record") rows ≡ option_map string_bytes run.record
   pub limits : AreLimitNumbers rows run.limits
   pub main : first_of (codes "main") rows ≡ option_map string_bytes run.main
@@ -238,6 +267,7 @@ pub record AreRunValues (rows : List Row) (run : Run) : Type 0 where
   pub other_files : All (IsApart (first_of (codes "record") rows)) (map string_bytes run.files.items)
   pub explain : run.explain ≡ is_set (first_of (codes "explain") rows)
   pub quiet : run.quiet ≡ is_set (first_of (codes "quiet") rows)
+  pub files_alone : run.files_alone ≡ is_set (first_of (codes "files-alone") rows)
 
 -- the values that the words give to a run behind a schedule
 pub record AreThenRunValues (rows : List Row) (then_run : ThenRun) : Type 0 where
@@ -253,6 +283,7 @@ IsThenRun rows None = (is_set (first_of (codes "then-run") rows) ≡ false)
 -- the values that the words give to `jvm replay`
 pub record AreValues (rows : List Row) (replay : Replay) : Type 0 where
   pub schedule : first_of (codes "schedule") rows ≡ Some (string_bytes replay.schedule)
+  pub any_files : replay.any_files ≡ is_set (first_of (codes "any-files") rows)
   pub then_run : IsThenRun rows replay.then_run
   pub limits : AreLimitNumbers rows replay.limits
   pub main : first_of (codes "main") rows ≡ option_map string_bytes replay.main
@@ -261,6 +292,7 @@ pub record AreValues (rows : List Row) (replay : Replay) : Type 0 where
   pub other_files : All (IsApart (first_of (codes "record") rows)) (map string_bytes replay.files.items)
   pub explain : replay.explain ≡ is_set (first_of (codes "explain") rows)
   pub quiet : replay.quiet ≡ is_set (first_of (codes "quiet") rows)
+  pub files_alone : replay.files_alone ≡ is_set (first_of (codes "files-alone") rows)
 
 -- the words ask for this form of a trace, and for no other
 abbrev pub IsTraceForm : List Row → TraceForm → Type 0
@@ -271,6 +303,7 @@ IsTraceForm rows forms.Json = (is_set (first_of (codes "columns") rows) ≡ fals
 -- the values that the words give to `jvm trace`
 pub record AreTraceValues (rows : List Row) (trace : Trace) : Type 0 where
   pub schedule : first_of (codes "schedule") rows ≡ Some (string_bytes trace.schedule)
+  pub any_files : trace.any_files ≡ is_set (first_of (codes "any-files") rows)
   pub from : IsNumber 0 4294967295 (first_of (codes "from") rows) trace.from
   pub to : IsNumber 0 4294967295 (first_of (codes "to") rows) trace.to
   pub only : AreNumbers 0 65535 (first_of (codes "only") rows) (option_map vec_items trace.only)
@@ -281,13 +314,7 @@ pub record AreTraceValues (rows : List Row) (trace : Trace) : Type 0 where
   pub files : all_of (codes "files") rows ≡ Some (map string_bytes trace.files.items)
   pub explain : trace.explain ≡ is_set (first_of (codes "explain") rows)
   pub quiet : trace.quiet ≡ is_set (first_of (codes "quiet") rows)
-
--- the outcome that is asked for, where one is
-abbrev pub IsGoal : Option Text → Option Goal → Type 0
-IsGoal None None = Unit {0}
-IsGoal (Some word) (Some goal) = IsGoalWord word goal
-IsGoal None (Some goal) = ⊥
-IsGoal (Some word) None = ⊥
+  pub files_alone : trace.files_alone ≡ is_set (first_of (codes "files-alone") rows)
 
 -- the values that the words give to `jvm search`
 pub record AreSearchValues (rows : List Row) (search : Search) : Type 0 where
@@ -302,6 +329,27 @@ pub record AreSearchValues (rows : List Row) (search : Search) : Type 0 where
   pub other_files : All (IsApart (first_of (codes "record") rows)) (map string_bytes search.files.items)
   pub explain : search.explain ≡ is_set (first_of (codes "explain") rows)
   pub quiet : search.quiet ≡ is_set (first_of (codes "quiet") rows)
+  pub files_alone : search.files_alone ≡ is_set (first_of (codes "files-alone") rows)
+
+-- the outcome that has to be there; and the file that it is read from is none that is written
+abbrev pub IsRequiredGoal : List Row → Goal → Type 0
+IsRequiredGoal rows goal = IsGoal (first_of (codes "for") rows) (Some goal) × IsGoalApart (first_of (codes "record") rows) (Some goal)
+
+-- the values that the words give to `jvm shrink`
+pub record AreShrinkValues (rows : List Row) (shrink : Shrink) : Type 0 where
+  pub goal : IsRequiredGoal rows shrink.goal
+  pub schedule : first_of (codes "schedule") rows ≡ Some (string_bytes shrink.schedule)
+  pub any_files : shrink.any_files ≡ is_set (first_of (codes "any-files") rows)
+  pub budget : IsNumber 0 4294967295 (first_of (codes "budget") rows) shrink.budget
+  pub recording : first_of (codes "record") rows ≡ option_map string_bytes shrink.record
+  pub limits : AreLimitNumbers rows shrink.limits
+  pub main : first_of (codes "main") rows ≡ option_map string_bytes shrink.main
+  pub files : all_of (codes "files") rows ≡ Some (map string_bytes shrink.files.items)
+  pub other_schedule : IsApart (first_of (codes "record") rows) (string_bytes shrink.schedule)
+  pub other_files : All (IsApart (first_of (codes "record") rows)) (map string_bytes shrink.files.items)
+  pub explain : shrink.explain ≡ is_set (first_of (codes "explain") rows)
+  pub quiet : shrink.quiet ≡ is_set (first_of (codes "quiet") rows)
+  pub files_alone : shrink.files_alone ≡ is_set (first_of (codes "files-alone") rows)
 
 -- the values that the words give to `jvm verify`
 pub record AreVerifyValues (rows : List Row) (verify : Verify) : Type 0 where
@@ -310,6 +358,7 @@ pub record AreVerifyValues (rows : List Row) (verify : Verify) : Type 0 where
   pub library : verify.library ≡ is_set (first_of (codes "library") rows)
   pub explain : verify.explain ≡ is_set (first_of (codes "explain") rows)
   pub quiet : verify.quiet ≡ is_set (first_of (codes "quiet") rows)
+  pub files_alone : verify.files_alone ≡ is_set (first_of (codes "files-alone") rows)
 
 -- the values that the words give to `jvm disasm`
 pub record AreDisasmValues (rows : List Row) (disasm : Disasm) : Type 0 where
@@ -322,6 +371,7 @@ pub record AreDisasmValues (rows : List Row) (disasm : Disasm) : Type 0 where
 pub record AreScheduleValues (rows : List Row) (schedule : Schedule) : Type 0 where
   pub file : first_of (codes "file") rows ≡ Some (string_bytes schedule.file)
   pub write : schedule.write ≡ is_set (first_of (codes "write") rows)
+  pub as_version : IsNumber 1 3 (first_of (codes "as-version") rows) schedule.as_version
   pub explain : schedule.explain ≡ is_set (first_of (codes "explain") rows)
   pub quiet : schedule.quiet ≡ is_set (first_of (codes "quiet") rows)
 
@@ -331,6 +381,7 @@ Spells words (commands.Run run) = (rows : List Row) × (subcommand_of jvm words 
 Spells words (commands.Replay replay) = (rows : List Row) × (subcommand_of jvm words ≡ Some (codes "replay", rows)) × AreValues rows replay
 Spells words (commands.Trace trace) = (rows : List Row) × (subcommand_of jvm words ≡ Some (codes "trace", rows)) × AreTraceValues rows trace
 Spells words (commands.Search search) = (rows : List Row) × (subcommand_of jvm words ≡ Some (codes "search", rows)) × AreSearchValues rows search
+Spells words (commands.Shrink shrink) = (rows : List Row) × (subcommand_of jvm words ≡ Some (codes "shrink", rows)) × AreShrinkValues rows shrink
 Spells words (commands.Verify verify) = (rows : List Row) × (subcommand_of jvm words ≡ Some (codes "verify", rows)) × AreVerifyValues rows verify
 Spells words (commands.Disasm disasm) = (rows : List Row) × (subcommand_of jvm words ≡ Some (codes "disasm", rows)) × AreDisasmValues rows disasm
 Spells words (commands.Schedule schedule) = (rows : List Row) × (subcommand_of jvm words ≡ Some (codes "schedule", rows)) × AreScheduleValues rows schedule

@@ -1,5 +1,5 @@
 -- Which outcome of a run a search is to find, as a word of the command line (own).
-use Rattle.std.specs.Prelude.{◌≡◌, ℤ, List, ◌∷◌, ◌++◌, map, codes, string_bytes}
+use Rattle.std.specs.Prelude.{◌≡◌, ℤ, List, ◌∷◌, ◌++◌, Option, Some, None, map, codes, string_bytes}
 use Rattle.std.specs.Int.{w32}
 use Rattle.std.specs.Int.RustNames.{FitsSigned}
 use Rattle.std.specs.List.{All, join_with_byte}
@@ -39,3 +39,10 @@ IsGoalWith name value goals.Deadlock = ⊥
 IsGoalWith name value goals.Uncaught = ⊥
 IsGoalWith name value (goals.Output ints) = (name ≡ codes "output") × AreInts value ints.items
 IsGoalWith name value (goals.Differs path) = (name ≡ codes "differs") × (value ≡ string_bytes path)
+
+-- the outcome that is asked for, where one is
+abbrev pub IsGoal : Option Text → Option Goal → Type 0
+IsGoal None None = Unit {0}
+IsGoal (Some word) (Some goal) = IsGoalWord word goal
+IsGoal None (Some goal) = ⊥
+IsGoal (Some word) None = ⊥

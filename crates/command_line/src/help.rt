@@ -38,7 +38,8 @@ What it does:
   Links and verifies the class files, and runs the main method of the first one;
   a folder stands for those in it and below it. Where a folder comes first, it is
   that of the one class that has a main method, and with --main that of the class
-  which is named.
+  which is named. A class that they need and that isn't there is added from the
+  library, as those of java.util.concurrent; not so with --files-alone.
   The threads take turns by a policy; each event that is done is one more of the
   schedule, which --record keeps for `jvm replay`. The report has the printed
   numbers, how each thread stands, how many events there were, and why no more.
@@ -49,18 +50,24 @@ What it does:
   --seed 4711 the run is the same again. Without --policy a --quantum asks for a
   rotation. --workers has as many workers run the threads side by side; no run of
   theirs need be the same as another.
+  With --seeds 1..100 there is a run for each of these seeds, of --budget events
+  at most (10000000 where none is given). What they print and how the threads
+  stand is listed once, with how many runs show it and the first seed. --for ends
+  the sweep at the first seed that shows an outcome: deadlock, uncaught,
+  output=NUMBERS (what is printed, with commas), or differs=FILE (another text).
 
 Statuses:
-  0  all threads have ended
-  1  all threads have ended, some by an exception
+  0  all threads have ended; or a run for each seed is done
+  1  all threads have ended, some by an exception; or a seed shows what is wanted
   2  a class file is refused
   3  an event was refused for a limit, or memory was missing
   4  nothing can go on, and a thread hasn't ended
   5  the budget is used up, and a thread can go on
   6  the command is wrong, or a file can't be read, or the output not written
 
-Example:
-  jvm run --seed 1 --record a.schedule A.class";
+Examples:
+  jvm run --seed 1 --record a.schedule A.class
+  jvm run --seeds 1..1000 --for deadlock A.class";
 
 /// What stands below the options of `replay`.
 pub(crate) const REPLAY_PAGE: &str = "\
@@ -127,14 +134,35 @@ Statuses:
 Example:
   jvm search --for deadlock --record found.schedule A.class";
 
+/// What stands below the options of `shrink`.
+pub(crate) const SHRINK_PAGE: &str = "\
+What it does:
+  Looks for a schedule with fewer switches from a thread to another one, behind
+  which a run ends with the outcome of --for, too, as `jvm replay --then-run` does
+  it. It leaves out entries, and brings those of a thread together, and tries each
+  such schedule, with --budget events at most. What is left is printed as text; a
+  run behind it has the outcome. How many entries there were and are is told on
+  standard error. Of the outcomes of --for tells `jvm search --help`.
+
+Statuses:
+  0  a schedule is printed that has the outcome
+  1  the given schedule hasn't got it
+  2  a class file or the schedule is refused
+  3  memory was missing
+  6  the command is wrong, or a file can't be read, or the output not written
+
+Example:
+  jvm shrink --for deadlock --schedule found.schedule A.class";
+
 /// What stands below the options of `verify`.
 pub(crate) const VERIFY_PAGE: &str = "\
 What it does:
   Links the class files and verifies the code of their methods; nothing is run.
   A folder stands for the class files in it and below it, sorted by their paths.
-  Each class that they need has to be among them, or to be a built-in one. One
-  has to have a main method, which is found as by `jvm run`. It prints how many
-  classes there are, or tells why they are refused.
+  Each class that they need has to be among them, to be a built-in one, or to be
+  in the library, from which it is added; not so with --files-alone. One has to
+  have a main method, which is found as by `jvm run`. It prints how many classes
+  there are, and how many of the library, or tells why they are refused.
 
 Statuses:
   0  the class files are verified

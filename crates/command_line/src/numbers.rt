@@ -4,7 +4,8 @@ ghost use Rattle.std.specs.Prelude.{◌≡◌, false, map, vec_items, IfOk, IfEr
 ghost use Rattle.std.specs.Option.{SomeIff, option_map};
 ghost use Rattle.std.specs.Str.Parse.{digits_value};
 ghost use Rattle.clap.specs.Words.{first_of, found_of, rows_of, rule_of};
-ghost use Rattle.command_line.specs.CommandLine.{AreNumbers, AreNumerals, Asks, IsNumber, IsNumeralWithin, Refuses, number_option, parts_of, path_option};
+ghost use Rattle.command_line.specs.CommandLine.{AreNumbers, AreNumerals, Asks, IsNumber, Refuses, number_option, parts_of, path_option};
+ghost use Rattle.command_line.specs.Numerals.{IsNumeralWithin};
 
 use crate::run_arguments::SEED;
 use crate::usage::Usage;
@@ -47,6 +48,13 @@ pub(crate) const QUANTUM: NumberOption = NumberOption {
     least: 1,
     most: u32::MAX,
     help: "How many events a turn of a rotation has [default: 1000], or of a worker [default: 1]",
+};
+
+pub(crate) const AS_VERSION: NumberOption = NumberOption {
+    name: "as-version",
+    least: 1,
+    most: 3,
+    help: "The version that the schedule file is of at most",
 };
 
 pub(crate) const FROM: NumberOption = NumberOption {
@@ -133,7 +141,7 @@ impl NumberOption {
             .help(self.help)
     }
 
-    /// The same, where it takes numbers with commas between them. The parser takes any text for them.
+    /// The option, for the parser, where it takes numbers with commas between them. The parser takes any text for them.
     pub(crate) fn list_argument<'a>(self, alloc: Global) -> Arg<'a>
         ensures rule { rule_of result ≡ path_option self.name.now }
         ensures local { result.global ≡ false }
@@ -202,7 +210,7 @@ impl NumberOption {
         Ok(numbers)
     }
 
-    /// That a part of a list is no number of the option's.
+    /// The fault that a part of a list is no number of the option's.
     fn part_refusal(self, alloc: Global, part: &str) -> Usage
         ensures { Asks result → ⊥ }
     {
@@ -215,7 +223,7 @@ impl NumberOption {
         }
     }
 
-    /// That a text is no number of the option's.
+    /// The fault that a text is no number of the option's.
     fn refusal(self, alloc: Global, text: &str) -> Usage
         ensures { Asks result → ⊥ }
     {
@@ -226,16 +234,16 @@ impl NumberOption {
 /// The names of the options of `replay`, `run`, `search` and `trace` that take a number.
 const OF_ALL: [&str; 5] = ["objects", "cells", "monitors", "threads", "frames"];
 
-/// Those of `run`.
+/// The options of `run` that take a number.
 const OF_RUN: [&str; 4] = ["workers", "budget", "quantum", SEED];
 
-/// Those of `replay`.
+/// The options of `replay` that take a number.
 const OF_REPLAY: [&str; 1] = ["budget"];
 
-/// Those of `trace`.
+/// The options of `trace` that take numbers.
 const OF_TRACE: [&str; 3] = ["from", "to", "only"];
 
-/// Those of `search`.
+/// The options of `search` that take a number.
 const OF_SEARCH: [&str; 2] = ["states", "memory"];
 
 /// The name behind two hyphens, where it is that of an option of the subcommand which takes a number.

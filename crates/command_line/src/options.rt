@@ -1,8 +1,10 @@
 //! What the program is asked to do.
 
 ghost use Rattle.std.specs.Prelude.{◌≡◌, ◌≤◌, ◌↔◌, IsTrue, unwrap_or};
+ghost use Rattle.model.specs.BuiltInNumbers.{most_threads};
 
 use crate::run_options::RunOptions;
+use crate::sweep_options::SweepOptions;
 use model::Limits;
 
 /// A subcommand with the values of its options.
@@ -12,13 +14,14 @@ pub enum Command {
     Replay(Replay),
     Trace(Trace),
     Search(Search),
+    Shrink(Shrink),
     Verify(Verify),
     Disasm(Disasm),
     Schedule(Schedule),
 }
 
-/// The usual budget of a run that goes on behind a schedule, in events.
-const USUAL_BUDGET: u32 = 10_000_000;
+/// The usual budget of a run of a sweep, of one that goes on behind a schedule, and of a try of `shrink`, in events.
+pub(crate) const USUAL_BUDGET: u32 = 10_000_000;
 
 /// How many states a search may meet, unless another number is asked for.
 const USUAL_STATES: u32 = 10_000_000;
@@ -30,6 +33,8 @@ const USUAL_MEMORY: u32 = 1_000_000_000;
 #[derive(Drop)]
 pub struct Run {
     pub options: RunOptions,
+    /// A run for each of some seeds, where these are asked for.
+    pub sweep: Option<SweepOptions>,
     /// The path of the file that the schedule of the run is written to, if any.
     pub record: Option<String>,
     pub limits: LimitOptions,
@@ -41,13 +46,17 @@ pub struct Run {
     pub explain: bool,
     /// Whether standard error tells no more than why there is no report.
     pub quiet: bool,
+    /// Whether no class is added from the library.
+    pub files_alone: bool,
 }
 
 /// `jvm replay`: class files are run under a schedule, and what comes of it is reported.
 #[derive(Drop)]
 pub struct Replay {
-    /// The path of the schedule file.
+    /// The path of the schedule file, or the schedule itself.
     pub schedule: String,
+    /// Whether any class files will do, whatever the schedule was recorded over.
+    pub any_files: bool,
     /// How the run goes on where the schedule ends, if it does.
     pub then_run: Option<ThenRun>,
     pub limits: LimitOptions,
@@ -59,13 +68,17 @@ pub struct Replay {
     pub explain: bool,
     /// Whether standard error tells no more than why there is no report.
     pub quiet: bool,
+    /// Whether no class is added from the library.
+    pub files_alone: bool,
 }
 
 /// `jvm trace`: class files are run under a schedule, and the run is told event by event.
 #[derive(Drop)]
 pub struct Trace {
-    /// The path of the schedule file.
+    /// The path of the schedule file, or the schedule itself.
     pub schedule: String,
+    /// Whether any class files will do, whatever the schedule was recorded over.
+    pub any_files: bool,
     /// The number of the first event that is told, and `None` for 0.
     pub from: Option<u32>,
     /// The number of the last event that is told, and `None` for that of the run.
@@ -84,6 +97,8 @@ pub struct Trace {
     pub explain: bool,
     /// Whether standard error tells no more than why there is no report.
     pub quiet: bool,
+    /// Whether no class is added from the library.
+    pub files_alone: bool,
 }
 
 /// How a trace tells each event.
@@ -93,7 +108,7 @@ pub enum TraceForm {
     Plain,
     /// In words, with a column for each thread.
     Columns,
-    /// As an object of JSON.
+    /// An object of JSON.
     Json,
 }
 
@@ -117,16 +132,18 @@ pub struct Search {
     pub explain: bool,
     /// Whether standard error tells no more than why there is no output.
     pub quiet: bool,
+    /// Whether no class is added from the library.
+    pub files_alone: bool,
 }
 
-/// Which outcome of a run a search is to find.
+/// Which outcome of a run is to be found, or to be kept.
 #[derive(Drop)]
 pub enum Goal {
     /// No thread may go on, and one hasn't ended.
     Deadlock,
     /// An exception that nothing caught ended a thread.
     Uncaught,
-    /// These numbers were printed, in this order, and no others.
+    /// The run printed these numbers, in this order, and no others.
     Output(Vec<i32>),
     /// Something else was printed than the file with this path has.
     Differs(String),
@@ -145,6 +162,41 @@ impl Search {
         ensures { result ≡ unwrap_or self.now.memory 1000000000 }
     {
         self.memory.unwrap_or(USUAL_MEMORY)
+    }
+}
+
+/// `jvm shrink`: a schedule with fewer switches is looked for behind which a run has the same outcome.
+#[derive(Drop)]
+pub struct Shrink {
+    /// The outcome that is to be kept.
+    pub goal: Goal,
+    /// The path of the schedule file, or the schedule itself.
+    pub schedule: String,
+    /// Whether any class files will do, whatever the schedule was recorded over.
+    pub any_files: bool,
+    /// How many events each try may have, and `None` for the usual number.
+    pub budget: Option<u32>,
+    /// The path of the file that the schedule is written to, if any.
+    pub record: Option<String>,
+    pub limits: LimitOptions,
+    /// The name of the class whose `main` is run, with dots or slashes, if it is given.
+    pub main: Option<String>,
+    /// The paths of the class files, and of folders of them.
+    pub files: Vec<String>,
+    /// Whether a refusal is explained.
+    pub explain: bool,
+    /// Whether standard error tells no more than why there is no output.
+    pub quiet: bool,
+    /// Whether no class is added from the library.
+    pub files_alone: bool,
+}
+
+impl Shrink {
+    /// The budget of each try, in events.
+    pub fn budget(&self) -> u32
+        ensures { result ≡ unwrap_or self.now.budget 10000000 }
+    {
+        self.budget.unwrap_or(USUAL_BUDGET)
     }
 }
 
@@ -179,6 +231,8 @@ pub struct Verify {
     pub explain: bool,
     /// Whether standard error tells no more than why there is no output.
     pub quiet: bool,
+    /// Whether no class is added from the library.
+    pub files_alone: bool,
 }
 
 /// `jvm disasm`: the listings of class files are written.
@@ -202,6 +256,8 @@ pub struct Schedule {
     pub file: String,
     /// Whether the file is made.
     pub write: bool,
+    /// The version that the file that is made is of at most, and `None` for any.
+    pub as_version: Option<u32>,
     /// Whether a refusal is explained.
     pub explain: bool,
     /// Whether standard error tells no more than why there is no output.
@@ -218,7 +274,7 @@ pub struct LimitOptions {
     pub frames: Option<u32>,
     pub ghost objects_fit: { unwrap_or objects 1000000 ≤ 4000000000 },
     pub ghost monitors_fit: { unwrap_or monitors 65536 ≤ 8388608 },
-    pub ghost threads_fit: { (1 ≤ unwrap_or threads 256) × (unwrap_or threads 256 ≤ 32767) },
+    pub ghost threads_fit: { (1 ≤ unwrap_or threads 256) × (unwrap_or threads 256 ≤ most_threads) },
     pub ghost frames_fit: { (1 ≤ unwrap_or frames 1024) × (unwrap_or frames 1024 ≤ 65535) },
 }
 

@@ -4,21 +4,24 @@ ghost use Rattle.std.specs.Prelude.{◌≡◌, ◌⊎◌, List, false, Some, cod
 ghost use Rattle.std.specs.Option.{option_map};
 ghost use Rattle.clap.specs.Words.{HasMatchesOf, all_of, first_of, found_of, kind_of, rows_of, Text};
 ghost use Rattle.clap.specs.declared.error.kind.ErrorKind.TheVariants.{UnknownArgument as unknown_argument};
-ghost use Rattle.command_line.specs.CommandLine.{AreDisasmValues, AreLimitNumbers, AreRunNumbers, AreRunValues, AreScheduleValues, AreSearchValues, AreTraceValues, AreValues, AreVerifyValues, Asks, Fails, IsGoal, IsThenRun, IsTraceForm, Refuses, Spells, is_set as is_true, jvm, usage_of};
+ghost use Rattle.command_line.specs.CommandLine.{AreDisasmValues, AreLimitNumbers, AreRunNumbers, AreRunValues, AreScheduleValues, AreSearchValues, AreShrinkValues, AreTraceValues, AreValues, AreVerifyValues, Asks, Fails, IsRequiredGoal, IsThenRun, IsTraceForm, Refuses, Spells, is_set as is_true, jvm, usage_of};
+ghost use Rattle.command_line.specs.Goals.{IsGoal};
 
 use crate::goal::goal_by;
 use crate::numbers::{
-    BUDGET, CELLS, FRAMES, FROM, MEMORY, MONITORS, OBJECTS, ONLY, QUANTUM, STATES, THREADS, TO,
-    WHOLE_BUDGET, WORKERS, negative_number,
+    AS_VERSION, BUDGET, CELLS, FRAMES, FROM, MEMORY, MONITORS, OBJECTS, ONLY, QUANTUM, STATES,
+    THREADS, TO, WHOLE_BUDGET, WORKERS, negative_number,
 };
 use crate::options;
 use crate::options::{
-    Disasm, Goal, LimitOptions, Replay, Run, Schedule, Search, ThenRun, Trace, TraceForm, Verify,
+    Disasm, Goal, LimitOptions, Replay, Run, Schedule, Search, Shrink, ThenRun, Trace, TraceForm,
+    Verify,
 };
 use crate::parsers::program;
 use crate::paths::{check_file, check_files, check_goal};
 use crate::run_arguments::{policy_of, seed_of};
 use crate::run_options::RunOptions;
+use crate::sweep_arguments::sweep_of;
 use crate::usage::Usage;
 use clap::ArgMatches;
 use clap::error::ErrorKind;
@@ -49,6 +52,9 @@ fn command_of(alloc: Global, matches: &ArgMatches<'_>) -> Result<options::Comman
     }
     if let Some(search) = matches.subcommand_matches("search") {
         return Ok(options::Command::Search(search_of(alloc, search)?));
+    }
+    if let Some(shrink) = matches.subcommand_matches("shrink") {
+        return Ok(options::Command::Shrink(shrink_of(alloc, shrink)?));
     }
     if let Some(verify) = matches.subcommand_matches("verify") {
         return Ok(options::Command::Verify(verify_of(alloc, verify)?));
@@ -85,7 +91,7 @@ fn parser_usage(alloc: Global, words: &[String], error: clap::Error) -> Usage
     Usage::from(error)
 }
 
-/// That the words lack something. The parser says so first, so that this text is never seen.
+/// The fault that the words lack something. The parser says so first, so that this text is never seen.
 fn missing(alloc: Global, what: &str) -> Usage
     ensures { Asks result → ⊥ }
 {
@@ -116,6 +122,7 @@ fn run_of(alloc: Global, matches: &ArgMatches<'_>) -> Result<Run, Usage>
         → AreRunValues (rows_of (found_of matches.now)) run → ⊥)) }
 {
     let options = run_options_of(alloc, matches)?;
+    let sweep = sweep_of(alloc, matches)?;
     let record = path_of(alloc, matches, "record")?;
     let limits = limits_of(alloc, matches)?;
     let main = path_of(alloc, matches, "main")?;
@@ -123,12 +130,14 @@ fn run_of(alloc: Global, matches: &ArgMatches<'_>) -> Result<Run, Usage>
     check_files(alloc, matches, &files)?;
     Ok(Run {
         options,
+        sweep,
         record,
         limits,
         main,
         files,
         explain: is_set(matches, "explain"),
         quiet: is_set(matches, "quiet"),
+        files_alone: is_set(matches, "files-alone"),
     })
 }
 
@@ -152,6 +161,8 @@ fn replay_of(alloc: Global, matches: &ArgMatches<'_>) -> Result<Replay, Usage>
         files,
         explain: is_set(matches, "explain"),
         quiet: is_set(matches, "quiet"),
+        any_files: is_set(matches, "any-files"),
+        files_alone: is_set(matches, "files-alone"),
     })
 }
 
@@ -180,6 +191,8 @@ fn trace_of(alloc: Global, matches: &ArgMatches<'_>) -> Result<Trace, Usage>
         files,
         explain: is_set(matches, "explain"),
         quiet: is_set(matches, "quiet"),
+        any_files: is_set(matches, "any-files"),
+        files_alone: is_set(matches, "files-alone"),
     })
 }
 
@@ -207,11 +220,55 @@ fn search_of(alloc: Global, matches: &ArgMatches<'_>) -> Result<Search, Usage>
         files,
         explain: is_set(matches, "explain"),
         quiet: is_set(matches, "quiet"),
+        files_alone: is_set(matches, "files-alone"),
     })
 }
 
+fn shrink_of(alloc: Global, matches: &ArgMatches<'_>) -> Result<Shrink, Usage>
+    ensures values { IfOk result (AreShrinkValues (rows_of (found_of matches.now))) }
+    ensures none { IfErr result (λ usage. Refuses usage ((shrink : _)
+        → AreShrinkValues (rows_of (found_of matches.now)) shrink → ⊥)) }
+{
+    let goal = required_goal_of(alloc, matches)?;
+    let schedule = required_path_of(alloc, matches, "schedule")?;
+    let budget = WHOLE_BUDGET.number(alloc, matches)?;
+    let record = path_of(alloc, matches, "record")?;
+    let limits = limits_of(alloc, matches)?;
+    let main = path_of(alloc, matches, "main")?;
+    let files = files_of(alloc, matches)?;
+    check_file(alloc, matches, schedule.as_str())?;
+    check_files(alloc, matches, &files)?;
+    Ok(Shrink {
+        goal,
+        schedule,
+        any_files: is_set(matches, "any-files"),
+        budget,
+        record,
+        limits,
+        main,
+        files,
+        explain: is_set(matches, "explain"),
+        quiet: is_set(matches, "quiet"),
+        files_alone: is_set(matches, "files-alone"),
+    })
+}
+
+/// The outcome that has to be there, and that is read from no file which is to be written.
+fn required_goal_of(alloc: Global, matches: &ArgMatches<'_>) -> Result<Goal, Usage>
+    ensures goal { IfOk result (IsRequiredGoal (rows_of (found_of matches.now))) }
+    ensures none { IfErr result (λ usage. Refuses usage ((goal : _)
+        → IsRequiredGoal (rows_of (found_of matches.now)) goal → ⊥)) }
+{
+    let goal = goal_of(alloc, matches)?;
+    check_goal(alloc, matches, &goal)?;
+    match goal {
+        Some(goal) => Ok(goal),
+        None => Err(missing(alloc, "an outcome is missing")),
+    }
+}
+
 /// The outcome that a search is to find, where one is asked for.
-fn goal_of(alloc: Global, matches: &ArgMatches<'_>) -> Result<Option<Goal>, Usage>
+pub(crate) fn goal_of(alloc: Global, matches: &ArgMatches<'_>) -> Result<Option<Goal>, Usage>
     ensures goal { IfOk result (IsGoal (first_of (codes "for") (rows_of (found_of matches.now)))) }
     ensures none { IfErr result (λ usage. Refuses usage ((goal : _)
         → IsGoal (first_of (codes "for") (rows_of (found_of matches.now))) goal → ⊥)) }
@@ -235,6 +292,7 @@ fn verify_of(alloc: Global, matches: &ArgMatches<'_>) -> Result<Verify, Usage>
         library: is_set(matches, "library"),
         explain: is_set(matches, "explain"),
         quiet: is_set(matches, "quiet"),
+        files_alone: is_set(matches, "files-alone"),
     })
 }
 
@@ -258,11 +316,13 @@ fn schedule_of(alloc: Global, matches: &ArgMatches<'_>) -> Result<Schedule, Usag
         → AreScheduleValues (rows_of (found_of matches.now)) schedule → ⊥)) }
 {
     let file = required_path_of(alloc, matches, "file")?;
+    let as_version = AS_VERSION.number(alloc, matches)?;
     Ok(Schedule {
         file,
         write: is_set(matches, "write"),
         explain: is_set(matches, "explain"),
         quiet: is_set(matches, "quiet"),
+        as_version,
     })
 }
 

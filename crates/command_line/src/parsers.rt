@@ -1,19 +1,20 @@
 //! The parsers of the command line.
 
-ghost use Rattle.std.specs.Prelude.{◌≡◌, false, IfOk, IfErr};
+ghost use Rattle.std.specs.Prelude.{◌≡◌, codes, false, IfOk, IfErr};
 ghost use Rattle.clap.specs.Words.{App, app_of, kind_of, new_app, rule_of, with_subcommand};
 ghost use Rattle.clap.specs.declared.error.kind.ErrorKind.TheVariants.{OutOfMemory as no_memory};
-ghost use Rattle.command_line.specs.CommandLine.{IsLocal, class_files, flag, goal_option, jvm, jvm_disasm, jvm_replay, jvm_run, jvm_schedule, jvm_search, jvm_trace, jvm_verify, main_option, one_file, path_option, record_option, schedule_option, with_files as over_files, with_limits as limited, with_program as programmed};
+ghost use Rattle.command_line.specs.CommandLine.{IsLocal, class_files, flag, goal_option, jvm, jvm_disasm, jvm_replay, jvm_run, jvm_schedule, jvm_search, jvm_shrink, jvm_trace, jvm_verify, main_option, one_file, path_option, record_option, required_goal_option, schedule_option, with_files as over_files, with_limits as limited, with_main as started, with_program as programmed, alone_flag};
 
 use crate::help::{
     ABOUT, AFTER, DISASM_PAGE, FILES_HELP, LISTED_HELP, REPLAY_PAGE, RUN_PAGE, SCHEDULE_PAGE,
-    SEARCH_PAGE, TRACE_PAGE, VERIFY_PAGE, VERSION,
+    SEARCH_PAGE, SHRINK_PAGE, TRACE_PAGE, VERIFY_PAGE, VERSION,
 };
 use crate::numbers::{
-    BUDGET, CELLS, FRAMES, FROM, MEMORY, MONITORS, OBJECTS, ONLY, QUANTUM, STATES, THREADS, TO,
-    WHOLE_BUDGET, WORKERS,
+    AS_VERSION, BUDGET, CELLS, FRAMES, FROM, MEMORY, MONITORS, OBJECTS, ONLY, QUANTUM, STATES,
+    THREADS, TO, WHOLE_BUDGET, WORKERS,
 };
 use crate::run_arguments::{policy_argument, seed_argument};
+use crate::sweep_arguments::seeds_argument;
 use clap::{Arg, ArgAction};
 use std::alloc::{AllocError, Global};
 
@@ -31,6 +32,7 @@ pub(crate) fn program<'a>(alloc: Global) -> Result<clap::Command<'a>, clap::Erro
     let program = with_parser(program, replay_parser(alloc))?;
     let program = with_parser(program, trace_parser(alloc))?;
     let program = with_parser(program, search_parser(alloc))?;
+    let program = with_parser(program, shrink_parser(alloc))?;
     let program = with_parser(program, verify_parser(alloc))?;
     let program = with_parser(program, disasm_parser(alloc))?;
     let program = with_parser(program, schedule_parser(alloc))?;
@@ -75,6 +77,8 @@ fn run_parser<'a>(alloc: Global) -> Result<clap::Command<'a>, AllocError>
     .arg(QUANTUM.argument(alloc))?
     .arg(seed_argument(alloc))?
     .arg(policy_argument(alloc))?
+    .arg(seeds_argument(alloc))?
+    .arg(goal_argument(alloc))?
     .arg(record_argument(alloc))?;
     with_files(
         alloc,
@@ -93,6 +97,7 @@ fn replay_parser<'a>(alloc: Global) -> Result<clap::Command<'a>, AllocError>
         REPLAY_PAGE,
     )
     .arg(schedule_argument(alloc))?
+    .arg(any_files_argument(alloc))?
     .arg(flag_argument(
         alloc,
         "then-run",
@@ -117,6 +122,7 @@ fn trace_parser<'a>(alloc: Global) -> Result<clap::Command<'a>, AllocError>
         TRACE_PAGE,
     )
     .arg(schedule_argument(alloc))?
+    .arg(any_files_argument(alloc))?
     .arg(FROM.argument(alloc))?
     .arg(TO.argument(alloc))?
     .arg(ONLY.list_argument(alloc))?
@@ -154,6 +160,27 @@ fn search_parser<'a>(alloc: Global) -> Result<clap::Command<'a>, AllocError>
     )
 }
 
+fn shrink_parser<'a>(alloc: Global) -> Result<clap::Command<'a>, AllocError>
+    ensures { IfOk result (λ shrink. (app_of shrink ≡ jvm_shrink) × IsLocal shrink) }
+{
+    let shrink = titled(
+        alloc,
+        "shrink",
+        "Looks for a schedule with fewer switches that has the same outcome",
+        SHRINK_PAGE,
+    )
+    .arg(required_goal_argument(alloc))?
+    .arg(schedule_argument(alloc))?
+    .arg(any_files_argument(alloc))?
+    .arg(WHOLE_BUDGET.argument(alloc))?
+    .arg(record_argument(alloc))?;
+    with_files(
+        alloc,
+        with_program(alloc, shrink)?,
+        files_argument(alloc, FILES_HELP),
+    )
+}
+
 fn verify_parser<'a>(alloc: Global) -> Result<clap::Command<'a>, AllocError>
     ensures { IfOk result (λ verify. (app_of verify ≡ jvm_verify) × IsLocal verify) }
 {
@@ -165,7 +192,8 @@ fn verify_parser<'a>(alloc: Global) -> Result<clap::Command<'a>, AllocError>
         VERIFY_PAGE,
     )
     .arg(library)?
-    .arg(main_argument(alloc))?;
+    .arg(main_argument(alloc))?
+    .arg(alone_argument(alloc))?;
     with_files(alloc, verify, files_argument(alloc, FILES_HELP))
 }
 
@@ -195,7 +223,8 @@ fn schedule_parser<'a>(alloc: Global) -> Result<clap::Command<'a>, AllocError>
         "Prints a schedule file as text, or makes one of a text",
         SCHEDULE_PAGE,
     )
-    .arg(write)?;
+    .arg(write)?
+    .arg(AS_VERSION.argument(alloc))?;
     with_files(alloc, schedule, file_argument(alloc, "The schedule file"))
 }
 
@@ -204,7 +233,24 @@ fn schedule_argument<'a>(alloc: Global) -> Arg<'a>
     ensures rule { rule_of result ≡ schedule_option }
     ensures local { result.global ≡ false }
 {
-    path_argument(alloc, "schedule", "The schedule file, or its text").required(true)
+    path_argument(
+        alloc,
+        "schedule",
+        "The schedule file, or its text, or '0*22 1'",
+    )
+    .required(true)
+}
+
+/// Whether the schedule is for any class files.
+fn any_files_argument<'a>(alloc: Global) -> Arg<'a>
+    ensures rule { rule_of result ≡ flag (codes "any-files") }
+    ensures local { result.global ≡ false }
+{
+    flag_argument(
+        alloc,
+        "any-files",
+        "Takes any class files, whatever the schedule was recorded over",
+    )
 }
 
 /// The file that a schedule is written to.
@@ -231,7 +277,27 @@ fn main_argument<'a>(alloc: Global) -> Arg<'a>
         .help("The class whose main method is run, as bank.Main or bank/Main")
 }
 
-/// The outcome that a search is to find.
+/// That no class is added from the library.
+fn alone_argument<'a>(alloc: Global) -> Arg<'a>
+    ensures rule { rule_of result ≡ alone_flag }
+    ensures local { result.global ≡ false }
+{
+    flag_argument(
+        alloc,
+        "files-alone",
+        "Adds no class of the library to the class files",
+    )
+}
+
+/// The outcome that is to be kept, which has to be there.
+fn required_goal_argument<'a>(alloc: Global) -> Arg<'a>
+    ensures rule { rule_of result ≡ required_goal_option }
+    ensures local { result.global ≡ false }
+{
+    goal_argument(alloc).required(true)
+}
+
+/// The outcome that is to be found, or to be kept.
 fn goal_argument<'a>(alloc: Global) -> Arg<'a>
     ensures rule { rule_of result ≡ goal_option }
     ensures local { result.global ≡ false }
@@ -240,7 +306,7 @@ fn goal_argument<'a>(alloc: Global) -> Arg<'a>
         .long("for")
         .value_name("OUTCOME")
         .action(ArgAction::Set)
-        .help("What is searched for: deadlock, uncaught, output=NUMBERS or differs=FILE")
+        .help("The outcome: deadlock, uncaught, output=NUMBERS or differs=FILE")
 }
 
 /// The class files, one or more.
@@ -308,6 +374,14 @@ fn with_limits<'a>(
 }
 
 /// The command with the options of the limits, and with the one that names the class whose main is run.
+fn with_main<'a>(alloc: Global, command: clap::Command<'a>) -> Result<clap::Command<'a>, AllocError>
+    ensures app { IfOk result (λ main. app_of main ≡ started (app_of command.entry)) }
+    ensures local { IsLocal command.entry → IfOk result IsLocal }
+{
+    with_limits(alloc, command)?.arg(main_argument(alloc))
+}
+
+/// The same command with the flag that leaves the library out.
 fn with_program<'a>(
     alloc: Global,
     command: clap::Command<'a>,
@@ -315,7 +389,7 @@ fn with_program<'a>(
     ensures app { IfOk result (λ program. app_of program ≡ programmed (app_of command.entry)) }
     ensures local { IsLocal command.entry → IfOk result IsLocal }
 {
-    with_limits(alloc, command)?.arg(main_argument(alloc))
+    with_main(alloc, command)?.arg(alone_argument(alloc))
 }
 
 /// The command with the flags that say how much standard error tells, and with files behind all options.

@@ -4,7 +4,8 @@ ghost use Rattle.std.specs.Prelude.{◌≡◌, false, IfOk, IfErr, codes};
 ghost use Rattle.std.specs.Option.{SomeIff};
 ghost use Rattle.std.specs.Str.Parse.{digits_value};
 ghost use Rattle.clap.specs.Words.{first_of, found_of, rows_of, rule_of};
-ghost use Rattle.command_line.specs.CommandLine.{IsNumber, IsNumeralWithin, Refuses, number_option, path_option};
+ghost use Rattle.command_line.specs.CommandLine.{IsNumber, Refuses, number_option, path_option};
+ghost use Rattle.command_line.specs.Numerals.{IsNumeralWithin};
 ghost use Rattle.command_line.specs.Policies.{IsPolicy, IsPolicyWord};
 
 use crate::run_options::PolicyName;
@@ -60,7 +61,7 @@ pub(crate) fn seed_of(alloc: Global, matches: &ArgMatches<'_>) -> Result<Option<
 }
 
 /// The seed that decimal digits spell. Digits alone do, and no sign.
-fn seed_by(text: &str) -> Option<u64>
+pub(crate) fn seed_by(text: &str) -> Option<u64>
     ensures { SomeIff result (IsNumeralWithin 0 18446744073709551615 text.now) (digits_value 10 text.now) }
 {
     if text.starts_with('+') {

@@ -3,6 +3,8 @@
 ghost use Rattle.std.specs.Prelude.{◌≡◌, ◌≤◌, IfSome, MatchOption, unwrap_or};
 ghost use Rattle.command_line.specs.Policies.{GoTogether, IsOfPolicy, policy_of};
 
+use crate::options::USUAL_BUDGET;
+
 /// The budget of a run of which none is asked for, in events: as many as a schedule may have.
 const NO_BUDGET: u32 = u32::MAX;
 
@@ -54,6 +56,13 @@ impl RunOptions {
         ensures { result ≡ unwrap_or self.now.budget 4294967295 }
     {
         self.budget.unwrap_or(NO_BUDGET)
+    }
+
+    /// The budget of each run of a sweep, in events.
+    pub fn sweep_budget(&self) -> u32
+        ensures { result ≡ unwrap_or self.now.budget 10000000 }
+    {
+        self.budget.unwrap_or(USUAL_BUDGET)
     }
 
     /// How many events of a thread a worker does in a row while it holds the lock. It is at least 1.

@@ -26,8 +26,8 @@ pub enum Usage {
 }
 
 impl Usage {
-    /// That a text with a sign isn't a number of the option of this name, in the parser's words for every other text
-    /// that is none. The parser takes a plus, and takes a minus for an option.
+    /// The fault that a text with a sign isn't a number of the option of this name, in the parser's words for every
+    /// other text that is none. The parser takes a plus, and takes a minus for an option.
     pub(crate) fn no_number(alloc: Global, name: &str, text: &str) -> Usage
         ensures { Asks result → ⊥ }
     {
@@ -36,7 +36,7 @@ impl Usage {
         ))
     }
 
-    /// That a number isn't within the range of the option of this name, in the parser's words.
+    /// The fault that a number isn't within the range of the option of this name, in the parser's words.
     pub(crate) fn not_within(alloc: Global, name: &str, number: u64, least: u32, most: u32) -> Usage
         ensures { Asks result → ⊥ }
     {
@@ -45,7 +45,7 @@ impl Usage {
         ))
     }
 
-    /// That a text isn't a number of the option of this name, in the parser's words.
+    /// The fault that a text isn't a number of the option of this name, in the parser's words.
     pub(crate) fn not_parsed(alloc: Global, name: &str, text: &str, error: &ParseIntError) -> Usage
         ensures { Asks result → ⊥ }
     {
@@ -54,7 +54,7 @@ impl Usage {
         ))
     }
 
-    /// That an option doesn't go with another one, in the parser's words.
+    /// The fault that an option doesn't go with another one, in the parser's words.
     pub(crate) fn not_together(alloc: Global, one: &str, other: &str) -> Usage
         ensures { Asks result → ⊥ }
     {
@@ -63,7 +63,7 @@ impl Usage {
         ))
     }
 
-    /// That there is no such policy, in the parser's words for a value that isn't one of a few.
+    /// The fault that there is no such policy, in the parser's words for a value that isn't one of a few.
     pub(crate) fn no_policy(alloc: Global, text: &str) -> Usage
         ensures { Asks result → ⊥ }
     {
@@ -72,7 +72,7 @@ impl Usage {
         ))
     }
 
-    /// That a file is to be written which is read, too, in the parser's words for a value that it refuses.
+    /// The fault that a file is to be written which is read, too, in the parser's words for a value that it refuses.
     pub fn read_too(alloc: Global, path: &str) -> Usage
         ensures { Asks result → ⊥ }
     {
@@ -81,7 +81,7 @@ impl Usage {
         ))
     }
 
-    /// That a search can find no such outcome, in the parser's words for a value that isn't one of a few.
+    /// The fault that a search can find no such outcome, in the parser's words for a value that isn't one of a few.
     pub(crate) fn no_goal(alloc: Global, text: &str) -> Usage
         ensures { Asks result → ⊥ }
     {
@@ -90,7 +90,8 @@ impl Usage {
         ))
     }
 
-    /// That a text is none of the ints that may be printed, in the parser's words for a value that it refuses.
+    /// The fault that a text is none of the ints that may be printed, in the parser's words for a value that it
+    /// refuses.
     pub(crate) fn no_int(alloc: Global, text: &str) -> Usage
         ensures { Asks result → ⊥ }
     {
@@ -99,12 +100,39 @@ impl Usage {
         ))
     }
 
-    /// That `--then-run` is missing, in the parser's words for what has to be there.
+    /// The fault that `--then-run` is missing, in the parser's words for what has to be there.
     pub(crate) fn no_then_run(alloc: Global) -> Usage
         ensures { Asks result → ⊥ }
     {
         Usage::told(format!(in alloc;
             "error: the following required arguments were not provided:\n  --then-run\n\n{MORE}\n"
+        ))
+    }
+
+    /// That `--seeds` is missing, in the parser's words for what has to be there.
+    pub(crate) fn no_sweep(alloc: Global) -> Usage
+        ensures { Asks result → ⊥ }
+    {
+        Usage::told(format!(in alloc;
+            "error: the following required arguments were not provided:\n  --seeds <A..B>\n\n{MORE}\n"
+        ))
+    }
+
+    /// That a text names no seeds, in the parser's words for a value that it refuses.
+    pub(crate) fn no_seeds(alloc: Global, text: &str) -> Usage
+        ensures { Asks result → ⊥ }
+    {
+        Usage::told(format!(in alloc;
+            "error: invalid value '{text}' for '--seeds <A..B>': not two seeds from 0 to 18446744073709551615 with two dots between them\n\n{MORE}\n"
+        ))
+    }
+
+    /// That no seed is in a range, in the parser's words for a value that it refuses.
+    pub(crate) fn empty_seeds(alloc: Global, text: &str) -> Usage
+        ensures { Asks result → ⊥ }
+    {
+        Usage::told(format!(in alloc;
+            "error: invalid value '{text}' for '--seeds <A..B>': there is no seed in this range\n\n{MORE}\n"
         ))
     }
 

@@ -2,13 +2,18 @@
 //! that it may not be ready for. The first word says what is done:
 //!
 //! - `cases TEXT..` runs the cases of texts, and prints what each writes, says and ends with;
-//! - `fronts`, `bytes EVERY` and `events`, with the words of a replay behind them, `--schedule FILE [LIMITS] FILE..`, try other forms of
-//!   its files, or other events;
+//! - `fronts`, `bytes EVERY` and `events`, with the words of a replay behind them, `--schedule FILE [LIMITS] FILE..`,
+//!   try other forms of its files, or other events;
 //! - `sets SEED COUNT` tries sets of class files that are made by chance;
 //! - `each FILE` does what each line of the file says.
 //!
 //! Of trials it prints how many forms or sets were tried, and where something is wrong, what. Then its status is 1.
 //! With `--counts` before their word, it prints also what came of them, each with how often.
+//!
+//! # Not proved
+//!
+//! The program is proved safe. Its stored run, `data/stored-run`, has a line for each thing that the gate tries:
+//! trials, and then the cases of each text.
 #![tactic(auto)]
 
 mod cases;

@@ -1,4 +1,4 @@
-//! Reading a pool.
+//! Reading a constant pool from the bytes of a class file.
 
 ghost use Rattle.std.specs.Prelude.{◌≡◌, ◌-◌, ◌&&◌, not, IsTrue, IfOk};
 ghost use Rattle.std.specs.List.{list_all};

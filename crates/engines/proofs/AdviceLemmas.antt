@@ -1,49 +1,42 @@
 -- Files that are read for advice.
-use Rattle.std.proofs.Common.{inl, inr, ◌⊎◌, ◌≡◌, ℕ, ◌+◌, ◌<◌, ◌≤◌, List, [], ◌∷◌, ◌++◌, length, map, take, get_or, Option, string_bytes, refl, sym, ap, subst}
-use Rattle.std.proofs.lemmas.List.{take_all}
-use Rattle.std.specs.declared.string.String.{String}
+use Rattle.std.proofs.Common.{inl, inr, ◌⊎◌, ◌≡◌, ℕ, ◌+◌, ◌<◌, ◌≤◌, List, [], ◌∷◌, ◌++◌, length, map, take, get_or, Option, Some, string_bytes, refl, sym, ap, subst}
+use Rattle.std.specs.Prelude.{IfOk, Result, Ok, Err}
+use Rattle.std.specs.Result.{result_unwrap_or}
+use Rattle.std.specs.declared.vec.Vec.{Vec}
 use Rattle.std.specs.Global.{Global}
-use Rattle.advice.specs.declared.given.GivenFile.{GivenFile}
-use Rattle.advice.specs.Reading.{bytes_of}
+use Rattle.advice.specs.Advice.{IsAdvice}
+use Rattle.library_files.specs.Adding.{LibraryFile}
 use Rattle.command_line.specs.CommandLine.{Spells}
 use Rattle.command_line.specs.declared.options.Command.{Command}
 use Rattle.engines.specs.declared.complaint.Complaint.{Complaint}
-use Rattle.engines.specs.declared.complaint.Complaint.TheVariants as complaints
 use Rattle.engines.specs.declared.fault.Fault.{Fault}
-use Rattle.engines.specs.Advised.{IsExplained, IsToldOf}
-use Rattle.engines.specs.Engines.{Reads, ReadsEach}
-use Rattle.engines.specs.Files.{Held, Listed, held_at}
-use Rattle.engines.proofs.EngineLemmas.{reads_next}
+use Rattle.engines.specs.Advised.{IsAdviceOn, IsExplained, IsExplainedBy, IsToldOf, complaint_fault}
+use Rattle.engines.specs.Commands.{AreFiles, OfFiles}
+use Rattle.engines.specs.Engines.{ReadsEach}
+use Rattle.engines.specs.Files.{Held, Listed, held_at, known}
+use Rattle.engines.specs.Handed.{AreHanded}
 
--- the files at paths, of which each is read
-abbrev pub AreReadAt : (held : List ℕ → Option (List ℕ)) → List (String Global) → List GivenFile → Type 0
-AreReadAt held paths files = ReadsEach (map (λ path. held (string_bytes path)) paths) (map bytes_of files)
+-- files of these bytes are read as they are
+pub reads_known : (files : List (List ℕ)) → ReadsEach (known files) files
+reads_known [] = tt
+reads_known (bytes ∷ files) = (refl, reads_known files)
 
-pub file_read : (held : List ℕ → Option (List ℕ)) (paths : List (String Global)) (i : ℕ) (path : String Global) (files all : List GivenFile)
-    (file : GivenFile) → i < length paths → path ≡ get_or paths i path → AreReadAt held (take i paths) files → Reads (held (string_bytes path)) (bytes_of file)
-    → all ≡ files ++ file ∷ [] → AreReadAt held (take (i + 1) paths) all
-file_read held paths i path files all file lt is so_far next more =
-    let here : Reads (held (string_bytes (get_or paths i path))) (bytes_of file) = subst (λ (p : String Global). Reads (held (string_bytes p)) (bytes_of file)) is next in
-    subst (λ (l : List GivenFile). AreReadAt held (take (i + 1) paths) l) (sym more)
-    (reads_next (λ p. held (string_bytes p)) bytes_of paths i path files file lt so_far here)
-
-held_all : (held : List ℕ → Option (List ℕ)) (paths : List (String Global)) → map (λ path. held (string_bytes path)) paths ≡ held_at held (map string_bytes paths)
-held_all held [] = refl
-held_all held (path ∷ paths) = ap (λ l. held (string_bytes path) ∷ l) (held_all held paths)
-
-pub all_read : (held : List ℕ → Option (List ℕ)) (paths : List (String Global)) (i : ℕ) (files : List GivenFile) → length paths ≤ i
-    → AreReadAt held (take i paths) files → ReadsEach (held_at held (map string_bytes paths)) (map bytes_of files)
-all_read held paths i files le read =
-    let whole : take i paths ≡ paths = take_all i paths le in
-    subst (λ l. ReadsEach l (map bytes_of files)) (held_all held paths) (subst (λ (l : List (String Global)). AreReadAt held l files) whole read)
+-- advice on the files that are handed on, or nothing
+pub advice_told : {E : Type 0} (library : List LibraryFile) (held : Held) (listed : Listed) (command : Command) (result : Result (Vec ℕ Global) E) (default : Vec ℕ Global)
+    (paths : List (List ℕ)) → AreFiles held listed command paths → (files : List (List ℕ)) (added own : List LibraryFile)
+    → AreHanded library command (held_at held paths) files added own → IfOk result (λ text. IsAdvice files text.items) → default.items ≡ []
+    → ((result_unwrap_or result default).items ≡ []) ⊎ OfFiles library held listed command (IsAdviceOn (result_unwrap_or result default).items)
+advice_told library held listed command (Ok text) default paths are files added own handed advice none =
+    inr (paths, are, files, added, own, handed, (files, reads_known files, advice))
+advice_told library held listed command (Err fault) default paths are files added own handed advice none = inl none
 
 -- ---- what is told
 
 -- it is told of a fault of the command of the words
-pub explained : (held : Held) (listed : Listed) (words : List (List ℕ)) (complaint : Complaint) (command : Command) (fault : Fault) (old new : List ℕ)
-    → complaint ≡ complaints.Fault fault → Spells words command → (new ≡ old) ⊎ IsToldOf held listed command fault new
-    → IsExplained held listed words complaint old new
-explained held listed words complaint command fault old new is spelled (inl same) =
-    subst (λ (c : Complaint). IsExplained held listed words c old new) (sym is) (inl same)
-explained held listed words complaint command fault old new is spelled (inr more) =
-    subst (λ (c : Complaint). IsExplained held listed words c old new) (sym is) (inr (inl (command, spelled, more)))
+pub explained : (library : List LibraryFile) (held : Held) (listed : Listed) (words : List (List ℕ)) (complaint : Complaint) (command : Command) (fault : Fault) (old new : List ℕ)
+    → complaint_fault complaint ≡ Some fault → Spells words command → (new ≡ old) ⊎ IsToldOf library held listed command fault new
+    → IsExplained library held listed words complaint old new
+explained library held listed words complaint command fault old new is spelled (inl same) =
+    subst (λ (f : Option Fault). IsExplainedBy library held listed words f old new) (sym is) (inl same)
+explained library held listed words complaint command fault old new is spelled (inr more) =
+    subst (λ (f : Option Fault). IsExplainedBy library held listed words f old new) (sym is) (inr (inl (command, spelled, more)))

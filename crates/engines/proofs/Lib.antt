@@ -9,9 +9,10 @@ pub mod ListingLemmas
 pub mod OpeningLemmas
 pub mod OutcomeLemmas
 pub mod RecordLemmas
-pub mod RecordingLemmas
 pub mod RunLemmas
 pub mod ScheduleLemmas
 pub mod SearchLemmas
+pub mod ShrinkLemmas
+pub mod SweepLemmas
 pub mod TraceLemmas
 pub mod VerificationLemmas

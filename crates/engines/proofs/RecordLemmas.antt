@@ -15,13 +15,15 @@ use Rattle.program_files.specs.Folders.{Held}
 use Rattle.engines.specs.Commands.{IsContinuationUndone, IsRunUndone, IsSearchUndone, IsUnrecorded, LeavesAt}
 use Rattle.engines.specs.Continuations.{Continues, IsUncontinued}
 use Rattle.engines.specs.Devices.{IsUnable}
-use Rattle.engines.specs.Files.{written_at}
+use Rattle.engines.specs.Files.{OfSchedule, written_at}
+use Rattle.engines.specs.Recordings.{conditions_of}
 use Rattle.engines.specs.Goals.{IsAskedFor}
 use Rattle.engines.specs.Runs.{IsUnrun, Runs}
 use Rattle.engines.specs.Searches.{IsUnsearched, Searches, most_states}
 use Rattle.engines.specs.declared.fault.Fault.{Fault}
 use Rattle.engines.specs.declared.fault.Fault.TheVariants as faults
 use Rattle.engines.specs.declared.status.Status.{Status}
+use Rattle.engines.specs.declared.recording.Conditions.{Conditions}
 
 -- all of a text is a front of it
 all_front : (old new : Option (List ℕ)) (text : List ℕ) → Appends old new text → AppendsFront old new text
@@ -29,16 +31,16 @@ all_front old new text all = (text, [], sym (append-nil text), all)
 
 -- ---- the command is done, but for the record
 
-whole_is_unrun : (lefts : List (Option (List ℕ))) (asked : LimitOptions) (options : RunOptions) (old new made : Option (List ℕ)) (fault : Fault)
-    → IsUnable fault → (text : List ℕ) × (status : Status) × Runs lefts asked options text made status × Appends old new text
-    → IsUnrun lefts asked options old new None made fault
-whole_is_unrun lefts asked options old new made faults.Device unable (text, status, runs, all) = inr (text, status, runs, all_front old new text all)
-whole_is_unrun lefts asked options old new made faults.Memory unable (text, status, runs, all) = inr (text, status, runs, all_front old new text all)
-whole_is_unrun lefts asked options old new made (faults.Refusal refusal) unable whole = absurd unable
-whole_is_unrun lefts asked options old new made (faults.Schedule fault) unable whole = absurd unable
-whole_is_unrun lefts asked options old new made (faults.Text fault) unable whole = absurd unable
+whole_is_unrun : (given : ℕ) (lefts : List (Option (List ℕ))) (asked : LimitOptions) (options : RunOptions) (old new made : Option (List ℕ)) (fault : Fault)
+    → IsUnable fault → (text : List ℕ) × (status : Status) × Runs given lefts asked options text made status × Appends old new text
+    → IsUnrun given lefts asked options old new None made fault
+whole_is_unrun given lefts asked options old new made faults.Device unable (text, status, runs, all) = inr (text, status, runs, all_front old new text all)
+whole_is_unrun given lefts asked options old new made faults.Memory unable (text, status, runs, all) = inr (text, status, runs, all_front old new text all)
+whole_is_unrun given lefts asked options old new made (faults.Refusal refusal) unable whole = absurd unable
+whole_is_unrun given lefts asked options old new made (faults.Schedule fault) unable whole = absurd unable
+whole_is_unrun given lefts asked options old new made (faults.Text fault) unable whole = absurd unable
 
-whole_is_uncontinued : (left : Option (List ℕ)) (lefts : List (Option (List ℕ))) (asked : LimitOptions) (budget : ℕ) (old new made : Option (List ℕ))
+whole_is_uncontinued : (left : Option (List ℕ)) (lefts : List (Option (List ℕ))) (asked : Conditions) (budget : ℕ) (old new made : Option (List ℕ))
     (fault : Fault) → IsUnable fault → (text : List ℕ) × (status : Status) × Continues left lefts asked budget text made status × Appends old new text
     → IsUncontinued left lefts asked budget old new None made fault
 whole_is_uncontinued left lefts asked budget old new made faults.Device unable (text, status, runs, all) = inr (text, status, runs, all_front old new text all)
@@ -47,30 +49,30 @@ whole_is_uncontinued left lefts asked budget old new made (faults.Refusal refusa
 whole_is_uncontinued left lefts asked budget old new made (faults.Schedule fault) unable whole = absurd unable
 whole_is_uncontinued left lefts asked budget old new made (faults.Text fault) unable whole = absurd unable
 
-whole_is_unsearched : (lefts : List (Option (List ℕ))) (asked : LimitOptions) (want : Wanted) (most : ℕ) (recorded : Bool) (old new made : Option (List ℕ))
-    (fault : Fault) → IsUnable fault → (text : List ℕ) × (status : Status) × Searches lefts asked want most recorded text made status × Appends old new text
-    → IsUnsearched lefts asked want most recorded old new None made fault
-whole_is_unsearched lefts asked want most recorded old new made faults.Device unable (text, status, runs, all) = inr (text, status, runs, all_front old new text all)
-whole_is_unsearched lefts asked want most recorded old new made faults.Memory unable (text, status, runs, all) = inr (text, status, runs, all_front old new text all)
-whole_is_unsearched lefts asked want most recorded old new made (faults.Refusal refusal) unable whole = absurd unable
-whole_is_unsearched lefts asked want most recorded old new made (faults.Schedule fault) unable whole = absurd unable
-whole_is_unsearched lefts asked want most recorded old new made (faults.Text fault) unable whole = absurd unable
+whole_is_unsearched : (given : ℕ) (lefts : List (Option (List ℕ))) (asked : LimitOptions) (want : Wanted) (most : ℕ) (recorded : Bool) (old new made : Option (List ℕ))
+    (fault : Fault) → IsUnable fault → (text : List ℕ) × (status : Status) × Searches given lefts asked want most recorded text made status × Appends old new text
+    → IsUnsearched given lefts asked want most recorded old new None made fault
+whole_is_unsearched given lefts asked want most recorded old new made faults.Device unable (text, status, runs, all) = inr (text, status, runs, all_front old new text all)
+whole_is_unsearched given lefts asked want most recorded old new made faults.Memory unable (text, status, runs, all) = inr (text, status, runs, all_front old new text all)
+whole_is_unsearched given lefts asked want most recorded old new made (faults.Refusal refusal) unable whole = absurd unable
+whole_is_unsearched given lefts asked want most recorded old new made (faults.Schedule fault) unable whole = absurd unable
+whole_is_unsearched given lefts asked want most recorded old new made (faults.Text fault) unable whole = absurd unable
 
 -- ---- a fault of the command, or of the record
 
-module _ (held holds : Held) (lefts : List (Option (List ℕ))) (old new made : Option (List ℕ)) (outcome : Result Status Fault) (fault : Fault) where
+module _ (held holds : Held) (given : ℕ) (lefts : List (Option (List ℕ))) (old new made : Option (List ℕ)) (outcome : Result Status Fault) (fault : Fault) where
   module _ (run : Run) where
     abbrev RunDone : Status → Type 0
-    RunDone status = (text : List ℕ) × Runs lefts run.limits run.options text made status × Appends old new text
+    RunDone status = (text : List ℕ) × Runs given lefts run.limits run.options text made status × Appends old new text
 
     abbrev RunUndone : Fault → Type 0
-    RunUndone told = IsUnrun lefts run.limits run.options old new None made told
+    RunUndone told = IsUnrun given lefts run.limits run.options old new None made told
 
     run_whole : (status : Status) → IsUnable fault → RunDone status → RunUndone fault
-    run_whole status unable (text, runs, all) = whole_is_unrun _ _ _ old new made fault unable (text, status, runs, all)
+    run_whole status unable (text, runs, all) = whole_is_unrun _ _ _ _ old new made fault unable (text, status, runs, all)
 
     pub run_undone : IsUnrecorded outcome held holds (written_at run.record made) fault → IfOk outcome RunDone → IfErr outcome RunUndone
-        → LeavesAt (IsRunUndone lefts run old new) held holds fault
+        → LeavesAt (IsRunUndone given lefts run old new) held holds fault
     run_undone (inl (is, inl with)) done undone =
         (None, record { file = made; unrun = subst (λ (o : Result Status Fault). IfErr o RunUndone) is undone; recorded = inl refl }, with)
     run_undone (inl (is, inr with)) done undone =
@@ -81,18 +83,19 @@ module _ (held holds : Held) (lefts : List (Option (List ℕ))) (old new made : 
 
   module _ (replay : Replay) (then_run : ThenRun) where
     abbrev ReplayDone : Status → Type 0
-    ReplayDone status = (text : List ℕ) × Continues (held (string_bytes replay.schedule)) lefts replay.limits
-        (unwrap_or then_run.budget 10000000) text made status × Appends old new text
+    ReplayDone status = (text : List ℕ) × OfSchedule held (string_bytes replay.schedule) (λ left. Continues left lefts (conditions_of replay.limits replay.any_files given)
+        (unwrap_or then_run.budget 10000000) text made status) × Appends old new text
 
     abbrev ReplayUndone : Fault → Type 0
-    ReplayUndone told = IsUncontinued (held (string_bytes replay.schedule)) lefts replay.limits
-        (unwrap_or then_run.budget 10000000) old new None made told
+    ReplayUndone told = OfSchedule held (string_bytes replay.schedule) (λ left. IsUncontinued left lefts (conditions_of replay.limits replay.any_files given)
+        (unwrap_or then_run.budget 10000000) old new None made told)
 
     replay_whole : (status : Status) → IsUnable fault → ReplayDone status → ReplayUndone fault
-    replay_whole status unable (text, continues, all) = whole_is_uncontinued _ _ _ _ old new made fault unable (text, status, continues, all)
+    replay_whole status unable (text, (left, at, continues), all) =
+        (left, at, whole_is_uncontinued _ _ _ _ old new made fault unable (text, status, continues, all))
 
     pub replay_undone : IsUnrecorded outcome held holds (written_at then_run.record made) fault → IfOk outcome ReplayDone
-        → IfErr outcome ReplayUndone → LeavesAt (IsContinuationUndone held lefts replay then_run old new) held holds fault
+        → IfErr outcome ReplayUndone → LeavesAt (IsContinuationUndone held given lefts replay then_run old new) held holds fault
     replay_undone (inl (is, inl with)) done undone =
         (None, record { file = made; uncontinued = subst (λ (o : Result Status Fault). IfErr o ReplayUndone) is undone; recorded = inl refl }, with)
     replay_undone (inl (is, inr with)) done undone =
@@ -103,18 +106,18 @@ module _ (held holds : Held) (lefts : List (Option (List ℕ))) (old new made : 
 
   module _ (search : Search) (want : Wanted) (asked : IsAskedFor held search.goal want) where
     abbrev SearchDone : Status → Type 0
-    SearchDone status = (text : List ℕ) × Searches lefts search.limits want (most_states search)
+    SearchDone status = (text : List ℕ) × Searches given lefts search.limits want (most_states search)
         (is_some search.record) text made status × Appends old new text
 
     abbrev SearchUndone : Fault → Type 0
-    SearchUndone told = IsUnsearched lefts search.limits want (most_states search)
+    SearchUndone told = IsUnsearched given lefts search.limits want (most_states search)
         (is_some search.record) old new None made told
 
     search_whole : (status : Status) → IsUnable fault → SearchDone status → SearchUndone fault
-    search_whole status unable (text, searches, all) = whole_is_unsearched _ _ _ _ _ old new made fault unable (text, status, searches, all)
+    search_whole status unable (text, searches, all) = whole_is_unsearched _ _ _ _ _ _ old new made fault unable (text, status, searches, all)
 
     pub search_undone : IsUnrecorded outcome held holds (written_at search.record made) fault → IfOk outcome SearchDone
-        → IfErr outcome SearchUndone → LeavesAt (IsSearchUndone held lefts search old new) held holds fault
+        → IfErr outcome SearchUndone → LeavesAt (IsSearchUndone held given lefts search old new) held holds fault
     search_undone (inl (is, inl with)) done undone =
         (None, record { want = want; asked = asked; file = made; unsearched = subst (λ (o : Result Status Fault). IfErr o SearchUndone) is undone; recorded = inl refl }, with)
     search_undone (inl (is, inr with)) done undone =
@@ -124,12 +127,12 @@ module _ (held holds : Held) (lefts : List (Option (List ℕ))) (old new made : 
         (None, record { want = want; asked = asked; file = made; unsearched = search_whole status unable whole; recorded = inl refl }, with)
 
 -- the same of what is answered, whatever that is
-pub search_undone_of : (held holds : Held) (lefts : List (Option (List ℕ))) (old new made : Option (List ℕ)) (outcome result : Result Status Fault) (search : Search) (want : Wanted)
+pub search_undone_of : (held holds : Held) (given : ℕ) (lefts : List (Option (List ℕ))) (old new made : Option (List ℕ)) (outcome result : Result Status Fault) (search : Search) (want : Wanted)
     → IsAskedFor held search.goal want → IfErr result (IsUnrecorded outcome held holds (written_at search.record made))
-    → IfOk outcome (λ status. (text : List ℕ) × Searches lefts search.limits want (most_states search)
+    → IfOk outcome (λ status. (text : List ℕ) × Searches given lefts search.limits want (most_states search)
     (is_some search.record) text made status × Appends old new text)
-    → IfErr outcome (IsUnsearched lefts search.limits want (most_states search) (is_some search.record) old new None made)
-    → IfErr result (LeavesAt (IsSearchUndone held lefts search old new) held holds)
-search_undone_of held holds lefts old new made outcome (Ok status) search want asked unrecorded done undone = tt
-search_undone_of held holds lefts old new made outcome (Err fault) search want asked unrecorded done undone =
-    search_undone held holds lefts old new made outcome fault search want asked unrecorded done undone
+    → IfErr outcome (IsUnsearched given lefts search.limits want (most_states search) (is_some search.record) old new None made)
+    → IfErr result (LeavesAt (IsSearchUndone held given lefts search old new) held holds)
+search_undone_of held holds given lefts old new made outcome (Ok status) search want asked unrecorded done undone = tt
+search_undone_of held holds given lefts old new made outcome (Err fault) search want asked unrecorded done undone =
+    search_undone held holds given lefts old new made outcome fault search want asked unrecorded done undone

@@ -24,21 +24,21 @@ few_files files trees accepted =
     omega (arith, few, spelled_count files trees accepted.linkable.spelled)
 
 -- a class file isn't read, and nothing is written
-pub unread_is_unrun : (fault : Fault) (lefts : List (Option (List ℕ))) (asked : LimitOptions) (options : RunOptions)
+pub unread_is_unrun : (fault : Fault) (given : ℕ) (lefts : List (Option (List ℕ))) (asked : LimitOptions) (options : RunOptions)
     (held : Option (List ℕ)) (kept : Option (List ℕ)) (file : ℕ)
-    → file < length lefts → IsOfFile file fault → IsUnrun lefts asked options held held kept kept fault
-unread_is_unrun faults.Device lefts asked options held kept file within of_file = inl (refl, refl)
-unread_is_unrun faults.Memory lefts asked options held kept file within of_file = absurd of_file
-unread_is_unrun (faults.Schedule fault) lefts asked options held kept file within of_file = absurd of_file
-unread_is_unrun (faults.Text fault) lefts asked options held kept file within of_file = absurd of_file
-unread_is_unrun (faults.Refusal refusal) lefts asked options held kept file within of_file = (refl, refl, inl (file, within, of_file))
+    → file < length lefts → IsOfFile file fault → IsUnrun given lefts asked options held held kept kept fault
+unread_is_unrun faults.Device given lefts asked options held kept file within of_file = inl (refl, refl)
+unread_is_unrun faults.Memory given lefts asked options held kept file within of_file = absurd of_file
+unread_is_unrun (faults.Schedule fault) given lefts asked options held kept file within of_file = absurd of_file
+unread_is_unrun (faults.Text fault) given lefts asked options held kept file within of_file = absurd of_file
+unread_is_unrun (faults.Refusal refusal) given lefts asked options held kept file within of_file = (refl, refl, inl (file, within, of_file))
 
 -- the writing stops
-pub part_is_unrun : (fault : DeviceFault) (lefts : List (Option (List ℕ))) (asked : LimitOptions) (options : RunOptions)
+pub part_is_unrun : (fault : DeviceFault) (given : ℕ) (lefts : List (Option (List ℕ))) (asked : LimitOptions) (options : RunOptions)
     (old new : Option (List ℕ)) (kept made : Option (List ℕ))
-    → RunsPart lefts asked options old new kept made → IsUnrun lefts asked options old new kept made (fault_of fault)
-part_is_unrun devices.Device lefts asked options old new kept made part = part
-part_is_unrun devices.Memory lefts asked options old new kept made part = part
+    → RunsPart given lefts asked options old new kept made → IsUnrun given lefts asked options old new kept made (fault_of fault)
+part_is_unrun devices.Device given lefts asked options old new kept made part = part
+part_is_unrun devices.Memory given lefts asked options old new kept made part = part
 
 -- what is so of an answer by three clauses
 pub by_three : {A E : Type 0} (result : Result A E) (p q r all : A → Type 0) → ((value : A) → p value → q value → r value → all value)

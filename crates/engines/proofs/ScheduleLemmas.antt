@@ -19,7 +19,7 @@ appends_nothing (Some bytes) = sym (append-nil bytes)
 
 pub write_leaves : (held holds : Held) (input : Option (List ℕ)) (schedule : Schedule) (old : Option (List ℕ)) (result : Result Status Fault)
     → schedule.write ≡ true
-    → IfOk result (λ status. (bytes : List ℕ) × Transcribes input bytes × (status ≡ Returned) × IsWith held holds (Some (string_bytes schedule.file, bytes)))
+    → IfOk result (λ status. (bytes : List ℕ) × Transcribes schedule.as_version input bytes × (status ≡ Returned) × IsWith held holds (Some (string_bytes schedule.file, bytes)))
     → IfOk result (Leaves (IsScheduleDone held input schedule schedule.write) old old held holds)
 write_leaves held holds input schedule old (Ok status) write (bytes, transcribes, returned, with) =
     subst (λ w. Leaves (IsScheduleDone held input schedule w) old old held holds status) (sym write)

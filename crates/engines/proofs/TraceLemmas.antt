@@ -13,16 +13,16 @@ use Rattle.listings.proofs.disasm.Writing.{appends_on, then_fails}
 use Rattle.machine.specs.machine_replay.Replays.{text_of}
 use Rattle.program_runs.specs.traced_runs.Traces.{IsTrace}
 use Rattle.program_runs.specs.declared.traced_runs.window.Window.{Window}
-use Rattle.command_line.specs.declared.options.LimitOptions.{LimitOptions}
 use Rattle.engines.specs.Devices.{fault_of}
 use Rattle.engines.specs.Opening.{IsKeptBy, IsOpened}
 use Rattle.engines.specs.Statuses.{status_of}
 use Rattle.engines.specs.Traces.{IsTraced, IsUntraced, TracesFront, TracesPart}
 use Rattle.engines.specs.declared.fault.Fault.{Fault}
 use Rattle.engines.specs.declared.fault.Fault.TheVariants as faults
+use Rattle.engines.specs.declared.recording.Conditions.{Conditions}
 
 -- nothing is written where nothing is run
-pub kept_is_untraced : (fault : Fault) (left : Option (List ℕ)) (lefts : List (Option (List ℕ))) (options : LimitOptions) (window : Window)
+pub kept_is_untraced : (fault : Fault) (left : Option (List ℕ)) (lefts : List (Option (List ℕ))) (options : Conditions) (window : Window)
     (held : Option (List ℕ)) → IsKeptBy left lefts options fault
     → IsUntraced left lefts options window held held fault
 kept_is_untraced faults.Device left lefts options window held kept = inl refl
@@ -32,7 +32,7 @@ kept_is_untraced (faults.Text fault) left lefts options window held kept = (refl
 kept_is_untraced (faults.Refusal refusal) left lefts options window held kept = (refl, kept)
 
 -- where a device fails, or memory is wanted, a part may be written
-pub part_is_untraced : (fault : DeviceFault) (left : Option (List ℕ)) (lefts : List (Option (List ℕ))) (options : LimitOptions)
+pub part_is_untraced : (fault : DeviceFault) (left : Option (List ℕ)) (lefts : List (Option (List ℕ))) (options : Conditions)
     (window : Window) (old new : Option (List ℕ)) → TracesPart left lefts options window old new
     → IsUntraced left lefts options window old new (fault_of fault)
 part_is_untraced devices.Device left lefts options window old new part = part
@@ -40,7 +40,7 @@ part_is_untraced devices.Memory left lefts options window old new part = part
 
 -- ---- the lines, and then the report
 
-module _ (schedule : List ℕ) (files : List (List ℕ)) (options : LimitOptions) (window : Window) (trees : Program) (events : List Event)
+module _ (schedule : List ℕ) (files : List (List ℕ)) (options : Conditions) (window : Window) (trees : Program) (events : List Event)
     (limits : Limits) (report : Report) (end : End) (old mid : Option (List ℕ))
     (traced : (lines : List ℕ) × IsTrace trees events limits window report end lines × Appends old mid lines) (opened : IsOpened schedule files options trees events limits) where
   is_traced : IsTraced schedule files options window (traced.0 ++ text_of report end) (status_of report.threads.items end)

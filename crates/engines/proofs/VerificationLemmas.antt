@@ -18,6 +18,7 @@ use Rattle.types.specs.method_code.View.{member_named, shown_in, shown_at}
 use Rattle.types.proofs.method_code.Declared.{declared_at}
 use Rattle.linker.specs.Linking.{MayRefuse}
 use Rattle.linker.specs.Telling.{TellsLineOf}
+use Rattle.library_files.specs.Adding.{LibraryFile}
 use Rattle.verifier.specs.Steps.{most_steps, all_steps}
 use Rattle.verifier.specs.Places.{IsUnverified, IsTooLong, Refuses}
 use Rattle.link_conditions.specs.declared.refusal.why.Refusal.{Refusal}
@@ -113,13 +114,13 @@ verification_refuses files linked refusal linkable sole refused = record {
 -- ---- faults
 
 -- a class file isn't read, and nothing is written
-pub unread_is_unaccepted : (fault : Fault) (lefts : List (Option (List ℕ))) (held : Option (List ℕ)) (file : ℕ) → file < length lefts
-    → IsOfFile file fault → IsUnaccepted lefts held held fault
-unread_is_unaccepted faults.Device lefts held file within of_file = inl refl
-unread_is_unaccepted faults.Memory lefts held file within of_file = absurd of_file
-unread_is_unaccepted (faults.Schedule fault) lefts held file within of_file = absurd of_file
-unread_is_unaccepted (faults.Text fault) lefts held file within of_file = absurd of_file
-unread_is_unaccepted (faults.Refusal refusal) lefts held file within of_file = (refl, inl (file, within, of_file))
+pub unread_is_unaccepted : (fault : Fault) (given : ℕ) (own : List LibraryFile) (lefts : List (Option (List ℕ))) (held : Option (List ℕ)) (file : ℕ) → file < length lefts
+    → IsOfFile file fault → IsUnaccepted given own lefts held held fault
+unread_is_unaccepted faults.Device given own lefts held file within of_file = inl refl
+unread_is_unaccepted faults.Memory given own lefts held file within of_file = absurd of_file
+unread_is_unaccepted (faults.Schedule fault) given own lefts held file within of_file = absurd of_file
+unread_is_unaccepted (faults.Text fault) given own lefts held file within of_file = absurd of_file
+unread_is_unaccepted (faults.Refusal refusal) given own lefts held file within of_file = (refl, inl (file, within, of_file))
 
 -- nothing is a front of each text
 pub none_written : (held : Option (List ℕ)) (text : List ℕ) → AppendsFront held held text
@@ -127,7 +128,7 @@ none_written None text = ([], text, refl, tt)
 none_written (Some bytes) text = ([], text, refl, sym (append-nil bytes))
 
 -- the writing stops
-pub front_is_unaccepted : (fault : DeviceFault) (lefts : List (Option (List ℕ))) (old new : Option (List ℕ)) → VerifiesFront lefts old new
-    → IsUnaccepted lefts old new (fault_of fault)
-front_is_unaccepted devices.Device lefts old new front = inr front
-front_is_unaccepted devices.Memory lefts old new front = front
+pub front_is_unaccepted : (fault : DeviceFault) (given : ℕ) (own : List LibraryFile) (lefts : List (Option (List ℕ))) (old new : Option (List ℕ)) → VerifiesFront given own lefts old new
+    → IsUnaccepted given own lefts old new (fault_of fault)
+front_is_unaccepted devices.Device given own lefts old new front = inr front
+front_is_unaccepted devices.Memory given own lefts old new front = front

@@ -1,6 +1,6 @@
 -- What a command does, by what the files hold that its words stand for: the text that it writes to the output, the file that it writes, and
 -- its status (own). Each does what its engine does, with these files in their order.
-use Rattle.std.specs.Prelude.{◌≡◌, ◌⊎◌, ℕ, ◌-◌, ◌^◌, Bool, true, false, List, [], map, Option, Some, None, IsTrue, is_some, string_bytes, unwrap_or, vec_items, Result, Ok, Err}
+use Rattle.std.specs.Prelude.{◌≡◌, ◌⊎◌, ℕ, ◌-◌, ◌^◌, Bool, true, false, List, [], length, map, Option, Some, None, IsTrue, is_some, string_bytes, unwrap_or, vec_items, Result, Ok, Err}
 use Rattle.std.specs.Option.{option_and_then, option_map}
 use Rattle.std.specs.Io.KnownBytes.{Appends}
 use Rattle.model.specs.Devices.{AppendsFront}
@@ -19,25 +19,33 @@ use Rattle.command_line.specs.declared.options.ThenRun.{ThenRun}
 use Rattle.command_line.specs.declared.options.Trace.{Trace}
 use Rattle.command_line.specs.declared.options.TraceForm.{TraceForm}
 use Rattle.command_line.specs.declared.options.TraceForm.TheVariants as forms
+use Rattle.command_line.specs.declared.sweep_options.SweepOptions.{SweepOptions}
 use Rattle.command_line.specs.declared.usage.Usage.{Usage}
 use Rattle.engines.specs.Continuations.{Continues, IsUncontinued}
 use Rattle.engines.specs.Devices.{IsUnable}
-use Rattle.engines.specs.Files.{Held, IsWith, Listed, Path, Written, held_at, written_at}
+use Rattle.engines.specs.Files.{Held, IsWith, Listed, OfSchedule, Path, Written, held_at, known, written_at}
+use Rattle.library_files.specs.Adding.{LibraryFile}
+use Rattle.engines.specs.Handed.{AreHanded, IsUnread as IsUnreadFile, refused_name}
 use Rattle.program_files.specs.Given.{AreGiven, IsUnable as IsUnableFor, IsUngiven, is_given}
 use Rattle.program_files.specs.Handed.{AreHandedOn, IsUnhanded}
 use Rattle.program_files.specs.declared.files_fault.FilesFault.{FilesFault}
 use Rattle.engines.specs.Goals.{IsAskedFor}
 use Rattle.engines.specs.Libraries.{IsUnacceptedLibrary, VerifiesLibrary}
 use Rattle.engines.specs.Listings.{AreClassFiles, IsUnlisted, IsUnnamed, Lists}
+use Rattle.engines.specs.Opening.{IsKeptBy}
+use Rattle.engines.specs.Recordings.{conditions_of}
 use Rattle.engines.specs.Replays.{IsFaulty, Replays}
 use Rattle.engines.specs.Runs.{IsUnrun, Runs}
 use Rattle.engines.specs.Searches.{IsUnsearched, Searches, most_states}
+use Rattle.engines.specs.Shrinks.{IsShrinkDone, IsShrinkUndone}
+use Rattle.engines.specs.Sweeps.{IsUnswept, SweepsOver}
 use Rattle.engines.specs.Traces.{IsUntraced, Traces}
 use Rattle.engines.specs.Transcriptions.{IsUnprinted, IsUntranscribed, Prints, Transcribes}
 use Rattle.engines.specs.Verifications.{IsUnaccepted, Verifies}
 use Rattle.engines.specs.declared.complaint.Complaint.{Complaint}
 use Rattle.engines.specs.declared.complaint.Complaint.TheVariants as complaints
 use Rattle.engines.specs.declared.fault.Fault.{Fault}
+use Rattle.engines.specs.declared.recording.Conditions.{Conditions}
 use Rattle.engines.specs.declared.status.Status.{Status}
 use Rattle.engines.specs.declared.status.Status.TheVariants.{Returned}
 
@@ -59,6 +67,7 @@ AreFiles held listed (commands.Run run) files = AreHandedOn held listed (option_
 AreFiles held listed (commands.Replay replay) files = AreHandedOn held listed (option_map string_bytes replay.main) (map string_bytes replay.files.items) files
 AreFiles held listed (commands.Trace trace) files = AreHandedOn held listed (option_map string_bytes trace.main) (map string_bytes trace.files.items) files
 AreFiles held listed (commands.Search search) files = AreHandedOn held listed (option_map string_bytes search.main) (map string_bytes search.files.items) files
+AreFiles held listed (commands.Shrink shrink) files = AreHandedOn held listed (option_map string_bytes shrink.main) (map string_bytes shrink.files.items) files
 AreFiles held listed (commands.Verify verify) files = AreVerified held listed verify.library (option_map string_bytes verify.main) (map string_bytes verify.files.items) files
 AreFiles held listed (commands.Disasm disasm) files = AreGiven listed (map string_bytes disasm.files.items) files
 AreFiles held listed (commands.Schedule schedule) files = files ≡ []
@@ -69,6 +78,7 @@ HasNoFiles held listed (commands.Run run) fault = IsUnhanded held listed (option
 HasNoFiles held listed (commands.Replay replay) fault = IsUnhanded held listed (option_map string_bytes replay.main) (map string_bytes replay.files.items) fault
 HasNoFiles held listed (commands.Trace trace) fault = IsUnhanded held listed (option_map string_bytes trace.main) (map string_bytes trace.files.items) fault
 HasNoFiles held listed (commands.Search search) fault = IsUnhanded held listed (option_map string_bytes search.main) (map string_bytes search.files.items) fault
+HasNoFiles held listed (commands.Shrink shrink) fault = IsUnhanded held listed (option_map string_bytes shrink.main) (map string_bytes shrink.files.items) fault
 HasNoFiles held listed (commands.Verify verify) fault = IsUnverified held listed verify.library (option_map string_bytes verify.main) (map string_bytes verify.files.items) fault
 HasNoFiles held listed (commands.Disasm disasm) fault = IsUngiven listed (map string_bytes disasm.files.items) fault
 HasNoFiles held listed (commands.Schedule schedule) fault = IsUnableFor fault
@@ -79,6 +89,7 @@ record_path (commands.Run run) = option_map string_bytes run.record
 record_path (commands.Replay replay) = option_and_then (λ (then_run : ThenRun). option_map string_bytes then_run.record) replay.then_run
 record_path (commands.Trace trace) = None
 record_path (commands.Search search) = option_map string_bytes search.record
+record_path (commands.Shrink shrink) = option_map string_bytes shrink.record
 record_path (commands.Verify verify) = None
 record_path (commands.Disasm disasm) = None
 record_path (commands.Schedule schedule) = None
@@ -93,9 +104,10 @@ abbrev pub IsReadToo : (written : Option Path) → (files : List Path) → Type 
 IsReadToo None files = ⊥
 IsReadToo (Some path) files = is_given files path ≡ true
 
--- this is so of the files of a command, by what they hold
-abbrev pub OfFiles : Held → Listed → Command → (List (Option (List ℕ)) → Type 0) → Type 0
-OfFiles held listed command P = (files : List Path) × AreFiles held listed command files × P (held_at held files)
+-- this is so of the files that a command hands on
+abbrev pub OfFiles : List LibraryFile → Held → Listed → Command → (List (Option (List ℕ)) → Type 0) → Type 0
+OfFiles library held listed command P = (paths : List Path) × AreFiles held listed command paths
+    × (files : List (List ℕ)) × (added own : List LibraryFile) × AreHanded library command (held_at held paths) files added own × P (known files)
 
 -- ---- what is recorded
 
@@ -106,42 +118,68 @@ IsUnrecorded outcome held holds written fault = ((outcome ≡ Err fault) × (IsW
 
 -- ---- run
 
-pub record IsRunDone (lefts : List (Option (List ℕ))) (run : Run) (text : List ℕ) (written : Written) (status : Status) : Type 0 where
+pub record IsRunDone (given : ℕ) (lefts : List (Option (List ℕ))) (run : Run) (text : List ℕ) (written : Written) (status : Status) : Type 0 where
   pub file : Option (List ℕ)
-  pub runs : Runs lefts run.limits run.options text file status
+  pub runs : Runs given lefts run.limits run.options text file status
   pub made : IsTrue (is_some run.record) → IsTrue (is_some file)
   pub recorded : written ≡ written_at run.record file
 
 -- what was made may be recorded though the output failed
-pub record IsRunUndone (lefts : List (Option (List ℕ))) (run : Run) (old new : Option (List ℕ)) (fault : Fault) (written : Written) : Type 0 where
+pub record IsRunUndone (given : ℕ) (lefts : List (Option (List ℕ))) (run : Run) (old new : Option (List ℕ)) (fault : Fault) (written : Written) : Type 0 where
   pub file : Option (List ℕ)
-  pub unrun : IsUnrun lefts run.limits run.options old new None file fault
+  pub unrun : IsUnrun given lefts run.limits run.options old new None file fault
   pub recorded : (written ≡ None) ⊎ (written ≡ written_at run.record file)
+
+-- ---- run over seeds
+
+-- nothing is recorded
+pub record IsSweepDone (held : Held) (lefts : List (Option (List ℕ))) (run : Run) (sweep : SweepOptions) (text : List ℕ) (written : Written) (status : Status) : Type 0 where
+  pub want : Wanted
+  pub asked : IsAskedFor held sweep.goal want
+  pub sweeps : SweepsOver lefts run sweep false want text status
+  pub recorded : written ≡ None
+
+pub record IsSweepUndone (held : Held) (lefts : List (Option (List ℕ))) (run : Run) (sweep : SweepOptions) (old new : Option (List ℕ)) (fault : Fault) (written : Written) : Type 0 where
+  pub want : Wanted
+  pub asked : IsAskedFor held sweep.goal want
+  pub unswept : IsUnswept lefts run sweep false want old new fault
+  pub recorded : written ≡ None
+
+-- one run, or one for each of the seeds that are asked for
+abbrev pub IsRunDoneBy : Held → (given : ℕ) → (lefts : List (Option (List ℕ))) → Run → Option SweepOptions → List ℕ → Written → Status → Type 0
+IsRunDoneBy held given lefts run None text written status = IsRunDone given lefts run text written status
+IsRunDoneBy held given lefts run (Some sweep) text written status = IsSweepDone held lefts run sweep text written status
+
+abbrev pub IsRunUndoneBy : Held → (given : ℕ) → (lefts : List (Option (List ℕ))) → Run → Option SweepOptions → (old new : Option (List ℕ)) → Fault → Written → Type 0
+IsRunUndoneBy held given lefts run None old new fault written = IsRunUndone given lefts run old new fault written
+IsRunUndoneBy held given lefts run (Some sweep) old new fault written =
+    (IsUnable fault × (new ≡ old) × (written ≡ None)) ⊎ IsSweepUndone held lefts run sweep old new fault written
 
 -- ---- replay
 
-pub record IsContinuationDone (held : Held) (lefts : List (Option (List ℕ))) (replay : Replay) (then_run : ThenRun) (text : List ℕ) (written : Written) (status : Status) : Type 0 where
+pub record IsContinuationDone (held : Held) (given : ℕ) (lefts : List (Option (List ℕ))) (replay : Replay) (then_run : ThenRun) (text : List ℕ) (written : Written) (status : Status) : Type 0 where
   pub file : Option (List ℕ)
-  pub continues : Continues (held (string_bytes replay.schedule)) lefts replay.limits
-      (unwrap_or then_run.budget 10000000) text file status
+  pub continues : OfSchedule held (string_bytes replay.schedule) (λ left. Continues left lefts (conditions_of replay.limits replay.any_files given)
+      (unwrap_or then_run.budget 10000000) text file status)
   pub made : IsTrue (is_some then_run.record) → IsTrue (is_some file)
   pub recorded : written ≡ written_at then_run.record file
 
-pub record IsContinuationUndone (held : Held) (lefts : List (Option (List ℕ))) (replay : Replay) (then_run : ThenRun) (old new : Option (List ℕ)) (fault : Fault) (written : Written) : Type 0 where
+pub record IsContinuationUndone (held : Held) (given : ℕ) (lefts : List (Option (List ℕ))) (replay : Replay) (then_run : ThenRun) (old new : Option (List ℕ)) (fault : Fault) (written : Written) : Type 0 where
   pub file : Option (List ℕ)
-  pub uncontinued : IsUncontinued (held (string_bytes replay.schedule)) lefts replay.limits
-      (unwrap_or then_run.budget 10000000) old new None file fault
+  pub uncontinued : OfSchedule held (string_bytes replay.schedule) (λ left. IsUncontinued left lefts (conditions_of replay.limits replay.any_files given)
+      (unwrap_or then_run.budget 10000000) old new None file fault)
   pub recorded : (written ≡ None) ⊎ (written ≡ written_at then_run.record file)
 
-abbrev pub IsReplayDone : Held → (lefts : List (Option (List ℕ))) → Replay → Option ThenRun → List ℕ → Written → Status → Type 0
-IsReplayDone held lefts replay None text written status =
-    Replays (held (string_bytes replay.schedule)) lefts replay.limits text status × (written ≡ None)
-IsReplayDone held lefts replay (Some then_run) text written status = IsContinuationDone held lefts replay then_run text written status
+abbrev pub IsReplayDone : Held → (given : ℕ) → (lefts : List (Option (List ℕ))) → Replay → Option ThenRun → List ℕ → Written → Status → Type 0
+IsReplayDone held given lefts replay None text written status =
+    OfSchedule held (string_bytes replay.schedule) (λ left. Replays left lefts (conditions_of replay.limits replay.any_files given) text status) × (written ≡ None)
+IsReplayDone held given lefts replay (Some then_run) text written status = IsContinuationDone held given lefts replay then_run text written status
 
-abbrev pub IsReplayUndone : Held → (lefts : List (Option (List ℕ))) → Replay → Option ThenRun → (old new : Option (List ℕ)) → Fault → Written → Type 0
-IsReplayUndone held lefts replay None old new fault written =
-    IsFaulty (held (string_bytes replay.schedule)) lefts replay.limits old new fault × (written ≡ None)
-IsReplayUndone held lefts replay (Some then_run) old new fault written = IsContinuationUndone held lefts replay then_run old new fault written
+abbrev pub IsReplayUndone : Held → (given : ℕ) → (lefts : List (Option (List ℕ))) → Replay → Option ThenRun → (old new : Option (List ℕ)) → Fault → Written → Type 0
+IsReplayUndone held given lefts replay None old new fault written =
+    OfSchedule held (string_bytes replay.schedule) (λ left. IsFaulty left lefts (conditions_of replay.limits replay.any_files given) old new fault) × (written ≡ None)
+IsReplayUndone held given lefts replay (Some then_run) old new fault written =
+    (IsUnable fault × (new ≡ old) × (written ≡ None)) ⊎ IsContinuationUndone held given lefts replay then_run old new fault written
 
 -- ---- trace
 
@@ -159,39 +197,39 @@ pub record IsWindow (trace : Trace) (window : Window) : Type 0 where
   pub form : window.form ≡ form_of trace.form
   pub summary : window.summary ≡ trace.summary
 
-abbrev pub IsTraceDone : Held → (lefts : List (Option (List ℕ))) → Trace → List ℕ → Written → Status → Type 0
-IsTraceDone held lefts trace text written status = (window : Window) × IsWindow trace window
-    × Traces (held (string_bytes trace.schedule)) lefts trace.limits window text status × (written ≡ None)
+abbrev pub IsTraceDone : Held → (given : ℕ) → (lefts : List (Option (List ℕ))) → Trace → List ℕ → Written → Status → Type 0
+IsTraceDone held given lefts trace text written status = (window : Window) × IsWindow trace window
+    × OfSchedule held (string_bytes trace.schedule) (λ left. Traces left lefts (conditions_of trace.limits trace.any_files given) window text status) × (written ≡ None)
 
-abbrev pub IsTraceUndone : Held → (lefts : List (Option (List ℕ))) → Trace → (old new : Option (List ℕ)) → Fault → Written → Type 0
-IsTraceUndone held lefts trace old new fault written = (window : Window) × IsWindow trace window
-    × IsUntraced (held (string_bytes trace.schedule)) lefts trace.limits window old new fault × (written ≡ None)
+abbrev pub IsTraceUndone : Held → (given : ℕ) → (lefts : List (Option (List ℕ))) → Trace → (old new : Option (List ℕ)) → Fault → Written → Type 0
+IsTraceUndone held given lefts trace old new fault written = (window : Window) × IsWindow trace window
+    × OfSchedule held (string_bytes trace.schedule) (λ left. IsUntraced left lefts (conditions_of trace.limits trace.any_files given) window old new fault) × (written ≡ None)
 
 -- ---- search
 
-pub record IsSearchDone (held : Held) (lefts : List (Option (List ℕ))) (search : Search) (text : List ℕ) (written : Written) (status : Status) : Type 0 where
+pub record IsSearchDone (held : Held) (given : ℕ) (lefts : List (Option (List ℕ))) (search : Search) (text : List ℕ) (written : Written) (status : Status) : Type 0 where
   pub want : Wanted
   pub asked : IsAskedFor held search.goal want
   pub file : Option (List ℕ)
-  pub searches : Searches lefts search.limits want (most_states search) (is_some search.record) text file status
+  pub searches : Searches given lefts search.limits want (most_states search) (is_some search.record) text file status
   pub recorded : written ≡ written_at search.record file
 
-pub record IsSearchUndone (held : Held) (lefts : List (Option (List ℕ))) (search : Search) (old new : Option (List ℕ)) (fault : Fault) (written : Written) : Type 0 where
+pub record IsSearchUndone (held : Held) (given : ℕ) (lefts : List (Option (List ℕ))) (search : Search) (old new : Option (List ℕ)) (fault : Fault) (written : Written) : Type 0 where
   pub want : Wanted
   pub asked : IsAskedFor held search.goal want
   pub file : Option (List ℕ)
-  pub unsearched : IsUnsearched lefts search.limits want (most_states search) (is_some search.record) old new None file fault
+  pub unsearched : IsUnsearched given lefts search.limits want (most_states search) (is_some search.record) old new None file fault
   pub recorded : (written ≡ None) ⊎ (written ≡ written_at search.record file)
 
 -- ---- verify and disasm
 
-abbrev pub VerifiesAs : (library : Bool) → List (Option (List ℕ)) → List ℕ → Type 0
-VerifiesAs true lefts text = VerifiesLibrary lefts text
-VerifiesAs false lefts text = Verifies lefts text
+abbrev pub VerifiesAs : (library : Bool) → (given : ℕ) → (own : List LibraryFile) → List (Option (List ℕ)) → List ℕ → Type 0
+VerifiesAs true given own lefts text = VerifiesLibrary given own lefts text
+VerifiesAs false given own lefts text = Verifies given own lefts text
 
-abbrev pub IsUnacceptedAs : (library : Bool) → List (Option (List ℕ)) → (old new : Option (List ℕ)) → Fault → Type 0
-IsUnacceptedAs true lefts old new fault = IsUnacceptedLibrary lefts old new fault
-IsUnacceptedAs false lefts old new fault = IsUnaccepted lefts old new fault
+abbrev pub IsUnacceptedAs : (library : Bool) → (given : ℕ) → (own : List LibraryFile) → List (Option (List ℕ)) → (old new : Option (List ℕ)) → Fault → Type 0
+IsUnacceptedAs true given own lefts old new fault = IsUnacceptedLibrary given own lefts old new fault
+IsUnacceptedAs false given own lefts old new fault = IsUnaccepted given own lefts old new fault
 
 -- of the text with names and line numbers nothing is said
 abbrev pub ListsAs : (names : Bool) → List (Option (List ℕ)) → List ℕ → Type 0
@@ -205,57 +243,83 @@ IsUnlistedAs false lefts old new fault = IsUnlisted lefts old new fault
 -- ---- schedule
 
 abbrev pub IsScheduleDone : Held → (input : Option (List ℕ)) → Schedule → (write : Bool) → List ℕ → Written → Status → Type 0
-IsScheduleDone held input schedule true text written status = (bytes : List ℕ) × Transcribes input bytes
+IsScheduleDone held input schedule true text written status = (bytes : List ℕ) × Transcribes schedule.as_version input bytes
     × (text ≡ []) × (written ≡ Some (string_bytes schedule.file, bytes)) × (status ≡ Returned)
 IsScheduleDone held input schedule false text written status = Prints (held (string_bytes schedule.file)) text
     × (written ≡ None) × (status ≡ Returned)
 
 abbrev pub IsScheduleUndone : Held → (input : Option (List ℕ)) → Schedule → (write : Bool) → (old new : Option (List ℕ)) → Fault → Written → Type 0
 IsScheduleUndone held input schedule true old new fault written = (new ≡ old) × (written ≡ None)
-    × ((kept made : Option (List ℕ)) × IsUntranscribed input kept made fault)
+    × ((kept made : Option (List ℕ)) × IsUntranscribed schedule.as_version input kept made fault)
 IsScheduleUndone held input schedule false old new fault written = IsUnprinted (held (string_bytes schedule.file)) old new fault × (written ≡ None)
 
 -- ---- any command
 
--- What a command does where it has a status, by what its class files hold.
-abbrev pub IsDoneOver : Held → (lefts : List (Option (List ℕ))) → (input : Option (List ℕ)) → Command → List ℕ → Written → Status → Type 0
-IsDoneOver held lefts input (commands.Run run) text written status = IsRunDone lefts run text written status
-IsDoneOver held lefts input (commands.Replay replay) text written status = IsReplayDone held lefts replay replay.then_run text written status
-IsDoneOver held lefts input (commands.Trace trace) text written status = IsTraceDone held lefts trace text written status
-IsDoneOver held lefts input (commands.Search search) text written status = IsSearchDone held lefts search text written status
-IsDoneOver held lefts input (commands.Verify verify) text written status =
-    VerifiesAs verify.library lefts text × (written ≡ None) × (status ≡ Returned)
-IsDoneOver held lefts input (commands.Disasm disasm) text written status =
+-- What a command does where it has a status, by what its class files hold. The first so many of them are given, and a library adds the
+-- others, but for its classes in whose place the files have their own.
+abbrev pub IsDoneOver : Held → (given : ℕ) → (own : List LibraryFile) → (lefts : List (Option (List ℕ))) → (input : Option (List ℕ)) → Command → List ℕ → Written → Status → Type 0
+IsDoneOver held given own lefts input (commands.Run run) text written status = IsRunDoneBy held given lefts run run.sweep text written status
+IsDoneOver held given own lefts input (commands.Replay replay) text written status = IsReplayDone held given lefts replay replay.then_run text written status
+IsDoneOver held given own lefts input (commands.Trace trace) text written status = IsTraceDone held given lefts trace text written status
+IsDoneOver held given own lefts input (commands.Search search) text written status = IsSearchDone held given lefts search text written status
+IsDoneOver held given own lefts input (commands.Shrink shrink) text written status = IsShrinkDone held given lefts shrink text written status
+IsDoneOver held given own lefts input (commands.Verify verify) text written status =
+    VerifiesAs verify.library given own lefts text × (written ≡ None) × (status ≡ Returned)
+IsDoneOver held given own lefts input (commands.Disasm disasm) text written status =
     ListsAs disasm.names lefts text × (written ≡ None) × (status ≡ Returned)
-IsDoneOver held lefts input (commands.Schedule schedule) text written status = IsScheduleDone held input schedule schedule.write text written status
+IsDoneOver held given own lefts input (commands.Schedule schedule) text written status = IsScheduleDone held input schedule schedule.write text written status
 
 -- What keeps a command from a status, what is on the output then, and what is written.
-abbrev pub IsUndoneOver : Held → (lefts : List (Option (List ℕ))) → (input : Option (List ℕ)) → Command → (old new : Option (List ℕ)) → Fault → Written → Type 0
-IsUndoneOver held lefts input (commands.Run run) old new fault written = IsRunUndone lefts run old new fault written
-IsUndoneOver held lefts input (commands.Replay replay) old new fault written = IsReplayUndone held lefts replay replay.then_run old new fault written
-IsUndoneOver held lefts input (commands.Trace trace) old new fault written = IsTraceUndone held lefts trace old new fault written
-IsUndoneOver held lefts input (commands.Search search) old new fault written =
-    (IsUnable fault × (new ≡ old) × (written ≡ None)) ⊎ IsSearchUndone held lefts search old new fault written
-IsUndoneOver held lefts input (commands.Verify verify) old new fault written =
-    ((IsUnable fault × (new ≡ old)) ⊎ IsUnacceptedAs verify.library lefts old new fault) × (written ≡ None)
-IsUndoneOver held lefts input (commands.Disasm disasm) old new fault written =
+abbrev pub IsUndoneOver : Held → (given : ℕ) → (own : List LibraryFile) → (lefts : List (Option (List ℕ))) → (input : Option (List ℕ)) → Command → (old new : Option (List ℕ)) → Fault → Written → Type 0
+IsUndoneOver held given own lefts input (commands.Run run) old new fault written = IsRunUndoneBy held given lefts run run.sweep old new fault written
+IsUndoneOver held given own lefts input (commands.Replay replay) old new fault written = IsReplayUndone held given lefts replay replay.then_run old new fault written
+IsUndoneOver held given own lefts input (commands.Trace trace) old new fault written = IsTraceUndone held given lefts trace old new fault written
+IsUndoneOver held given own lefts input (commands.Search search) old new fault written =
+    (IsUnable fault × (new ≡ old) × (written ≡ None)) ⊎ IsSearchUndone held given lefts search old new fault written
+IsUndoneOver held given own lefts input (commands.Shrink shrink) old new fault written =
+    (IsUnable fault × (new ≡ old) × (written ≡ None)) ⊎ IsShrinkUndone held given lefts shrink old new fault written
+IsUndoneOver held given own lefts input (commands.Verify verify) old new fault written =
+    ((IsUnable fault × (new ≡ old)) ⊎ IsUnacceptedAs verify.library given own lefts old new fault) × (written ≡ None)
+IsUndoneOver held given own lefts input (commands.Disasm disasm) old new fault written =
     ((IsUnable fault × (new ≡ old)) ⊎ IsUnlistedAs disasm.names lefts old new fault) × (written ≡ None)
-IsUndoneOver held lefts input (commands.Schedule schedule) old new fault written = IsScheduleUndone held input schedule schedule.write old new fault written
+IsUndoneOver held given own lefts input (commands.Schedule schedule) old new fault written = IsScheduleUndone held input schedule schedule.write old new fault written
 
--- the same over the files that its words stand for, none of which is written
-abbrev pub IsDone : Held → Listed → (input : Option (List ℕ)) → Command → List ℕ → Written → Status → Type 0
-IsDone held listed input command text written status = (files : List Path) × AreFiles held listed command files
-    × IsUnread (record_path command) files × IsDoneOver held (held_at held files) input command text written status
+-- the same over the files that it hands on, none of which is written
+abbrev pub IsDone : List LibraryFile → Held → Listed → (input : Option (List ℕ)) → Command → List ℕ → Written → Status → Type 0
+IsDone library held listed input command text written status = (paths : List Path) × AreFiles held listed command paths
+    × IsUnread (record_path command) paths × (files : List (List ℕ)) × (added own : List LibraryFile) × AreHanded library command (held_at held paths) files added own
+    × IsDoneOver held (length paths) own (known files) input command text written status
 
--- and what keeps it from a status: one of them is to be written, or its words stand for none, and nothing is done; or there is a fault
-abbrev pub IsUndone : Held → Listed → (input : Option (List ℕ)) → Command → (old new : Option (List ℕ)) → Complaint → Written → Type 0
-IsUndone held listed input command old new (complaints.Usage usage) written =
+-- the same of what keeps it from a status; the class of the library that is refused has this name, if it is one
+abbrev pub IsUndoneAs : List LibraryFile → Held → Listed → (input : Option (List ℕ)) → Command → (old new : Option (List ℕ)) → Fault → (refused : Option (List ℕ)) → Written → Type 0
+IsUndoneAs library held listed input command old new fault refused written = (paths : List Path) × AreFiles held listed command paths
+    × IsUnread (record_path command) paths × (files : List (List ℕ)) × (added own : List LibraryFile)
+    × AreHanded library command (held_at held paths) files added own × (refused ≡ refused_name (length paths) added fault)
+    × IsUndoneOver held (length paths) own (known files) input command old new fault written
+
+-- the schedule that a word is, or whose path it is, keeps from a run of any class files
+abbrev pub KeepsSchedule : Held → (word : List ℕ) → Fault → Type 0
+KeepsSchedule held word fault = OfSchedule held word (λ left. (lefts : List (Option (List ℕ))) (options : Conditions) → IsKeptBy left lefts options fault)
+
+-- the schedule of a command does
+abbrev pub IsKeptFirst : Held → Command → Fault → Type 0
+IsKeptFirst held (commands.Replay replay) fault = KeepsSchedule held (string_bytes replay.schedule) fault
+IsKeptFirst held (commands.Trace trace) fault = KeepsSchedule held (string_bytes trace.schedule) fault
+IsKeptFirst held (commands.Shrink shrink) fault = KeepsSchedule held (string_bytes shrink.schedule) fault
+IsKeptFirst held command fault = ⊥
+
+-- What keeps a command from a status: one of its files is to be written, or its words stand for none, and nothing is done; or there is a
+-- fault, of a class file that can't be read, or of the schedule where one can't be.
+abbrev pub IsUndone : List LibraryFile → Held → Listed → (input : Option (List ℕ)) → Command → (old new : Option (List ℕ)) → Complaint → Written → Type 0
+IsUndone library held listed input command old new (complaints.Usage usage) written =
     Refuses usage ((files : List Path) × AreFiles held listed command files × IsReadToo (record_path command) files)
     × (new ≡ old) × (written ≡ None)
-IsUndone held listed input command old new (complaints.Files fault) written = HasNoFiles held listed command fault × (new ≡ old) × (written ≡ None)
-IsUndone held listed input command old new (complaints.Fault fault) written = (IsUnable fault × (new ≡ old) × (written ≡ None))
-    ⊎ ((files : List Path) × AreFiles held listed command files × IsUnread (record_path command) files
-    × IsUndoneOver held (held_at held files) input command old new fault written)
+IsUndone library held listed input command old new (complaints.Files fault) written = HasNoFiles held listed command fault × (new ≡ old) × (written ≡ None)
+IsUndone library held listed input command old new (complaints.Fault fault) written =
+    ((IsUnable fault ⊎ (IsUnreadFile fault ⊎ IsKeptFirst held command fault)) × (new ≡ old) × (written ≡ None))
+    ⊎ IsUndoneAs library held listed input command old new fault None written
+IsUndone library held listed input command old new (complaints.Library fault name) written =
+    IsUndoneAs library held listed input command old new fault (Some name.now) written
 
 -- ---- the words of a command line
 
@@ -264,25 +328,28 @@ abbrev pub AskForHelp : (words : List (List ℕ)) → Type 0
 AskForHelp words = (usage : Usage) × Fails words usage × Asks usage
 
 -- They do, and it is written, of which nothing more is said; or they spell a command, and it is done.
-abbrev pub Does : Held → Listed → (input : Option (List ℕ)) → (words : List (List ℕ)) → List ℕ → Written → Status → Type 0
-Does held listed input words text written status = (AskForHelp words × (written ≡ None) × (status ≡ Returned))
-    ⊎ ((command : Command) × Spells words command × IsDone held listed input command text written status)
+abbrev pub Does : List LibraryFile → Held → Listed → (input : Option (List ℕ)) → (words : List (List ℕ)) → List ℕ → Written → Status → Type 0
+Does library held listed input words text written status = (AskForHelp words × (written ≡ None) × (status ≡ Returned))
+    ⊎ ((command : Command) × Spells words command × IsDone library held listed input command text written status)
 
 -- The words are no command, and nothing is written; or help can't be written; or they spell a command, and it isn't done.
-abbrev pub Stops : Held → Listed → (input : Option (List ℕ)) → (words : List (List ℕ)) → (old new : Option (List ℕ)) → Complaint → Written → Type 0
-Stops held listed input words old new (complaints.Usage usage) written =
+abbrev pub Stops : List LibraryFile → Held → Listed → (input : Option (List ℕ)) → (words : List (List ℕ)) → (old new : Option (List ℕ)) → Complaint → Written → Type 0
+Stops library held listed input words old new (complaints.Usage usage) written =
     (Fails words usage × (Asks usage → ⊥) × (new ≡ old) × (written ≡ None))
-    ⊎ ((command : Command) × Spells words command × IsUndone held listed input command old new (complaints.Usage usage) written)
-Stops held listed input words old new (complaints.Files fault) written =
-    (command : Command) × Spells words command × IsUndone held listed input command old new (complaints.Files fault) written
-Stops held listed input words old new (complaints.Fault fault) written =
+    ⊎ ((command : Command) × Spells words command × IsUndone library held listed input command old new (complaints.Usage usage) written)
+Stops library held listed input words old new (complaints.Files fault) written =
+    (command : Command) × Spells words command × IsUndone library held listed input command old new (complaints.Files fault) written
+Stops library held listed input words old new (complaints.Library fault name) written =
+    (command : Command) × Spells words command × IsUndone library held listed input command old new (complaints.Library fault name) written
+Stops library held listed input words old new (complaints.Fault fault) written =
     (AskForHelp words × IsUnable fault × ((text : List ℕ) × AppendsFront old new text) × (written ≡ None))
-    ⊎ ((command : Command) × Spells words command × IsUndone held listed input command old new (complaints.Fault fault) written)
+    ⊎ ((command : Command) × Spells words command × IsUndone library held listed input command old new (complaints.Fault fault) written)
 
 -- what comes of words that are no command, where it is no help
 abbrev pub IsUntold : Usage → (old new : Option (List ℕ)) → Complaint → Type 0
 IsUntold usage old new (complaints.Usage told) = (told ≡ usage) × (Asks usage → ⊥) × (new ≡ old)
 IsUntold usage old new (complaints.Files fault) = ⊥
+IsUntold usage old new (complaints.Library fault name) = ⊥
 IsUntold usage old new (complaints.Fault fault) = Asks usage × IsUnable fault × ((text : List ℕ) × AppendsFront old new text)
 
 -- ---- what a call leaves

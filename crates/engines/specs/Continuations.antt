@@ -6,19 +6,20 @@ use Rattle.model.specs.declared.report.Report.{Report}
 use Rattle.model.specs.declared.end.End.{End}
 use Rattle.model.specs.Classes.{Program}
 use Rattle.model.specs.Devices.{AppendsFront}
-use Rattle.model.specs.Schedule.{ScheduleFile, events_of}
+use Rattle.model.specs.Schedule.{events_of}
+use Rattle.schedule.specs.Joined.{RecordedFile}
 use Rattle.machine.specs.machine_replay.Replays.{text_of}
 use Rattle.program_runs.specs.continued_runs.Continuing.{GoesOn}
 use Rattle.program_runs.specs.declared.continued_runs.run.Continued.{Continued}
 use Rattle.program_runs.specs.declared.continued_runs.run.Continued.TheVariants.{Whole, Part}
-use Rattle.command_line.specs.declared.options.LimitOptions.{LimitOptions}
 use Rattle.engines.specs.Engines.{Reads, ReadsEach}
 use Rattle.engines.specs.Opening.{IsKeptBy, IsOpened}
-use Rattle.engines.specs.Runs.{recording_of}
+use Rattle.engines.specs.Recordings.{recording_over}
 use Rattle.engines.specs.Statuses.{status_of}
 use Rattle.engines.specs.declared.fault.Fault.{Fault}
 use Rattle.engines.specs.declared.fault.Fault.TheVariants as faults
 use Rattle.engines.specs.declared.status.Status.{Status}
+use Rattle.engines.specs.declared.recording.Conditions.{Conditions}
 
 -- what it comes to: the report, how it ended, and the whole schedule, which is that of the replay where it went no further
 abbrev pub ComesTo : Continued → (schedule : List Event) → Report → End → (whole : List Event) → Type 0
@@ -26,9 +27,9 @@ ComesTo (Whole run) schedule report end whole = (report ≡ run.report) × (end 
 ComesTo (Part told stop) schedule report end whole = (report ≡ told) × (end ≡ stop) × (whole ≡ schedule)
 
 -- The schedule and the class files are such as they have to be. The program of the class files has gone on behind the events, within the
--- limits and the budget; this is the text of the report, and its status. The bytes of a file spell the whole schedule, the limits,
--- and the lengths of the class files.
-pub record IsContinued (schedule : List ℕ) (files : List (List ℕ)) (options : LimitOptions) (budget : ℕ) (text : List ℕ)
+-- limits and the budget; this is the text of the report, and its status. The bytes of a file spell the whole schedule, in as few
+-- entries as its events can have, the limits, and the lengths and checksums of the class files.
+pub record IsContinued (schedule : List ℕ) (files : List (List ℕ)) (options : Conditions) (budget : ℕ) (text : List ℕ)
     (file : Option (List ℕ)) (status : Status) : Type 0 where
   pub trees : Program
   pub events : List Event
@@ -42,21 +43,21 @@ pub record IsContinued (schedule : List ℕ) (files : List (List ℕ)) (options 
   pub comes_to : ComesTo continued events report end whole
   pub told : text ≡ text_of report end
   pub ended : status ≡ status_of report.threads.items end
-  pub spelled : IfSome file (λ bytes. ScheduleFile bytes (Some (recording_of limits files)) whole)
+  pub spelled : IfSome file (λ bytes. RecordedFile bytes (Some (recording_over limits options.given files)) whole)
 
 -- the same of what these sources hold
-abbrev pub Continues : Option (List ℕ) → List (Option (List ℕ)) → LimitOptions → (budget : ℕ) → List ℕ → Option (List ℕ) → Status → Type 0
+abbrev pub Continues : Option (List ℕ) → List (Option (List ℕ)) → Conditions → (budget : ℕ) → List ℕ → Option (List ℕ) → Status → Type 0
 Continues left lefts options budget text file status =
     (schedule : List ℕ) × (files : List (List ℕ)) × Reads left schedule × ReadsEach lefts files × IsContinued schedule files options budget text file status
 
 -- nothing is written, and no file made; or the file is made, and a front of the text is written
-abbrev pub ContinuesPart : Option (List ℕ) → List (Option (List ℕ)) → LimitOptions → (budget : ℕ) → (old new : Option (List ℕ))
+abbrev pub ContinuesPart : Option (List ℕ) → List (Option (List ℕ)) → Conditions → (budget : ℕ) → (old new : Option (List ℕ))
     → (kept made : Option (List ℕ)) → Type 0
 ContinuesPart left lefts options budget old new kept made = ((new ≡ old) × (made ≡ kept))
     ⊎ ((text : List ℕ) × (status : Status) × Continues left lefts options budget text made status × AppendsFront old new text)
 
 -- When a fault is answered, and what is written then.
-abbrev pub IsUncontinued : Option (List ℕ) → List (Option (List ℕ)) → LimitOptions → (budget : ℕ) → (old new : Option (List ℕ))
+abbrev pub IsUncontinued : Option (List ℕ) → List (Option (List ℕ)) → Conditions → (budget : ℕ) → (old new : Option (List ℕ))
     → (kept made : Option (List ℕ)) → Fault → Type 0
 IsUncontinued left lefts options budget old new kept made faults.Device = ContinuesPart left lefts options budget old new kept made
 IsUncontinued left lefts options budget old new kept made faults.Memory = ContinuesPart left lefts options budget old new kept made

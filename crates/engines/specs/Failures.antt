@@ -43,3 +43,4 @@ abbrev pub TellsComplaint : (elsewhere : Type 0) → Complaint → (old new : �
 TellsComplaint elsewhere (complaints.Usage usage) old new = new ≤ old
 TellsComplaint elsewhere (complaints.Files fault) old new = new ≤ old
 TellsComplaint elsewhere (complaints.Fault fault) old new = TellsFailure elsewhere fault old new
+TellsComplaint elsewhere (complaints.Library fault name) old new = TellsFailure elsewhere fault old new

@@ -1,34 +1,50 @@
 -- What files hold, by their paths, and what a command writes (own). Where nothing is known of a file, any bytes may be in it.
-use Rattle.std.specs.Prelude.{ℕ, Bool, true, false, List, [], map, Option, Some, None, string_bytes}
+use Rattle.std.specs.Prelude.{◌≡◌, ◌⊎◌, ℕ, Bool, true, false, List, [], map, Option, Some, None, string_bytes}
 use Rattle.std.specs.declared.string.String.{String}
 use Rattle.std.specs.Global.{Global}
 pub use Rattle.program_files.specs.Folders.{Held, IsWith, Listed, Path, Written}
+use Rattle.schedule.specs.schedule_text.CommandWord.{IsScheduleWord}
 use Rattle.engines.specs.declared.named_file.Reading.{Reading}
-use Rattle.engines.specs.declared.named_file.Reading.TheVariants.{Ahead, Behind, Failed}
+use Rattle.engines.specs.declared.named_file.Reading.TheVariants.{Ahead, There, Behind, Failed}
 
 -- ---- what is read
 
 -- of the bytes of a file what is left to read
 abbrev pub left_of : Option (List ℕ) → Reading → Option (List ℕ)
 left_of held Ahead = held
+left_of held (There bytes) = Some bytes.now
 left_of held Behind = Some []
 left_of held Failed = Some []
 
 -- it failed
 abbrev pub has_failed : Reading → Bool
 has_failed Ahead = false
+has_failed (There bytes) = false
 has_failed Behind = false
 has_failed Failed = true
 
 -- how often it failed
 abbrev pub failures_of : Reading → ℕ
 failures_of Ahead = 0
+failures_of (There bytes) = 0
 failures_of Behind = 0
 failures_of Failed = 1
+
+-- what the schedule holds that a word is, or whose path it is
+abbrev pub IsScheduleAt : Held → (word : List ℕ) → Option (List ℕ) → Type 0
+IsScheduleAt held word left = (IsScheduleWord word × (left ≡ Some word)) ⊎ ((IsScheduleWord word → ⊥) × (left ≡ held word))
+
+-- this is so of it
+abbrev pub OfSchedule : Held → (word : List ℕ) → (Option (List ℕ) → Type 0) → Type 0
+OfSchedule held word Is = (left : Option (List ℕ)) × IsScheduleAt held word left × Is left
 
 -- the files at these paths, in their order
 abbrev pub held_at : (List ℕ → Option (List ℕ)) → List (List ℕ) → List (Option (List ℕ))
 held_at held paths = map held paths
+
+-- files of these bytes
+abbrev pub known : List (List ℕ) → List (Option (List ℕ))
+known files = map (λ bytes. Some bytes) files
 
 -- ---- what is written
 

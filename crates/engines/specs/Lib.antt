@@ -17,7 +17,10 @@ pub mod Refusals
 pub mod Replays
 pub mod Runs
 pub mod Searches
+pub mod Shrinks
+pub mod Sweeps
 pub mod Statuses
 pub mod Traces
 pub mod Transcriptions
 pub mod Verifications
+pub mod Handed

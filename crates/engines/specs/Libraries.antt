@@ -5,10 +5,11 @@ use Rattle.model.specs.Accepted.{IsAccepted}
 use Rattle.model.specs.Classes.{Program}
 use Rattle.model.specs.Devices.{AppendsFront}
 use Rattle.link_conditions.specs.declared.refusal.why.Refusal.{Refusal}
+use Rattle.library_files.specs.Adding.{LibraryFile}
 use Rattle.engines.specs.Engines.{ReadsEach}
 use Rattle.engines.specs.LibraryMain.{library_main}
 use Rattle.engines.specs.Refusals.{IsRefused}
-use Rattle.engines.specs.Verifications.{IsUnread, verified_line}
+use Rattle.engines.specs.Verifications.{IsUnread, verified_text}
 use Rattle.engines.specs.declared.fault.Fault.{Fault}
 use Rattle.engines.specs.declared.fault.Fault.TheVariants as faults
 
@@ -27,21 +28,21 @@ pub record IsRefusedLibrary (files : List (List ℕ)) (refusal : Refusal) : Type
   pub refused : IsRefused (library_main ∷ files) of_all
   pub told : refusal ≡ record of_all { file = file_without_main of_all.file }
 
--- the sources hold the bytes of a library, and this is the line of the number of its files
-abbrev pub VerifiesLibrary : List (Option (List ℕ)) → List ℕ → Type 0
-VerifiesLibrary lefts text = (files : List (List ℕ)) × (trees : Program) × ReadsEach lefts files × IsLibrary files trees × (text ≡ verified_line (length files))
+-- the sources hold the bytes of a library, and this is told of them
+abbrev pub VerifiesLibrary : (given : ℕ) → (own : List LibraryFile) → List (Option (List ℕ)) → List ℕ → Type 0
+VerifiesLibrary given own lefts text = (files : List (List ℕ)) × (trees : Program) × ReadsEach lefts files × IsLibrary files trees × (text ≡ verified_text given own (length files))
 
--- a front of the line is written, which may have no byte
-abbrev pub VerifiesLibraryFront : List (Option (List ℕ)) → Option (List ℕ) → Option (List ℕ) → Type 0
-VerifiesLibraryFront lefts old new = (text : List ℕ) × VerifiesLibrary lefts text × AppendsFront old new text
+-- a front of that is written, which may have no byte
+abbrev pub VerifiesLibraryFront : (given : ℕ) → (own : List LibraryFile) → List (Option (List ℕ)) → Option (List ℕ) → Option (List ℕ) → Type 0
+VerifiesLibraryFront given own lefts old new = (text : List ℕ) × VerifiesLibrary given own lefts text × AppendsFront old new text
 
 -- When a fault is answered, and what is written then.
-abbrev pub IsUnacceptedLibrary : List (Option (List ℕ)) → Option (List ℕ) → Option (List ℕ) → Fault → Type 0
-IsUnacceptedLibrary lefts old new faults.Device = (new ≡ old) ⊎ VerifiesLibraryFront lefts old new
--- memory is wanted for the line, or for its writing
-IsUnacceptedLibrary lefts old new faults.Memory = VerifiesLibraryFront lefts old new
+abbrev pub IsUnacceptedLibrary : (given : ℕ) → (own : List LibraryFile) → List (Option (List ℕ)) → Option (List ℕ) → Option (List ℕ) → Fault → Type 0
+IsUnacceptedLibrary given own lefts old new faults.Device = (new ≡ old) ⊎ VerifiesLibraryFront given own lefts old new
+-- memory is wanted for the text, or for its writing
+IsUnacceptedLibrary given own lefts old new faults.Memory = VerifiesLibraryFront given own lefts old new
 -- memory for the reading aside, the class files are refused
-IsUnacceptedLibrary lefts old new (faults.Refusal refusal) = (new ≡ old) × (IsUnread (length lefts) refusal
+IsUnacceptedLibrary given own lefts old new (faults.Refusal refusal) = (new ≡ old) × (IsUnread (length lefts) refusal
     ⊎ ((files : List (List ℕ)) × ReadsEach lefts files × IsRefusedLibrary files refusal))
-IsUnacceptedLibrary lefts old new (faults.Schedule fault) = ⊥
-IsUnacceptedLibrary lefts old new (faults.Text fault) = ⊥
+IsUnacceptedLibrary given own lefts old new (faults.Schedule fault) = ⊥
+IsUnacceptedLibrary given own lefts old new (faults.Text fault) = ⊥

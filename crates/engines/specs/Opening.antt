@@ -4,14 +4,13 @@ use Rattle.model.specs.declared.event.Event.{Event}
 use Rattle.model.specs.declared.limits.Limits.{Limits}
 use Rattle.model.specs.Classes.{Program}
 use Rattle.model.specs.Accepted.{IsAccepted}
-use Rattle.model.specs.Schedule.{Recording}
+use Rattle.schedule.specs.Files.{Recording}
 use Rattle.schedule.specs.declared.fault.ScheduleFault.{ScheduleFault}
 use Rattle.schedule.specs.declared.fault.ScheduleFault.TheVariants as schedules
 use Rattle.schedule.specs.schedule_text.Either.{GivesEvents, StandsInEither}
 use Rattle.schedule.specs.declared.schedule_text.either.EitherFault.{EitherFault}
 use Rattle.schedule.specs.declared.schedule_text.either.EitherFault.TheVariants.{File, Text}
 use Rattle.schedule.specs.declared.schedule_text.fault.TextFault.TheVariants as texts
-use Rattle.command_line.specs.declared.options.LimitOptions.{LimitOptions}
 use Rattle.link_conditions.specs.declared.refusal.why.Refusal.{Refusal}
 use Rattle.link_conditions.specs.declared.refusal.why.RefusalKind.TheVariants as kinds
 use Rattle.engines.specs.Engines.{Reads, ReadsEach}
@@ -19,18 +18,19 @@ use Rattle.engines.specs.Recordings.{Disagrees, FitsFiles, FitsOptions, HasLimit
 use Rattle.engines.specs.Refusals.{IsRefused}
 use Rattle.engines.specs.declared.fault.Fault.{Fault}
 use Rattle.engines.specs.declared.fault.Fault.TheVariants as faults
+use Rattle.engines.specs.declared.recording.Conditions.{Conditions}
 
 -- ---- what it begins with
 
 -- The bytes give a schedule, and the class files and the options fit with what it was recorded with, if the bytes say so. The class
 -- files are accepted, and are this program. It is to run under these events, and within these limits.
-pub record IsOpened (schedule : List ℕ) (files : List (List ℕ)) (options : LimitOptions) (trees : Program) (events : List Event)
+pub record IsOpened (schedule : List ℕ) (files : List (List ℕ)) (options : Conditions) (trees : Program) (events : List Event)
     (limits : Limits) : Type 0 where
   pub recorded : Option Recording
   pub given : GivesEvents schedule recorded events
-  pub fits_files : FitsFiles recorded files
-  pub fits_options : FitsOptions recorded options
-  pub limited : HasLimits recorded options limits
+  pub fits_files : FitsFiles options.any_files options.given recorded files
+  pub fits_options : FitsOptions recorded options.limits
+  pub limited : HasLimits recorded options.limits limits
   pub accepted : IsAccepted files trees
 
 -- ---- what keeps it from that
@@ -40,12 +40,12 @@ abbrev pub IsUnspelled : Option (List ℕ) → EitherFault → Type 0
 IsUnspelled left fault = (schedule : List ℕ) × Reads left schedule × ((recorded : Option Recording) (events : List Event) → GivesEvents schedule recorded events → ⊥) × StandsInEither schedule fault
 
 -- they give one, and with what it was recorded does not fit the class files or the options
-abbrev pub IsUnfit : Option (List ℕ) → List (Option (List ℕ)) → LimitOptions → ScheduleFault → Type 0
+abbrev pub IsUnfit : Option (List ℕ) → List (Option (List ℕ)) → Conditions → ScheduleFault → Type 0
 IsUnfit left lefts options fault = (schedule : List ℕ) × (files : List (List ℕ)) × (recorded : Option Recording) × (events : List Event)
     × Reads left schedule × ReadsEach lefts files × GivesEvents schedule recorded events × Disagrees recorded files options fault
 
 -- they give one, all of that fits, and the class files are refused
-pub record IsUnlinked (left : Option (List ℕ)) (lefts : List (Option (List ℕ))) (options : LimitOptions) (refusal : Refusal) : Type 0 where
+pub record IsUnlinked (left : Option (List ℕ)) (lefts : List (Option (List ℕ))) (options : Conditions) (refusal : Refusal) : Type 0 where
   pub schedule : List ℕ
   pub files : List (List ℕ)
   pub recorded : Option Recording
@@ -53,12 +53,12 @@ pub record IsUnlinked (left : Option (List ℕ)) (lefts : List (Option (List ℕ
   pub read : Reads left schedule
   pub read_files : ReadsEach lefts files
   pub given : GivesEvents schedule recorded events
-  pub fits_files : FitsFiles recorded files
-  pub fits_options : FitsOptions recorded options
+  pub fits_files : FitsFiles options.any_files options.given recorded files
+  pub fits_options : FitsOptions recorded options.limits
   pub refused : IsRefused files refusal
 
 -- Why nothing is run. A device that failed says no more, and memory may be wanted for each part.
-abbrev pub IsKeptBy : Option (List ℕ) → List (Option (List ℕ)) → LimitOptions → Fault → Type 0
+abbrev pub IsKeptBy : Option (List ℕ) → List (Option (List ℕ)) → Conditions → Fault → Type 0
 IsKeptBy left lefts options faults.Device = Unit {0}
 IsKeptBy left lefts options faults.Memory = Unit {0}
 IsKeptBy left lefts options (faults.Schedule fault) = (fault ≡ schedules.OutOfMemory) ⊎ IsUnspelled left (File fault) ⊎ IsUnfit left lefts options fault
@@ -76,6 +76,6 @@ IsOfSchedule (faults.Text fault) = Unit {0}
 IsOfSchedule (faults.Refusal refusal) = ⊥
 
 -- the class files are read before such a fault: they, or the options, don't fit with what the schedule was recorded with
-abbrev pub IsAfterFiles : Option (List ℕ) → List (Option (List ℕ)) → LimitOptions → Fault → Type 0
+abbrev pub IsAfterFiles : Option (List ℕ) → List (Option (List ℕ)) → Conditions → Fault → Type 0
 IsAfterFiles left lefts options (faults.Schedule fault) = IsUnfit left lefts options fault
 IsAfterFiles left lefts options fault = ⊥

@@ -11,6 +11,8 @@ use Rattle.search.specs.declared.search_reports.answers.Answer.{Answer}
 use Rattle.search.specs.declared.search_reports.answers.Answer.TheVariants as answers
 use Rattle.program_files.specs.declared.files_fault.FilesFault.{FilesFault}
 use Rattle.program_files.specs.declared.files_fault.FilesFault.TheVariants as files
+use Rattle.sweeps.specs.declared.sweeping.SweepEnd.{SweepEnd}
+use Rattle.sweeps.specs.declared.sweeping.SweepEnd.TheVariants as sweep
 use Rattle.engines.specs.declared.complaint.Complaint.{Complaint}
 use Rattle.engines.specs.declared.complaint.Complaint.TheVariants as complaints
 use Rattle.engines.specs.declared.fault.Fault.{Fault}
@@ -55,6 +57,12 @@ search_status (answers.Found schedule report) = statuses.Threw
 search_status (answers.Complete outcomes) = statuses.Returned
 search_status answers.GaveUp = statuses.UsedUp
 
+-- the status of a sweep
+abbrev pub sweep_status : SweepEnd → Status
+sweep_status sweep.Done = statuses.Returned
+sweep_status sweep.Found = statuses.Threw
+sweep_status sweep.GaveUp = statuses.UsedUp
+
 -- the status where there is no report
 abbrev pub fault_status : Fault → Status
 fault_status faults.Device = statuses.Unusable
@@ -85,6 +93,7 @@ abbrev pub complaint_status : Complaint → Status
 complaint_status (complaints.Usage usage) = usage_status usage
 complaint_status (complaints.Files fault) = files_status fault
 complaint_status (complaints.Fault fault) = fault_status fault
+complaint_status (complaints.Library fault name) = fault_status fault
 
 -- the number by which the caller of the program sees it
 abbrev pub code_of : Status → ℕ

@@ -1,8 +1,9 @@
 -- What the engines of schedules answer and write, by the bytes that their devices hold.
-use Rattle.std.specs.Prelude.{◌≡◌, ◌⊎◌, ℕ, List, Option}
+use Rattle.std.specs.Prelude.{◌≡◌, ◌⊎◌, ℕ, List, Option, Some, None, ◌==◌, if◌then◌else◌}
+use Rattle.std.specs.Option.{option_map}
 use Rattle.model.specs.declared.event.ScheduleEntry.{ScheduleEntry}
 use Rattle.model.specs.Devices.{AppendsFront}
-use Rattle.model.specs.Schedule.{Recording, schedule}
+use Rattle.schedule.specs.Files.{Recording, schedule, without_checksums}
 use Rattle.schedule.specs.declared.fault.ScheduleFault.TheVariants as schedules
 use Rattle.schedule.specs.schedule_text.Either.{GivesEntries}
 use Rattle.schedule.specs.schedule_text.Printing.{printed_schedule}
@@ -35,22 +36,28 @@ IsUnprinted left old new (faults.Refusal refusal) = ⊥
 
 -- ---- a text as schedule file
 
--- the source holds a text, and these are the bytes of the entries that it spells, and of what it says that they were recorded with
-abbrev pub Transcribes : Option (List ℕ) → List ℕ → Type 0
-Transcribes left bytes = (text : List ℕ) × (recorded : Option Recording) × (entries : List ScheduleEntry)
-    × Reads left text × SpellsSchedule text recorded entries × (bytes ≡ schedule recorded entries)
+-- what a file of a version tells of a recording, or of a later one, where that is asked for
+abbrev pub told_as : (as_version : Option ℕ) → Option Recording → Option Recording
+told_as None recorded = recorded
+told_as (Some version) recorded = if version == 1 then None else if version == 2 then option_map without_checksums recorded else recorded
 
-abbrev pub TranscribesPart : Option (List ℕ) → (old new : Option (List ℕ)) → Type 0
-TranscribesPart left old new = (new ≡ old) ⊎ ((bytes : List ℕ) × Transcribes left bytes × AppendsFront old new bytes)
+-- the source holds a text, and these are the bytes of the entries that it spells, and of what it says that they were recorded with, as far
+-- as a file of the version tells it
+abbrev pub Transcribes : (as_version : Option ℕ) → Option (List ℕ) → List ℕ → Type 0
+Transcribes as_version left bytes = (text : List ℕ) × (recorded : Option Recording) × (entries : List ScheduleEntry)
+    × Reads left text × SpellsSchedule text recorded entries × (bytes ≡ schedule (told_as as_version recorded) entries)
+
+abbrev pub TranscribesPart : (as_version : Option ℕ) → Option (List ℕ) → (old new : Option (List ℕ)) → Type 0
+TranscribesPart as_version left old new = (new ≡ old) ⊎ ((bytes : List ℕ) × Transcribes as_version left bytes × AppendsFront old new bytes)
 
 -- it spells no schedule
 abbrev pub IsNoText : Option (List ℕ) → Type 0
 IsNoText left = (text : List ℕ) × Reads left text × ((recorded : Option Recording) (entries : List ScheduleEntry) → SpellsSchedule text recorded entries → ⊥)
 
 -- When a fault is answered, and what is written then.
-abbrev pub IsUntranscribed : Option (List ℕ) → (old new : Option (List ℕ)) → Fault → Type 0
-IsUntranscribed left old new faults.Device = TranscribesPart left old new
-IsUntranscribed left old new faults.Memory = TranscribesPart left old new
-IsUntranscribed left old new (faults.Text fault) = (new ≡ old) × ((fault ≡ texts.OutOfMemory) ⊎ IsNoText left)
-IsUntranscribed left old new (faults.Schedule fault) = ⊥
-IsUntranscribed left old new (faults.Refusal refusal) = ⊥
+abbrev pub IsUntranscribed : (as_version : Option ℕ) → Option (List ℕ) → (old new : Option (List ℕ)) → Fault → Type 0
+IsUntranscribed as_version left old new faults.Device = TranscribesPart as_version left old new
+IsUntranscribed as_version left old new faults.Memory = TranscribesPart as_version left old new
+IsUntranscribed as_version left old new (faults.Text fault) = (new ≡ old) × ((fault ≡ texts.OutOfMemory) ⊎ IsNoText left)
+IsUntranscribed as_version left old new (faults.Schedule fault) = ⊥
+IsUntranscribed as_version left old new (faults.Refusal refusal) = ⊥

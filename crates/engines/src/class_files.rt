@@ -50,7 +50,7 @@ pub(crate) fn read_class_file<S: Source>(
     }
 }
 
-/// That there is no memory for a class file.
+/// The refusal that there is no memory for a class file.
 pub(crate) fn out_of_memory(file: usize) -> Refusal
     ensures { result ≡ no_memory file }
 {

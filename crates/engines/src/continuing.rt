@@ -11,9 +11,10 @@ ghost use Rattle.engines.specs.Opening.{IsAfterFiles, IsOfSchedule, IsOpened};
 
 use crate::fault::Fault;
 use crate::opening::open;
+use crate::recording::Conditions;
 use crate::running::{Outcome, outcome_of};
 use crate::status::Status;
-use command_line::{LimitOptions, ThenRun};
+use command_line::ThenRun;
 use model::{Limits, Sink, Source};
 use program_runs::continued_runs::{Continued, run_on};
 use schedule::Schedule;
@@ -33,33 +34,34 @@ pub fn continue_engine<S: Source, W: Sink>(
     alloc: Global,
     schedule: &mut S,
     files: &mut [S],
-    limits: &LimitOptions,
+    conditions: &Conditions,
     then_run: &ThenRun,
     report: &mut W,
     file: &mut Option<Vec<u8>>,
 ) -> Result<Status, Fault>
     // What the run says is written, and nothing else; and the file is that of its schedule.
     ensures continued { IfOk result (λ status. (text : _)
-        × Continues (S.remaining schedule.old) (map S.remaining files.old) limits.now
+        × Continues (S.remaining schedule.old) (map S.remaining files.old) conditions.now
         (unwrap_or then_run.now.budget 10000000)
         text (option_map vec_items file.new) status
         × Appends (W.contents report.old) (W.contents report.new) text) }
     ensures asked { IfOk result (λ _. IsTrue (is_some then_run.now.record) → IsTrue (is_some file.new)) }
-    ensures faulty { IfErr result (IsUncontinued (S.remaining schedule.old) (map S.remaining files.old) limits.now
+    ensures faulty { IfErr result (IsUncontinued (S.remaining schedule.old) (map S.remaining files.old) conditions.now
         (unwrap_or then_run.now.budget 10000000) (W.contents report.old) (W.contents report.new)
         (option_map vec_items file.old) (option_map vec_items file.new)) }
     ensures schedule_first { IfErr result (λ fault. IsOfSchedule fault → (files.new ≡ files.old)
-        ⊎ IsAfterFiles (S.remaining schedule.old) (map S.remaining files.old) limits.now fault) }
+        ⊎ IsAfterFiles (S.remaining schedule.old) (map S.remaining files.old) conditions.now fault) }
     ensures counted { CountsFailure result
         (S.failures schedule.old + sum_by S.failures files.old + W.failures report.old)
         (S.failures schedule.new + sum_by S.failures files.new + W.failures report.new) }
 {
-    let opened = open(alloc, schedule, files, limits)?;
+    let opened = open(alloc, schedule, files, conditions)?;
     let ran = ran_on(
         alloc,
         opened.verified,
         &opened.schedule,
         opened.files.as_slice(),
+        conditions.given,
         opened.limits,
         then_run.budget(),
         then_run.record.is_some(),
@@ -75,12 +77,14 @@ fn ran_on(
     verified: Verified,
     schedule: &Schedule,
     files: &[Vec<u8>],
+    given: usize,
     limits: Limits,
     budget: u32,
     is_recorded: bool,
 ) -> Result<Outcome, AllocError>
     requires { IsAccepted (map vec_items files.now) verified }
     ensures run { IfOk result (λ ran. (bytes : _) (options : _)
+        → options.given ≡ given
         → IsOpened bytes (map vec_items files.now) options verified (events_of schedule.now) limits
         → IsContinued bytes (map vec_items files.now) options budget ran.text.items
         (option_map vec_items ran.file) ran.status) }
@@ -92,6 +96,7 @@ fn ran_on(
             outcome_of(
                 alloc,
                 files,
+                given,
                 limits,
                 &run.report,
                 run.end,
@@ -100,7 +105,16 @@ fn ran_on(
             )
         }
         Continued::Part(report, end) => {
-            outcome_of(alloc, files, limits, &report, end, schedule, is_recorded)
+            outcome_of(
+                alloc,
+                files,
+                given,
+                limits,
+                &report,
+                end,
+                schedule,
+                is_recorded,
+            )
         }
     }
 }

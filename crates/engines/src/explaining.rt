@@ -1,18 +1,24 @@
 //! The line that tells a person why a command was not done. For it the files are read a second time.
 
 ghost use Rattle.std.specs.Prelude.{◌≡◌, ◌⊎◌, map, string_bytes};
-ghost use Rattle.engines.specs.Advised.{IsExplained, IsToldOf, is_quiet};
+ghost use Rattle.library_files.specs.Adding.{library_file};
+ghost use Rattle.std.specs.Option.{option_map};
+ghost use Rattle.engines.specs.Advised.{IsExplained, IsToldOf, complaint_fault, is_quiet};
 
 use crate::advised::{advised, named_files};
 use crate::command_files::{command_files, record_path};
 use crate::complaint::Complaint;
+use crate::differing_files::differing;
 use crate::explanation::Explanation;
 use crate::fault::Fault;
 use crate::main_hints::add_mains;
 use command_line::{Command, Goal, Usage, command};
 use explanations::refusal_explanations::{explain, explain_schedule, explain_text};
+use library_files::LibraryClass;
 use link_conditions::refusal::RefusalKind;
 use program_files::{Folder, first_unlisted, given_paths};
+use schedule::ScheduleFault;
+use schedule::schedule_text::is_schedule_word;
 use std::alloc::{AllocError, Global};
 use std::fmt::Display;
 use std::io;
@@ -37,20 +43,30 @@ pub struct Failures<'a> {
 /// wanted anyway; and nothing with `--quiet`.
 pub fn explain_complaint<F: Folder>(
     alloc: Global,
+    library: &[LibraryClass<'_>],
     folder: &F,
     words: &[String],
-    complaint: &Complaint,
+    complaint: &Complaint<'_>,
     failures: Failures<'_>,
     explanation: &mut Explanation,
 )
-    ensures { IsExplained (F.held folder.now) (F.listed folder.now) (map string_bytes words.now) complaint.now
+    ensures { IsExplained (map library_file library.now) (F.held folder.now) (F.listed folder.now)
+        (map string_bytes words.now) complaint.now
         explanation.old explanation.new }
 {
-    let Complaint::Fault(fault) = complaint else {
+    let Some(fault) = fault_of(complaint) else {
         return;
     };
     match command(alloc, words) {
-        Ok(command) => explain_fault(alloc, folder, &command, fault, failures, explanation),
+        Ok(command) => explain_fault(
+            alloc,
+            library,
+            folder,
+            &command,
+            fault,
+            failures,
+            explanation,
+        ),
         // help that can't be written
         Err(Usage::Asked(_)) if explanation.is_wanted() => {
             explanation.tell(indented(alloc, of_streams(alloc, failures)));
@@ -59,9 +75,20 @@ pub fn explain_complaint<F: Folder>(
     }
 }
 
+/// What keeps the command from its end, where the words are one that stands for files.
+fn fault_of<'a>(complaint: &'a Complaint<'_>) -> Option<&'a Fault>
+    ensures { option_map (λ fault. fault.now) result ≡ complaint_fault complaint.now }
+{
+    match complaint {
+        Complaint::Usage(_) | Complaint::Files(_) => None,
+        Complaint::Fault(fault) | Complaint::Library(fault, _) => Some(fault),
+    }
+}
+
 /// Tells why a command has this fault, and behind it the advice on files that `verify` refuses.
 fn explain_fault<F: Folder>(
     alloc: Global,
+    library: &[LibraryClass<'_>],
     folder: &F,
     command: &Command,
     fault: &Fault,
@@ -69,7 +96,8 @@ fn explain_fault<F: Folder>(
     explanation: &mut Explanation,
 )
     ensures { (explanation.new ≡ explanation.old)
-        ⊎ IsToldOf (F.held folder.now) (F.listed folder.now) command.now fault.now explanation.new }
+        ⊎ IsToldOf (map library_file library.now) (F.held folder.now) (F.listed folder.now) command.now fault.now
+        explanation.new }
 {
     let (is_explained, is_quiet) = flags_of(command);
     if is_quiet || !(is_explained || explanation.is_wanted()) {
@@ -77,6 +105,7 @@ fn explain_fault<F: Folder>(
     }
     let line = told_line(
         alloc,
+        library,
         folder,
         command,
         fault,
@@ -84,12 +113,13 @@ fn explain_fault<F: Folder>(
         explanation.reason(),
     );
     explanation.tell(indented(alloc, line));
-    explanation.add(advised(alloc, folder, command, fault));
+    explanation.add(advised(alloc, folder, command, library, fault));
 }
 
 /// What is known of a fault of a command.
 fn told_line<F: Folder>(
     alloc: Global,
+    library: &[LibraryClass<'_>],
     folder: &F,
     command: &Command,
     fault: &Fault,
@@ -98,7 +128,7 @@ fn told_line<F: Folder>(
 ) -> Told {
     match fault {
         Fault::Device => of_device(alloc, folder, command, failures, recording),
-        _ => line_of(alloc, folder, command, fault),
+        _ => line_of(alloc, library, folder, command, fault),
     }
 }
 
@@ -111,6 +141,7 @@ fn flags_of(command: &Command) -> (bool, bool)
         Command::Replay(options) => (options.explain, options.quiet),
         Command::Trace(options) => (options.explain, options.quiet),
         Command::Search(options) => (options.explain, options.quiet),
+        Command::Shrink(options) => (options.explain, options.quiet),
         Command::Verify(options) => (options.explain, options.quiet),
         Command::Disasm(options) => (options.explain, options.quiet),
         Command::Schedule(options) => (options.explain, options.quiet),
@@ -125,11 +156,12 @@ fn indented(alloc: Global, line: Told) -> Option<Vec<u8>> {
     Some(bytes)
 }
 
-/// The path of the schedule that is read.
+/// The schedule that is read: its path, or the word that it is.
 fn schedule_of(command: &Command) -> Option<&str> {
     match command {
         Command::Replay(options) => Some(options.schedule.as_str()),
         Command::Trace(options) => Some(options.schedule.as_str()),
+        Command::Shrink(options) => Some(options.schedule.as_str()),
         Command::Schedule(options) if !options.write => Some(options.file.as_str()),
         _ => None,
     }
@@ -142,7 +174,10 @@ fn first_of(command: &Command) -> Option<&str> {
             Some(Goal::Differs(path)) => Some(path.as_str()),
             _ => None,
         },
-        _ => schedule_of(command),
+        _ => match schedule_of(command) {
+            Some(word) if is_schedule_word(word.as_bytes()) => None,
+            other => other,
+        },
     }
 }
 
@@ -161,6 +196,7 @@ fn words_of(command: &Command) -> &[String] {
         Command::Replay(options) => options.files.as_slice(),
         Command::Trace(options) => options.files.as_slice(),
         Command::Search(options) => options.files.as_slice(),
+        Command::Shrink(options) => options.files.as_slice(),
         Command::Verify(options) => options.files.as_slice(),
         Command::Disasm(options) => options.files.as_slice(),
         Command::Schedule(_) => &[],
@@ -168,12 +204,18 @@ fn words_of(command: &Command) -> &[String] {
 }
 
 /// What is known of a fault that is no failure of a device.
-fn line_of<F: Folder>(alloc: Global, folder: &F, command: &Command, fault: &Fault) -> Told {
+fn line_of<F: Folder>(
+    alloc: Global,
+    library: &[LibraryClass<'_>],
+    folder: &F,
+    command: &Command,
+    fault: &Fault,
+) -> Told {
     let schedule = schedule_of(command);
     match fault {
         Fault::Device | Fault::Memory => Ok(None),
         Fault::Schedule(fault) => match schedule {
-            Some(path) => Ok(Some(explain_schedule(alloc, path, *fault)?)),
+            Some(path) => Ok(Some(of_schedule(alloc, folder, command, library, path, *fault)?)),
             None => Ok(None),
         },
         Fault::Text(fault) => {
@@ -184,7 +226,7 @@ fn line_of<F: Folder>(alloc: Global, folder: &F, command: &Command, fault: &Faul
             let Ok(paths) = command_files(alloc, folder, command) else {
                 return Ok(None);
             };
-            let Ok(files) = named_files(alloc, folder, &paths) else {
+            let Ok(files) = named_files(alloc, folder, command, library, &paths) else {
                 return Ok(None);
             };
             let mut line = explain(alloc, refusal, &files)?;
@@ -194,6 +236,25 @@ fn line_of<F: Folder>(alloc: Global, folder: &F, command: &Command, fault: &Faul
             Ok(Some(line))
         }
     }
+}
+
+/// What is known of a fault of the schedule at a path.
+fn of_schedule<F: Folder>(
+    alloc: Global,
+    folder: &F,
+    command: &Command,
+    library: &[LibraryClass<'_>],
+    path: &str,
+    fault: ScheduleFault,
+) -> Result<Vec<u8>, AllocError> {
+    if let ScheduleFault::Files = fault {
+        if let Ok(paths) = command_files(alloc, folder, command) {
+            if let Some(line) = differing(alloc, folder, command, library, path, &paths) {
+                return Ok(line);
+            }
+        }
+    }
+    explain_schedule(alloc, path, fault)
 }
 
 /// What failed, and the system's reason: the file that was to be written, the output, the input, or the first file that

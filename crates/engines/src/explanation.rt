@@ -61,7 +61,7 @@ impl Explanation {
         self.reason.as_deref()
     }
 
-    /// This is that reason.
+    /// Keeps the system's reason why a file couldn't be written.
     pub(crate) fn keep_reason(&mut self, alloc: Global, error: &io::Error) {
         self.reason = format!(in alloc; "{error}").ok();
     }
@@ -83,21 +83,21 @@ impl Explanation {
         }
     }
 
-    /// These lines are told, if there are some.
+    /// Tells these lines, if there are some.
     pub(crate) fn tell(&mut self, lines: Option<Vec<u8>>) {
         if let Some(lines) = lines {
             self.text = lines;
         }
     }
 
-    /// This line is told, too, if there is one, and memory for it.
+    /// Tells this line, too, if there is one, and memory for it.
     pub(crate) fn tell_more(&mut self, line: Result<String, AllocError>) {
         if let Ok(line) = line {
             let _ = self.text.extend_from_slice(line.as_bytes());
         }
     }
 
-    /// These lines are told, too, behind those that are; or not, where there is no memory for them.
+    /// Tells these lines, too, behind those that are; or not, where there is no memory for them.
     pub(crate) fn add(&mut self, lines: Vec<u8>)
         ensures { (self.new ≡ self.old) ⊎ (self.new ≡ self.old ++ lines.items) }
     {

@@ -6,11 +6,13 @@ ghost use Rattle.model.specs.Classes.{Program};
 ghost use Rattle.engines.specs.Engines.{CountsFailure};
 ghost use Rattle.engines.specs.Libraries.{IsLibrary, IsRefusedLibrary, IsUnacceptedLibrary, VerifiesLibrary, file_without_main};
 ghost use Rattle.engines.specs.LibraryMain.{library_main};
+ghost use Rattle.library_files.specs.Adding.{library_file};
 
 use crate::class_files::read_class_files;
 use crate::fault::Fault;
 use crate::status::Status;
-use crate::verification::{accepted, line_of};
+use crate::verification::{accepted, text_of};
+use library_files::LibraryClass;
 use link_conditions::refusal::{Refusal, RefusalKind};
 use model::{Sink, Source};
 use std::alloc::{AllocError, Global};
@@ -23,19 +25,22 @@ const LIBRARY_MAIN: &[u8] = b"\xca\xfe\xba\xbe\x00\x00\x001\x00\x08\
     \x00\x07\x00\x00\x00\x0d\x00\x00\x00\x01\x00\x00\x00\x01\xb1\x00\x00\x00\x00\x00\x00";
 
 /// Links and verifies the class files of a library, of which no class has to have a `main`: they are accepted where
-/// they are behind a class that has one. Writes a line with their number, and answers the status of what is done.
+/// they are behind a class that has one. Writes what is told of them, as `verify_engine`, and answers the status of
+/// what is done.
 ///
 /// Nothing is written where a file can't be read or the files are refused.
 pub fn verify_library_engine<S: Source, W: Sink>(
     alloc: Global,
     files: &mut [S],
+    given: usize,
+    own: &[LibraryClass<'_>],
     line: &mut W,
 ) -> Result<Status, Fault>
-    // The files that were read are accepted so, and the line of their number is written, and nothing else.
+    // The files that were read are accepted so, and what is told of them is written, and nothing else.
     ensures verified { IfOk result (λ status. (text : _) × (status ≡ Status.Returned)
-        × VerifiesLibrary (map S.remaining files.old) text
+        × VerifiesLibrary given (map library_file own.now) (map S.remaining files.old) text
         × Appends (W.contents line.old) (W.contents line.new) text) }
-    ensures faulty { IfErr result (IsUnacceptedLibrary (map S.remaining files.old)
+    ensures faulty { IfErr result (IsUnacceptedLibrary given (map library_file own.now) (map S.remaining files.old)
         (W.contents line.old) (W.contents line.new)) }
     ensures counted { CountsFailure result
         (sum_by S.failures files.old + W.failures line.old)
@@ -43,8 +48,8 @@ pub fn verify_library_engine<S: Source, W: Sink>(
 {
     let files = read_class_files(alloc, files)?;
     let count = library_count(alloc, files)?;
-    let text = line_of(alloc, count)?;
-    line.write_all(text.as_bytes())?;
+    let text = text_of(alloc, count, given, own)?;
+    line.write_all(text.as_slice())?;
     Ok(Status::Returned)
 }
 

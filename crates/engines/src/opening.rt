@@ -9,9 +9,8 @@ ghost use Rattle.engines.specs.Transcriptions.{IsUnprinted};
 
 use crate::class_files::read_class_files;
 use crate::fault::Fault;
-use crate::recording::limits_of;
+use crate::recording::{Conditions, limits_of};
 use crate::verification::accepted;
-use command_line::LimitOptions;
 use model::{DeviceFault, Limits, Source};
 use schedule::schedule_text::read_either;
 use schedule::{Recording, Schedule, ScheduleFault};
@@ -33,22 +32,22 @@ pub(crate) fn open<S: Source>(
     alloc: Global,
     schedule: &mut S,
     files: &mut [S],
-    limits: &LimitOptions,
+    conditions: &Conditions,
 ) -> Result<Opened, Fault>
     ensures opened { IfOk result (λ opened. (bytes : _) × Reads (S.remaining schedule.old) bytes
         × ReadsEach (map S.remaining files.old) (map vec_items opened.files.items)
-        × IsOpened bytes (map vec_items opened.files.items) limits.now opened.verified
+        × IsOpened bytes (map vec_items opened.files.items) conditions.now opened.verified
         (events_of opened.schedule) opened.limits) }
-    ensures kept { IfErr result (IsKeptBy (S.remaining schedule.old) (map S.remaining files.old) limits.now) }
+    ensures kept { IfErr result (IsKeptBy (S.remaining schedule.old) (map S.remaining files.old) conditions.now) }
     ensures schedule_first { IfErr result (λ fault. IsOfSchedule fault → (files.new ≡ files.old)
-        ⊎ IsAfterFiles (S.remaining schedule.old) (map S.remaining files.old) limits.now fault) }
+        ⊎ IsAfterFiles (S.remaining schedule.old) (map S.remaining files.old) conditions.now fault) }
     ensures counted { CountsFailure result
         (S.failures schedule.old + sum_by S.failures files.old)
         (S.failures schedule.new + sum_by S.failures files.new) }
 {
     let (schedule, recorded) = read_given(alloc, schedule)?;
     let files = read_class_files(alloc, files)?;
-    let limits = limits_of(&recorded, files.as_slice(), limits)?;
+    let limits = limits_of(&recorded, files.as_slice(), conditions)?;
     let verified = accepted(alloc, files.as_slice())?;
     Ok(Opened {
         schedule,

@@ -1,21 +1,26 @@
 //! What the words of a command line ask for.
 
-ghost use Rattle.std.specs.Prelude.{◌≡◌, ◌≤◌, ◌+◌, IfErr, IfOk, MatchResult, OnErr, OnOk, map, string_bytes};
+ghost use Rattle.std.specs.Prelude.{◌≡◌, ◌≤◌, ◌+◌, IfErr, IfOk, MatchResult, OnErr, OnOk, map, string_bytes, vec_items};
 ghost use Rattle.std.specs.Io.KnownBytes.{Appends};
 ghost use Rattle.model.specs.Devices.{AppendsFront, Counts};
 ghost use Rattle.command_line.specs.CommandLine.{Asks};
 ghost use Rattle.engines.specs.Commands.{Does, IsDone, IsDoneOver, IsUndone, IsUndoneOver, IsUntold, Leaves, LeavesAt, Stops};
-ghost use Rattle.engines.specs.Files.{held_at};
+ghost use Rattle.engines.specs.Files.{known};
+ghost use Rattle.library_files.specs.Adding.{library_file};
 ghost use Rattle.engines.specs.Failures.{FolderMayFail, TellsComplaint, TellsFailures};
 
 use crate::command_files::{check_record, command_files};
-use crate::commands::{disasm, replay, run_files, schedule, search, trace, verify};
+use crate::commands::{
+    disasm, replay, run as run_command, schedule, search, shrink, trace, unread, verify,
+};
 use crate::complaint::Complaint;
 use crate::explanation::Explanation;
 use crate::fault::Fault;
+use crate::handed::{Handed, handed_files};
 use crate::seeds::Seeds;
 use crate::status::Status;
 use command_line::{Command, Usage, command};
+use library_files::LibraryClass;
 use model::{DeviceFault, Sink, Source};
 use program_files::Folder;
 use program_runs::workers::Gate;
@@ -26,13 +31,15 @@ use std::thread::Threads;
 
 /// Does what the words say, the program's name first, and answers the status or why there is none.
 ///
-/// The files that they name are those of the folder; the text of a schedule that is to become a file is read from the
-/// input. A report, a listing, the line of a verification, the text of a schedule, or the help or the version that
-/// the words ask for is written to the output, and nothing else but a schedule file, where one is asked for, to the
-/// folder. The gate is told what the workers of a run do, and how far a run or a search has come; and it draws the
-/// seed of a run for which none is asked. The complaint is for the caller to tell, and so is the explanation, which
-/// gets what the threads of a run are about that did not end normally, where it is due.
+/// The files that they name are those of the folder, and behind them come those of the library's classes that they
+/// need; the text of a schedule that is to become a file is read from the input. A report, a listing, the line of a
+/// verification, the text of a schedule, or the help or the version that the words ask for is written to the output,
+/// and nothing else but a schedule file, where one is asked for, to the folder. The gate is told what the workers of a
+/// run do, and how far a run or a search has come; and it draws the seed of a run for which none is asked. The
+/// complaint is for the caller to tell, and so is the explanation, which gets what the threads of a run are about that
+/// did not end normally, where it is due.
 pub fn run<
+    'a,
     R: Threads + Wait + Sync,
     G: Gate + Progress + Seeds + Sync,
     F: Folder,
@@ -42,17 +49,21 @@ pub fn run<
     rt: &R,
     alloc: Global,
     gate: &G,
+    library: &[LibraryClass<'a>],
     folder: &mut F,
     words: &[String],
     input: &mut I,
     output: &mut W,
     explanation: &mut Explanation,
-) -> Result<Status, Complaint>
+) -> Result<Status, Complaint<'a>>
     // What the command that the words spell does with the files that they name is done, and nothing else.
     ensures done { IfOk result (Leaves
-        (Does (F.held folder.old) (F.listed folder.old) (I.remaining input.old) (map string_bytes words.now))
+        (Does (map library_file library.now) (F.held folder.old) (F.listed folder.old)
+        (I.remaining input.old) (map string_bytes words.now))
         (W.contents output.old) (W.contents output.new) (F.held folder.old) (F.held folder.new)) }
-    ensures faulty { IfErr result (LeavesAt (Stops (F.held folder.old) (F.listed folder.old) (I.remaining input.old)
+    ensures faulty { IfErr result (LeavesAt
+        (Stops (map library_file library.now) (F.held folder.old) (F.listed folder.old)
+        (I.remaining input.old)
         (map string_bytes words.now) (W.contents output.old) (W.contents output.new))
         (F.held folder.old) (F.held folder.new)) }
     // It is told that a device failed where the input, the output or the folder did, and only there.
@@ -66,6 +77,7 @@ pub fn run<
             rt,
             alloc,
             gate,
+            library,
             folder,
             &command,
             input,
@@ -77,7 +89,7 @@ pub fn run<
 }
 
 /// Writes help or the version, where the words ask for it.
-fn told<W: Sink>(alloc: Global, usage: Usage, output: &mut W) -> Result<Status, Complaint>
+fn told<'a, W: Sink>(alloc: Global, usage: Usage, output: &mut W) -> Result<Status, Complaint<'a>>
     ensures told { IfOk result (λ status. (text : _) × (status ≡ Status.Returned) × Asks usage
         × Appends (W.contents output.old) (W.contents output.new) text) }
     ensures untold { IfErr result (IsUntold usage (W.contents output.old) (W.contents output.new)) }
@@ -104,20 +116,31 @@ fn write_help<W: Sink>(alloc: Global, usage: &Usage, output: &mut W) -> Result<(
 }
 
 /// Does what a command says, over the files that its words stand for.
-fn done<R: Threads + Wait + Sync, G: Gate + Progress + Seeds + Sync, F: Folder, I: Source, W: Sink>(
+fn done<
+    'a,
+    R: Threads + Wait + Sync,
+    G: Gate + Progress + Seeds + Sync,
+    F: Folder,
+    I: Source,
+    W: Sink,
+>(
     rt: &R,
     alloc: Global,
     gate: &G,
+    library: &[LibraryClass<'a>],
     folder: &mut F,
     command: &Command,
     input: &mut I,
     output: &mut W,
     explanation: &mut Explanation,
-) -> Result<Status, Complaint>
+) -> Result<Status, Complaint<'a>>
     ensures done { IfOk result (Leaves
-        (IsDone (F.held folder.old) (F.listed folder.old) (I.remaining input.old) command.now)
+        (IsDone (map library_file library.now) (F.held folder.old) (F.listed folder.old) (I.remaining input.old)
+        command.now)
         (W.contents output.old) (W.contents output.new) (F.held folder.old) (F.held folder.new)) }
-    ensures faulty { IfErr result (LeavesAt (IsUndone (F.held folder.old) (F.listed folder.old) (I.remaining input.old)
+    ensures faulty { IfErr result (LeavesAt
+        (IsUndone (map library_file library.now) (F.held folder.old) (F.listed folder.old)
+        (I.remaining input.old)
         command.now (W.contents output.old) (W.contents output.new)) (F.held folder.old) (F.held folder.new)) }
     ensures told { MatchResult result
         (λ _. I.failures input.new + W.failures output.new ≤ I.failures input.old + W.failures output.old)
@@ -127,21 +150,33 @@ fn done<R: Threads + Wait + Sync, G: Gate + Progress + Seeds + Sync, F: Folder, 
     let files = command_files(alloc, folder, command)?;
     let paths = files.as_slice();
     check_record(alloc, command, paths)?;
-    let status = done_over(
+    let handed = match handed_files(alloc, folder, command, library, paths) {
+        Ok(handed) => handed,
+        Err(fault) => {
+            let first = unread(alloc, folder, command, fault, explanation);
+            return Err(Complaint::Fault(first));
+        }
+    };
+    let given = paths.len();
+    let outcome = done_over(
         rt,
         alloc,
         gate,
         folder,
-        paths,
+        &handed,
+        given,
         command,
         input,
         output,
         explanation,
-    )?;
-    Ok(status)
+    );
+    match outcome {
+        Ok(status) => Ok(status),
+        Err(fault) => Err(handed.complaint(given, fault)),
+    }
 }
 
-/// Does what a command says, over the files at these paths.
+/// Does what a command says, over these files, of which the first so many are given.
 fn done_over<
     R: Threads + Wait + Sync,
     G: Gate + Progress + Seeds + Sync,
@@ -153,46 +188,77 @@ fn done_over<
     alloc: Global,
     gate: &G,
     folder: &mut F,
-    files: &[String],
+    handed: &Handed<'_>,
+    given: usize,
     command: &Command,
     input: &mut I,
     output: &mut W,
     explanation: &mut Explanation,
 ) -> Result<Status, Fault>
     ensures done { IfOk result (Leaves
-        (IsDoneOver (F.held folder.old) (held_at (F.held folder.old) (map string_bytes files.now))
+        (IsDoneOver (F.held folder.old) given (map library_file handed.now.own.items)
+        (known (map vec_items handed.now.files.items))
         (I.remaining input.old) command.now)
         (W.contents output.old) (W.contents output.new) (F.held folder.old) (F.held folder.new)) }
     ensures faulty { IfErr result
-        (LeavesAt (IsUndoneOver (F.held folder.old) (held_at (F.held folder.old) (map string_bytes files.now))
+        (LeavesAt (IsUndoneOver (F.held folder.old) given (map library_file handed.now.own.items)
+        (known (map vec_items handed.now.files.items))
         (I.remaining input.old)
         command.now (W.contents output.old) (W.contents output.new)) (F.held folder.old) (F.held folder.new)) }
     ensures told { TellsFailures (FolderMayFail F.may_fail) result
         (I.failures input.old + W.failures output.old) (I.failures input.new + W.failures output.new) }
 {
+    let files = handed.files.as_slice();
     match command {
-        Command::Run(options) => run_files(
+        Command::Run(options) => run_command(
             rt,
             alloc,
             gate,
             folder,
             files,
+            given,
             options,
             output,
             explanation,
         ),
-        Command::Replay(options) => replay(alloc, folder, files, options, output, explanation),
-        Command::Trace(options) => trace(alloc, folder, files, options, output, explanation),
+        Command::Replay(options) => replay(
+            alloc,
+            folder,
+            files,
+            given,
+            options,
+            output,
+            explanation,
+        ),
+        Command::Trace(options) => trace(alloc, folder, files, given, options, output, explanation),
         Command::Search(options) => search(
             alloc,
             gate,
             folder,
             files,
+            given,
             options,
             output,
             explanation,
         ),
-        Command::Verify(options) => verify(alloc, folder, files, options, output),
+        Command::Shrink(options) => shrink(
+            alloc,
+            folder,
+            files,
+            given,
+            options,
+            output,
+            explanation,
+        ),
+        Command::Verify(options) => verify(
+            alloc,
+            folder,
+            files,
+            given,
+            handed.own.as_slice(),
+            options,
+            output,
+        ),
         Command::Disasm(options) => disasm(alloc, folder, files, options, output),
         Command::Schedule(options) => schedule(alloc, folder, options, input, output, explanation),
     }

@@ -1,64 +1,105 @@
 //! A run, and with what its schedule was recorded.
 
-ghost use Rattle.std.specs.Prelude.{◌≡◌, ◌↔◌, IfErr, IfOk, IsTrue, Some, length, map, vec_items};
-ghost use Rattle.engines.specs.Recordings.{Disagrees, FitsFiles, FitsOptions, HasLimits};
+ghost use Rattle.std.specs.Prelude.{◌≡◌, ◌<◌, ◌^◌, IfErr, IfOk, Some, drop, false, true, length, map, take, vec_items};
+ghost use Rattle.engines.specs.Recordings.{Disagrees, FitsFiles, FitsOptions, HasLimits, recording_over};
 
 use command_line::LimitOptions;
 use model::Limits;
 use schedule::{Recording, ScheduleFault};
+use std::alloc::{AllocError, Global};
+
+/// Under what a schedule is to run over class files: the limits that are asked for, and whether any files will do,
+/// whatever it was recorded over. The first so many of the files are given, and a library adds the others.
+#[derive(Clone, Copy)]
+pub struct Conditions {
+    pub limits: LimitOptions,
+    pub any_files: bool,
+    pub given: usize,
+}
+
+/// Those of class files that are given: the first so many.
+pub(crate) fn given_files(files: &[Vec<u8>], given: usize) -> &[Vec<u8>]
+    ensures { result.now ≡ take given files.now }
+{
+    files.get(..given).unwrap_or(files)
+}
+
+/// Those that a library adds to them: the others.
+pub(crate) fn added_files(files: &[Vec<u8>], given: usize) -> &[Vec<u8>]
+    ensures { result.now ≡ drop given files.now }
+{
+    files.get(given..).unwrap_or(&[])
+}
+
+/// With what a run of class files is recorded, of which the first so many are given, and a library adds the others. The
+/// only error is a want of memory.
+pub(crate) fn recording_over(
+    alloc: Global,
+    limits: Limits,
+    files: &[Vec<u8>],
+    given: usize,
+) -> Result<Recording, AllocError>
+    requires { length files.now < 2 ^ 32 }
+    ensures { IfOk result (λ r. r ≡ recording_over limits given (map vec_items files.now)) }
+{
+    Recording::of_files(
+        alloc,
+        limits,
+        given_files(files, given),
+        added_files(files, given),
+    )
+}
+
+/// Whether class files, of which the first so many are given, are others than those that were recorded.
+fn differ(recording: &Recording, files: &[Vec<u8>], given: usize) -> bool
+    ensures fit { result ≡ false → FitsFiles false given (Some recording.now) (map vec_items files.now) }
+    ensures differ { result ≡ true → FitsFiles false given (Some recording.now) (map vec_items files.now) → ⊥ }
+{
+    match recording.difference(given_files(files, given), added_files(files, given)) {
+        None => false,
+        Some(_) => true,
+    }
+}
 
 /// The limits of the run: those that were recorded, and else those of the options.
 ///
-/// `Files` where the class files are not as many as were recorded, or one has another length, and then `Limits` where
-/// another limit is asked for.
+/// `Files` where the class files are not as many as were recorded, or one has another length or another checksum, or a
+/// library adds others to them; and then `Limits` where another limit is asked for.
 pub(crate) fn limits_of(
     recorded: &Option<Recording>,
     files: &[Vec<u8>],
-    options: &LimitOptions,
+    conditions: &Conditions,
 ) -> Result<Limits, ScheduleFault>
-    ensures files { IfOk result (λ _. FitsFiles recorded.now (map vec_items files.now)) }
-    ensures options { IfOk result (λ _. FitsOptions recorded.now options.now) }
-    ensures limits { IfOk result (HasLimits recorded.now options.now) }
-    ensures refused { IfErr result (Disagrees recorded.now (map vec_items files.now) options.now) }
+    ensures files { IfOk result (λ _. FitsFiles conditions.now.any_files conditions.now.given recorded.now
+        (map vec_items files.now)) }
+    ensures options { IfOk result (λ _. FitsOptions recorded.now conditions.now.limits) }
+    ensures limits { IfOk result (HasLimits recorded.now conditions.now.limits) }
+    ensures refused { IfErr result (Disagrees recorded.now (map vec_items files.now) conditions.now) }
 {
     match recorded {
-        None => Ok(options.limits()),
-        Some(recording) => recorded_limits(recording, files, options),
+        None => Ok(conditions.limits.limits()),
+        Some(recording) => recorded_limits(recording, files, conditions),
     }
 }
 
-/// The same of a schedule file that says with what it was recorded.
+/// The limits of a schedule file that says with what it was recorded.
 fn recorded_limits(
     recording: &Recording,
     files: &[Vec<u8>],
-    options: &LimitOptions,
+    conditions: &Conditions,
 ) -> Result<Limits, ScheduleFault>
-    ensures files { IfOk result (λ _. FitsFiles (Some recording.now) (map vec_items files.now)) }
-    ensures options { IfOk result (λ _. FitsOptions (Some recording.now) options.now) }
-    ensures limits { IfOk result (HasLimits (Some recording.now) options.now) }
-    ensures refused { IfErr result (Disagrees (Some recording.now) (map vec_items files.now) options.now) }
+    ensures files { IfOk result (λ _. FitsFiles conditions.now.any_files conditions.now.given (Some recording.now)
+        (map vec_items files.now)) }
+    ensures options { IfOk result (λ _. FitsOptions (Some recording.now) conditions.now.limits) }
+    ensures limits { IfOk result (HasLimits (Some recording.now) conditions.now.limits) }
+    ensures refused { IfErr result (Disagrees (Some recording.now) (map vec_items files.now) conditions.now) }
 {
-    if !have_lengths(files, recording.lengths()) {
+    if !conditions.any_files && differ(recording, files, conditions.given) {
         return Err(ScheduleFault::Files);
     }
     let limits = recording.limits();
-    if !options.allow(&limits) {
+    if !conditions.limits.allow(&limits) {
         return Err(ScheduleFault::Limits);
     }
     Ok(limits)
-}
-
-/// Whether the files are as many as the lengths, each as long as its length in bytes.
-fn have_lengths(files: &[Vec<u8>], lengths: &[u64]) -> bool
-    ensures { IsTrue result ↔ (map length (map vec_items files.now) ≡ lengths.now) }
-{
-    if files.len() != lengths.len() {
-        return false;
-    }
-    'files: for (number, file) in files.iter().enumerate() {
-        if file.len() as u64 != lengths[number] {
-            return false;
-        }
-    }
-    true
 }

@@ -9,8 +9,8 @@ ghost use Rattle.engines.specs.Replays.{IsFaulty, IsReplayed, Replays};
 
 use crate::fault::Fault;
 use crate::opening::{Opened, open};
+use crate::recording::Conditions;
 use crate::status::Status;
-use command_line::LimitOptions;
 use model::{Sink, Source};
 use program_runs::verified_programs::replay;
 use schedule::report::text;
@@ -27,22 +27,22 @@ pub fn replay_engine<S: Source, W: Sink>(
     alloc: Global,
     schedule: &mut S,
     files: &mut [S],
-    limits: &LimitOptions,
+    conditions: &Conditions,
     report: &mut W,
 ) -> Result<Status, Fault>
     // What the class files do under the schedule is written, and nothing else.
     ensures replayed { IfOk result (λ status. (text : _)
-        × Replays (S.remaining schedule.old) (map S.remaining files.old) limits.now text status
+        × Replays (S.remaining schedule.old) (map S.remaining files.old) conditions.now text status
         × Appends (W.contents report.old) (W.contents report.new) text) }
-    ensures faulty { IfErr result (IsFaulty (S.remaining schedule.old) (map S.remaining files.old) limits.now
+    ensures faulty { IfErr result (IsFaulty (S.remaining schedule.old) (map S.remaining files.old) conditions.now
         (W.contents report.old) (W.contents report.new)) }
     ensures schedule_first { IfErr result (λ fault. IsOfSchedule fault → (files.new ≡ files.old)
-        ⊎ IsAfterFiles (S.remaining schedule.old) (map S.remaining files.old) limits.now fault) }
+        ⊎ IsAfterFiles (S.remaining schedule.old) (map S.remaining files.old) conditions.now fault) }
     ensures counted { CountsFailure result
         (S.failures schedule.old + sum_by S.failures files.old + W.failures report.old)
         (S.failures schedule.new + sum_by S.failures files.new + W.failures report.new) }
 {
-    let opened = open(alloc, schedule, files, limits)?;
+    let opened = open(alloc, schedule, files, conditions)?;
     let (text, status) = replayed(alloc, opened)?;
     report.write_all(text.as_slice())?;
     Ok(status)

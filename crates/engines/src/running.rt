@@ -4,15 +4,18 @@ ghost use Rattle.std.specs.Prelude.{◌≡◌, ◌+◌, ◌<◌, ◌^◌, Some, 
 ghost use Rattle.std.specs.Option.{option_map};
 ghost use Rattle.std.specs.Io.KnownBytes.{Appends};
 ghost use Rattle.model.specs.Accepted.{IsAccepted};
-ghost use Rattle.model.specs.Schedule.{ScheduleFile, events_of};
+ghost use Rattle.model.specs.Schedule.{events_of};
 ghost use Rattle.machine.specs.machine_replay.Replays.{text_of};
 ghost use Rattle.program_runs.specs.worlds.Records.{IsRecordOf};
 ghost use Rattle.engines.specs.Engines.{CountsFailure};
 ghost use Rattle.engines.specs.Statuses.{status_of};
-ghost use Rattle.engines.specs.Runs.{IsRun, IsUnrun, Runs, recording_of};
+ghost use Rattle.engines.specs.Runs.{IsRun, IsUnrun, Runs};
+ghost use Rattle.engines.specs.Recordings.{recording_over};
+ghost use Rattle.schedule.specs.Joined.{RecordedFile};
 
 use crate::class_files::read_class_files;
 use crate::fault::Fault;
+use crate::recording::recording_over;
 use crate::seeds::{Seeds, policy_for};
 use crate::status::Status;
 use crate::verification::accepted;
@@ -21,7 +24,7 @@ use model::{End, Limits, Report, Sink, Source};
 use program_runs::policies::run_by_policy;
 use program_runs::workers::{Gate, Recorded, run_workers};
 use schedule::report::text;
-use schedule::{Recording, Schedule, write_schedule};
+use schedule::{Schedule, write_schedule};
 use std::alloc::{AllocError, Global};
 use std::sync::{Arc, Wait};
 use std::thread::Threads;
@@ -32,6 +35,8 @@ use verifier::Verified;
 /// and where a policy wants a seed for which the options don't ask, it draws one, and is told so unless the options
 /// have it quiet.
 ///
+/// The first so many of the class files are given, and a library adds the others: the schedule file tells them so.
+///
 /// A fault of the class files is answered before anything runs, and nothing is written or made then; nor is anything
 /// after a want of memory in the run. The file is there before the report is written.
 pub fn run_engine<R: Threads + Wait + Sync, G: Gate + Seeds + Sync, S: Source, W: Sink>(
@@ -39,17 +44,18 @@ pub fn run_engine<R: Threads + Wait + Sync, G: Gate + Seeds + Sync, S: Source, W
     alloc: Global,
     gate: &G,
     files: &mut [S],
+    given: usize,
     options: &Run,
     report: &mut W,
     file: &mut Option<Vec<u8>>,
 ) -> Result<Status, Fault>
     // The report of a run is written, and nothing else; and the file is that of its schedule.
     ensures ran { IfOk result (λ status. (text : _)
-        × Runs (map S.remaining files.old) options.now.limits options.now.options text
+        × Runs given (map S.remaining files.old) options.now.limits options.now.options text
         (option_map vec_items file.new) status
         × Appends (W.contents report.old) (W.contents report.new) text) }
     ensures asked { IfOk result (λ _. IsTrue (is_some options.now.record) → IsTrue (is_some file.new)) }
-    ensures faulty { IfErr result (IsUnrun (map S.remaining files.old) options.now.limits options.now.options
+    ensures faulty { IfErr result (IsUnrun given (map S.remaining files.old) options.now.limits options.now.options
         (W.contents report.old) (W.contents report.new) (option_map vec_items file.old)
         (option_map vec_items file.new)) }
     ensures counted { CountsFailure result
@@ -59,7 +65,7 @@ pub fn run_engine<R: Threads + Wait + Sync, G: Gate + Seeds + Sync, S: Source, W
     let read = read_class_files(alloc, files)?;
     let files = read.as_slice();
     let verified = accepted(alloc, files)?;
-    let ran = ran(rt, alloc, gate, verified, files, options)?;
+    let ran = ran(rt, alloc, gate, verified, files, given, options)?;
     *file = ran.file;
     report.write_all(ran.text.as_slice())?;
     Ok(ran.status)
@@ -80,10 +86,11 @@ fn ran<R: Threads + Wait + Sync, G: Gate + Seeds + Sync>(
     gate: &G,
     verified: Verified,
     files: &[Vec<u8>],
+    given: usize,
     options: &Run,
 ) -> Result<Outcome, AllocError>
     requires { IsAccepted (map vec_items files.now) verified }
-    ensures run { IfOk result (λ ran. IsRun (map vec_items files.now) options.now.limits options.now.options
+    ensures run { IfOk result (λ ran. IsRun given (map vec_items files.now) options.now.limits options.now.options
         ran.text.items (option_map vec_items ran.file) ran.status) }
     ensures asked { IfOk result (λ ran. IsTrue (is_some options.now.record) → IsTrue (is_some ran.file)) }
 {
@@ -92,6 +99,7 @@ fn ran<R: Threads + Wait + Sync, G: Gate + Seeds + Sync>(
     outcome_of(
         alloc,
         files,
+        given,
         limits,
         &recorded.report,
         recorded.end,
@@ -104,6 +112,7 @@ fn ran<R: Threads + Wait + Sync, G: Gate + Seeds + Sync>(
 pub(crate) fn outcome_of(
     alloc: Global,
     files: &[Vec<u8>],
+    given: usize,
     limits: Limits,
     report: &Report,
     end: End,
@@ -115,14 +124,14 @@ pub(crate) fn outcome_of(
     ensures ended { IfOk result (λ outcome. outcome.status ≡ status_of report.now.threads.items end) }
     ensures asked { IfOk result (λ outcome. IsTrue is_recorded → IsTrue (is_some outcome.file)) }
     ensures spelled { IfOk result (λ outcome. IfSome (option_map vec_items outcome.file) (λ bytes.
-        ScheduleFile bytes (Some (recording_of limits (map vec_items files.now))) (events_of schedule.now))) }
+        RecordedFile bytes (Some (recording_over limits given (map vec_items files.now))) (events_of schedule.now))) }
 {
     let text = text(alloc, report, &end)?;
     let status = Status::of(report, end);
     let file = if is_recorded || status == Status::Returned {
-        recorded_file(alloc, is_recorded, files, limits, schedule)?
+        recorded_file(alloc, is_recorded, files, given, limits, schedule)?
     } else {
-        told_file(alloc, files, limits, schedule)
+        told_file(alloc, files, given, limits, schedule)
     };
     Ok(Outcome { text, file, status })
 }
@@ -132,14 +141,15 @@ pub(crate) fn outcome_of(
 fn told_file(
     alloc: Global,
     files: &[Vec<u8>],
+    given: usize,
     limits: Limits,
     schedule: &Schedule,
 ) -> Option<Vec<u8>>
     requires { length files.now < 2 ^ 32 }
     ensures { IfSome (option_map vec_items result) (λ bytes.
-        ScheduleFile bytes (Some (recording_of limits (map vec_items files.now))) (events_of schedule.now)) }
+        RecordedFile bytes (Some (recording_over limits given (map vec_items files.now))) (events_of schedule.now)) }
 {
-    file_of(alloc, files, limits, schedule).ok()
+    file_of(alloc, files, given, limits, schedule).ok()
 }
 
 /// The record of a run of accepted class files.
@@ -179,16 +189,17 @@ pub(crate) fn recorded_file(
     alloc: Global,
     is_recorded: bool,
     files: &[Vec<u8>],
+    given: usize,
     limits: Limits,
     schedule: &Schedule,
 ) -> Result<Option<Vec<u8>>, AllocError>
     requires { length files.now < 2 ^ 32 }
     ensures asked { IfOk result (λ file. is_some file ≡ is_recorded) }
     ensures spelled { IfOk result (λ file. IfSome (option_map vec_items file) (λ bytes.
-        ScheduleFile bytes (Some (recording_of limits (map vec_items files.now))) (events_of schedule.now))) }
+        RecordedFile bytes (Some (recording_over limits given (map vec_items files.now))) (events_of schedule.now))) }
 {
     if is_recorded {
-        Ok(Some(file_of(alloc, files, limits, schedule)?))
+        Ok(Some(file_of(alloc, files, given, limits, schedule)?))
     } else {
         Ok(None)
     }
@@ -198,24 +209,16 @@ pub(crate) fn recorded_file(
 fn file_of(
     alloc: Global,
     files: &[Vec<u8>],
+    given: usize,
     limits: Limits,
     schedule: &Schedule,
 ) -> Result<Vec<u8>, AllocError>
     requires { length files.now < 2 ^ 32 }
-    ensures { IfOk result (λ bytes. ScheduleFile bytes.items (Some (recording_of limits (map vec_items files.now)))
+    ensures { IfOk result (λ bytes. RecordedFile bytes.items
+        (Some (recording_over limits given (map vec_items files.now)))
         (events_of schedule.now)) }
 {
-    let recording = Recording::new(limits, lengths_of(alloc, files)?);
-    write_schedule(alloc, schedule, Some(&recording))
-}
-
-/// The lengths of the class files in bytes.
-fn lengths_of(alloc: Global, files: &[Vec<u8>]) -> Result<Vec<u64>, AllocError>
-    ensures { IfOk result (λ lengths. lengths.items ≡ map length (map vec_items files.now)) }
-{
-    let mut lengths = Vec::new(alloc);
-    'files: for file in files {
-        lengths.push(file.len() as u64)?;
-    }
-    Ok(lengths)
+    let recording = recording_over(alloc, limits, files, given)?;
+    let joined = schedule.joined(alloc)?;
+    write_schedule(alloc, &joined, Some(&recording))
 }

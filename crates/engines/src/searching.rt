@@ -5,7 +5,7 @@ ghost use Rattle.std.specs.Option.{option_map};
 ghost use Rattle.std.specs.Io.KnownBytes.{Appends};
 ghost use Rattle.model.specs.Accepted.{IsAccepted};
 ghost use Rattle.engines.specs.Engines.{CountsFailure};
-ghost use Rattle.engines.specs.Runs.{recording_of};
+ghost use Rattle.engines.specs.Recordings.{recording_over};
 ghost use Rattle.engines.specs.Searches.{IsFileOf, IsSearched, IsUnsearched, Searches, most_states};
 
 use crate::class_files::read_class_files;
@@ -26,6 +26,8 @@ use verifier::Verified;
 /// schedule file of the run that was found, where one is asked for; writes what comes of the search, and answers the
 /// status.
 ///
+/// The first so many of the class files are given, and a library adds the others: the schedule file tells them so.
+///
 /// A fault of the class files is answered before anything runs, and nothing is written or made then; nor is anything
 /// after a want of memory in the search. The file is there before the report is written. The progress is told how far
 /// the search has come.
@@ -33,6 +35,7 @@ pub fn search_engine<P: Progress, S: Source, W: Sink>(
     alloc: Global,
     progress: &P,
     files: &mut [S],
+    given: usize,
     options: &Search,
     wanted: &Wanted,
     report: &mut W,
@@ -41,12 +44,12 @@ pub fn search_engine<P: Progress, S: Source, W: Sink>(
     // What can come of the class files is written, or a run whose outcome is wanted, and nothing else; and the file
     // is that of the run's schedule, where it is asked for.
     ensures searched { IfOk result (λ status. (text : _)
-        × Searches (map S.remaining files.old) options.now.limits wanted.now (most_states options.now)
+        × Searches given (map S.remaining files.old) options.now.limits wanted.now (most_states options.now)
         (is_some options.now.record)
         text (option_map vec_items file.new) status
         × Appends (W.contents report.old) (W.contents report.new) text) }
     ensures faulty { IfErr result
-        (IsUnsearched (map S.remaining files.old) options.now.limits wanted.now (most_states options.now)
+        (IsUnsearched given (map S.remaining files.old) options.now.limits wanted.now (most_states options.now)
         (is_some options.now.record) (W.contents report.old) (W.contents report.new)
         (option_map vec_items file.old) (option_map vec_items file.new)) }
     ensures counted { CountsFailure result
@@ -56,7 +59,7 @@ pub fn search_engine<P: Progress, S: Source, W: Sink>(
     let read = read_class_files(alloc, files)?;
     let files = read.as_slice();
     let verified = accepted(alloc, files)?;
-    let searched = searched(alloc, progress, verified, files, options, wanted)?;
+    let searched = searched(alloc, progress, verified, files, given, options, wanted)?;
     *file = searched.file;
     report.write_all(searched.text.as_slice())?;
     Ok(searched.status)
@@ -68,15 +71,16 @@ fn searched<P: Progress>(
     progress: &P,
     verified: Verified,
     files: &[Vec<u8>],
+    given: usize,
     options: &Search,
     wanted: &Wanted,
 ) -> Result<Outcome, AllocError>
     requires { IsAccepted (map vec_items files.now) verified }
     ensures { IfOk result (λ searched.
-        IsSearched (map vec_items files.now) options.now.limits wanted.now (most_states options.now)
+        IsSearched given (map vec_items files.now) options.now.limits wanted.now (most_states options.now)
         (is_some options.now.record) searched.text.items (option_map vec_items searched.file) searched.status) }
 {
-    search_of(alloc, progress, &verified, files, options, wanted)
+    search_of(alloc, progress, &verified, files, given, options, wanted)
 }
 
 /// Searches accepted class files, and makes what is to be written.
@@ -85,12 +89,13 @@ fn search_of<P: Progress>(
     progress: &P,
     verified: &Verified,
     files: &[Vec<u8>],
+    given: usize,
     options: &Search,
     wanted: &Wanted,
 ) -> Result<Outcome, AllocError>
     requires { IsAccepted (map vec_items files.now) verified.now }
     ensures { IfOk result (λ searched.
-        IsSearched (map vec_items files.now) options.now.limits wanted.now (most_states options.now)
+        IsSearched given (map vec_items files.now) options.now.limits wanted.now (most_states options.now)
         (is_some options.now.record) searched.text.items (option_map vec_items searched.file) searched.status) }
 {
     let limits = options.limits.limits();
@@ -100,7 +105,7 @@ fn search_of<P: Progress>(
     let searched = search_report(alloc, progress, classes, program, limits, wanted, most)?;
     let text = searched.text(alloc)?;
     let is_recorded = options.record.is_some();
-    let file = found_file(alloc, is_recorded, files, limits, &searched.answer)?;
+    let file = found_file(alloc, is_recorded, files, given, limits, &searched.answer)?;
     let status = Status::of_search(&searched.answer);
     Ok(Outcome { text, file, status })
 }
@@ -119,15 +124,24 @@ fn found_file(
     alloc: Global,
     is_recorded: bool,
     files: &[Vec<u8>],
+    given: usize,
     limits: Limits,
     answer: &Answer,
 ) -> Result<Option<Vec<u8>>, AllocError>
     requires { length files.now < 2 ^ 32 }
-    ensures { IfOk result (λ file. IsFileOf (recording_of limits (map vec_items files.now)) is_recorded answer.now
+    ensures { IfOk result (λ file. IsFileOf
+        (recording_over limits given (map vec_items files.now)) is_recorded answer.now
         (option_map vec_items file)) }
 {
     match answer {
-        Answer::Found(schedule, _) => recorded_file(alloc, is_recorded, files, limits, schedule),
+        Answer::Found(schedule, _) => recorded_file(
+            alloc,
+            is_recorded,
+            files,
+            given,
+            limits,
+            schedule,
+        ),
         Answer::Complete(_) | Answer::GaveUp => Ok(None),
     }
 }

@@ -2,7 +2,7 @@
 
 ghost use Rattle.std.specs.Prelude.{◌≡◌};
 ghost use Rattle.std.specs.List.{list_all};
-ghost use Rattle.engines.specs.Statuses.{has_ended, has_returned, code_of, complaint_status, fault_status, files_status, usage_status, search_status, status_of};
+ghost use Rattle.engines.specs.Statuses.{has_ended, has_returned, code_of, complaint_status, fault_status, files_status, usage_status, search_status, status_of, sweep_status};
 
 use crate::complaint::Complaint;
 use crate::fault::Fault;
@@ -10,13 +10,14 @@ use command_line::Usage;
 use model::{End, EndState, Report};
 use program_files::FilesFault;
 use search::search_reports::Answer;
+use sweeps::SweepEnd;
 
 #[derive(Clone, Copy)]
 pub enum Status {
     /// No thread can go on, and all have ended, none with an exception. Of what runs nothing: it is done.
     Returned,
-    /// No thread can go on, and all have ended, some with an exception. Of a search: it found a run whose outcome is
-    /// wanted.
+    /// No thread can go on, and all have ended, some with an exception. Of a search or a sweep: it found a run whose
+    /// outcome is wanted.
     Threw,
     /// A class file or the schedule is refused.
     Refused,
@@ -24,14 +25,14 @@ pub enum Status {
     Stopped,
     /// No thread can go on, and some haven't ended.
     Stuck,
-    /// The schedule is used up, or the budget, and some thread can go on. Of a search: it gave up.
+    /// The schedule is used up, or the budget, and some thread can go on. Of a search or a sweep: it gave up.
     UsedUp,
     /// The command line is no command, or a device failed.
     Unusable,
 }
 
 impl Status {
-    /// That of a run.
+    /// The status of a run.
     pub fn of(report: &Report, end: End) -> Status
         ensures { result ≡ status_of report.now.threads.items end }
     {
@@ -42,7 +43,7 @@ impl Status {
         }
     }
 
-    /// That of a run after which no thread can go on.
+    /// The status of a run after which no thread can go on.
     fn of_quiet(threads: &[EndState]) -> Status
         ensures { result ≡ status_of threads.now End.Quiet }
     {
@@ -55,7 +56,7 @@ impl Status {
         }
     }
 
-    /// That of a search.
+    /// The status of a search.
     pub fn of_search(answer: &Answer) -> Status
         ensures { result ≡ search_status answer.now }
     {
@@ -66,18 +67,30 @@ impl Status {
         }
     }
 
-    /// That of a complaint.
-    pub fn of_complaint(complaint: &Complaint) -> Status
+    /// The status of a sweep.
+    pub fn of_sweep(end: SweepEnd) -> Status
+        ensures { result ≡ sweep_status end }
+    {
+        match end {
+            SweepEnd::Done => Status::Returned,
+            SweepEnd::Found => Status::Threw,
+            SweepEnd::GaveUp => Status::UsedUp,
+        }
+    }
+
+    /// The status of a complaint.
+    pub fn of_complaint(complaint: &Complaint<'_>) -> Status
         ensures { result ≡ complaint_status complaint.now }
     {
         match complaint {
             Complaint::Usage(usage) => Status::of_usage(usage),
             Complaint::Files(fault) => Status::of_files(fault),
             Complaint::Fault(fault) => Status::of_fault(fault),
+            Complaint::Library(fault, _) => Status::of_fault(fault),
         }
     }
 
-    /// That of a fault.
+    /// The status of a fault.
     pub fn of_fault(fault: &Fault) -> Status
         ensures { result ≡ fault_status fault.now }
     {
@@ -88,7 +101,7 @@ impl Status {
         }
     }
 
-    /// That of words that stand for no files.
+    /// The status of words that stand for no files.
     pub fn of_files(fault: &FilesFault) -> Status
         ensures { result ≡ files_status fault.now }
     {
@@ -98,7 +111,7 @@ impl Status {
         }
     }
 
-    /// That of words that are no command. Words that ask for help get it.
+    /// The status of words that are no command. Words that ask for help get it.
     pub fn of_usage(usage: &Usage) -> Status
         ensures { result ≡ usage_status usage.now }
     {

@@ -1,13 +1,11 @@
-//! What is told of the threads of a run. For it the class files are read, and the events are done, a second time.
+//! What is told of the threads of a run. For it the events are done a second time.
 
-use crate::class_files::read_class_files;
 use crate::fault::Fault;
-use crate::named_file::sources;
-use crate::recording::limits_of;
+use crate::named_file::schedule_source;
+use crate::recording::{Conditions, limits_of};
 use crate::verification::accepted;
-use command_line::LimitOptions;
 use explanations::thread_explanations::explain_threads;
-use model::Limits;
+use model::{Limits, Source};
 use program_files::Folder;
 use program_runs::verified_programs::verified_program;
 use schedule::Schedule;
@@ -15,56 +13,52 @@ use schedule::schedule_text::read_either;
 use std::alloc::{AllocError, Global};
 use verifier::Verified;
 
-/// What the threads are about that did not end normally, after the events of the schedule at a path, if they are not
-/// too many.
+/// What the threads are about that did not end normally, after the events of the schedule that a word is, or whose
+/// path it is, if they are not too many.
 pub(crate) fn told_schedule<F: Folder>(
     alloc: Global,
     folder: &F,
-    path: &String,
-    files: &[String],
-    limits: &LimitOptions,
+    word: &String,
+    files: &[Vec<u8>],
+    conditions: &Conditions,
     most: u64,
 ) -> Option<Vec<u8>> {
-    let bytes = folder.read(alloc, path.as_str()).ok()?;
-    told_threads(alloc, folder, bytes.as_slice(), files, limits, most).ok()?
+    let bytes = schedule_source(folder, word.as_str()).read_all(alloc).ok()?;
+    told_threads(alloc, bytes.as_slice(), files, conditions, most).ok()?
 }
 
-/// The same of the schedule file that was made, if one was.
-pub(crate) fn told_record<F: Folder>(
+/// What the threads are about after the events of the schedule file that was made, if one was.
+pub(crate) fn told_record(
     alloc: Global,
-    folder: &F,
     file: &Option<Vec<u8>>,
-    files: &[String],
-    limits: &LimitOptions,
+    files: &[Vec<u8>],
+    conditions: &Conditions,
     most: u64,
 ) -> Option<Vec<u8>> {
     match file {
-        Some(bytes) => { told_threads(alloc, folder, bytes.as_slice(), files, limits, most).ok()? }
+        Some(bytes) => { told_threads(alloc, bytes.as_slice(), files, conditions, most).ok()? }
         None => None,
     }
 }
 
-/// The same of these bytes of a schedule.
-fn told_threads<F: Folder>(
+/// What the threads are about after the events of a schedule of these bytes.
+fn told_threads(
     alloc: Global,
-    folder: &F,
     bytes: &[u8],
-    files: &[String],
-    limits: &LimitOptions,
+    files: &[Vec<u8>],
+    conditions: &Conditions,
     most: u64,
 ) -> Result<Option<Vec<u8>>, Fault> {
     let (schedule, recorded) = read_either(alloc, bytes)?;
     if schedule.count() > most {
         return Ok(None);
     }
-    let mut sources = sources(alloc, folder, files)?;
-    let files = read_class_files(alloc, sources.as_mut_slice())?;
-    let limits = limits_of(&recorded, files.as_slice(), limits)?;
-    let verified = accepted(alloc, files.as_slice())?;
+    let limits = limits_of(&recorded, files, conditions)?;
+    let verified = accepted(alloc, files)?;
     Ok(Some(threads_after(alloc, &verified, &schedule, limits)?))
 }
 
-/// The same of these class files, which are accepted, with these limits.
+/// What the threads are about of these class files, which are accepted, with these limits.
 fn threads_after(
     alloc: Global,
     verified: &Verified,

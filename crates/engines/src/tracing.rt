@@ -10,8 +10,8 @@ ghost use Rattle.engines.specs.Traces.{IsTraced, IsUntraced, Traces, TracesFront
 
 use crate::fault::Fault;
 use crate::opening::{Opened, open};
+use crate::recording::Conditions;
 use crate::status::Status;
-use command_line::LimitOptions;
 use model::{DeviceFault, Sink, Source};
 use program_runs::traced_runs::{Window, trace};
 use schedule::report::text;
@@ -30,24 +30,24 @@ pub fn trace_engine<S: Source, W: Sink>(
     alloc: Global,
     schedule: &mut S,
     files: &mut [S],
-    limits: &LimitOptions,
+    conditions: &Conditions,
     window: Window<'_>,
     output: &mut W,
 ) -> Result<Status, Fault>
     // The lines and the report of what the class files do under the schedule are written, and nothing else.
     ensures traced { IfOk result (λ status. (text : _)
-        × Traces (S.remaining schedule.old) (map S.remaining files.old) limits.now window.entry text status
+        × Traces (S.remaining schedule.old) (map S.remaining files.old) conditions.now window.entry text status
         × Appends (W.contents output.old) (W.contents output.new) text) }
     ensures faulty { IfErr result
-        (IsUntraced (S.remaining schedule.old) (map S.remaining files.old) limits.now window.entry
+        (IsUntraced (S.remaining schedule.old) (map S.remaining files.old) conditions.now window.entry
         (W.contents output.old) (W.contents output.new)) }
     ensures schedule_first { IfErr result (λ fault. IsOfSchedule fault → (files.new ≡ files.old)
-        ⊎ IsAfterFiles (S.remaining schedule.old) (map S.remaining files.old) limits.now fault) }
+        ⊎ IsAfterFiles (S.remaining schedule.old) (map S.remaining files.old) conditions.now fault) }
     ensures counted { CountsFailure result
         (S.failures schedule.old + sum_by S.failures files.old + W.failures output.old)
         (S.failures schedule.new + sum_by S.failures files.new + W.failures output.new) }
 {
-    let opened = open(alloc, schedule, files, limits)?;
+    let opened = open(alloc, schedule, files, conditions)?;
     let status = traced(alloc, opened, window, output)?;
     Ok(status)
 }

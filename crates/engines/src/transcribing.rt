@@ -3,14 +3,14 @@
 ghost use Rattle.std.specs.Prelude.{◌≡◌, ◌+◌, IfOk, IfErr};
 ghost use Rattle.std.specs.Io.KnownBytes.{Appends};
 ghost use Rattle.engines.specs.Engines.{CountsFailure, Reads};
-ghost use Rattle.engines.specs.Transcriptions.{IsUnprinted, IsUntranscribed, Prints, Transcribes};
+ghost use Rattle.engines.specs.Transcriptions.{IsUnprinted, IsUntranscribed, Prints, Transcribes, told_as};
 
 use crate::fault::Fault;
 use crate::opening::read_given;
 use crate::status::Status;
 use model::{DeviceFault, Sink, Source};
 use schedule::schedule_text::{TextFault, parse, print};
-use schedule::write_schedule;
+use schedule::{Recording, write_schedule};
 use std::alloc::Global;
 
 /// Writes the text of a schedule, and answers the status of what is done. The schedule is read as text, too, where its
@@ -36,34 +36,53 @@ pub fn schedule_engine<S: Source, W: Sink>(
     Ok(Status::Returned)
 }
 
-/// Writes the schedule file of a text, and answers the status of what is done. The file is of version 2 where the
-/// text says with what the schedule was recorded, and else of version 1.
+/// Writes the schedule file of a text, and answers the status of what is done. The file is of version 3 where the
+/// text has checksums, of version 2 where it says else with what the schedule was recorded, and else of version 1; and
+/// of no later version than is asked for.
 ///
 /// Nothing is written where the text can't be read or is refused.
 pub fn write_schedule_engine<S: Source, W: Sink>(
     alloc: Global,
     text: &mut S,
+    as_version: Option<u32>,
     file: &mut W,
 ) -> Result<Status, Fault>
     // The bytes of the entries that the text spells are written, and nothing else.
     ensures written { IfOk result (λ status. (bytes : _) × (status ≡ Status.Returned)
-        × Transcribes (S.remaining text.old) bytes
+        × Transcribes as_version (S.remaining text.old) bytes
         × Appends (W.contents file.old) (W.contents file.new) bytes) }
-    ensures faulty { IfErr result (IsUntranscribed (S.remaining text.old) (W.contents file.old) (W.contents file.new)) }
+    ensures faulty { IfErr result (IsUntranscribed as_version (S.remaining text.old)
+        (W.contents file.old) (W.contents file.new)) }
     ensures counted { CountsFailure result (S.failures text.old + W.failures file.old)
         (S.failures text.new + W.failures file.new) }
 {
     let read = read_text(alloc, text)?;
     let (schedule, recorded) = parse(alloc, read.as_slice())?;
-    let bytes = write_schedule(alloc, &schedule, recorded.as_ref())?;
+    let told = kept_of(as_version, recorded);
+    let bytes = write_schedule(alloc, &schedule, told.as_ref())?;
     file.write_all(bytes.as_slice())?;
     Ok(Status::Returned)
+}
+
+/// What a file of this version tells of a recording, or one of the version that it is of.
+fn kept_of(version: Option<u32>, recording: Option<Recording>) -> Option<Recording>
+    ensures { result ≡ told_as version recording }
+{
+    match version {
+        Some(1) => None,
+        Some(2) => match recording {
+            Some(recording) => Some(recording.without_checksums()),
+            None => None,
+        },
+        _ => recording,
+    }
 }
 
 /// The bytes of a text.
 fn read_text<S: Source>(alloc: Global, text: &mut S) -> Result<Vec<u8>, Fault>
     ensures read { IfOk result (λ bytes. Reads (S.remaining text.old) bytes.items) }
-    ensures faulty { IfErr result (λ fault. (sink : _) → IsUntranscribed (S.remaining text.old) sink sink fault) }
+    ensures faulty { IfErr result (λ fault. (as_version : _) (sink : _)
+        → IsUntranscribed as_version (S.remaining text.old) sink sink fault) }
     ensures counted { CountsFailure result (S.failures text.old) (S.failures text.new) }
 {
     match text.read_all(alloc) {

@@ -3,6 +3,37 @@
 //! The words of all objects lie in one list of cells; a table says for each object what it is and where its words
 //! begin, and the monitors keep one lock word for each. Callers see a list of objects, each with the list of its
 //! words.
+//!
+//! # Proved
+//!
+//! What is shown is a list of objects, the plain monitors, and which locks are fat. An object is an instance of a
+//! class, or an array of a kind, by numbers of the caller, and the list of its words.
+//!
+//! - `alloc_object`, `alloc_ints`, `alloc_refs` and `alloc_narrow`, by cases on the answer (`Allocates`):
+//!   - done: the new object stands last, its words are 0, its monitor has no owner; the reference r is its place in the
+//!     list, and r + 1 is a word. No limit stood;
+//!   - refused: `Objects` exactly where as many objects as may be were allocated since the opening, `Cells` exactly
+//!     where there would be more cells than may be and the other limit doesn't stand, `Memory` only where none stands.
+//!     Nothing changed.
+//! - `add_opening`: the same for an object of the opening state, for which no limit stands; all objects before it
+//!   belong to the opening state too, and for want of memory nothing changed (`ok`, `err`). The caller keeps: there are
+//!   fewer than 294,967,295 objects.
+//! - `class_of`, `length`, `get_field`, `get_element` and `len` are what the list says; `put_field` and `put_element`
+//!   write that word and leave all else. A word that isn't there is read as 0 and isn't written. `put_element` stores
+//!   what an element of the array has room for (`kept`: a boolean its lowest bit, a byte and a short their low bits
+//!   with sign, a char without).
+//! - The calls of monitors are handed on with their contract, and the rest of the heap stays (`HandsOn`); so are the
+//!   getters.
+//! - An entry of the table has 16 bytes. Beside it an object has a lock word of 4 bytes, and each cell 4 bytes.
+//!
+//! # Not proved
+//!
+//! - Only tested, in `machine_tests`: that calls succeed where memory is there.
+//!
+//! # Wrong bodies
+//!
+//! - Planted by `rt plant` in what stands in no module: 37 functions, 3 untried; 113 bodies judged, 7 not judged, 2 not
+//!   run; none proves.
 #![tactic(auto)]
 
 mod heap;

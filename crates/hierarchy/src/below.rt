@@ -59,7 +59,7 @@ impl ClassSet {
         false
     }
 
-    /// The same as `is_subclass`, step by step.
+    /// What `is_subclass` answers, step by step.
     pub(crate) fn is_subclass_by_steps(&self, class: &[u8], superclass: &[u8]) -> bool
         ensures { result ≡ is_subclass self.now class.now superclass.now }
     {

@@ -1,4 +1,4 @@
-//! Names with numbers.
+//! The names of classes, superclasses and interfaces, each with a number.
 
 ghost use Rattle.std.specs.Prelude.{◌≡◌, [], length, slice_get, position, map, option_map, OnOk, IfOk};
 ghost use Rattle.std.specs.Option.{option_to_list};

@@ -23,7 +23,7 @@ pub(crate) struct NamedRows {
 }
 
 impl NamedRows {
-    /// Those of a set in which a class is above itself.
+    /// The rows of a set in which a class is above itself.
     fn by_steps(alloc: Global, set: &ClassSet) -> Result<NamedRows, AllocError>
         ensures { IfOk result (λ rows.
             HasNamedRows set.now rows.names rows.places.items rows.interfaces.items rows.supertypes.items
@@ -42,7 +42,7 @@ impl NamedRows {
         })
     }
 
-    /// Those of a set of classes.
+    /// The rows of a set of classes.
     pub(crate) fn of_set(alloc: Global, set: &ClassSet) -> Result<NamedRows, AllocError>
         ensures { IfOk result (λ rows.
             HasNamedRows set.now rows.names rows.places.items rows.interfaces.items rows.supertypes.items

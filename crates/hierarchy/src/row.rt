@@ -1,4 +1,4 @@
-//! Rows of numbers.
+//! Rows of numbers of names, as a hierarchy keeps them.
 
 ghost use Rattle.std.specs.Prelude.{◌≡◌, [], length, nat_eq, slice_get, true, IfOk};
 ghost use Rattle.std.specs.List.{list_any};

@@ -72,7 +72,7 @@ fn names_of(
 }
 
 impl ClassSet {
-    /// The same set as `new`, with empty tables.
+    /// The set that `new` makes, with empty tables.
     fn without_lineages(alloc: Global, files: Vec<ClassFile>) -> Result<ClassSet, SetRefusal>
         ensures set { IfOk result (λ set. set ≡ trees_of files.items) }
         ensures differ { OnOk result (stands (trees_of files.items) DuplicateClass ≡ false) }
@@ -93,7 +93,7 @@ impl ClassSet {
         }
     }
 
-    /// The same set, with the table of its classes.
+    /// A set with the table of its classes.
     fn with_lineages(alloc: Global, set: ClassSet) -> Result<ClassSet, AllocError>
         ensures { IfOk result (λ whole. whole ≡ set) }
     {
@@ -103,7 +103,7 @@ impl ClassSet {
         Ok(whole)
     }
 
-    /// The same set, with the keys of its members.
+    /// A set with the keys of its members.
     fn with_member_keys(alloc: Global, set: ClassSet) -> Result<ClassSet, AllocError>
         ensures { IfOk result (λ whole. whole ≡ set) }
     {

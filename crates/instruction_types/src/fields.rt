@@ -17,7 +17,6 @@ ghost use Rattle.instruction_types.specs.Means.{Means};
 ghost use Rattle.instruction_types.specs.Answers.{Answers};
 ghost use Rattle.instruction_types.specs.Fields.{gets_system_out, accessed};
 
-use crate::calls::PRINT_STREAM;
 use crate::leads::Leads;
 use crate::meaning::{Meaning, NoMeaning, popping};
 use crate::operand_types::Want;
@@ -26,6 +25,7 @@ use crate::want::{class_type, object_at, object_of, want_for};
 use classfile::Reference;
 use hierarchy::{ClassSet, Hierarchy, MemberPlace};
 use model::FieldAccess;
+use model::built_in::PRINT_STREAM;
 use std::alloc::Global;
 use types::VerificationType;
 use types::described_types::field_type;

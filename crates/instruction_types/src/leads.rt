@@ -11,9 +11,10 @@ pub enum Leads {
     Next,
     /// To the next instruction, with one type pushed.
     Pushes(VerificationType),
-    /// The same, with the component type of the array that is its second operand.
+    /// To the next instruction, with one type pushed: the component type of the array that is its second operand.
     PushesComponent,
-    /// The same, with what a `new` makes of a class, of which no copy that it made before is left.
+    /// To the next instruction, with one type pushed: what a `new` makes of a class, of which no copy that it made
+    /// before is left.
     Makes { class: usize },
     /// To the next instruction, where all copies of an operand, counted from the top, are initialised.
     Initialises { operand: usize },

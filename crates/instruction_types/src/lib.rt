@@ -1,4 +1,10 @@
 //! What each instruction that is not local wants, and where it leads, over the verifier's types (JVMS 4.10.1.9).
+//!
+//! # Proved
+//!
+//! - `meaning_of`, memory aside: what an instruction that is not local wants, and where it leads, is what the
+//!   definitions say of it, at all operands; none where its operand names nothing of the wanted kind; or a class that
+//!   it names is not in the set. The caller keeps that no two classes have one name.
 #![tactic(auto)]
 
 mod arrays;

@@ -27,7 +27,7 @@ pub enum NoMeaning {
     OutOfMemory,
 }
 
-/// That of an instruction that pops these, the top first, and leaves so many words above what it pops.
+/// The wants of an instruction that pops these, the top first, and leaves so many words above what it pops.
 pub fn popping(
     alloc: Global,
     pops: &[Want],

@@ -14,11 +14,9 @@ ghost use Rattle.instruction_types.specs.Wants.{want_for};
 use crate::operand_types::Want;
 use crate::places::place_of;
 use hierarchy::ClassSet;
+use model::built_in::OBJECT;
 use types::described_types::made_type;
 use types::{Element, ReferenceType, VerificationType};
-
-/// The place of java/lang/Object, in every set.
-const OBJECT: usize = 0;
 
 /// Any initialised reference, or null.
 pub(crate) const ANY_OBJECT: Want = Want::AReference(ReferenceType {

@@ -1,4 +1,13 @@
 //! The program `jvm`, which runs class files.
+//!
+//! # Proved
+//!
+//! - Where there is a complaint, the status is the one that is its (`complaint_status`); that it is safe.
+//!
+//! # Not proved
+//!
+//! - Shown by running it alone: that the words and files of the system get to `engines`, and the texts to the terminal;
+//!   what a terminal shows while a run goes on.
 #![tactic(auto)]
 
 ghost use Rattle.std.specs.Prelude.{◌≡◌, MatchResult};
@@ -6,10 +15,13 @@ ghost use Rattle.engines.specs.Statuses.{complaint_status};
 
 mod progress;
 
+use class_library::library_classes;
 use engines::{
-    Complaint, Counted, Explanation, Failures, Fault, Status, SystemFolder, explain_complaint, run,
+    Complaint, Counted, Explanation, Failures, Fault, LibraryClass, Status, SystemFolder,
+    explain_complaint, run,
 };
 use progress::{Cleared, Progress};
+use std::alloc::AllocError;
 use std::io::{ErrorKind, IsTerminal, Write};
 use std::process::ExitCode;
 use std::random::RandomSource;
@@ -26,7 +38,16 @@ fn main(rt: HostRuntime) -> ExitCode {
         Ok(words) => words,
         Err(error) => return ExitCode::from(without_words(&rt, &error).code()),
     };
-    let ending = done(&rt, words.as_slice(), rt.stderr().is_terminal());
+    let library = match library_classes(rt.alloc()) {
+        Ok(library) => library,
+        Err(AllocError) => return ExitCode::from(without_memory(&rt).code()),
+    };
+    let ending = done(
+        &rt,
+        library.as_slice(),
+        words.as_slice(),
+        rt.stderr().is_terminal(),
+    );
     if ending.is_closed {
         return ExitCode::from(CLOSED_PIPE);
     }
@@ -41,8 +62,8 @@ fn words(rt: &HostRuntime) -> io::Result<Vec<String>> {
 
 /// What comes of the words.
 #[derive(Drop)]
-struct Ending {
-    outcome: Result<Status, Complaint>,
+struct Ending<'a> {
+    outcome: Result<Status, Complaint<'a>>,
     explanation: Explanation,
     /// Whether no more went wrong than that the output is a pipe that nobody reads.
     is_closed: bool,
@@ -56,11 +77,12 @@ fn is_closed(failure: Option<&io::Error>) -> bool {
     }
 }
 
-/// Does what the words say over the files of the system, the standard input and the standard output. The standard
-/// error shows how far a run or a search is, if it is a terminal.
+/// Does what the words say over the files of the system, with the library, the standard input and the standard output.
+/// The standard error shows how far a run or a search is, if it is a terminal.
 fn done<
+    'a,
     R: Files + Input + Print + Eprint + Clock + RandomSource + AllocGlobal + Threads + Wait + Sync,
->(rt: &R, words: &[String], is_terminal: bool) -> Ending {
+>(rt: &R, library: &[LibraryClass<'a>], words: &[String], is_terminal: bool) -> Ending<'a> {
     let progress = Progress::new(rt, is_terminal);
     let mut output = Counted::new(rt.alloc(), Cleared::new(&progress, io::writer(rt)));
     let mut input = Counted::new(rt.alloc(), rt.reader());
@@ -70,6 +92,7 @@ fn done<
         rt,
         rt.alloc(),
         &progress,
+        library,
         &mut folder,
         words,
         &mut input,
@@ -84,6 +107,7 @@ fn done<
     if let Err(complaint) = &outcome {
         explain_complaint(
             rt.alloc(),
+            library,
             &folder,
             words,
             complaint,
@@ -99,10 +123,15 @@ fn done<
     }
 }
 
+/// The status where there is no memory for the words or the library.
+fn without_memory(rt: &HostRuntime) -> Status {
+    told(rt, Err(Complaint::Fault(Fault::Memory)), &[])
+}
+
 /// The status where the words can't be had: they aren't text, or there is no memory for them.
 fn without_words(rt: &HostRuntime, error: &io::Error) -> Status {
     match error.kind() {
-        ErrorKind::OutOfMemory => return told(rt, Err(Complaint::Fault(Fault::Memory)), &[]),
+        ErrorKind::OutOfMemory => return without_memory(rt),
         ErrorKind::InvalidData => {
             let _ = rt.eprintln("error: a word of the command line is no UTF-8");
         }
@@ -115,8 +144,8 @@ fn without_words(rt: &HostRuntime, error: &io::Error) -> Status {
 
 /// The status, after a complaint has been told, and the lines of the explanation. Where the standard error fails, the
 /// status alone tells the complaint.
-fn told(rt: &HostRuntime, outcome: Result<Status, Complaint>, explanation: &[u8]) -> Status
-    ensures { MatchResult outcome (λ status. result ≡ status) (λ complaint. result ≡ complaint_status complaint) }
+fn told(rt: &HostRuntime, outcome: Result<Status, Complaint<'_>>, explanation: &[u8]) -> Status
+    ensures { MatchResult outcome.entry (λ status. result ≡ status) (λ complaint. result ≡ complaint_status complaint) }
 {
     let status = match outcome {
         Ok(status) => status,

@@ -17,7 +17,7 @@ pub(crate) struct FileLinks {
     pub texts: StringNumbers,
 }
 
-/// Those of linked files.
+/// The links of linked files.
 pub(crate) fn file_links(alloc: Global, linked: &Linked) -> Result<FileLinks, AllocError>
     ensures { IfOk result (AreLinksOf linked.now) }
 {

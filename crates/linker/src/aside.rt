@@ -26,7 +26,7 @@ fn names_other_class(set: &ClassSet, file: &ClassFile, constant: &Constant) -> b
     }
 }
 
-/// The same for each entry, by its index.
+/// Whether an entry is a Class of another class than the file's own and those above it, for each by its index.
 fn other_classes(alloc: Global, set: &ClassSet, file: &ClassFile) -> Result<Vec<bool>, AllocError>
     ensures { IfOk result (λ rows. rows.items ≡ other_classes set.now (file_of file.now)) }
 {
@@ -64,7 +64,7 @@ fn names_method_aside(file: &ClassFile, others: &[bool], constant: &Constant) ->
     }
 }
 
-/// The same for each entry, by its index.
+/// Whether an entry is a Methodref of such a class, and not to a constructor, for each by its index.
 fn methods_aside(alloc: Global, file: &ClassFile, others: &[bool]) -> Result<Vec<bool>, AllocError>
     ensures { (files : Program) → others.now ≡ other_classes files (file_of file.now)
         → IfOk result (λ rows. rows.items ≡ methods_aside files (file_of file.now)) }

@@ -40,7 +40,7 @@ fn refusal_of(
     }
 }
 
-/// That the class of the file with this number breaks no rule.
+/// Checks that the class of the file with this number breaks no rule.
 fn check_file(
     alloc: Global,
     set: &ClassSet,
@@ -63,7 +63,7 @@ fn check_file(
     }
 }
 
-/// That no class breaks a rule, where none is above itself.
+/// Checks that no class breaks a rule, where none is above itself.
 fn check_rules(alloc: Global, set: &ClassSet, methods: &DeclaredMethods) -> Result<(), Refusal>
     requires passed { list_any (stands set.now) before_links ≡ false }
     requires declared { AreDeclaredIn set.now methods.now }
@@ -81,7 +81,7 @@ fn check_rules(alloc: Global, set: &ClassSet, methods: &DeclaredMethods) -> Resu
     Ok(())
 }
 
-/// That no class is above itself, and that none breaks a rule: BadHierarchy.
+/// Checks that no class is above itself, and that none breaks a rule: BadHierarchy.
 fn check_hierarchy(alloc: Global, set: &ClassSet) -> Result<(), Refusal>
     requires { list_any (stands set.now) before_links ≡ false }
     ensures passed { OnOk result (list_any (stands set.now) (earlier Unresolved) ≡ false) }

@@ -20,7 +20,7 @@ use hierarchy::Hierarchy;
 use link_conditions::refusal::Refusal;
 use std::alloc::Global;
 
-/// That no condition stands of those that come behind what classes have to be to one another.
+/// Checks that no condition stands of those that come behind what classes have to be to one another.
 fn check_links(alloc: Global, hierarchy: &Hierarchy) -> Result<(), Refusal>
     requires { list_any (stands hierarchy.now) (earlier Unresolved) ≡ false }
     ensures passed { OnOk result (some_stands hierarchy.now ≡ false) }

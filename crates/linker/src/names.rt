@@ -1,4 +1,4 @@
-//! That what files name is found.
+//! Whether what files name is found.
 
 ghost use Rattle.std.specs.Prelude.{◌≡◌, false, IfOk, IfErr, IsFalse, OnOk};
 ghost use Rattle.std.specs.List.{list_any};
@@ -57,7 +57,7 @@ fn refusal_of(
     }
 }
 
-/// That all names in the file with this number are found.
+/// Checks that all names in the file with this number are found.
 fn check_file(
     alloc: Global,
     hierarchy: &Hierarchy,
@@ -77,7 +77,7 @@ fn check_file(
     }
 }
 
-/// That all names in the files are found: Unresolved.
+/// Checks that all names in the files are found: Unresolved.
 pub(crate) fn check_names(alloc: Global, hierarchy: &Hierarchy) -> Result<(), Refusal>
     requires { list_any (stands hierarchy.now) (earlier Unresolved) ≡ false }
     ensures passed { OnOk result (list_any (stands hierarchy.now) (earlier TooManyFields) ≡ false) }

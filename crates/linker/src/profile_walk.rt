@@ -70,7 +70,7 @@ fn refusal_of(
     }
 }
 
-/// That the file with this number is in the profile, and that no code of it is malformed.
+/// Checks that the file with this number is in the profile, and that no code of it is malformed.
 fn check_file(alloc: Global, set: &ClassSet, number: usize, file: &ClassFile) -> Result<(), Refusal>
     ensures inside { OnOk result (is_outside_profile (file_of file.now) ≡ false) }
     ensures whole { OnOk result (has_malformed_code set.now (file_of file.now) ≡ false) }
@@ -84,7 +84,8 @@ fn check_file(alloc: Global, set: &ClassSet, number: usize, file: &ClassFile) ->
     }
 }
 
-/// That each file is in the profile, and that no code is malformed: OutsideProfile, Malformed with the cause Code.
+/// Checks that each file is in the profile, and that no code is malformed: OutsideProfile, Malformed with the cause
+/// Code.
 pub(crate) fn check_profile(alloc: Global, set: &ClassSet) -> Result<(), Refusal>
     requires { list_any (stands set.now) before_walk ≡ false }
     ensures passed { OnOk result (list_any (stands set.now) before_links ≡ false) }

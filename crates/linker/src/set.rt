@@ -32,7 +32,7 @@ pub(crate) fn class_set(alloc: Global, classes: Vec<ClassFile>) -> Result<ClassS
     }
 }
 
-/// That no class has too many instance fields: TooLarge.
+/// Checks that no class has too many instance fields: TooLarge.
 pub(crate) fn check_fields(alloc: Global, set: &ClassSet) -> Result<(), Refusal>
     requires { list_any (stands set.now) (earlier TooManyFields) ≡ false }
     ensures passed { OnOk result (list_any (stands set.now) (earlier NoMain) ≡ false) }
@@ -45,7 +45,7 @@ pub(crate) fn check_fields(alloc: Global, set: &ClassSet) -> Result<(), Refusal>
     }
 }
 
-/// That the class of the first file has a main: NoMain.
+/// Checks that the class of the first file has a main: NoMain.
 pub(crate) fn check_main(set: &ClassSet) -> Result<(), Refusal>
     requires { list_any (stands set.now) (earlier NoMain) ≡ false }
     ensures passed { OnOk result (list_any (stands set.now) all_conditions ≡ false) }

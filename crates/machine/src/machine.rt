@@ -1,4 +1,4 @@
-//! A machine.
+//! The machine: what it keeps, and what is always so of it.
 
 ghost use Rattle.std.specs.Prelude.{◌≡◌, IfOk};
 ghost use Rattle.std.specs.Arc.{arc_value};
@@ -20,9 +20,9 @@ use std::sync::Arc;
 /// Why an event was not done once more.
 #[derive(Clone, Copy)]
 pub enum Stopped {
-    /// It was done as often as was asked for.
+    /// The event was done as often as was asked for.
     Most,
-    /// It is not enabled.
+    /// The next event is not enabled.
     NotEnabled,
     /// A limit forbids it, or it takes memory that isn't there.
     Refused(EventRefusal),
@@ -35,7 +35,7 @@ pub struct Machine {
     pub(crate) program: Arc<LinkedProgram>,
     limits: Limits,
     pub(crate) shared: Shared,
-    /// It stands in the place of a thread's stack while that is lent.
+    /// The stack that stands in the place of a thread's stack while that is lent.
     pub(crate) spare: ThreadStack,
 }
 

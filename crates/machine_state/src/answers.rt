@@ -23,13 +23,13 @@ pub enum MachineException {
 #[derive(Clone, Copy)]
 pub enum Effect {
     Done,
-    /// It raises an exception that the machine makes.
+    /// The instruction raises an exception that the machine makes.
     Raises(MachineException),
-    /// It throws the object of a reference (JVMS 6.5 athrow).
+    /// The instruction throws the object of a reference (JVMS 6.5 athrow).
     Throws(u32),
-    /// It throws an InterruptedException, and clears the interrupt status (JLS 17.2.1, 17.2.3).
+    /// The instruction throws an InterruptedException, and clears the interrupt status (JLS 17.2.1, 17.2.3).
     Interrupts,
-    /// Its event is not enabled now.
+    /// The event of the instruction is not enabled now.
     NotEnabled,
 }
 

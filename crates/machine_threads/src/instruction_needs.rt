@@ -1,4 +1,9 @@
 //! The class that an instruction needs initialised.
+//!
+//! # Proved
+//!
+//! - `class_needed` answers the class that must be initialised before an instruction is done. Where it answers none,
+//!   the instruction finds what it needs ready in every world.
 
 ghost use Rattle.std.specs.Prelude.{◌≡◌};
 ghost use Rattle.machine_threads.specs.instruction_needs.Needs as needs;

@@ -42,6 +42,7 @@ pub mod Arrays
 pub mod MonitorMeanings
 pub mod ThrowMeaning
 pub mod BuiltInMethods
+pub mod BuiltInNumbers
 pub mod Calls
 pub mod Meanings
 pub mod Step

@@ -1,6 +1,7 @@
 -- The opening state of a program (own): the objects, fields and classes that there are before any event.
 use Rattle.std.specs.Prelude.{ℕ, ◌+◌, List, [], ◌∷◌, ◌++◌, map, filter, length}
 use Rattle.std.specs.List.{flat_map, position_or_len}
+use Rattle.model.specs.BuiltInNumbers.{first_class_reference}
 use Rattle.model.specs.Names.{Name, name_eq, Member, java_lang_class, java_lang_string, java_lang_thread, java_io_print_stream}
 use Rattle.model.specs.Tree.{FileTree}
 use Rattle.model.specs.Classes.{Program, name_of, is_named, classes_of}
@@ -50,11 +51,11 @@ main_thread_reference = 2
 
 -- the Class object of a class
 abbrev pub class_reference : Program → Name → ℕ
-class_reference files name = 3 + position_or_len (is_named name) (classes_of files)
+class_reference files name = first_class_reference + position_or_len (is_named name) (classes_of files)
 
 -- the String object of a constant with this text
 abbrev pub string_reference : Program → List ℕ → ℕ
-string_reference files text = 3 + length (classes_of files) + position_or_len (name_eq text) (string_texts files)
+string_reference files text = first_class_reference + length (classes_of files) + position_or_len (name_eq text) (string_texts files)
 
 -- the PrintStream of System.out, the arguments, the Thread of main, a Class for each class, and a String for each text
 unfoldable pub opening_heap : {A : Type 0} → Carrier A → Program → List (ObjectOf A)

@@ -1,8 +1,5 @@
 //! What class files have in common, and what their code keeps of them as it stands there.
 
-/// How many classes are built in. Among the classes of a program they come first, and those of its files behind them.
-pub const BUILT_IN_CLASSES: usize = 30;
-
 /// An entry of the exception table of a method's code (JVMS 4.7.3): the handler at the offset `handler` takes what
 /// is thrown from the offset `start` on and before the offset `end`, if it is of the class that the entry
 /// `catch_type` of the constant pool names, or whatever it is where `catch_type` is 0.

@@ -11,7 +11,7 @@ use std::alloc::{AllocError, AllocFailed, Global};
 /// Why a device didn't do what it was asked for.
 #[derive(Clone, Copy, PartialEq, Eq)]
 pub enum DeviceFault {
-    /// It failed, and counted that.
+    /// The device failed, and counted that.
     Device,
     /// There was no memory for the bytes, or for the count.
     Memory,

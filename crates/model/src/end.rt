@@ -5,17 +5,17 @@ use std::fmt;
 /// Why an enabled event was refused.
 #[derive(Clone, Copy, Debug, PartialEq, Eq)]
 pub enum RunCause {
-    /// It would give waiters or many entries to one monitor more than the limits allow.
+    /// The event would give waiters or many entries to one monitor more than the limits allow.
     Monitors,
-    /// It would enter a monitor that has 4,294,967,295 entries once more.
+    /// The event would enter a monitor that has 4,294,967,295 entries once more.
     LockCount,
     /// There was no memory for it.
     Memory,
-    /// It would make one object more than the limits allow.
+    /// The event would make one object more than the limits allow.
     Objects,
-    /// It would make more cells than the limits allow.
+    /// The event would make more cells than the limits allow.
     Cells,
-    /// It would start one thread more than the limits allow.
+    /// The event would start one thread more than the limits allow.
     Threads,
 }
 

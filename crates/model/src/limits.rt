@@ -1,6 +1,7 @@
 //! Limits of a run.
 
 ghost use Rattle.std.specs.Prelude.{◌≡◌, ◌≤◌, ◌↔◌, IsSome, IfSome};
+ghost use Rattle.model.specs.BuiltInNumbers.{most_threads};
 ghost use Rattle.model.specs.LimitRanges.{AreLimits};
 
 /// What a run may use: the objects that it makes, their cells (instance fields and array elements), the
@@ -15,7 +16,7 @@ pub struct Limits {
     pub frames: u32,
     pub ghost objects_fit: { objects ≤ 4000000000 },
     pub ghost monitors_fit: { monitors ≤ 8388608 },
-    pub ghost threads_fit: { (1 ≤ threads) × (threads ≤ 32767) },
+    pub ghost threads_fit: { (1 ≤ threads) × (threads ≤ most_threads) },
     pub ghost frames_fit: { (1 ≤ frames) × (frames ≤ 65535) },
 }
 

@@ -1,4 +1,4 @@
-//! Answers of monitors.
+//! What a call of monitors answers.
 
 /// What the monitor of an object answers to a thread (JLS 17.1, 17.2).
 #[derive(Clone, Copy, PartialEq, Eq)]

@@ -1,4 +1,4 @@
-//! Primitive types.
+//! The primitive types.
 
 ghost use Rattle.std.specs.Prelude.{◌≡◌};
 ghost use Rattle.model.specs.ReferenceTypes.{primitive_number};

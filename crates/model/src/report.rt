@@ -3,19 +3,19 @@
 /// How a thread stands when the run has ended.
 #[derive(Drop, PartialEq, Eq)]
 pub enum EndState {
-    /// It returned.
+    /// The thread returned.
     Ended,
-    /// It ended with an exception of the class with this name, in the form of a class file (`java/lang/Error`).
+    /// The thread ended with an exception of the class with this name, in the form of a class file (`java/lang/Error`).
     Threw(Vec<u8>),
-    /// Its next step needs a monitor that another thread owns.
+    /// The thread needs, for its next step, a monitor that another thread owns.
     Blocked,
-    /// It is in a wait set.
+    /// The thread is in a wait set.
     Waiting,
-    /// It is in a call of `Thread.join`.
+    /// The thread is in a call of `Thread.join`.
     Joining,
-    /// Its next step needs a class that another thread initialises.
+    /// The thread needs, for its next step, a class that another thread initialises.
     Initialising,
-    /// It has a step that it can do.
+    /// The thread has a step that it can do.
     Runnable,
 }
 

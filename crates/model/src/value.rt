@@ -1,4 +1,4 @@
-//! Values.
+//! Values of local variables, operands, fields and elements.
 
 /// What a local variable, a place of an operand stack, a field or an element holds (JVMS 2.6.1, 2.6.2), with
 /// its kind. A `long` or a `double` never stands here.

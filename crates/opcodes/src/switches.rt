@@ -1,4 +1,4 @@
-//! `tableswitch` and `lookupswitch`.
+//! The operands of `tableswitch` and `lookupswitch`.
 
 ghost use Rattle.std.specs.Prelude.{◌≡◌, ◌<◌, ◌≤◌, ◌+◌, ◌^◌, length};
 ghost use Rattle.model.specs.Instruction.{ending_at, operands_of, jump_count, table_switch_at, lookup_switch_at, table_jump, lookup_pair};

@@ -49,7 +49,7 @@ pub fn first_unlisted<F: Folder>(
     unlisted_below(alloc, folder, MOST_DEEP, path)
 }
 
-/// The same, where so many folders may lie in one another.
+/// What `first_unlisted` answers, where so many folders may lie in one another.
 fn unlisted_below<F: Folder>(
     alloc: Global,
     folder: &F,

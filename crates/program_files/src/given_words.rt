@@ -67,7 +67,7 @@ fn itself(alloc: Global, word: &str) -> Result<Vec<String>, AllocError>
     Ok(files)
 }
 
-/// Those files that were not given before.
+/// The files that were not given before.
 fn new_files(alloc: Global, before: &[String], files: &[String]) -> Result<Vec<String>, AllocError>
     ensures { IfOk result (λ kept. map string_bytes kept.items
         ≡ filter (λ file. not (is_given (map string_bytes before.now) file)) (map string_bytes files.now)) }

@@ -7,3 +7,4 @@ mod Committing
 pub mod Staying
 pub mod Finishing
 mod Recording
+mod Opening

@@ -64,5 +64,4 @@ pub mod AcceptedProgram
 pub mod AcceptedThreadsClasses
 pub mod AcceptedThreads
 pub mod ListedFile
-pub mod ScheduleFiles
 pub mod PlainMonitors

@@ -1,5 +1,32 @@
 //! What the definitions of `model` mean, on programs and operands written out: each function here is a
 //! theorem, and does nothing.
+//!
+//! # Proved
+//!
+//! Theorems over the definitions, no code. Nearly all are by computation.
+//!
+//! - Runs of one class: `prints_seven` (from its bytes; and `event_by_event`), `only_returns`, `int_arithmetic`,
+//!   `wide_and_switch`, `sum_of_squares`, `both_switches`, `wrong_operands`, `exceptions`.
+//! - Instructions: `instructions`, `opcodes`, `stack_moves`, `computed`, `compared`, `converted`, `branches`.
+//! - Classes: `superclass_first`, `class_at_begin`, `written_by_javac`, `built_in_classes`, `built_in_members`,
+//!   `opening_objects`, `lookups`, `instances`.
+//! - A case for each refusal: `malformed_files`, `malformed_codes`, `outside_profiles`, `bad_hierarchies`,
+//!   `unresolveds`, `other_refusals`; and that none stands in the programs that are run: `programs_link`.
+//! - Typings: `type_joins`, `typings`, `untypables`, `constructors`, `only_returns_unconstructed`. A program that is
+//!   accepted as a whole, and one that links and isn't accepted: `accepted_program`.
+//! - Accepted, from the bytes that `javac` wrote: two classes, two constructors, a handler of `ArithmeticException` and
+//!   two threads, with the frame types of each method and the reports of two schedules: `accepted_threads`.
+//! - Texts and calls: `listing_of_the_first_file`, `schedule_files` (both versions), `plain_monitors`.
+//! - Schedules with the text of their reports:
+//!   - several threads, monitors, wait sets and interrupts: `lost_update`, `counter_under_lock`,
+//!     `exit_of_what_is_not_owned`, `exception_releases`, `wait_keeps_count`, `interrupted_waits`,
+//!     `waiter_of_a_thread`, `lock_order_deadlock`, `entry_257`;
+//!   - class initialisation: `initialisers_in_order`, `superclass_constant`, `held_initialiser`, `failing_initialiser`,
+//!     `failing_initial_class`;
+//!   - exceptions: `handler_order`, `uncaught_exception`, `stack_overflow`, `not_a_runnable`, `array_store`;
+//!   - fields, arrays, strings and calls: `shadowed_fields`, `narrow_arrays`, `same_string`, `super_call`.
+//! - Programs in Java that print what `java` prints: `java_objects`, `java_calls`, `java_threads`. Threads in Java that
+//!   wait for all that there is to wait for: `threads_that_wait`.
 
 ghost use Rattle.run_laws.specs.examples.AcceptedProgram.{AcceptedProgram};
 ghost use Rattle.run_laws.specs.examples.AcceptedThreads.{AcceptedThreads};
@@ -42,7 +69,6 @@ ghost use Rattle.run_laws.specs.examples.PrintsSeven.{PrintsSeven, EventByEvent}
 ghost use Rattle.run_laws.specs.examples.ProgramsLink.{ProgramsLink};
 ghost use Rattle.run_laws.specs.examples.Refusals.{BadHierarchies, MalformedCodes, OtherRefusals, OutsideProfiles, Unresolveds};
 ghost use Rattle.run_laws.specs.examples.SameString.{SameString};
-ghost use Rattle.run_laws.specs.examples.ScheduleFiles.{ScheduleFiles};
 ghost use Rattle.run_laws.specs.examples.ShadowedFields.{ShadowedFields};
 ghost use Rattle.run_laws.specs.examples.StackMoves.{StackMoves};
 ghost use Rattle.run_laws.specs.examples.StackOverflow.{StackOverflow};
@@ -62,7 +88,7 @@ pub fn prints_seven()
     ensures holds { PrintsSeven }
 {}
 
-/// The same run, event by event.
+/// The run of `prints_seven`, event by event.
 pub fn event_by_event()
     ensures holds { EventByEvent }
 {}
@@ -386,11 +412,6 @@ pub fn accepted_threads()
 /// The listing of a class file, line by line.
 pub fn listing_of_the_first_file()
     ensures holds { ListedFile }
-{}
-
-/// Eight events as a schedule file of either version, and bytes that are no schedule.
-pub fn schedule_files()
-    ensures holds { ScheduleFiles }
 {}
 
 /// Calls on two monitors: a waiting thread is notified, and enters again as often as it had entered.

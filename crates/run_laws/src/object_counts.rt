@@ -2,6 +2,15 @@
 //! does nothing.
 //!
 //! The lemmas in `proofs/` are there for a crate above to cite.
+//!
+//! # Proved
+//!
+//! - Of all files and states, typed or not, over values and over words: after an event there is one object more where
+//!   what it takes is `Makes`, and else as many as before (`objects_are_counted`).
+//! - Of files that link: their opening state has at most 294,967,295 objects, over values and over words
+//!   (`opening_objects_fit`); a run within limits of at most 4,000,000,000 objects made has fewer than 2^32 objects,
+//!   those of the opening state included (`objects_fit`). What is of a type of references is null or a reference to an
+//!   object that is there (`references_are_objects`), and its word is in such a run one of 32 bits (`references_fit`).
 
 ghost use Rattle.run_laws.specs.object_counts.Bounds.{AreObjectsCounted, AreObjectsInRange, AreOpeningsInRange, AreReferencesInRange, AreReferencesThere};
 

@@ -4,6 +4,31 @@
 //! leads, and joins what it leads to with what was found there. Here stands what such a search may rest on, whatever
 //! its code is: the join is the least upper bound, rules go down the order, an invariant that each turn keeps, and a
 //! weight that each turn lessens. The lemmas in `proofs/` are there for a crate above to cite.
+//!
+//! # Proved
+//!
+//! For programs in which no class is above itself (`Rooted`); of instructions also where directly above each interface
+//! is Object (`IsOrdered`):
+//!
+//! - Files that link are so (`linked_files_are_ordered`).
+//! - The join of the definitions is the least upper bound of their order, and there is none only where nothing is above
+//!   both, for reference types, types on the stack and in local variables, and frame types (`join_is_least`); the order
+//!   of frame types is an order (`frame_types_are_ordered`).
+//! - What an instruction may find it may find lower, and it then leads to the same offsets, to lower frame types
+//!   (`flow_goes_down`). All instructions are in it, with their handlers, the constructor's mark and what `new` asks.
+//! - Of a search that says nothing of its order: it begins with the entry type (`a_search_begins`), each turn keeps its
+//!   invariant (`a_search_turns`), at its end there is a typing (`a_search_that_ends_is_a_typing`), and where a rule or
+//!   a merge fails there is none (`a_search_turns`, `a_search_begins`). Merges may follow one another
+//!   (`merges_follow`).
+//! - Of tables: an empty one types nothing, and what is set at one offset leaves the others (`tables_hold_a_search`); a
+//!   frame type is merged where it fits, where none is yet, and by the join (`a_frame_type_is_merged`); no typing has
+//!   one that has no join with what is there, is of another size or where no instruction begins
+//!   (`a_frame_type_clashes`).
+//! - A merge that changes something and an offset that is taken off lessen the work that is left
+//!   (`a_search_gets_lighter`), given a limit on how many types are above each; a join of types under the limit is
+//!   under it. Each method has such a limit (`types_of_a_method_are_limited`).
+//! - From these: a search over tables ends with a typing or shows that there is none, whichever offset that waits comes
+//!   next (`a_method_is_typed_or_not`).
 
 ghost use Rattle.std.specs.Prelude.{ℕ, IsFalse};
 ghost use Rattle.model.specs.Names.{Member};

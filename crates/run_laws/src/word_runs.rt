@@ -3,6 +3,18 @@
 //! A machine need not keep the kind of each value. What it may rest on stands here: a step over the words of a
 //! well-typed state is the step over the state, and where frames stand. The lemmas in `proofs/` are there for a crate
 //! above to cite.
+//!
+//! # Proved
+//!
+//! Of words, values without their kinds (the definitions of `model`'s `Words`):
+//!
+//! - The words of the opening state are the opening state of words (`words_of_the_opening`); in files that link, what
+//!   becomes of an event at the words of a well-typed state is what becomes of it at the state, one that is not enabled
+//!   included (`a_step_is_carried`).
+//! - Of the words of a well-typed state: each frame of a thread that has not ended stands at an instruction of its
+//!   method, inside the code, with as many local variables as the method has (`frames_stand_in_code`); of each such
+//!   frame, but the one on top where an exception is pending, the operand stack has at most max_stack words
+//!   (`operand_stacks_fit`).
 
 ghost use Rattle.model.specs.Classes.{Program};
 ghost use Rattle.run_laws.specs.word_runs.Words.{AreStacksInRoom, IsInCode, IsOpenedAsWords, IsStepCarried};

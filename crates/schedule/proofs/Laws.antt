@@ -165,6 +165,7 @@ abbrev pub is_field_fault : ScheduleFault → Bool
 is_field_fault faults.Truncated = true
 is_field_fault faults.Repeat = true
 is_field_fault faults.Limits = true
+is_field_fault faults.Arguments = true
 is_field_fault f = false
 
 pub as_field_fault : (d f : ScheduleFault) → IsTrue (is_field_fault d) → d ≡ f → IsTrue (is_field_fault f)
@@ -291,6 +292,7 @@ of_field faults.Trailing h = refl
 of_field faults.OutOfMemory h = h
 of_field faults.Limits h = h
 of_field faults.Files h = h
+of_field faults.Arguments h = h
 
 pub table_stops : (bytes : List ℕ) (f : ScheduleFault) → table_at bytes ≡ Err f → IsTrue (is_table_fault f)
 unfolding table_at

@@ -46,6 +46,7 @@ ends part faults.Repeat front count k bytes total lt h so_far = fails part fault
 ends part faults.Trailing front count k bytes total lt h so_far = fails part faults.Trailing front count k bytes total lt h so_far
 ends part faults.Limits front count k bytes total lt h so_far = fails part faults.Limits front count k bytes total lt h so_far
 ends part faults.Files front count k bytes total lt h so_far = fails part faults.Files front count k bytes total lt h so_far
+ends part faults.Arguments front count k bytes total lt h so_far = fails part faults.Arguments front count k bytes total lt h so_far
 
 pub is_done : {A : Type 0} (part : List ℕ → Read A) (front : List A) (count k : ℕ) (bytes : List ℕ) (total : Read (List A)) → count ≤ k
     → with_front front (many_at part (count - k) bytes) ≡ total → total ≡ Ok (front, bytes)

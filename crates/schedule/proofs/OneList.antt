@@ -2,7 +2,7 @@
 use Rattle.std.proofs.Common.{◌≡◌, ℕ, List, sym, ◌∙◌}
 use Rattle.std.specs.Prelude.{Option}
 use Rattle.model.specs.declared.event.Event.{Event}
-use Rattle.model.specs.Schedule.{Recording, ScheduleFile}
+use Rattle.schedule.specs.Files.{Recording, ScheduleFile}
 use Rattle.schedule.proofs.Whole.{only_of, spells_one}
 
 pub spelled_once : (bytes : List ℕ) (p q : Option Recording) (es fs : List Event) → ScheduleFile bytes p es → ScheduleFile bytes q fs

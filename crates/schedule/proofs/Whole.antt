@@ -1,18 +1,19 @@
 -- What reading a schedule promises, by the definition of schedule files.
-use Rattle.std.proofs.Common.{◌≡◌, ◌⊎◌, ℕ, ◌≤◌, Bool, true, false, cond, eqb, ltb, List, ◌∷◌, ◌++◌, length, drop, Result, Ok, Err, refl, sym, ap, subst, ◌∙◌, append_assoc, inl, inr, lit<, arith, length-append, IsTrue}
+use Rattle.std.proofs.Common.{◌≡◌, ◌⊎◌, ℕ, ◌≤◌, Bool, true, false, cond, eqb, is_some, ltb, List, ◌∷◌, ◌++◌, length, drop, Result, Ok, Err, refl, sym, ap, subst, ◌∙◌, append_assoc, inl, inr, lit<, arith, length-append, IsTrue}
 use Rattle.std.specs.Prelude.{codes, Option, Some, None}
 use Rattle.std.specs.Option.{option_map}
 use Rattle.std.proofs.lemmas.Bool.{eqb-true, ltb-false}
 use Rattle.byteorder.specs.Endian.{big_number, big_bytes}
 use Rattle.model.specs.declared.event.Event.{Event}
 use Rattle.model.specs.declared.event.ScheduleEntry.{ScheduleEntry}
-use Rattle.model.specs.Schedule.{AreEntries, Recording, RecordedFits, ScheduleFile, events_of, recording, schedule, table, version}
+use Rattle.model.specs.Schedule.{AreEntries, events_of, table}
+use Rattle.schedule.specs.Files.{Checksums, Recording, RecordedFits, ScheduleFile, recording, schedule, version, version_of}
 use Rattle.schedule.specs.declared.fault.ScheduleFault.{ScheduleFault}
 use Rattle.schedule.specs.declared.fault.ScheduleFault.TheVariants as faults
 use Rattle.schedule.specs.Outcomes.{HasMore, StandsIn, IsFaultOf}
-use Rattle.schedule.specs.Reading.{◌>>=◌, Read, Fails, Numbers, number_at, numbers_of, recording_at, table_at, version_at, body_at, schedule_at}
+use Rattle.schedule.specs.Reading.{◌>>=◌, Read, Fails, Numbers, number_at, numbers_of, recorded_at, recording_at, table_at, version_at, body_at, schedule_at}
 use Rattle.schedule.proofs.Laws.{IsBytes, Takes, bind_ok, bind_err, done, failed, ok_is, err_is, guard_ok, back1, back4, number_takes, number_again, number_stops, table_takes, table_again, table_stops, table_trailing, is_field_fault, is_table_fault}
-use Rattle.schedule.proofs.Recordings.{Recorded, recording_takes, recording_again, recording_stops, options_same}
+use Rattle.schedule.proofs.Recordings.{Recorded, version_where, recording_takes, recording_again, recording_stops, options_same}
 
 -- ---- tests
 
@@ -37,25 +38,31 @@ either_err false r s f e = inr e
 
 -- ---- the version
 
-abbrev recorded_at : List ℕ → Read (Option Numbers)
-recorded_at bytes = recording_at bytes >>= λ r. done (Some r.0, r.1)
-
 abbrev of_version : ℕ × List ℕ → Read (Option Numbers)
-of_version v = cond (eqb v.0 1) (done (None, v.1)) (cond (eqb v.0 2) (recorded_at v.1) (failed faults.Version))
+of_version v = cond (eqb v.0 1) (done (None, v.1)) (cond (eqb v.0 2) (recorded_at false v.1) (cond (eqb v.0 3) (recorded_at true v.1) (failed faults.Version)))
 
 after_first : (rest : List ℕ) → version_at (1 ∷ rest) ≡ Ok (None, rest)
 unfolding version_at
 after_first rest = ap (λ (r : Read ℕ). ◌>>=◌ {B = Option Numbers × List ℕ} r of_version) (number_again 1 1 rest (lit< tt))
 
-after_second : (rest : List ℕ) → version_at (2 ∷ rest) ≡ recorded_at rest
+after_second : (rest : List ℕ) → version_at (2 ∷ rest) ≡ recorded_at false rest
 unfolding version_at
 after_second rest = ap (λ (r : Read ℕ). ◌>>=◌ {B = Option Numbers × List ℕ} r of_version) (number_again 1 2 rest (lit< tt))
+
+after_third : (rest : List ℕ) → version_at (3 ∷ rest) ≡ recorded_at true rest
+unfolding version_at
+after_third rest = ap (λ (r : Read ℕ). ◌>>=◌ {B = Option Numbers × List ℕ} r of_version) (number_again 1 3 rest (lit< tt))
+
+after_version : (c : Option Checksums) (rest : List ℕ) → version_at (version_of c ∷ rest) ≡ recorded_at (is_some c) rest
+after_version None rest = after_second rest
+after_version (Some c) rest = after_third rest
 
 version_again : (r : Option Recording) (rest : List ℕ) → RecordedFits r
     → version_at (version r ++ rest) ≡ Ok (option_map numbers_of r, rest)
 version_again None rest f = after_first rest
 version_again (Some r) rest f =
-    after_second (recording r ++ rest) ∙ ap (λ (read : Read Numbers). ◌>>=◌ {B = Option Numbers × List ℕ} read (λ r. Ok (Some r.0, r.1))) (recording_again r rest f)
+    after_version r.checksums (recording r ++ rest)
+    ∙ ap (λ (read : Read Numbers). ◌>>=◌ {B = Option Numbers × List ℕ} read (λ r. Ok (Some r.0, r.1))) (recording_again r rest f)
 
 -- what is read of a version, and of what it says
 record Versioned (bytes : List ℕ) (numbers : Option Numbers) (rest : List ℕ) : Type 0 where
@@ -72,14 +79,30 @@ first_takes bytes x behind t e = record {
   taken = record { parts = t.parts ∙ ap (λ (k : ℕ). big_bytes 1 k ++ behind) e; rest_fits = t.rest_fits };
 }
 
-second_takes : (bytes : List ℕ) (x : ℕ) (behind : List ℕ) (n : Numbers) (rest : List ℕ) → Takes bytes (big_bytes 1 x) behind → x ≡ 2
-    → Recorded behind n rest → Versioned bytes (Some n) rest
-second_takes bytes x behind n rest t e r = record {
+other_takes : (has : Bool) (bytes : List ℕ) (x : ℕ) (behind : List ℕ) (n : Numbers) (rest : List ℕ) → Takes bytes (big_bytes 1 x) behind
+    → x ≡ version_where has → Recorded has behind n rest → Versioned bytes (Some n) rest
+other_takes has bytes x behind n rest t e r = record {
   recorded = Some r.recorded;
   fits = r.fits;
   numbers_are = ap Some r.numbers_are;
-  taken = record { parts = t.parts ∙ ap (λ (k : ℕ). big_bytes 1 k ++ behind) e ∙ ap (λ (l : List ℕ). 2 ∷ l) r.taken.parts; rest_fits = r.taken.rest_fits };
+  taken = record {
+    parts = t.parts ∙ ap (λ (k : ℕ). big_bytes 1 k ++ behind) e ∙ one_byte has behind ∙ ap (λ (k : ℕ). k ∷ behind) (sym r.is_version)
+        ∙ ap (λ (l : List ℕ). version_of r.recorded.checksums ∷ l) r.taken.parts;
+    rest_fits = r.taken.rest_fits;
+  };
 }
+  where
+    one_byte : (has : Bool) (behind : List ℕ) → big_bytes 1 (version_where has) ++ behind ≡ version_where has ∷ behind
+    one_byte false behind = refl
+    one_byte true behind = refl
+
+-- the same of what was read
+other_read : (has : Bool) (bytes : List ℕ) (x : ℕ) (behind : List ℕ) (numbers : Option Numbers) (rest : List ℕ) → Takes bytes (big_bytes 1 x) behind
+    → x ≡ version_where has → recorded_at has behind ≡ Ok (numbers, rest) → Versioned bytes numbers rest
+other_read has bytes x behind numbers rest t e read =
+    let b = bind_ok (recording_at has behind) (λ r. done (Some r.0, r.1)) (numbers, rest) read in
+    let r = recording_takes has behind b.0.0 b.0.1 t.rest_fits b.1 in
+    subst (λ (p : Option Numbers × List ℕ). Versioned bytes p.0 p.1) (ok_is (Some b.0.0, b.0.1) (numbers, rest) b.2) (other_takes has bytes x behind b.0.0 b.0.1 t e r)
 
 version_takes : (bytes : List ℕ) (numbers : Option Numbers) (rest : List ℕ) → IsBytes bytes → version_at bytes ≡ Ok (numbers, rest)
     → Versioned bytes numbers rest
@@ -88,13 +111,14 @@ version_takes bytes numbers rest small e =
     let family = λ (p : Option Numbers × List ℕ). Versioned bytes p.0 p.1 in
     let a = bind_ok (number_at 1 bytes) of_version (numbers, rest) e in
     let t = number_takes 1 back1 bytes a.0.0 a.0.1 small a.1 in
-    elim (either_ok (eqb a.0.0 1) (done (None, a.0.1)) (cond (eqb a.0.0 2) (recorded_at a.0.1) (failed faults.Version)) (numbers, rest) a.2) [
+    elim (either_ok (eqb a.0.0 1) (done (None, a.0.1)) (cond (eqb a.0.0 2) (recorded_at false a.0.1) (cond (eqb a.0.0 3) (recorded_at true a.0.1) (failed faults.Version))) (numbers, rest) a.2) [
       | inl h ↦ subst family (ok_is (None, a.0.1) (numbers, rest) h.1) (first_takes bytes a.0.0 a.0.1 t.0 (eqb-true _ _ h.0))
-      | inr h ↦
-          (let g = chosen_ok (eqb a.0.0 2) (recorded_at a.0.1) faults.Version (numbers, rest) h in
-          let b = bind_ok (recording_at a.0.1) (λ r. done (Some r.0, r.1)) (numbers, rest) g.1 in
-          let r = recording_takes a.0.1 b.0.0 b.0.1 t.0.rest_fits b.1 in
-          subst family (ok_is (Some b.0.0, b.0.1) (numbers, rest) b.2) (second_takes bytes a.0.0 a.0.1 b.0.0 b.0.1 t.0 (eqb-true _ _ g.0) r))
+      | inr h ↦ elim (either_ok (eqb a.0.0 2) (recorded_at false a.0.1) (cond (eqb a.0.0 3) (recorded_at true a.0.1) (failed faults.Version)) (numbers, rest) h) [
+        | inl g ↦ other_read false bytes a.0.0 a.0.1 numbers rest t.0 (eqb-true _ _ g.0) g.1
+        | inr g ↦
+            (let k = chosen_ok (eqb a.0.0 3) (recorded_at true a.0.1) faults.Version (numbers, rest) g in
+            other_read true bytes a.0.0 a.0.1 numbers rest t.0 (eqb-true _ _ k.0) k.1)
+      ]
     ]
 
 -- the faults of a version, and of what it says
@@ -111,11 +135,12 @@ of_field faults.Trailing h = h
 of_field faults.OutOfMemory h = h
 of_field faults.Limits h = h
 of_field faults.Files h = h
+of_field faults.Arguments h = h
 
-recorded_stops : (bytes : List ℕ) (f : ScheduleFault) → recorded_at bytes ≡ Err f → IsTrue (is_field_fault f)
-recorded_stops bytes f e =
-    elim (bind_err (recording_at bytes) (λ r. done (Some r.0, r.1)) f e) [
-      | inl h ↦ recording_stops bytes f h
+recorded_stops : (has : Bool) (bytes : List ℕ) (f : ScheduleFault) → recorded_at has bytes ≡ Err f → IsTrue (is_field_fault f)
+recorded_stops has bytes f e =
+    elim (bind_err (recording_at has bytes) (λ r. done (Some r.0, r.1)) f e) [
+      | inl h ↦ recording_stops has bytes f h
       | inr h ↦ absurd cc
     ]
 
@@ -124,11 +149,14 @@ unfolding version_at
 version_stops bytes f e =
     elim (bind_err (number_at 1 bytes) of_version f e) [
       | inl h ↦ subst (λ (m : ScheduleFault). IsTrue (is_version_fault m)) (number_stops 1 bytes f h) refl
-      | inr h ↦ elim (either_err (eqb h.0.0 1) (done (None, h.0.1)) (cond (eqb h.0.0 2) (recorded_at h.0.1) (failed faults.Version)) f h.2) [
+      | inr h ↦ elim (either_err (eqb h.0.0 1) (done (None, h.0.1)) (cond (eqb h.0.0 2) (recorded_at false h.0.1) (cond (eqb h.0.0 3) (recorded_at true h.0.1) (failed faults.Version))) f h.2) [
         | inl g ↦ absurd cc
-        | inr g ↦ elim (test_err (eqb h.0.0 2) (recorded_at h.0.1) faults.Version f g) [
-          | inl k ↦ of_field f (recorded_stops h.0.1 f k.1)
-          | inr k ↦ subst (λ (m : ScheduleFault). IsTrue (is_version_fault m)) k refl
+        | inr g ↦ elim (either_err (eqb h.0.0 2) (recorded_at false h.0.1) (cond (eqb h.0.0 3) (recorded_at true h.0.1) (failed faults.Version)) f g) [
+          | inl k ↦ of_field f (recorded_stops false h.0.1 f k)
+          | inr k ↦ elim (test_err (eqb h.0.0 3) (recorded_at true h.0.1) faults.Version f k) [
+            | inl m ↦ of_field f (recorded_stops true h.0.1 f m.1)
+            | inr m ↦ subst (λ (m : ScheduleFault). IsTrue (is_version_fault m)) m refl
+          ]
         ]
       ]
     ]
@@ -224,6 +252,7 @@ only_memory bytes faults.Repeat e r events s = absurd (unspelled bytes faults.Re
 only_memory bytes faults.Trailing e r events s = absurd (unspelled bytes faults.Trailing e r events s)
 only_memory bytes faults.Limits e r events s = absurd (unspelled bytes faults.Limits e r events s)
 only_memory bytes faults.Files e r events s = absurd (unspelled bytes faults.Files e r events s)
+only_memory bytes faults.Arguments e r events s = absurd (unspelled bytes faults.Arguments e r events s)
 
 -- ---- of a fault
 
@@ -241,6 +270,7 @@ of_version_fault faults.Trailing h = refl
 of_version_fault faults.OutOfMemory h = h
 of_version_fault faults.Limits h = h
 of_version_fault faults.Files h = h
+of_version_fault faults.Arguments h = h
 
 of_table_fault : (f : ScheduleFault) → IsTrue (is_table_fault f) → IsTrue (is_body_fault f)
 of_table_fault faults.Truncated h = h
@@ -251,6 +281,7 @@ of_table_fault faults.Trailing h = h
 of_table_fault faults.OutOfMemory h = h
 of_table_fault faults.Limits h = h
 of_table_fault faults.Files h = h
+of_table_fault faults.Arguments h = h
 
 -- the fault is the version's, or the table's behind it
 body_err : (bytes : List ℕ) (f : ScheduleFault) → body_at bytes ≡ Err f
@@ -324,7 +355,10 @@ no_first rest e =
     absurd cc
 
 no_second : (rest : List ℕ) → version_at (2 ∷ rest) ≡ Err faults.Version → ⊥
-no_second rest e = let clash : false ≡ true = recorded_stops rest faults.Version (sym (after_second rest) ∙ e) in absurd cc
+no_second rest e = let clash : false ≡ true = recorded_stops false rest faults.Version (sym (after_second rest) ∙ e) in absurd cc
+
+no_third : (rest : List ℕ) → version_at (3 ∷ rest) ≡ Err faults.Version → ⊥
+no_third rest e = let clash : false ≡ true = recorded_stops true rest faults.Version (sym (after_third rest) ∙ e) in absurd cc
 
 version_stands : (bytes : List ℕ) → IsBytes bytes → schedule_at bytes ≡ Err faults.Version → StandsIn bytes faults.Version
 version_stands bytes small e =
@@ -335,6 +369,7 @@ version_stands bytes small e =
       (b.0, b.2),
       (λ v. no_first v.0 (at_version 1 v.0 v.1)),
       (λ v. no_second v.0 (at_version 2 v.0 v.1)),
+      (λ v. no_third v.0 (at_version 3 v.0 v.1)),
     )
 
 -- bytes follow what a file spells
@@ -370,6 +405,7 @@ refused_of bytes faults.OutOfMemory small e = inl refl
 refused_of bytes faults.Truncated small e = inr e
 refused_of bytes faults.Repeat small e = inr e
 refused_of bytes faults.Limits small e = inr e
+refused_of bytes faults.Arguments small e = inr e
 refused_of bytes faults.Files small e = absurd (no_files bytes small e)
 refused_of bytes faults.Magic small e = inr (magic_stands bytes e)
 refused_of bytes faults.Version small e = inr (version_stands bytes small e)

@@ -1,4 +1,7 @@
+pub mod ChecksumLaws
+pub mod CommandLaws
 pub mod EntryLaws
+pub mod HexLaws
 pub mod LengthLaws
 pub mod LimitLaws
 pub mod OneText

@@ -1,3 +1,6 @@
+pub mod FileExamples
+pub mod Files
+pub mod Joined
 pub mod Names
 pub mod Outcomes
 pub mod Reading

@@ -2,7 +2,8 @@
 use Rattle.std.specs.Prelude.{◌≡◌, ◌⊎◌, ◌<◌, ◌≤◌, ℕ, List, [], ◌∷◌, ◌++◌, length, codes, Option, Result, Ok, Err}
 use Rattle.model.specs.declared.event.Event.{Event}
 use Rattle.model.specs.declared.event.ScheduleEntry.{ScheduleEntry}
-use Rattle.model.specs.Schedule.{Recording, ScheduleFile, events_of}
+use Rattle.model.specs.Schedule.{events_of}
+use Rattle.schedule.specs.Files.{Recording, ScheduleFile}
 use Rattle.schedule.specs.declared.fault.ScheduleFault.{ScheduleFault}
 use Rattle.schedule.specs.declared.fault.ScheduleFault.TheVariants as faults
 use Rattle.schedule.specs.Reading.{schedule_at}
@@ -33,13 +34,14 @@ pub record HasMore (bytes : List ℕ) : Type 0 where
 abbrev pub StandsIn : List ℕ → ScheduleFault → Type 0
 -- the first four bytes are there, and others
 StandsIn bytes faults.Magic = (4 ≤ length bytes) × (BeginsWith (codes "JSCH") bytes → ⊥)
--- behind them the fifth is there, and neither 1 nor 2
-StandsIn bytes faults.Version = (5 ≤ length bytes) × BeginsWith (codes "JSCH") bytes × (HasVersion 1 bytes → ⊥) × (HasVersion 2 bytes → ⊥)
+-- behind them the fifth is there, and neither 1, 2 nor 3
+StandsIn bytes faults.Version = (5 ≤ length bytes) × BeginsWith (codes "JSCH") bytes × (HasVersion 1 bytes → ⊥) × (HasVersion 2 bytes → ⊥) × (HasVersion 3 bytes → ⊥)
 StandsIn bytes faults.Trailing = HasMore bytes
 -- reading from left to right ends with it
 StandsIn bytes faults.Truncated = schedule_at bytes ≡ Err faults.Truncated
 StandsIn bytes faults.Repeat = schedule_at bytes ≡ Err faults.Repeat
 StandsIn bytes faults.Limits = schedule_at bytes ≡ Err faults.Limits
+StandsIn bytes faults.Arguments = schedule_at bytes ≡ Err faults.Arguments
 -- the bytes alone don't say so
 StandsIn bytes faults.Files = ⊥
 -- it says nothing of the bytes

@@ -1,9 +1,10 @@
 -- Reading a schedule file from left to right, with the first fault that is met.
-use Rattle.std.specs.Prelude.{◌≡◌, ℕ, zero, suc, List, [], ◌∷◌, length, drop, Option, Some, None, Result, Ok, Err, Bool, nat_lt, ◌==◌, ◌&&◌, ◌||◌, if◌then◌else◌}
+use Rattle.std.specs.Prelude.{◌≡◌, ℕ, zero, suc, List, [], ◌∷◌, length, drop, Option, Some, None, Result, Ok, Err, Bool, true, false, nat_lt, ◌==◌, ◌&&◌, ◌||◌, if◌then◌else◌}
+use Rattle.model.specs.BuiltInNumbers.{most_threads}
 use Rattle.byteorder.specs.Endian.{big_number}
 use Rattle.model.specs.declared.event.ScheduleEntry.{ScheduleEntry}
 use Rattle.model.specs.declared.limits.Limits.{Limits}
-use Rattle.model.specs.Schedule.{Recording}
+use Rattle.schedule.specs.Files.{Checksums, Recording}
 use Rattle.schedule.specs.declared.fault.ScheduleFault.{ScheduleFault}
 use Rattle.schedule.specs.declared.fault.ScheduleFault.TheVariants as faults
 
@@ -51,7 +52,7 @@ table_at bytes = do
 
 -- the least and the most of each limit, in the order of the file
 abbrev pub limit_ranges : List (ℕ × ℕ)
-limit_ranges = (0, 4000000000) ∷ (0, 4294967295) ∷ (0, 8388608) ∷ (1, 32767) ∷ (1, 65535) ∷ []
+limit_ranges = (0, 4000000000) ∷ (0, 4294967295) ∷ (0, 8388608) ∷ (1, most_threads) ∷ (1, 65535) ∷ []
 
 unfoldable pub limit_at : ℕ → ℕ → List ℕ → Read ℕ
 limit_at least most bytes = do
@@ -70,28 +71,48 @@ limits_at (range ∷ ranges) bytes = do
 abbrev pub limit_numbers : Limits → List ℕ
 limit_numbers l = l.objects ∷ l.cells ∷ l.monitors ∷ l.threads ∷ l.frames ∷ []
 
--- the limits, and the lengths of the class files
+-- the limits, the lengths of the class files, and their checksums, if they are told
 abbrev pub Numbers : Type 0
-Numbers = List ℕ × List ℕ
+Numbers = List ℕ × List ℕ × Option Checksums
 
 abbrev pub numbers_of : Recording → Numbers
-numbers_of r = (limit_numbers r.limits, r.lengths)
+numbers_of r = (limit_numbers r.limits, r.lengths, r.checksums)
 
--- the limits, a count, and so many lengths
-unfoldable pub recording_at : List ℕ → Read Numbers
-recording_at bytes = do
+-- so many checksums, that of a library, and no arguments
+unfoldable pub checksums_at : ℕ → List ℕ → Read Checksums
+checksums_at count bytes = do
+  files ← many_at (number_at 8) count bytes
+  library ← number_at 8 files.1
+  arguments ← number_at 4 library.1
+  if arguments.0 == 0 then Ok (record { files = files.0; library = library.0 }, arguments.1) else Err faults.Arguments
+
+-- where they are told
+unfoldable pub checked_at : Bool → ℕ → List ℕ → Read (Option Checksums)
+checked_at false count bytes = Ok (None, bytes)
+checked_at true count bytes = do
+  checksums ← checksums_at count bytes
+  Ok (Some checksums.0, checksums.1)
+
+-- the limits, a count, so many lengths, and checksums, where they are told
+unfoldable pub recording_at : Bool → List ℕ → Read Numbers
+recording_at checked bytes = do
   limits ← limits_at limit_ranges bytes
   count ← number_at 4 limits.1
   lengths ← many_at (number_at 8) count.0 count.1
-  Ok ((limits.0, lengths.0), lengths.1)
+  checksums ← checked_at checked count.0 lengths.1
+  Ok ((limits.0, lengths.0, checksums.0), checksums.1)
 
 -- ---- the whole
+
+-- with what the events were recorded
+abbrev pub recorded_at : Bool → List ℕ → Read (Option Numbers)
+recorded_at checked bytes = recording_at checked bytes >>= λ r. Ok (Some r.0, r.1)
 
 -- the version, and what it says beside the events
 unfoldable pub version_at : List ℕ → Read (Option Numbers)
 version_at bytes = do
   version ← number_at 1 bytes
-  if version.0 == 1 then Ok (None, version.1) else if version.0 == 2 then (recording_at version.1 >>= λ r. Ok (Some r.0, r.1)) else Err faults.Version
+  if version.0 == 1 then Ok (None, version.1) else if version.0 == 2 then recorded_at false version.1 else if version.0 == 3 then recorded_at true version.1 else Err faults.Version
 
 unfoldable pub body_at : List ℕ → Result (List ScheduleEntry × Option Numbers) ScheduleFault
 body_at bytes = do

@@ -13,7 +13,7 @@ pub enum ScheduleFault {
     Truncated,
     /// The first four bytes aren't `JSCH`.
     Magic,
-    /// The version is neither 1 nor 2.
+    /// The version is neither 1, 2 nor 3.
     Version,
     /// An entry stands for no event, or for several equal events with a pick that isn't 0.
     Repeat,
@@ -22,9 +22,11 @@ pub enum ScheduleFault {
     OutOfMemory,
     /// A limit is outside its range, or another one than was asked for.
     Limits,
-    /// The class files are not as many as the file says, or one has another length. Reading the file alone never
-    /// answers it.
+    /// The class files are not as many as the file says, or one has another length or another checksum. Reading the
+    /// file alone never answers it.
     Files,
+    /// It gives arguments to main, and no run gives any.
+    Arguments,
 }
 
 /// The name of the fault, as `Truncated`.
@@ -44,6 +46,7 @@ impl fmt::Display for ScheduleFault {
             ScheduleFault::OutOfMemory => f.write_str("OutOfMemory"),
             ScheduleFault::Limits => f.write_str("Limits"),
             ScheduleFault::Files => f.write_str("Files"),
+            ScheduleFault::Arguments => f.write_str("Arguments"),
         }
     }
 }

@@ -1,15 +1,16 @@
-//! Reading schedule files.
+//! Reading schedule files, of both versions.
 
 ghost use Rattle.std.specs.Prelude.{◌≡◌, ◌≤◌, ◌<◌, ◌^◌, List, Option, IfOk, IfErr, length};
 ghost use Rattle.std.specs.Option.{option_map};
-ghost use Rattle.model.specs.Schedule.{AreEntries, Recording as Recorded, ScheduleFile, events_of, schedule};
+ghost use Rattle.model.specs.Schedule.{events_of};
 ghost use Rattle.model.specs.declared.event.Event.{Event};
+ghost use Rattle.schedule.specs.Files.{CheckedFits, ChecksumsFit, Recording as Recorded, ScheduleFile, schedule};
 ghost use Rattle.schedule.specs.Outcomes.{Answers, IsFaultOf};
-ghost use Rattle.schedule.specs.Reading.{Gives, entry_at, limit_at, limit_numbers, limit_ranges, limits_at, many_at, number_at, numbers_of, recording_at, schedule_at, table_at, version_at};
+ghost use Rattle.schedule.specs.Reading.{Gives, checked_at, checksums_at, entry_at, limit_at, limit_numbers, limit_ranges, limits_at, many_at, number_at, numbers_of, recorded_at, recording_at, schedule_at, table_at, version_at};
 
 use crate::fault::ScheduleFault;
 use crate::reader::Reader;
-use crate::recording::Recording;
+use crate::recording::{Checksums, Recording};
 use crate::runs::Schedule;
 use model::{Event, Limits, ScheduleEntry};
 use std::alloc::Global;
@@ -92,8 +93,8 @@ fn read_limits(reader: &mut Reader<'_>) -> Result<Limits, ScheduleFault>
     })
 }
 
-/// So many lengths. The count is one that the bytes claim, so room is made as they come.
-fn read_lengths(
+/// So many numbers of eight bytes. The count is one that the bytes claim, so room is made as they come.
+fn read_numbers(
     alloc: Global,
     count: u32,
     reader: &mut Reader<'_>,
@@ -101,31 +102,74 @@ fn read_lengths(
     ensures read { Gives (λ v. (v.items, reader.new)) result (many_at (number_at 8) count reader.old) }
     ensures count { IfOk result (λ v. length v.items ≡ count) }
 {
-    let mut lengths = Vec::new(alloc);
-    'lengths: for _ in 0..count {
-        lengths.push(reader.u64()?)?;
+    let mut numbers = Vec::new(alloc);
+    'numbers: for _ in 0..count {
+        numbers.push(reader.u64()?)?;
     }
-    Ok(lengths)
+    Ok(numbers)
 }
 
+/// So many checksums, that of a library, and no arguments.
+#[tactic(auto, unfolding(crate::specs::Reading::checksums_at))]
+fn read_checksums(
+    alloc: Global,
+    count: u32,
+    reader: &mut Reader<'_>,
+) -> Result<Checksums, ScheduleFault>
+    ensures read { Gives (λ c. (c, reader.new)) result (checksums_at count reader.old) }
+    ensures fit { IfOk result (ChecksumsFit count) }
+{
+    let files = read_numbers(alloc, count, reader)?;
+    let library = reader.u64()?;
+    if reader.u32()? != 0 {
+        return Err(ScheduleFault::Arguments);
+    }
+    Ok(Checksums::new(files, library))
+}
+
+/// The same, where they are told.
+#[tactic(auto, unfolding(crate::specs::Reading::checked_at))]
+fn read_checked(
+    alloc: Global,
+    checked: bool,
+    count: u32,
+    reader: &mut Reader<'_>,
+) -> Result<Option<Checksums>, ScheduleFault>
+    ensures read { Gives (λ c. (c, reader.new)) result (checked_at checked count reader.old) }
+    ensures fit { IfOk result (CheckedFits count) }
+{
+    if checked {
+        Ok(Some(read_checksums(alloc, count, reader)?))
+    } else {
+        Ok(None)
+    }
+}
+
+/// With what the events were recorded, and with checksums, where they are told.
 #[tactic(auto, unfolding(crate::specs::Reading::recording_at))]
-fn read_recording(alloc: Global, reader: &mut Reader<'_>) -> Result<Recording, ScheduleFault>
-    ensures { Gives (λ r. (numbers_of r, reader.new)) result (recording_at reader.old) }
+fn read_recording(
+    alloc: Global,
+    checked: bool,
+    reader: &mut Reader<'_>,
+) -> Result<Recording, ScheduleFault>
+    ensures { Gives (λ r. (numbers_of r, reader.new)) result (recording_at checked reader.old) }
 {
     let limits = read_limits(reader)?;
     let count = reader.u32()?;
-    let lengths = read_lengths(alloc, count, reader)?;
-    Ok(Recording::new(limits, lengths))
+    let lengths = read_numbers(alloc, count, reader)?;
+    let checksums = read_checked(alloc, checked, count, reader)?;
+    Ok(Recording::new(limits, lengths, checksums))
 }
 
-/// The version, and with what the events were recorded where it is 2.
+/// The version, and with what the events were recorded where it is 2 or 3.
 #[tactic(auto, unfolding(crate::specs::Reading::version_at))]
 fn read_version(alloc: Global, reader: &mut Reader<'_>) -> Result<Option<Recording>, ScheduleFault>
     ensures { Gives (λ r. (option_map numbers_of r, reader.new)) result (version_at reader.old) }
 {
     match reader.u8()? {
         1 => Ok(None),
-        2 => Ok(Some(read_recording(alloc, reader)?)),
+        2 => Ok(Some(read_recording(alloc, false, reader)?)),
+        3 => Ok(Some(read_recording(alloc, true, reader)?)),
         _ => Err(ScheduleFault::Version),
     }
 }
@@ -146,17 +190,19 @@ fn read_all(
     Ok((entries, recorded))
 }
 
-/// The schedule that a file spells, and with what it was recorded, where the file is of version 2.
+/// The schedule that a file spells, and with what it was recorded, where the file is of version 2 or 3.
 ///
 /// All numbers are big-endian. A file of version 1 has the bytes `JSCH`, the version in one byte, the number of
 /// entries in four, and the entries, each a thread and a pick of two bytes and a repeat of four. One of version 2 has
 /// between the version and the number of entries five limits (objects, cells, monitors, threads, frames) and the
-/// number of class files in four bytes each, and the length of each class file in eight.
+/// number of class files in four bytes each, and the length of each class file in eight. In version 3 there stand
+/// behind the lengths the checksum of each class file and that of a library in eight bytes each, and the number of
+/// arguments, 0, in four.
 ///
 /// # Errors
 ///
 /// The first fault in the order of the file: `Truncated` where a field is cut, `Magic` and `Version` where these are
-/// others, `Limits` at a limit outside its range, `Repeat` at an entry with a repeat of 0, or with one above 1 and a
+/// others, `Limits` at a limit outside its range, `Arguments` where it has any, `Repeat` at an entry with a repeat of 0, or with one above 1 and a
 /// pick that isn't 0, `Trailing` where bytes follow the last entry, and `OutOfMemory`.
 pub fn read_schedule(
     alloc: Global,

@@ -4,7 +4,6 @@ use Rattle.std.proofs.lemmas.Option.{none-some, slice_get_within}
 use Rattle.model.specs.declared.event.ScheduleEntry.{ScheduleEntry}
 use Rattle.model.specs.declared.limits.Limits.{Limits}
 use Rattle.model.specs.Classes.{Program}
-use Rattle.model.specs.Schedule.{events_of}
 use Rattle.run_laws.specs.interleavings.Ends.{Outcome}
 use Rattle.run_laws.specs.searches.Searches.{AreSearchesComplete}
 use Rattle.linked_code.specs.declared.program.LinkedProgram.{LinkedProgram}
@@ -13,7 +12,7 @@ use Rattle.search.specs.met_states.Met.{IsNextMet, HasMetAll, AreSearchesWhole}
 use Rattle.search.specs.declared.run_outcomes.wanted.Wanted.{Wanted}
 use Rattle.search.specs.GivingUp.{GivesUp}
 use Rattle.search.specs.States.{StatesOf, one_state}
-use Rattle.search.specs.Verdicts.{IsFound, IsComplete, Says}
+use Rattle.search.specs.Verdicts.{IsFoundBy, IsComplete, Says}
 use Rattle.search.specs.declared.searching.Verdict.{Verdict}
 use Rattle.search.specs.declared.searching.Visit.{Visit}
 use Rattle.search.specs.declared.searching.Visit.TheVariants as visit
@@ -76,7 +75,7 @@ module _ (trees : Program) (limits : Limits) (want : Wanted) (s : StatesOf) (out
 
   pub found_by : (most : ℕ) (v : Visit) (s_new : StatesOf) (new : List Outcome) (schedule : List ScheduleEntry)
       → Visits trees s.limits want most number v s_new new → v ≡ visit.Found schedule
-      → IsFound trees limits want (events_of schedule)
+      → IsFoundBy trees limits want schedule
   found_by most v s_new new schedule visits is = subst (λ x. Visits trees limits want most number x s_new new) is (visits_by most v s_new new visits)
 
   pub gave_up_by : (most : ℕ) (v : Visit) (s_new : StatesOf) (new : List Outcome) → Visits trees s.limits want most number v s_new new → v ≡ visit.GaveUp

@@ -4,7 +4,6 @@ use Rattle.model.specs.declared.event.Event.{Event}
 use Rattle.model.specs.declared.limits.Limits.{Limits}
 use Rattle.model.specs.Classes.{Program}
 use Rattle.model.specs.Run.{run, is_quiet}
-use Rattle.model.specs.Schedule.{events_of}
 use Rattle.model.specs.State.{State}
 use Rattle.run_laws.specs.interleavings.Ends.{Outcome, outcome_of, EndsWith, Has}
 use Rattle.machine.specs.Machines.{MachineOf, IsProgramOf}
@@ -16,7 +15,7 @@ use Rattle.search.specs.declared.searching.Visit.TheVariants as visit
 use Rattle.search.specs.GivingUp.{GivesUp}
 use Rattle.search.specs.Machines.{TellsOutcome}
 use Rattle.search.specs.States.{StatesOf, IsSchedule, IsInState, AreAllMet}
-use Rattle.search.specs.Verdicts.{IsFound}
+use Rattle.search.specs.Verdicts.{IsFoundBy}
 
 -- the outcomes of the states below a number that are quiet are listed, and only such as a run has, none of them wanted
 pub record AreListed (trees : Program) (frames : ℕ) (want : Wanted) (schedules : List (List Event)) (outcomes : List Outcome)
@@ -39,7 +38,7 @@ pub record HasVisited (trees : Program) (limits : Limits) (want : Wanted) (s : S
 -- so has the next one; or its outcome is wanted; or the search gives up, where so many states may be met
 abbrev pub Visits : Program → Limits → Wanted → (most number : ℕ) → Visit → StatesOf → List Outcome → Type 0
 Visits trees limits want most number visit.Visited s outcomes = HasVisited trees limits want s outcomes (suc number)
-Visits trees limits want most number (visit.Found schedule) s outcomes = IsFound trees limits want (events_of schedule)
+Visits trees limits want most number (visit.Found schedule) s outcomes = IsFoundBy trees limits want schedule
 Visits trees limits want most number visit.GaveUp s outcomes = GivesUp trees limits most (length s.schedules)
 
 -- ---- an outcome, if there is one

@@ -1,5 +1,13 @@
 //! What a machine that rebuilds states from schedules tells a search: where an event leads on from a schedule, the
 //! state has been met. Each function here is a theorem, and does nothing.
+//!
+//! # Proved
+//!
+//! - Theorems of a search that keeps schedules (`IsNextMet`): where the state to which an event leads, with local
+//!   events behind it, is alike to that of a schedule that is kept, or its schedule is kept, it is met; where a pick is
+//!   not enabled, no higher one leads anywhere; nor does an event of a thread that isn't there; and what is met stays
+//!   so. Where the events of all schedules are met, and the outcomes of those that end are listed, the search is whole
+//!   (`searches_are_whole`, with `IsWhole` of `searches`).
 
 ghost use Rattle.search.specs.met_states.Met.{AreAlikeStatesMet, AreNewStatesMet, AreHigherPicksLeft, AreOtherThreadsLeft, AreMetStatesKept, AreSearchesWhole};
 

@@ -1,4 +1,4 @@
-//! The search.
+//! The search over all schedules.
 
 ghost use Rattle.std.specs.Prelude.{◌<◌, ◌≤◌, [], length, IfOk};
 ghost use Rattle.std.specs.Arc.{arc_value};
@@ -25,7 +25,7 @@ use std::sync::Arc;
 /// What a search answers.
 #[derive(Drop)]
 pub enum Verdict {
-    /// A schedule of a run whose outcome is wanted.
+    /// A schedule of a run whose outcome is wanted, in as few entries as its events can have.
     Found(Schedule),
     /// The outcomes of all runs that end, none of which is wanted.
     Complete(Outcomes),
@@ -43,9 +43,10 @@ pub struct Searched {
 /// What a search comes to at a state.
 #[derive(Drop)]
 pub(crate) enum Visit {
-    /// Its outcome is listed, if no thread may step there, and the states to which events lead from it are met.
+    /// The outcome of the state is listed, if no thread may step there, and the states to which events lead from it are
+    /// met.
     Visited,
-    /// Its outcome is wanted.
+    /// The outcome of the state is wanted.
     Found(Schedule),
     GaveUp,
 }
@@ -69,7 +70,7 @@ fn is_found(
     Ok(false)
 }
 
-/// The same of the outcome of the state in which a machine is.
+/// Whether an outcome is wanted, of the state in which a machine is.
 fn is_found_at(
     alloc: Global,
     classes: &ClassSet,
@@ -122,7 +123,8 @@ fn visit_state(
 {
     met_states_are_kept();
     let Some(machine) = listed_at(alloc, classes, wanted, states, outcomes, number)? else {
-        return Ok(Visit::Found(states.schedule(number)?));
+        let schedule = states.schedule(number)?;
+        return Ok(Visit::Found(schedule.joined(alloc)?));
     };
     if expand(alloc, states, number, machine, most)? {
         Ok(Visit::Visited)

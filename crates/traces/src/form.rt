@@ -5,8 +5,8 @@
 pub enum Form {
     /// In words, with a space between two parts.
     Plain,
-    /// The same, with a column for each thread.
+    /// A line of words, with a column for each thread.
     Columns,
-    /// As an object of JSON.
+    /// An object of JSON.
     Json,
 }

@@ -97,7 +97,7 @@ impl<'a> ProgramNames<'a> {
         Ok(())
     }
 
-    /// The same as it stands in a line.
+    /// Writes the name of a method as it stands in a line.
     pub(crate) fn push_printed_method(
         &self,
         text: &mut Vec<u8>,
@@ -113,7 +113,7 @@ impl<'a> ProgramNames<'a> {
         push_printed(text, method_name(set, place))
     }
 
-    /// The same as members of an object of JSON.
+    /// Writes class and method as members of an object of JSON.
     pub(crate) fn push_method_members(
         &self,
         text: &mut Vec<u8>,

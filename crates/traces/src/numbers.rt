@@ -1,4 +1,4 @@
-//! Words and numbers.
+//! Words and numbers as a trace writes them.
 
 ghost use Rattle.std.specs.Prelude.{◌≡◌, ◌++◌, replicate, OnOk};
 ghost use Rattle.model.specs.Report.{number as digits};

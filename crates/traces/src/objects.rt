@@ -1,20 +1,15 @@
 //! Objects by their types and numbers.
 
 ghost use Rattle.std.specs.Prelude.{◌≡◌, ◌+◌};
+ghost use Rattle.model.specs.BuiltInNumbers.{first_class_reference};
 
 use crate::names::ProgramNames;
 use crate::numbers::{push_number, push_words};
 use heap::{Heap, NarrowKind, ObjectKind};
 use linked_code::{Element, LinkedType};
 use model::Primitive;
+use model::built_in::{CLASS, FIRST_CLASS_OBJECT};
 use std::alloc::AllocError;
-
-/// The number of java.lang.Class: the built-in classes come first in each program.
-const CLASS: u32 = 4;
-
-/// The first of the Class objects, which stand in the order of the classes behind the PrintStream of System.out, the
-/// arguments and the Thread of `main`.
-const FIRST_CLASS_OBJECT: u32 = 3;
 
 /// The type of an array whose elements have fewer than 32 bits.
 fn narrow_name(kind: NarrowKind) -> &'static str {
@@ -38,7 +33,7 @@ fn primitive_name(primitive: Primitive) -> &'static str {
 
 /// The Class object of a class, by its number.
 pub fn class_object_of(class: u16) -> u32
-    ensures { result ≡ 3 + class }
+    ensures { result ≡ first_class_reference + class }
 {
     FIRST_CLASS_OBJECT + u32::from(class)
 }
@@ -46,7 +41,9 @@ pub fn class_object_of(class: u16) -> u32
 /// The number of the class of which an object is the Class object.
 fn class_of_object(kind: ObjectKind, object: u32) -> Option<u32> {
     match kind {
-        ObjectKind::Instance { class: CLASS } => object.checked_sub(FIRST_CLASS_OBJECT),
+        ObjectKind::Instance { class } if class == CLASS as u32 => object.checked_sub(
+            FIRST_CLASS_OBJECT,
+        ),
         _ => None,
     }
 }

@@ -11,7 +11,7 @@ pub(crate) enum Sort {
     Reference,
 }
 
-/// That of a field or of a result, by its descriptor.
+/// The sort of a field or of a result, by its descriptor.
 fn described(descriptor: &[u8]) -> Sort {
     match descriptor.first() {
         Some(b'L') | Some(b'[') => Sort::Reference,
@@ -20,7 +20,7 @@ fn described(descriptor: &[u8]) -> Sort {
     }
 }
 
-/// That of the result of a method, by the method's descriptor.
+/// The sort of the result of a method, by the method's descriptor.
 fn returned(descriptor: &[u8]) -> Sort {
     let mut sort = Sort::Int;
     for (place, byte) in descriptor.iter().enumerate() {
@@ -31,7 +31,7 @@ fn returned(descriptor: &[u8]) -> Sort {
     sort
 }
 
-/// That of the field of an index of the constant pool.
+/// The sort of the field of an index of the constant pool.
 fn of_field(file: &ClassFile, index: u16) -> Sort {
     match file.field_reference(index) {
         Some(field) => described(field.descriptor),
@@ -39,7 +39,7 @@ fn of_field(file: &ClassFile, index: u16) -> Sort {
     }
 }
 
-/// That of the result of the method of an index.
+/// The sort of the result of the method of an index.
 fn of_method(file: &ClassFile, index: u16) -> Sort {
     match file.method_reference(index) {
         Some(method) => returned(method.descriptor),
@@ -55,7 +55,7 @@ fn of_constant(file: &ClassFile, index: u16) -> Sort {
     }
 }
 
-/// That of the word which an instruction reads, writes, pushes or returns.
+/// The sort of the word which an instruction reads, writes, pushes or returns.
 pub(crate) fn sort_of(file: &ClassFile, instr: Instr) -> Sort {
     match instr {
         Instr::Null

@@ -1,4 +1,4 @@
-//! Threads.
+//! Threads as a trace writes them.
 
 ghost use Rattle.std.specs.Prelude.{◌≡◌, ◌++◌, OnOk};
 ghost use Rattle.traces.specs.Lines.{thread_words};

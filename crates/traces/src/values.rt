@@ -1,4 +1,4 @@
-//! Values.
+//! Values as a trace writes them.
 
 use crate::names::ProgramNames;
 use crate::numbers::{push_signed, push_words};

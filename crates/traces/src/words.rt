@@ -101,7 +101,7 @@ impl Words<'_, '_, '_, '_> {
         Ok(())
     }
 
-    /// That it also left a monitor.
+    /// Adds that the event also left a monitor.
     fn also_exits(&self, text: &mut Vec<u8>, exited: Option<Entries>) -> Result<(), AllocError> {
         match exited {
             Some(entries) => {
@@ -309,7 +309,8 @@ impl Words<'_, '_, '_, '_> {
         }
     }
 
-    /// The same with the exception that is pending since, and the end of the thread. `, ` stands between two parts.
+    /// Adds what an event did, with the exception that is pending since, and the end of the thread. `, ` stands between
+    /// two parts.
     pub(crate) fn push(
         &self,
         text: &mut Vec<u8>,

@@ -8,9 +8,7 @@ ghost use Rattle.hierarchy.specs.Places.{name_at};
 ghost use Rattle.types.specs.Superclasses.{HasSuperclasses};
 
 use hierarchy::ClassSet;
-
-/// The place of java/lang/Object, in every set.
-pub(crate) const OBJECT: usize = 0;
+use model::built_in::OBJECT;
 
 /// Whether the classes at two places have one name.
 pub fn is_same_class(set: &ClassSet, c: usize, d: usize) -> bool

@@ -6,11 +6,12 @@ ghost use Rattle.hierarchy.specs.Places.{name_at};
 ghost use Rattle.types.specs.View.{element_in, reference_in, type_in, object_above_type, array_join};
 ghost use Rattle.types.specs.Superclasses.{HasSuperclasses};
 
-use crate::class::{OBJECT, class_join, is_subclass};
+use crate::class::{class_join, is_subclass};
 use crate::order::{is_same_primitive, is_uninitialised, is_uninitialised_this};
 use crate::reference_type::{Element, ReferenceType};
 use crate::verification_type::VerificationType;
 use hierarchy::ClassSet;
+use model::built_in::OBJECT;
 
 /// Object, if the class is below it.
 fn object_above(set: &ClassSet, class: usize) -> Option<Element>

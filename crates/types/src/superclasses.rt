@@ -1,4 +1,4 @@
-//! That each superclass is there, as the joins ask.
+//! A theorem: in linked files each superclass is there, as the joins ask.
 
 ghost use Rattle.std.specs.Prelude.{IsFalse};
 ghost use Rattle.model.specs.Classes.{Program};

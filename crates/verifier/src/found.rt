@@ -93,7 +93,7 @@ impl Found {
         self.waiting.add(offset);
     }
 
-    /// The same, and what is known of the instruction there is so no more.
+    /// Puts a frame type at an offset as `put_type` does; what is known of the instruction there is so no more.
     fn put(&mut self, offset: usize, frame: PackedFrame)
         requires typed { offset < length self.old.types.items }
         requires waiting { offset < length self.old.waiting }
@@ -321,7 +321,7 @@ impl Found {
         Ok(())
     }
 
-    /// The same at each offset to which leads are, in their order.
+    /// Raises the frame type at each offset to which leads are, in their order.
     pub fn raise_all(
         &mut self,
         alloc: Global,

@@ -32,7 +32,7 @@ fn of_runs(alloc: Global, runs: Vec<Run>, count: usize) -> Result<Locals, AllocE
     Ok(Locals::Runs(runs))
 }
 
-/// These types.
+/// The local variables of these types.
 pub(crate) fn locals_of(alloc: Global, types: Vec<VerificationType>) -> Result<Locals, AllocError>
     ensures { IfOk result (λ locals. locals_in locals ≡ types.items) }
 {

@@ -15,9 +15,9 @@ use types::{frame_join, is_frame_below};
 pub(crate) enum Raised {
     /// Nothing: the other is below it.
     Not,
-    /// Their join.
+    /// The join of the two.
     To(PackedFrame),
-    /// They have no join.
+    /// The two have no join.
     Clash,
 }
 

@@ -187,7 +187,7 @@ pub fn verify_within(alloc: Global, linked: Linked, most: u64) -> Result<Verifie
     }
 }
 
-/// The same within `MOST_STEPS`.
+/// Verifies as `verify_within` does, within `MOST_STEPS`.
 pub fn verify(alloc: Global, linked: Linked) -> Result<Verified, Refusal>
     ensures verified { IfOk result (λ verified. verified ≡ linked) }
     ensures refused { IfErr result (Refuses linked most_steps) }

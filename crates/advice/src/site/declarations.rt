@@ -36,7 +36,7 @@ impl Site<'_> {
         }
     }
 
-    /// That the class is an enum, which is told of its line.
+    /// The words that the class is an enum, which is told of its line.
     fn enum_words(&self) -> Result<Vec<u8>, AllocError> {
         let file = self.facts.file();
         let mut line = Line::new(self.alloc);

@@ -96,7 +96,8 @@ static CLASSES: [Cure; 40] = [
     ),
     (
         "java/util/Objects",
-        ", of a null check that javac writes: call new Inner() in the class around it, and make a constant field static",
+        ", of a null check that javac writes: write an anonymous class for a method reference, \
+         call new Inner() in the class around it, make a constant field static",
     ),
     ("java/util/Random", ": reckon the numbers yourself, on ints"),
     (

@@ -34,7 +34,7 @@ impl Origin {
         }
     }
 
-    /// The same of an instruction of the file. That of `ldc2_w` is told by its constant.
+    /// What an instruction of the file comes from. That of `ldc2_w` is told by its constant.
     fn of(file: &ClassFile, left_out: LeftOut) -> Origin {
         if let Operands::Constant(index) = left_out.operands {
             match file.constant(index) {

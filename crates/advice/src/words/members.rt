@@ -35,7 +35,7 @@ const CATCH: &str = ": catch the exception in run()";
 
 const DECLARE: &str = ": declare it in your class, and call it by the type of that class";
 
-/// Those of a class stand together, and those of all other members last.
+/// The cures of a class stand together, and those of all other members last.
 static MEMBERS: [Cure; 43] = [
     (
         STRING,

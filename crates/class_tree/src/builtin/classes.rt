@@ -1,4 +1,4 @@
-//! The built-in classes.
+//! The class files of the built-in classes, one by one.
 
 ghost use Rattle.std.specs.Prelude.{◌≡◌, ◌++◌, true, ◌<◌, ◌+◌, ◌*◌, ◌^◌, [], ◌∷◌, length, map, IfOk, OnOk};
 ghost use Rattle.model.specs.BuiltIn.{object_class, thread_run, thread_class, system_class, built_in_classes as classes_of_the_model};
@@ -187,7 +187,7 @@ fn push_classes(
     Ok(())
 }
 
-/// Those that are not thrown.
+/// The built-in classes that are not thrown.
 fn plain_classes(alloc: Global) -> Result<Vec<ClassFile>, AllocError>
     ensures { IfOk result (λ v. map file_of v.items ≡ plain_classes) }
 {

@@ -18,9 +18,9 @@ use std::alloc::{AllocError, Global};
 /// What a text says as the descriptor of a field or of a method. A text that is none says nothing.
 #[derive(Clone, Copy)]
 pub(crate) struct Described {
-    /// It names a type that is left out.
+    /// Whether it names a type that is left out.
     pub leaves_out: bool,
-    /// It is that of a method that returns nothing.
+    /// Whether it is that of a method that returns nothing.
     pub returns_void: bool,
     /// The slots of a method's arguments, without that of a receiver.
     pub slots: u8,

@@ -18,7 +18,7 @@ pub enum ExceptionField {
 /// A place in a method.
 #[derive(Clone, Copy)]
 pub enum Spot {
-    /// Its descriptor or its flags.
+    /// The descriptor of a method, or its flags.
     Declaration,
     /// The max_locals of its Code.
     MaxLocals,

@@ -69,6 +69,7 @@ pub fn write_outcome<R: Threads + Wait + Sync, F: Folder, W: Write>(
         rt,
         alloc,
         &Open,
+        &[],
         folder,
         words,
         &mut input,
@@ -80,7 +81,15 @@ pub fn write_outcome<R: Threads + Wait + Sync, F: Folder, W: Write>(
         output: output.failure(),
     };
     if let Err(complaint) = &outcome {
-        explain_complaint(alloc, folder, words, complaint, failures, &mut explanation);
+        explain_complaint(
+            alloc,
+            &[],
+            folder,
+            words,
+            complaint,
+            failures,
+            &mut explanation,
+        );
     }
     let written = output.into_inner();
     to.write_all(written.as_slice())?;

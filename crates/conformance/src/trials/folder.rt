@@ -1,4 +1,4 @@
-//! Files in memory.
+//! A folder of files in memory, over which trials run.
 
 ghost use Rattle.std.specs.Prelude.{None};
 

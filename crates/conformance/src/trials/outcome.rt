@@ -60,6 +60,7 @@ pub fn outcome_of<R: Threads + Wait + Sync>(
         rt,
         alloc,
         &Open,
+        &[],
         &mut folder,
         words.as_slice(),
         &mut input,

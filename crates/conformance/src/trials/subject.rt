@@ -1,4 +1,4 @@
-//! What is tried.
+//! What is tried: a command with the files that it reads.
 
 use crate::trials::folder::File;
 use crate::trials::outcome::{Outcome, outcome_of};

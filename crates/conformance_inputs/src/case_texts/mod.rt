@@ -1,4 +1,8 @@
 //! Texts of cases: command lines of `jvm`, and the files that they are run over.
+//!
+//! # Not proved
+//!
+//! - It is proved safe, and nothing is promised of what it reads.
 
 mod case;
 mod case_text;

@@ -104,7 +104,7 @@ impl Body<'_> {
         self.store(BOX)
     }
 
-    /// The same, with no null where there is a B that threads share.
+    /// Sets a box, with no null where there is a B that threads share.
     pub fn set_first_box(&mut self) -> Result<(), AllocError> {
         match self.random.below(4) {
             0 => self.push_new(b"B")?,

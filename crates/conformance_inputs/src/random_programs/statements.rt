@@ -1,4 +1,4 @@
-//! Statements on ints.
+//! Statements on ints of programs that are made by chance.
 
 use crate::random_programs::body::{BOX, Body, INTS};
 use made_files::class_builder::opcode::{

@@ -1,4 +1,4 @@
-//! Names (JVMS 4.2).
+//! Names of classes, fields and methods (JVMS 4.2).
 
 ghost use Rattle.std.specs.Prelude.{◌≡◌, List, false};
 ghost use Rattle.std.specs.List.{list_all};

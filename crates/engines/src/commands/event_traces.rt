@@ -1,14 +1,16 @@
-//! `trace`.
+//! What the command `trace` does.
 
-ghost use Rattle.std.specs.Prelude.{◌≡◌, IfErr, IfOk, None, map, string_bytes};
+ghost use Rattle.std.specs.Prelude.{◌≡◌, IfErr, IfOk, None, map, vec_items};
 ghost use Rattle.std.specs.Io.KnownBytes.{Appends};
 ghost use Rattle.engines.specs.Commands.{IsTraceDone, IsTraceUndone, IsWindow, form_of};
-ghost use Rattle.engines.specs.Files.{held_at};
+ghost use Rattle.engines.specs.Files.{known};
+ghost use Rattle.engines.specs.Recordings.{conditions_of};
 ghost use Rattle.engines.specs.Failures.{FolderMayFail, TellsFailures};
 
 use crate::explanation::Explanation;
 use crate::fault::Fault;
-use crate::named_file::{source, sources};
+use crate::named_file::{schedule_source, sources};
+use crate::recording::Conditions;
 use crate::status::Status;
 use crate::telling::told_schedule;
 use crate::tracing::trace_engine;
@@ -22,28 +24,29 @@ use std::alloc::Global;
 pub(crate) fn trace<F: Folder, W: Sink>(
     alloc: Global,
     folder: &F,
-    files: &[String],
+    files: &[Vec<u8>],
+    given: usize,
     options: &Trace,
     output: &mut W,
     explanation: &mut Explanation,
 ) -> Result<Status, Fault>
     ensures traced { IfOk result (λ status. (text : _)
-        × IsTraceDone (F.held folder.now)
-        (held_at (F.held folder.now) (map string_bytes files.now)) options.now text None status
+        × IsTraceDone (F.held folder.now) given
+        (known (map vec_items files.now)) options.now text None status
         × Appends (W.contents output.old) (W.contents output.new) text) }
     ensures faulty { IfErr result (λ fault.
-        IsTraceUndone (F.held folder.now) (held_at (F.held folder.now) (map string_bytes files.now)) options.now
+        IsTraceUndone (F.held folder.now) given (known (map vec_items files.now)) options.now
         (W.contents output.old) (W.contents output.new) fault None) }
     ensures told { TellsFailures (FolderMayFail F.may_fail) result (W.failures output.old) (W.failures output.new) }
 {
-    let status = traced(alloc, folder, files, options, output)?;
+    let status = traced(alloc, folder, files, given, options, output)?;
     if let Some(most) = explanation.most_events(status, options.explain, options.quiet) {
         let lines = told_schedule(
             alloc,
             folder,
             &options.schedule,
             files,
-            &options.limits,
+            &conditions_of(options, given),
             most,
         );
         explanation.tell(lines);
@@ -55,31 +58,43 @@ pub(crate) fn trace<F: Folder, W: Sink>(
 fn traced<'a, F: Folder, W: Sink>(
     alloc: Global,
     folder: &'a F,
-    files: &'a [String],
+    files: &'a [Vec<u8>],
+    given: usize,
     options: &'a Trace,
     output: &mut W,
 ) -> Result<Status, Fault>
     ensures traced { IfOk result (λ status. (text : _)
-        × IsTraceDone (F.held folder.now)
-        (held_at (F.held folder.now) (map string_bytes files.now)) options.now text None status
+        × IsTraceDone (F.held folder.now) given
+        (known (map vec_items files.now)) options.now text None status
         × Appends (W.contents output.old) (W.contents output.new) text) }
     ensures faulty { IfErr result (λ fault.
-        IsTraceUndone (F.held folder.now) (held_at (F.held folder.now) (map string_bytes files.now)) options.now
+        IsTraceUndone (F.held folder.now) given (known (map vec_items files.now)) options.now
         (W.contents output.old) (W.contents output.new) fault None) }
     ensures told { TellsFailures (FolderMayFail F.may_fail) result (W.failures output.old) (W.failures output.new) }
 {
-    let limits = &options.limits;
+    let conditions = conditions_of(options, given);
     let window = window_of(options);
-    let mut schedule = source(folder, options.schedule.as_str());
+    let mut schedule = schedule_source(folder, options.schedule.as_str());
     let mut sources = sources(alloc, folder, files)?;
     trace_engine(
         alloc,
         &mut schedule,
         sources.as_mut_slice(),
-        limits,
+        &conditions,
         window,
         output,
     )
+}
+
+/// Under what the schedule is to run.
+fn conditions_of(options: &Trace, given: usize) -> Conditions
+    ensures { result ≡ conditions_of options.now.limits options.now.any_files given }
+{
+    Conditions {
+        limits: options.limits,
+        any_files: options.any_files,
+        given,
+    }
 }
 
 /// Which events are told, and in which form: from the first one on, to the last one, and of all threads, where the

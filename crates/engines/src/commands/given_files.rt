@@ -1,12 +1,13 @@
-//! `verify` and `disasm`.
+//! What the commands `verify` and `disasm` do.
 
-ghost use Rattle.std.specs.Prelude.{◌≡◌, ◌⊎◌, ◌+◌, IfErr, IfOk, map, string_bytes, sum_by};
+ghost use Rattle.std.specs.Prelude.{◌≡◌, ◌⊎◌, ◌+◌, IfErr, IfOk, map, sum_by, vec_items};
 ghost use Rattle.std.specs.Io.KnownBytes.{Appends};
 ghost use Rattle.engines.specs.Commands.{IsUnacceptedAs, IsUnlistedAs, ListsAs, VerifiesAs};
 ghost use Rattle.engines.specs.Devices.{IsUnable};
-ghost use Rattle.engines.specs.Files.{held_at};
+ghost use Rattle.engines.specs.Files.{known};
 ghost use Rattle.engines.specs.Engines.{CountsFailure};
 ghost use Rattle.engines.specs.Failures.{FolderMayFail, TellsFailures};
+ghost use Rattle.library_files.specs.Adding.{library_file};
 
 use crate::fault::Fault;
 use crate::library::verify_library_engine;
@@ -16,6 +17,7 @@ use crate::names::names_engine;
 use crate::status::Status;
 use crate::verification::verify_engine;
 use command_line::{Disasm, Verify};
+use library_files::LibraryClass;
 use model::{Sink, Source};
 use program_files::Folder;
 use std::alloc::Global;
@@ -24,20 +26,29 @@ use std::alloc::Global;
 pub(crate) fn verify<F: Folder, W: Sink>(
     alloc: Global,
     folder: &F,
-    files: &[String],
+    files: &[Vec<u8>],
+    given: usize,
+    own: &[LibraryClass<'_>],
     options: &Verify,
     output: &mut W,
 ) -> Result<Status, Fault>
     ensures verified { IfOk result (λ status. (text : _) × (status ≡ Status.Returned)
-        × VerifiesAs options.now.library (held_at (F.held folder.now) (map string_bytes files.now)) text
+        × VerifiesAs options.now.library given (map library_file own.now) (known (map vec_items files.now)) text
         × Appends (W.contents output.old) (W.contents output.new) text) }
     ensures faulty { IfErr result (λ fault. (IsUnable fault × (W.contents output.new ≡ W.contents output.old))
-        ⊎ IsUnacceptedAs options.now.library (held_at (F.held folder.now) (map string_bytes files.now))
+        ⊎ IsUnacceptedAs options.now.library given (map library_file own.now) (known (map vec_items files.now))
         (W.contents output.old) (W.contents output.new) fault) }
     ensures told { TellsFailures (FolderMayFail F.may_fail) result (W.failures output.old) (W.failures output.new) }
 {
     let mut sources = sources(alloc, folder, files)?;
-    verified(alloc, options.library, sources.as_mut_slice(), output)
+    verified(
+        alloc,
+        options.library,
+        sources.as_mut_slice(),
+        given,
+        own,
+        output,
+    )
 }
 
 /// Verifies class files, as a library or as a program.
@@ -45,21 +56,23 @@ fn verified<S: Source, W: Sink>(
     alloc: Global,
     library: bool,
     files: &mut [S],
+    given: usize,
+    own: &[LibraryClass<'_>],
     output: &mut W,
 ) -> Result<Status, Fault>
     ensures verified { IfOk result (λ status. (text : _) × (status ≡ Status.Returned)
-        × VerifiesAs library (map S.remaining files.old) text
+        × VerifiesAs library given (map library_file own.now) (map S.remaining files.old) text
         × Appends (W.contents output.old) (W.contents output.new) text) }
-    ensures faulty { IfErr result (IsUnacceptedAs library (map S.remaining files.old)
+    ensures faulty { IfErr result (IsUnacceptedAs library given (map library_file own.now) (map S.remaining files.old)
         (W.contents output.old) (W.contents output.new)) }
     ensures counted { CountsFailure result
         (sum_by S.failures files.old + W.failures output.old)
         (sum_by S.failures files.new + W.failures output.new) }
 {
     if library {
-        verify_library_engine(alloc, files, output)
+        verify_library_engine(alloc, files, given, own, output)
     } else {
-        verify_engine(alloc, files, output)
+        verify_engine(alloc, files, given, own, output)
     }
 }
 
@@ -67,15 +80,15 @@ fn verified<S: Source, W: Sink>(
 pub(crate) fn disasm<F: Folder, W: Sink>(
     alloc: Global,
     folder: &F,
-    files: &[String],
+    files: &[Vec<u8>],
     options: &Disasm,
     output: &mut W,
 ) -> Result<Status, Fault>
     ensures listed { IfOk result (λ status. (text : _) × (status ≡ Status.Returned)
-        × ListsAs options.now.names (held_at (F.held folder.now) (map string_bytes files.now)) text
+        × ListsAs options.now.names (known (map vec_items files.now)) text
         × Appends (W.contents output.old) (W.contents output.new) text) }
     ensures faulty { IfErr result (λ fault. (IsUnable fault × (W.contents output.new ≡ W.contents output.old))
-        ⊎ IsUnlistedAs options.now.names (held_at (F.held folder.now) (map string_bytes files.now))
+        ⊎ IsUnlistedAs options.now.names (known (map vec_items files.now))
         (W.contents output.old) (W.contents output.new) fault) }
     ensures told { TellsFailures (FolderMayFail F.may_fail) result (W.failures output.old) (W.failures output.new) }
 {

@@ -8,7 +8,7 @@ use std::alloc::{AllocError, Global};
 /// What ends a line.
 const LINE_END: &[u8] = b"\n";
 
-/// The same, and what may stand before it.
+/// What ends a line, and what may stand before it.
 const RETURN_AND_END: &[u8] = b"\r\n";
 
 /// The text of a file: a carriage return before a line feed doesn't count, and the last line has a line feed at its

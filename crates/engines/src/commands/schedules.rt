@@ -1,4 +1,4 @@
-//! `schedule`.
+//! What the command `schedule` does.
 
 ghost use Rattle.std.specs.Prelude.{◌≡◌, ◌+◌, IfErr, IfOk, None, Some, string_bytes};
 ghost use Rattle.engines.specs.Commands.{IsScheduleDone, IsScheduleUndone, Leaves, LeavesAt};
@@ -50,16 +50,16 @@ fn write_schedule<F: Folder, I: Source>(
     input: &mut I,
     explanation: &mut Explanation,
 ) -> Result<Status, Fault>
-    ensures done { IfOk result (λ status. (bytes : _) × Transcribes (I.remaining input.old) bytes
+    ensures done { IfOk result (λ status. (bytes : _) × Transcribes options.now.as_version (I.remaining input.old) bytes
         × (status ≡ Status.Returned)
         × IsWith (F.held folder.old) (F.held folder.new) (Some (string_bytes options.now.file, bytes))) }
     ensures faulty { IfErr result (λ fault.
-        ((kept : _) × (made : _) × IsUntranscribed (I.remaining input.old) kept made fault)
+        ((kept : _) × (made : _) × IsUntranscribed options.now.as_version (I.remaining input.old) kept made fault)
         × IsWith (F.held folder.old) (F.held folder.new) None) }
     ensures told { TellsFailures (FolderMayFail F.may_fail) result (I.failures input.old) (I.failures input.new) }
 {
     let mut file = MadeFile::new(alloc);
-    let status = write_schedule_engine(alloc, input, &mut file)?;
+    let status = write_schedule_engine(alloc, input, options.as_version, &mut file)?;
     let path = options.file.as_str();
     store(alloc, folder, path, file.bytes(), explanation)?;
     Ok(status)

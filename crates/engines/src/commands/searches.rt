@@ -1,11 +1,11 @@
-//! `search`.
+//! What the command `search` does.
 
-ghost use Rattle.std.specs.Prelude.{◌≡◌, ◌⊎◌, IfErr, IfOk, None, Some, is_some, vec_items, map, string_bytes};
+ghost use Rattle.std.specs.Prelude.{◌≡◌, ◌⊎◌, IfErr, IfOk, None, Some, is_some, vec_items, map};
 ghost use Rattle.std.specs.Option.{option_map};
 ghost use Rattle.std.specs.Io.KnownBytes.{Appends};
 ghost use Rattle.engines.specs.Commands.{IsSearchDone, IsSearchUndone, Leaves, LeavesAt};
 ghost use Rattle.engines.specs.Devices.{IsUnable};
-ghost use Rattle.engines.specs.Files.{held_at};
+ghost use Rattle.engines.specs.Files.{known};
 ghost use Rattle.engines.specs.Failures.{FolderMayFail, TellsFailures};
 ghost use Rattle.engines.specs.Goals.{IsAskedFor};
 ghost use Rattle.engines.specs.declared.fault.Fault.TheVariants.{Device};
@@ -30,18 +30,19 @@ pub(crate) fn search<P: Progress, F: Folder, W: Sink>(
     alloc: Global,
     progress: &P,
     folder: &mut F,
-    files: &[String],
+    files: &[Vec<u8>],
+    given: usize,
     options: &Search,
     output: &mut W,
     explanation: &mut Explanation,
 ) -> Result<Status, Fault>
     ensures done { IfOk result
-        (Leaves (IsSearchDone (F.held folder.old)
-        (held_at (F.held folder.old) (map string_bytes files.now)) options.now)
+        (Leaves (IsSearchDone (F.held folder.old) given
+        (known (map vec_items files.now)) options.now)
         (W.contents output.old) (W.contents output.new) (F.held folder.old) (F.held folder.new)) }
     ensures faulty { IfErr result (LeavesAt (λ fault written.
         (IsUnable fault × (W.contents output.new ≡ W.contents output.old) × (written ≡ None))
-        ⊎ IsSearchUndone (F.held folder.old) (held_at (F.held folder.old) (map string_bytes files.now)) options.now
+        ⊎ IsSearchUndone (F.held folder.old) given (known (map vec_items files.now)) options.now
         (W.contents output.old) (W.contents output.new) fault written)
         (F.held folder.old) (F.held folder.new)) }
     ensures told { TellsFailures (FolderMayFail F.may_fail) result (W.failures output.old) (W.failures output.new) }
@@ -53,6 +54,7 @@ pub(crate) fn search<P: Progress, F: Folder, W: Sink>(
         progress,
         folder,
         files,
+        given,
         options,
         &wanted,
         output,
@@ -65,7 +67,8 @@ fn search_for<P: Progress, F: Folder, W: Sink>(
     alloc: Global,
     progress: &P,
     folder: &mut F,
-    files: &[String],
+    files: &[Vec<u8>],
+    given: usize,
     options: &Search,
     wanted: &Wanted,
     output: &mut W,
@@ -73,17 +76,17 @@ fn search_for<P: Progress, F: Folder, W: Sink>(
 ) -> Result<Status, Fault>
     ensures done { IsAskedFor (F.held folder.old) options.now.goal wanted.now
         → IfOk result (Leaves
-        (IsSearchDone (F.held folder.old) (held_at (F.held folder.old) (map string_bytes files.now)) options.now)
+        (IsSearchDone (F.held folder.old) given (known (map vec_items files.now)) options.now)
         (W.contents output.old) (W.contents output.new) (F.held folder.old) (F.held folder.new)) }
     ensures faulty { IsAskedFor (F.held folder.old) options.now.goal wanted.now
         → IfErr result (LeavesAt
-        (IsSearchUndone (F.held folder.old) (held_at (F.held folder.old) (map string_bytes files.now)) options.now
+        (IsSearchUndone (F.held folder.old) given (known (map vec_items files.now)) options.now
         (W.contents output.old) (W.contents output.new)) (F.held folder.old) (F.held folder.new)) }
     ensures told { TellsFailures (FolderMayFail F.may_fail) result (W.failures output.old) (W.failures output.new) }
 {
     let mut file = None;
     let outcome = searched(
-        alloc, progress, folder, files, options, wanted, output, &mut file,
+        alloc, progress, folder, files, given, options, wanted, output, &mut file,
     );
     recorded(alloc, folder, &options.record, &file, outcome, explanation)
 }
@@ -93,18 +96,19 @@ fn searched<P: Progress, F: Folder, W: Sink>(
     alloc: Global,
     progress: &P,
     folder: &F,
-    files: &[String],
+    files: &[Vec<u8>],
+    given: usize,
     options: &Search,
     wanted: &Wanted,
     output: &mut W,
     file: &mut Option<Vec<u8>>,
 ) -> Result<Status, Fault>
     ensures searched { IfOk result (λ status. (text : _)
-        × Searches (held_at (F.held folder.now) (map string_bytes files.now)) options.now.limits wanted.now
+        × Searches given (known (map vec_items files.now)) options.now.limits wanted.now
         (most_states options.now)
         (is_some options.now.record) text (option_map vec_items file.new) status
         × Appends (W.contents output.old) (W.contents output.new) text) }
-    ensures faulty { IfErr result (IsUnsearched (held_at (F.held folder.now) (map string_bytes files.now))
+    ensures faulty { IfErr result (IsUnsearched given (known (map vec_items files.now))
         options.now.limits wanted.now (most_states options.now) (is_some options.now.record) (W.contents output.old)
         (W.contents output.new)
         (option_map vec_items file.old) (option_map vec_items file.new)) }
@@ -115,6 +119,7 @@ fn searched<P: Progress, F: Folder, W: Sink>(
         alloc,
         progress,
         sources.as_mut_slice(),
+        given,
         options,
         wanted,
         output,
@@ -123,7 +128,11 @@ fn searched<P: Progress, F: Folder, W: Sink>(
 }
 
 /// The outcome that a search is to find, where one is asked for.
-fn wanted_by<F: Folder>(alloc: Global, folder: &F, goal: &Option<Goal>) -> Result<Wanted, Fault>
+pub(crate) fn wanted_by<F: Folder>(
+    alloc: Global,
+    folder: &F,
+    goal: &Option<Goal>,
+) -> Result<Wanted, Fault>
     ensures asked { IfOk result (IsAskedFor (F.held folder.now) goal.now) }
     ensures unable { IfErr result IsUnable }
     ensures failed { IfErr result (λ fault. fault ≡ Device → FolderMayFail F.may_fail) }
@@ -135,7 +144,7 @@ fn wanted_by<F: Folder>(alloc: Global, folder: &F, goal: &Option<Goal>) -> Resul
 }
 
 /// The outcome that a search for a goal is to find.
-fn wanted_for<F: Folder>(alloc: Global, folder: &F, goal: &Goal) -> Result<Wanted, Fault>
+pub(crate) fn wanted_for<F: Folder>(alloc: Global, folder: &F, goal: &Goal) -> Result<Wanted, Fault>
     ensures asked { IfOk result (IsAskedFor (F.held folder.now) (Some goal.now)) }
     ensures unable { IfErr result IsUnable }
     ensures failed { IfErr result (λ fault. fault ≡ Device → FolderMayFail F.may_fail) }

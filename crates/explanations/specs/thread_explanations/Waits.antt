@@ -1,6 +1,7 @@
 -- For what threads wait, and for which thread that is, in what the threads of a machine share (own; JVMS 2.11.10, 5.5; JLS 17.1, 17.2).
 use Rattle.std.specs.Prelude.{◌+◌, ◌-◌, ◌==◌, ℕ, zero, suc, List, [], ◌∷◌, ◌++◌, Option, Some, None, length, nat_lt, slice_get, slice_index_or, if◌then◌else◌}
 use Rattle.std.specs.Option.{option_and_then, option_map, option_map_or}
+use Rattle.model.specs.BuiltInNumbers.{first_class_reference}
 use Rattle.heap.specs.java_threads.Table.{number_of, thread_at}
 use Rattle.linked_code.specs.declared.class.LinkedClass.{LinkedClass}
 use Rattle.linked_code.specs.declared.instruction.LinkedInstruction.{LinkedInstruction}
@@ -45,7 +46,7 @@ instruction_on_top p (Initialisation class phase ∷ stack) = None
 
 -- the Class object of the class that declares a method: those of all classes stand behind three other objects
 abbrev pub class_object : LinkedProgram → (method : ℕ) → Option ℕ
-class_object p method = option_map (λ (row : LinkedMethod). 3 + row.class) (slice_get p.methods.items method)
+class_object p method = option_map (λ (row : LinkedMethod). first_class_reference + row.class) (slice_get p.methods.items method)
 
 -- the object of the reference under so many operands of the frame on top
 abbrev pub object_under : (operands : ℕ) → List ShownEntry → Option ℕ

@@ -15,18 +15,16 @@ use linked_code::{LinkedInstruction, LinkedProgram, MethodBody};
 use machine_state::method_selection::method_at;
 use machine_state::{ClassStatus, Shared};
 use model::EndState;
+use model::built_in::MAIN_THREAD;
 use traces::class_object_of;
-
-/// The thread that runs `main`.
-const MAIN_THREAD: u16 = 0;
 
 /// For what a thread waits. Objects and classes are given by their numbers.
 #[derive(Clone, Copy)]
 pub enum Awaited {
     Nothing,
-    /// That no other thread owns the monitor of an object.
+    /// The time when no other thread owns the monitor of an object.
     Monitor(u32),
-    /// The same, to go on from a wait.
+    /// The time when no other thread owns it, to go on from a wait.
     MonitorAgain(u32),
     /// A notification, in the wait set of an object.
     Notification(u32),

@@ -1,4 +1,4 @@
-//! Deadlocks in words.
+//! Deadlocks in words: each cycle of threads of which each waits for the next one.
 
 ghost use Rattle.std.specs.Prelude.{◌≡◌, ◌++◌, [], if◌then◌else◌, OnOk, codes, map, vec_items};
 ghost use Rattle.std.specs.List.{flat_map, list_any};
@@ -82,7 +82,7 @@ fn push_wait(line: &mut Vec<u8>, waits: &[Wait], thread: u16) -> Result<(), Allo
     push_next(line, thread, next_of(waits, thread))
 }
 
-/// The same behind a comma.
+/// `, thread 1 waits for thread 2`.
 fn push_other(line: &mut Vec<u8>, waits: &[Wait], thread: u16) -> Result<(), AllocError>
     ensures { OnOk result (line.new.items ≡ line.old.items ++ (codes ", " ++ words.wait_words waits.now thread)) }
 {
@@ -90,7 +90,7 @@ fn push_other(line: &mut Vec<u8>, waits: &[Wait], thread: u16) -> Result<(), All
     push_wait(line, waits, thread)
 }
 
-/// The same of these threads.
+/// For whom each of these threads waits, each behind a comma.
 fn push_others(line: &mut Vec<u8>, waits: &[Wait], threads: &[u16]) -> Result<(), AllocError>
     ensures { OnOk result (line.new.items ≡ line.old.items
         ++ flat_map (λ thread. codes ", " ++ words.wait_words waits.now thread) threads.now) }

@@ -26,7 +26,7 @@ fn awaited_at(shared: &Shared, program: &LinkedProgram, ends: &[EndState], threa
     }
 }
 
-/// The same, and for which thread.
+/// For what a thread waits, and for which thread.
 fn wait_at(shared: &Shared, program: &LinkedProgram, ends: &[EndState], thread: u16) -> Wait
     ensures { result ≡ waits.wait_at program.now shared.now ends.now thread }
 {
@@ -37,7 +37,7 @@ fn wait_at(shared: &Shared, program: &LinkedProgram, ends: &[EndState], thread: 
     }
 }
 
-/// That of each thread, by its number.
+/// The wait of each thread, by its number.
 pub(crate) fn each_wait(
     alloc: Global,
     shared: &Shared,

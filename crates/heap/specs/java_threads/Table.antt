@@ -1,6 +1,7 @@
 -- The threads of a run (JLS 17), but for their stacks, and how many there may be.
 use Rattle.std.specs.Prelude.{◌≡◌, ℕ, ◌<◌, ◌≤◌, ◌==◌, List, [], ◌∷◌, ◌++◌, length, Option, Result, Ok, Err, slice_index_or, slice_set}
 use Rattle.std.specs.List.{position}
+use Rattle.model.specs.BuiltInNumbers.{most_threads}
 use Rattle.model.specs.State.{Thread, new_thread}
 use Rattle.heap.specs.declared.java_threads.refusal.ThreadRefusal.{ThreadRefusal}
 use Rattle.heap.specs.declared.java_threads.refusal.ThreadRefusal.TheVariants.{Threads, Memory}
@@ -26,7 +27,7 @@ with_thread table t thread = record table { threads = slice_set table.threads t 
 pub record IsWithin (count limit : ℕ) : Type 0 where
   pub main : 1 ≤ count
   pub limited : count ≤ limit
-  pub numbered : limit ≤ 32767
+  pub numbered : limit ≤ most_threads
 
 -- a thread was started, or refused because as many were started as may be, or for want of memory
 abbrev pub IsAdded : Result (Unit {0}) ThreadRefusal → ℕ → ThreadTable → ThreadTable → Type 0

@@ -2,6 +2,7 @@
 -- 0 where there is none, and bits 15 to 8 the entries less one; of shape 1, bits 30 to 8 are the number of the monitor.
 -- Bits 7 to 0 are no part of the lock.
 use Rattle.std.specs.Prelude.{ℕ, ◌+◌, ◌-◌, ◌*◌, ◌/◌, ◌%◌, ◌^◌, ◌<◌, ◌≤◌, ◌==◌, nat_lt, if◌then◌else◌}
+use Rattle.model.specs.BuiltInNumbers.{most_threads}
 use Rattle.heap.specs.declared.lock_word.lock.Lock.{Lock}
 use Rattle.heap.specs.declared.lock_word.lock.Lock.TheVariants.{Unlocked, Thin, Fat}
 
@@ -35,5 +36,5 @@ bits_of word = lock_bits word.lock + word.low_byte
 -- a word has room for the lock: the owner is below 32,767 and entered 1 to 256 times, the monitor is below 8,388,608
 abbrev pub HasRoomFor : Lock → Type 0
 HasRoomFor Unlocked = Unit {0}
-HasRoomFor (Thin owner entries) = (owner < 32767) × (0 < entries) × (entries ≤ 256)
+HasRoomFor (Thin owner entries) = (owner < most_threads) × (0 < entries) × (entries ≤ 256)
 HasRoomFor (Fat monitor) = monitor < 2 ^ 23

@@ -1,5 +1,6 @@
 -- The locks of objects: their monitors, which of them are inflated, and what a call makes of both.
 use Rattle.std.specs.Prelude.{◌≡◌, ℕ, ◌<◌, ◌≤◌, ◌==◌, ◌&&◌, nat_le, not, List, length, Bool, true, false, Result, Ok, Err, slice_index_or, slice_set, count_by, if◌then◌else◌}
+use Rattle.model.specs.BuiltInNumbers.{most_threads}
 use Rattle.model.specs.State.{Monitor}
 use Rattle.model.specs.declared.monitor_answer.MonitorAnswer.{MonitorAnswer}
 use Rattle.model.specs.Monitors.{Answered, owns, monitor_at, enter, exit, wait, notify, notify_all, wake_all, interrupt, relock, monitor_enter, monitor_exit, monitor_wait, monitor_notify, monitor_notify_all, monitor_wake_all, monitor_interrupt, monitor_relock}
@@ -57,10 +58,10 @@ answered_by (Relock object thread count) = monitor_relock thread count
 -- what a caller keeps: the object is there, a thread is below 32,767, and a thread that enters again entered at least
 -- once, and where the lock is thin at most 256 times
 abbrev pub IsAllowed : Call → Locks → Type 0
-IsAllowed (Enter object thread) locks = (object < length locks.monitors) × (thread < 32767)
-IsAllowed (Wait object thread) locks = (object < length locks.monitors) × (thread < 32767)
+IsAllowed (Enter object thread) locks = (object < length locks.monitors) × (thread < most_threads)
+IsAllowed (Wait object thread) locks = (object < length locks.monitors) × (thread < most_threads)
 IsAllowed (Relock object thread count) locks =
-    (object < length locks.monitors) × (thread < 32767) × (0 < count) × (is_fat_at locks object ≡ false → count ≤ 256)
+    (object < length locks.monitors) × (thread < most_threads) × (0 < count) × (is_fat_at locks object ≡ false → count ≤ 256)
 IsAllowed call locks = object_of call < length locks.monitors
 
 -- ---- inflation (own): the 257th entry of an owner and a wait that joins make the lock fat, and nothing else does

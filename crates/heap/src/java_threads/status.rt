@@ -11,17 +11,17 @@ pub enum WakeCause {
 #[derive(Clone, Copy, PartialEq, Eq)]
 pub enum ThreadStatus {
     Running,
-    /// It is in the wait set of an object, whose monitor it had entered so many times.
+    /// The thread is in the wait set of an object, whose monitor it had entered so many times.
     Waiting {
         object: u32,
         count: u32,
     },
-    /// It left the wait set of an object, and is to enter the monitor again as often as before.
+    /// The thread left the wait set of an object, and is to enter the monitor again as often as before.
     Relock {
         object: u32,
         count: u32,
         cause: WakeCause,
     },
-    /// It has ended, with an exception or without.
+    /// The thread has ended, with an exception or without.
     Ended(Option<u32>),
 }

@@ -1,4 +1,4 @@
-//! One thread.
+//! What the table of threads has of one thread.
 
 ghost use Rattle.std.specs.Prelude.{◌≡◌};
 ghost use Rattle.model.specs.State.{new_thread};

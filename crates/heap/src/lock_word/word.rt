@@ -1,6 +1,7 @@
 //! The bits of a lock word.
 
 ghost use Rattle.std.specs.Prelude.{◌≡◌, ◌<◌, ◌≤◌, ◌^◌, ◌↔◌, IsSome, IfSome, Some, None};
+ghost use Rattle.model.specs.BuiltInNumbers.{most_threads};
 ghost use Rattle.heap.specs.lock_word.Words.{word_spelled, lock_bits, bits_of, SpellsWord, HasRoomFor};
 ghost use Rattle.heap.specs.lock_word.Locking.{owner_of, entries_of, entering, lock_entered, leaving, lock_left};
 
@@ -144,7 +145,7 @@ impl LockWord {
 
     /// The thread, below 32,767, enters once, where the word can tell that it may and count it.
     pub fn try_enter(&mut self, thread: u16) -> TryEnter
-        requires { thread < 32767 }
+        requires { thread < most_threads }
         ensures answer { result ≡ entering thread self.old.lock }
         ensures after { self.new ≡ record self.old { lock = lock_entered thread self.old.lock } }
         ensures fits { HasRoomFor self.new.lock }

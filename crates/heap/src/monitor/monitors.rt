@@ -12,11 +12,9 @@ use crate::monitor::refusal::MonitorRefusal;
 use crate::monitor::table::Table;
 use crate::monitor::waiter::Waiter;
 use model::MonitorAnswer;
+use model::built_in::MOST_THREADS;
 use std::alloc::{AllocError, Global};
 use std::marker::Model;
-
-/// How many threads there may be: their numbers are below this one.
-const MOST_THREADS: u16 = 32767;
 
 /// The monitors of objects, by the references of the objects.
 ///

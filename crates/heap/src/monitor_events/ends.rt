@@ -25,7 +25,7 @@ fn set_ended(threads: &mut Threads, thread: u16)
 /// what it owns stays owned. A thread that joins it may go on from here, since it isn't alive any more. It takes no
 /// memory.
 ///
-/// That the Thread object is there follows from the table of threads of a well-typed state (`references_have_room` of
+/// The Thread object is there, which follows from the table of threads of a well-typed state (`references_have_room` of
 /// `limits_at_words`).
 pub fn end(heap: &mut Heap, threads: &mut Threads, thread: u16)
     requires there { thread < length threads.old.threads }

@@ -1,6 +1,7 @@
 //! Entries of monitors and their ends.
 
 ghost use Rattle.std.specs.Prelude.{◌≡◌, ◌<◌, length};
+ghost use Rattle.model.specs.BuiltInNumbers.{most_threads};
 ghost use Rattle.model.specs.Worlds.{is_done as is_answer_done, with_exit};
 ghost use Rattle.heap.specs.monitor_events.Tables.{MonitorsBecome};
 ghost use Rattle.heap.specs.monitor_events.Events.{SaysMayEnter, SaysOwner, Enters};
@@ -50,7 +51,7 @@ pub fn is_owner(heap: &Heap, object: u32, thread: u16) -> bool
 /// memory. Nothing has changed then.
 pub fn enter(heap: &mut Heap, object: u32, thread: u16) -> Result<bool, MonitorRefusal>
     requires there { object < length heap.old.locks.monitors }
-    requires numbered { thread < 32767 }
+    requires numbered { thread < most_threads }
     ensures { Enters result object thread heap.old heap.new }
 {
     let answer = heap.enter(object, thread)?;

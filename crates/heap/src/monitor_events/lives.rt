@@ -44,7 +44,7 @@ pub fn set_interrupted(threads: &mut Threads, thread: u16, interrupted: bool)
 /// A thread is interrupted (JLS 17.2.3): one in a wait set leaves it, and is to enter the monitor again; nothing
 /// becomes of one that has ended.
 ///
-/// That the object on which it waits is there follows from the status of each thread of a well-typed state
+/// The object on which it waits is there, which follows from the status of each thread of a well-typed state
 /// (`references_have_room` of `limits_at_words`).
 pub fn interrupt(heap: &mut Heap, threads: &mut Threads, thread: u16)
     requires { IsStatusWithin (length heap.old.locks.monitors) (row_at threads.old.threads thread).status }

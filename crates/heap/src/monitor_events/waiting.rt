@@ -1,6 +1,7 @@
 //! Wait sets (JLS 17.2).
 
 ghost use Rattle.std.specs.Prelude.{◌≡◌, ◌<◌, length};
+ghost use Rattle.model.specs.BuiltInNumbers.{most_threads};
 ghost use Rattle.model.specs.BuiltInMethods.{notified};
 ghost use Rattle.heap.specs.monitor.Locks.{IsAllowed};
 ghost use Rattle.heap.specs.monitor_events.Events.{SaysOwner, OwnerMakes, WaitsBy, Relocks};
@@ -24,7 +25,7 @@ pub fn wait(
     thread: u16,
 ) -> Result<bool, MonitorRefusal>
     requires there { object < length heap.old.locks.monitors }
-    requires numbered { thread < 32767 }
+    requires numbered { thread < most_threads }
     ensures { WaitsBy result object thread heap.old heap.new threads.old threads.new }
 {
     if !is_owner(heap, object, thread) {
@@ -59,7 +60,7 @@ pub fn notify(heap: &mut Heap, threads: &mut Threads, object: u32, thread: u16, 
 /// A thread that has left a wait set enters the monitor again as often as it had entered it, and runs (JLS 17.2.1),
 /// where no thread owns the monitor. It says whether that is so; nothing changes where it isn't.
 ///
-/// That the call is allowed for each thread to which a status gives that object and count is `relocks_may_be_called` of
+/// The call is allowed for each thread to which a status gives that object and count is `relocks_may_be_called` of
 /// `limits_at_words`.
 pub fn relock(heap: &mut Heap, threads: &mut Threads, object: u32, thread: u16, count: u32) -> bool
     requires { IsAllowed (Call.Relock object thread count) heap.old.locks }

@@ -7,9 +7,6 @@ ghost use Rattle.hierarchy.specs.Places.{name_at};
 
 use hierarchy::ClassSet;
 
-/// The place of java/lang/Object, in every set.
-pub(crate) const OBJECT: usize = 0;
-
 /// Whether a class has this direct superclass.
 pub(crate) fn is_directly_below(set: &ClassSet, class: usize, superclass: usize) -> bool
     ensures { result ≡ spells (superclass_of set.now (name_at set.now class)) (name_at set.now superclass) }

@@ -20,9 +20,9 @@ use types::{FrameType, VerificationType};
 /// An instruction where it stands. Offsets are in bytes from the beginning of the code.
 #[derive(Clone, Copy)]
 pub struct InstructionSite<'a> {
-    /// That of the class that declares the method.
+    /// The constant pool of the class that declares the method.
     pub pool: &'a Pool,
-    /// That of the method.
+    /// The code of the method.
     pub code: &'a [u8],
     pub offset: usize,
     /// The offset after the instruction.
@@ -37,7 +37,7 @@ pub enum LocalFlow {
     NotLocal,
     /// An operand is missing or not as it wants it, or the stack would be too deep.
     NotReady,
-    /// It leads to each of these offsets, to the one by default first.
+    /// The instruction leads to each of these offsets, to the one by default first.
     Leads(SmallVec<usize, 2>),
 }
 

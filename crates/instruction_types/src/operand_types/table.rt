@@ -7,10 +7,10 @@ ghost use Rattle.instruction_types.specs.operand_types.View.{want_in};
 ghost use Rattle.instruction_types.specs.operand_types.RowView.{row_in, out_in, typed, popping_row};
 ghost use Rattle.instruction_types.specs.operand_types.Local.{row_at, jump_row_at};
 
-use crate::operand_types::class::OBJECT;
 use crate::operand_types::local::InstructionSite;
 use crate::operand_types::row::{LocalWrite, Out, Targets, TypeRow};
 use crate::operand_types::wants::{LocalRead, Want};
+use model::built_in::OBJECT;
 use model::{Instr, Kind, StackMove};
 use types::{Element, ReferenceType};
 

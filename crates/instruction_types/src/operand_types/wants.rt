@@ -49,7 +49,7 @@ pub struct Wants {
     pub grows: usize,
 }
 
-/// The same, lent.
+/// What an instruction wants, lent.
 #[derive(Clone, Copy)]
 pub(crate) struct Asked<'a> {
     pub(crate) allowed: bool,

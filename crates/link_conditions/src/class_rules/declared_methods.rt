@@ -86,7 +86,7 @@ fn is_whole(table: &MethodTable, set: &ClassSet) -> bool
 }
 
 impl DeclaredMethods {
-    /// Those of a set. This alone takes memory.
+    /// The declared methods of a set. This alone takes memory.
     pub fn of_set(alloc: Global, set: &ClassSet) -> Result<DeclaredMethods, AllocError>
         ensures { IfOk result (AreDeclaredIn set.now) }
     {

@@ -59,7 +59,7 @@ fn redeclares_in(set: &ClassSet, file: &ClassFile, again: &Method, superclass: &
         && is_bad_redeclaration(superclass, method.flags, class_name(file), again)
 }
 
-/// The same of a superclass that may be one of so many.
+/// Whether a method redeclares one of a superclass, which may be one of so many, as it must not.
 fn redeclares_suspect(
     set: &ClassSet,
     methods: &DeclaredMethods,

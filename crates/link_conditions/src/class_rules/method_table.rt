@@ -64,7 +64,7 @@ pub(crate) fn flags_at(table: &MethodTable, class: usize, signature: usize) -> O
         .copied()
 }
 
-/// Those with which any class declares it.
+/// The access flags with which any class declares the method of a number.
 pub(crate) fn flags_of(table: &MethodTable, signature: usize) -> &[u16]
     ensures { result.now ≡ flags_of table.now signature }
 {

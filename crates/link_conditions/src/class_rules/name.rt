@@ -1,4 +1,4 @@
-//! Names (JVMS 4.2).
+//! Names that the rules of classes compare (JVMS 4.2): of members, and of packages.
 
 ghost use Rattle.std.specs.Prelude.{◌≡◌};
 ghost use Rattle.model.specs.Classes.{package_of, same_package};

@@ -20,7 +20,7 @@ use hierarchy::ClassSet;
 pub(crate) enum Suspects {
     All,
     None,
-    /// Those that declare the method of a number, as far as its access flags tell.
+    /// The classes that declare the method of a number, as far as its access flags tell.
     Of { number: usize },
 }
 
@@ -47,7 +47,7 @@ fn any_may_be_bad(flags: &[u16], again: &Method) -> bool
     flags.iter().any(|flags| may_be_bad(*flags, again))
 }
 
-/// Those of the method of a file.
+/// The suspects of the method of a file.
 pub(crate) fn suspects_of(
     set: &ClassSet,
     methods: &DeclaredMethods,

@@ -1,4 +1,4 @@
-//! Texts, each once.
+//! The texts of string constants of all files, each once.
 
 ghost use Rattle.std.specs.Prelude.{◌≡◌, [], length, option_map, position, OnOk};
 ghost use Rattle.std.specs.Option.{option_to_list};

@@ -16,7 +16,7 @@ use std::{fmt, io};
 pub enum RefusalKind {
     /// A file is no class file, or the code of a method is none.
     Malformed = 1,
-    /// It has what this machine leaves out.
+    /// A class file has what this machine leaves out.
     OutsideProfile,
     /// Two classes have one name, or a class has the name of a built-in one.
     DuplicateClass,

@@ -61,7 +61,7 @@ fn lacks_class(alloc: Global, set: &ClassSet, text: &[u8]) -> Result<bool, Alloc
     }
 }
 
-/// The same of the text of an entry; other entries have none.
+/// Whether a class is not found that the text of an entry names so; other entries have no text.
 #[tactic(auto, unfolding(model::specs::DescriptorScan::element_at, model::specs::DescriptorScan::field_at, model::specs::DescriptorScan::field_type, model::specs::DescriptorScan::method_type))]
 fn entry_lacks_class(alloc: Global, set: &ClassSet, constant: &Constant) -> Result<bool, AllocError>
     ensures { IfOk result (λ lacks. lacks ≡ lacks_class set.now (text_of (entry_of constant.now))) }
@@ -72,7 +72,7 @@ fn entry_lacks_class(alloc: Global, set: &ClassSet, constant: &Constant) -> Resu
     }
 }
 
-/// The same of each entry of a constant pool, by its index.
+/// Whether a class is not found that the text of an entry names so, for each entry of a constant pool by its index.
 #[tactic(auto, unfolding(model::specs::DescriptorScan::element_at, model::specs::DescriptorScan::field_at, model::specs::DescriptorScan::field_type, model::specs::DescriptorScan::method_type))]
 pub(crate) fn lacking_texts(
     alloc: Global,

@@ -129,7 +129,7 @@ fn member_lacks_class(
     }
 }
 
-/// The same of the field of a Fieldref.
+/// Whether the class of the field of a Fieldref is not found, or one of its descriptor.
 fn field_lacks_class(set: &ClassSet, file: &ClassFile, lacking: &[bool], index: u16) -> bool
     requires { lacking.now ≡ lacking_texts set.now file.now.pool }
     ensures { result ≡ list_any (is_missing set.now) (member_classes (field_at file.now.pool index)) }
@@ -145,7 +145,7 @@ fn field_lacks_class(set: &ClassSet, file: &ClassFile, lacking: &[bool], index: 
     }
 }
 
-/// The same of the method of a Methodref.
+/// Whether the class of the method of a Methodref is not found, or one of its descriptor.
 fn method_lacks_class(set: &ClassSet, file: &ClassFile, lacking: &[bool], index: u16) -> bool
     requires { lacking.now ≡ lacking_texts set.now file.now.pool }
     ensures { result ≡ list_any (is_missing set.now) (member_classes (method_at file.now.pool index)) }
@@ -161,7 +161,7 @@ fn method_lacks_class(set: &ClassSet, file: &ClassFile, lacking: &[bool], index:
     }
 }
 
-/// The same of the method of an InterfaceMethodref.
+/// Whether the interface of the method of an InterfaceMethodref is not found, or a class of its descriptor.
 fn interface_method_lacks_class(
     set: &ClassSet,
     file: &ClassFile,

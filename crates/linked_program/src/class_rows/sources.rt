@@ -17,8 +17,8 @@ pub struct RowSources<'a> {
 /// The methods that calls on objects of a class run.
 #[derive(Drop)]
 pub struct Selections {
-    /// Those that `invokevirtual` runs, by the places that calls name.
+    /// The methods that `invokevirtual` runs, by the places that calls name.
     pub by_place: Vec<u32>,
-    /// Those that `invokeinterface` runs, with rising selectors.
+    /// The methods that `invokeinterface` runs, with rising selectors.
     pub by_selector: Vec<InterfaceSelection>,
 }

@@ -1,4 +1,4 @@
-//! All tables.
+//! The tables of types of all classes, and the component types.
 
 ghost use Rattle.std.specs.Prelude.{IfOk};
 ghost use Rattle.linked_program.specs.type_tables.Tables.{AreTypeTables};
@@ -28,7 +28,7 @@ pub struct TypeTables {
 }
 
 impl TypeTables {
-    /// Those of linked files. This alone takes memory.
+    /// The tables of linked files. This alone takes memory.
     pub fn new(alloc: Global, linked: &Linked) -> Result<TypeTables, AllocError>
         ensures { IfOk result (AreTypeTables linked.now) }
     {

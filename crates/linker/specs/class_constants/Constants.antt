@@ -1,5 +1,6 @@
 -- The constants of static fields (JVMS 4.7.2, 5.5 step 6), and the slots of static fields.
 use Rattle.std.specs.Prelude.{ℕ, suc, ◌-◌, List, [], ◌∷◌, Option, Some, None, Bool, true, false, option_map, length, take}
+use Rattle.model.specs.BuiltInNumbers.{built_in_count}
 use Rattle.model.specs.Tree.{FieldTree, FileTree}
 use Rattle.model.specs.Classes.{Program, name_of}
 use Rattle.model.specs.Lookup.{field_member}
@@ -13,9 +14,9 @@ use Rattle.linked_code.specs.declared.class.LinkedConstant.{LinkedConstant}
 abbrev pub word_in : Program → FileTree → FieldTree → Option ℕ
 word_in files file f = option_map (put_value words (field_member (name_of file) file.pool f)) (constant_value words files file.pool f)
 
--- how many static fields the files before the class of a number declare; 30 classes are built in
+-- how many static fields the files before the class of a number declare
 abbrev pub slots_before : Program → ℕ → ℕ
-slots_before files class = length (static_fields (take (class - 30) files))
+slots_before files class = length (static_fields (take (class - built_in_count) files))
 
 -- what a field adds to the constants of its class, and to the slots
 abbrev pub constant_at : ℕ → Option ℕ → List LinkedConstant

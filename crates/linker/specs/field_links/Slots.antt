@@ -1,6 +1,7 @@
 -- Behind which slots the fields end that classes declare.
 use Rattle.std.specs.Prelude.{◌≡◌, ℕ, ◌+◌, ◌-◌, List, [], ◌∷◌, Option, None, length, map, option_map, slice_get, nat_lt, if◌then◌else◌}
 use Rattle.std.specs.List.{filter}
+use Rattle.model.specs.BuiltInNumbers.{built_in_count}
 use Rattle.model.specs.Tree.{FieldTree, FileTree}
 use Rattle.model.specs.AccessFlags.{is_static_field, is_instance_field}
 use Rattle.model.specs.Classes.{Program, name_of, classes_of}
@@ -27,7 +28,7 @@ pub record AreEnds (files : Program) (ends : Ends) : Type 0 where
 
 abbrev pub static_slot : Ends → ℕ → List FieldTree → Option ℕ
 static_slot ends class fields =
-    if nat_lt class 30 then None else option_map (λ (end : ℕ). end - length (filter is_static_field fields)) (slice_get ends.statics.items (class - 30))
+    if nat_lt class built_in_count then None else option_map (λ (end : ℕ). end - length (filter is_static_field fields)) (slice_get ends.statics.items (class - built_in_count))
 
 abbrev pub instance_slot : Ends → ℕ → List FieldTree → Option ℕ
 instance_slot ends class fields = option_map (λ (end : ℕ). end - length (filter is_instance_field fields)) (slice_get ends.instances.items class)

@@ -27,7 +27,7 @@ fn shape_of(set: &ClassSet, file: &ClassFile) -> Shape
     Shape { superclass, fields }
 }
 
-/// That of each class.
+/// The shape of each class.
 pub(crate) fn shapes(alloc: Global, set: &ClassSet) -> Result<Vec<Shape>, AllocError>
     ensures { IfOk result (λ rows. rows.items ≡ shapes set.now) }
 {

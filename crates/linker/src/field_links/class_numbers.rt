@@ -39,7 +39,7 @@ fn number_of(set: &ClassSet, file: &ClassFile, index: u16) -> Option<usize>
     }
 }
 
-/// Those of a file, by their index.
+/// The numbers of the classes that a file names, by the index.
 fn number_row(
     alloc: Global,
     set: &ClassSet,
@@ -55,7 +55,7 @@ fn number_row(
     Ok(row)
 }
 
-/// Those of each class.
+/// The numbers of the classes that each class names.
 fn number_rows(alloc: Global, set: &ClassSet) -> Result<Vec<Vec<Option<usize>>>, AllocError>
     ensures { IfOk result (λ rows. AreClassNumbers set.now (map (λ row. row.items) rows.items)) }
 {

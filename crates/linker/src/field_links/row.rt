@@ -13,7 +13,7 @@ use classfile::ClassFile;
 use hierarchy::Hierarchy;
 use std::alloc::{AllocError, Global};
 
-/// Those of a file, by their index.
+/// The links of a file's fields, by the index.
 fn link_row(
     alloc: Global,
     hierarchy: &Hierarchy,
@@ -32,7 +32,7 @@ fn link_row(
     Ok(row)
 }
 
-/// Those of each class.
+/// The links of fields of each class.
 pub(crate) fn link_rows(
     alloc: Global,
     hierarchy: &Hierarchy,

@@ -56,7 +56,7 @@ fn number_of(texts: &TextSet, file: &ClassFile, index: u16) -> Option<usize>
     }
 }
 
-/// Those of a file, by their index.
+/// The numbers of the texts of a file's Strings, by the index.
 fn number_row(
     alloc: Global,
     texts: &TextSet,
@@ -72,7 +72,7 @@ fn number_row(
     Ok(row)
 }
 
-/// Those of each class.
+/// The numbers of the texts of each class's Strings.
 fn number_rows(
     alloc: Global,
     set: &ClassSet,

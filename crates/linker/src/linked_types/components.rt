@@ -118,7 +118,7 @@ fn add_pools(components: &mut Components, alloc: Global, set: &ClassSet) -> Resu
 }
 
 impl Components {
-    /// Those of linked files. This alone takes memory.
+    /// The component types of linked files. This alone takes memory.
     pub fn new(alloc: Global, linked: &Linked) -> Result<Components, AllocError>
         ensures { IfOk result (AreComponents linked.now) }
     {

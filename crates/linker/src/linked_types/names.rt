@@ -1,4 +1,4 @@
-//! Names by numbers.
+//! The names that constant pools name, by their numbers.
 
 ghost use Rattle.std.specs.Prelude.{◌≡◌, [], position, OnOk};
 ghost use Rattle.model.specs.Names.{name_eq};

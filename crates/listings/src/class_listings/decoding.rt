@@ -57,7 +57,7 @@ fn refusal(number: usize, fault: Malformed) -> Refusal
     }
 }
 
-/// That there is no memory for the class file with this number.
+/// The refusal that there is no memory for the class file with this number.
 fn out_of_memory(number: usize) -> Refusal
     ensures { result ≡ no_memory number }
 {

@@ -1,4 +1,14 @@
 //! The listing of a class file.
+//!
+//! # Proved
+//!
+//! - `list`, over any writer: it writes the listing of the tree that the definitions give and nothing else, or before
+//!   an error a beginning of it (`written`); the writer's failures are counted (`counted`). Each line by itself is the
+//!   definition's, too (`class_line`, `instruction_line` ..).
+//!
+//! # Not proved
+//!
+//! - Shown by cases too: lines of each form; and by `compare/javap.py`: listings against those of javap.
 
 mod instruction;
 mod listing;

@@ -1,4 +1,4 @@
-//! Parts of lines.
+//! Parts of the lines of a listing with names.
 
 use itoa::Buffer;
 use std::alloc::AllocError;

@@ -1,6 +1,7 @@
 //! Threads with an empty stack (JVMS 5.2; JLS 17).
 
 ghost use Rattle.std.specs.Prelude.{◌≡◌, ◌+◌};
+ghost use Rattle.model.specs.BuiltInNumbers.{first_class_reference};
 ghost use Rattle.machine.specs.thread_standings.Parts.{IsInitialIf, SaysCallsMain, SaysMainMayBegin, SaysMainHeld, SaysMayBegin, StandsEmpty, StandsBeginning};
 ghost use Rattle.machine_threads.specs.thread_begins.Initial.{IsInitialClass};
 
@@ -13,16 +14,11 @@ use machine_state::Shared;
 use machine_state::class_initialisation::{ClassLook, look};
 use machine_state::method_selection::{method_at, methods_are_read};
 use machine_threads::waiting_instructions::Standing;
-
-/// The object of the first class among the objects of the opening heap: those of all classes follow in their order.
-const FIRST_CLASS_OBJECT: u32 = 3;
-
-/// The thread that runs `main`.
-const MAIN_THREAD: u16 = 0;
+use model::built_in::{FIRST_CLASS_OBJECT, MAIN_THREAD};
 
 /// The Class object of a class, by the class's number.
 fn class_object(class: u16) -> u32
-    ensures { result ≡ 3 + class }
+    ensures { result ≡ first_class_reference + class }
 {
     FIRST_CLASS_OBJECT + class as u32
 }

@@ -1,4 +1,4 @@
-//! Threads that run.
+//! How a thread stands that runs.
 
 ghost use Rattle.std.specs.Prelude.{◌≡◌, None};
 ghost use Rattle.model.specs.State.{Running};

@@ -1,6 +1,8 @@
 //! `invokestatic` and `invokespecial`, whose method no receiver's class chooses.
 
 ghost use Rattle.std.specs.Prelude.{◌≡◌, ◌<◌, ◌+◌, ℕ};
+ghost use Rattle.model.specs.BuiltInNumbers.{first_class_reference};
+ghost use Rattle.model.specs.BuiltInNumbers.{most_threads};
 ghost use Rattle.linked_code.specs.declared.instruction.LinkedInstruction.TheVariants as linked;
 ghost use Rattle.machine_state.specs.linked_frames.Frames.{CanRun, DoesInstruction};
 ghost use Rattle.machine_instructions.specs.called_methods.Selected.{IsClassObject};
@@ -11,14 +13,11 @@ use linked_code::LinkedProgram;
 use linked_code::thread_stacks::ThreadStack;
 use machine_state::method_selection::{method_at, methods_are_read};
 use machine_state::{Effect, EventRefusal, MachineException, Shared};
-
-/// The reference to the first of the Class objects, which stand in the order of the classes behind the PrintStream of
-/// System.out, the arguments and the Thread of `main`.
-const FIRST_CLASS_OBJECT: u32 = 3;
+use model::built_in::FIRST_CLASS_OBJECT;
 
 /// The Class object of a class.
 fn class_object_of(class: u16) -> u32
-    ensures { result ≡ 3 + class }
+    ensures { result ≡ first_class_reference + class }
 {
     FIRST_CLASS_OBJECT + u32::from(class)
 }
@@ -52,7 +51,7 @@ pub fn invoke_static(
 ) -> Result<Effect, EventRefusal>
     requires running { (class : ℕ)
         × CanRun program.now thread shared.old stack.old (linked.InvokeStatic parameters class method) }
-    requires numbered { thread < 32767 }
+    requires numbered { thread < most_threads }
     ensures { (class : ℕ) → DoesInstruction program.now (linked.InvokeStatic parameters class method)
         frames (record { thread = thread; pick = pick }) result shared.old shared.new stack.old stack.new }
 {
@@ -69,7 +68,7 @@ pub fn invoke_static(
 ///
 /// # Errors
 ///
-/// As for `invoke_static`.
+/// The errors of `invoke_static`.
 pub fn invoke_special(
     shared: &mut Shared,
     stack: &mut ThreadStack,
@@ -81,7 +80,7 @@ pub fn invoke_special(
     frames: usize,
 ) -> Result<Effect, EventRefusal>
     requires running { CanRun program.now thread shared.old stack.old (linked.InvokeSpecial parameters method) }
-    requires numbered { thread < 32767 }
+    requires numbered { thread < most_threads }
     ensures { DoesInstruction program.now (linked.InvokeSpecial parameters method) frames
         (record { thread = thread; pick = pick }) result
         shared.old shared.new stack.old stack.new }

@@ -1,6 +1,7 @@
-//! `PrintStream.println(int)`.
+//! Calls of `PrintStream.println(int)`.
 
 ghost use Rattle.std.specs.Prelude.{◌<◌, ℕ};
+ghost use Rattle.model.specs.BuiltInNumbers.{most_threads};
 ghost use Rattle.linked_code.specs.declared.instruction.LinkedInstruction.TheVariants as linked;
 ghost use Rattle.linked_code.specs.declared.program.LinkedProgram.{LinkedProgram};
 ghost use Rattle.machine_state.specs.linked_frames.Frames.{CanRun, DoesInstruction};
@@ -23,7 +24,7 @@ pub fn println(
     pick: u16,
 ) -> Result<Effect, EventRefusal>
     requires running { (p : LinkedProgram) × CanRun p thread shared.old stack.old linked.Println }
-    requires numbered { thread < 32767 }
+    requires numbered { thread < most_threads }
     ensures { (p : LinkedProgram) (frames : ℕ)
         → DoesInstruction p linked.Println frames
         (record { thread = thread; pick = pick }) result shared.old shared.new stack.old

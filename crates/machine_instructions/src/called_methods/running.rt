@@ -1,6 +1,7 @@
 //! The method that a call runs.
 
 ghost use Rattle.std.specs.Prelude.{◌<◌, ◌≡◌, Some, None, if◌then◌else◌};
+ghost use Rattle.model.specs.BuiltInNumbers.{most_threads};
 ghost use Rattle.machine_instructions.specs.called_methods.Invoked.{CanInvoke, Invokes};
 
 use crate::called_methods::frames::{place_behind, raised};
@@ -45,7 +46,7 @@ pub(crate) fn run_method(
     frames: usize,
 ) -> Result<Effect, EventRefusal>
     requires able { CanInvoke program.now thread shared.old stack.old call }
-    requires numbered { thread < 32767 }
+    requires numbered { thread < most_threads }
     ensures { Invokes program.now call frames
         (record { thread = thread; pick = pick }) result shared.old shared.new stack.old stack.new }
 {

@@ -1,4 +1,4 @@
-//! Fields of objects.
+//! `getfield` and `putfield` (JVMS 6.5).
 
 ghost use Rattle.std.specs.Prelude.{ℕ, Ok};
 ghost use Rattle.linked_code.specs.declared.instruction.LinkedInstruction.TheVariants as linked;

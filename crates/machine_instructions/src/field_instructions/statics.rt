@@ -12,9 +12,10 @@ use crate::field_instructions::narrowing::kept;
 use linked_code::thread_stacks::ThreadStack;
 use machine_state::{Effect, EventRefusal, Shared};
 use model::Primitive;
+use model::built_in::SYSTEM_OUT;
 
-/// The word of the PrintStream, which is the first of all objects.
-const PRINT_STREAM: u32 = 1;
+/// The word of the reference to the PrintStream of System.out.
+const PRINT_STREAM: u32 = SYSTEM_OUT + 1;
 
 /// The static field in a slot, or 0 where there is none.
 #[inline]

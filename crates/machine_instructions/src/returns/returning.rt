@@ -89,8 +89,8 @@ pub fn return_from(
     Ok(Effect::Done)
 }
 
-/// As `return_from`, of an invocation that entered no monitor: nothing is shared by it. Answers whether the frame has
-/// returned; where it hasn't, for a monitor that it would leave or for want of memory, nothing has changed.
+/// Does what `return_from` does, of an invocation that entered no monitor: nothing is shared by it. Answers whether the
+/// frame has returned; where it hasn't, for a monitor that it would leave or for want of memory, nothing has changed.
 #[inline]
 pub fn return_alone(stack: &mut ThreadStack, program: &LinkedProgram, value: bool) -> bool
     ensures done { result ≡ true → (t : ℕ) (shared : Shared)

@@ -1,4 +1,4 @@
-//! Printing.
+//! What `println` prints.
 
 ghost use Rattle.std.specs.Prelude.{ℕ};
 ghost use Rattle.linked_code.specs.declared.method.BuiltInMethod.TheVariants as method;

@@ -1,4 +1,4 @@
-//! Constructors.
+//! Built-in methods that do nothing, and the constructor of Thread that keeps its target.
 
 ghost use Rattle.std.specs.Prelude.{ℕ};
 ghost use Rattle.machine_state.specs.declared.state.Shared.{Shared};

@@ -44,11 +44,11 @@ pub(crate) fn leave_new(
     Ok(Effect::Done)
 }
 
-/// The same, where its word takes the place of the operand on top.
+/// Leaves a new object as `leave_new` does, where its word takes the place of the operand on top.
 ///
 /// # Errors
 ///
-/// As for `leave_new`.
+/// The errors of `leave_new`.
 #[inline]
 pub(crate) fn leave_new_on_top(
     heap: &mut Heap,

@@ -69,7 +69,7 @@ pub fn new_array(
 ///
 /// # Errors
 ///
-/// As for `new_array`.
+/// The errors of `new_array`.
 #[inline]
 pub fn new_reference_array(
     shared: &mut Shared,

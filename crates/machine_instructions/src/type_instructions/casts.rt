@@ -1,4 +1,4 @@
-//! Tests of types.
+//! Tests of types: `checkcast` and `instanceof` (JVMS 6.5).
 
 ghost use Rattle.std.specs.Prelude.{ℕ, Ok};
 ghost use Rattle.linked_code.specs.declared.instruction.LinkedInstruction.TheVariants as linked;

@@ -1,5 +1,17 @@
 //! Instructions on objects and their types (JVMS 6.5), as events of a thread: `new`, `newarray`, `anewarray`, `ldc` of
 //! an object, `aastore`, `checkcast`, `instanceof` and `athrow`.
+//!
+//! # Proved
+//!
+//! - In each state in which a thread runs at such an instruction, `new`, `newarray`, `anewarray`, `ldc` of an object,
+//!   `aastore`, `checkcast`, `instanceof` and `athrow` do what the definitions say: which word they leave, which object
+//!   is made, which exception is raised, in the order null, index, kind. A limit is told as it stands, and where an
+//!   object is refused, or an exception comes, nothing has changed.
+//!
+//! # Not proved
+//!
+//! - Not proved: that memory is wanted only where there is none. That the class of `new` is initialised is asked
+//!   elsewhere.
 
 mod allocation;
 mod arrays;

@@ -1,5 +1,6 @@
 -- How far classes are, by their numbers (JVMS 5.5).
 use Rattle.std.specs.Prelude.{◌≡◌, ◌<◌, ◌+◌, ℕ, Option, Some, None}
+use Rattle.model.specs.BuiltInNumbers.{built_in_count}
 use Rattle.model.specs.Names.{Name}
 use Rattle.model.specs.Classes.{Program}
 use Rattle.model.specs.State.{WorldOf}
@@ -14,10 +15,10 @@ use Rattle.machine_state.specs.Shown.{IsProgram, Represents, shown_status}
 use Rattle.machine_state.specs.declared.class_initialisation.statuses.ClassLook.{ClassLook}
 use Rattle.machine_state.specs.declared.class_initialisation.statuses.ClassLook.TheVariants as look
 
--- the class of a number is the one of a file, unless it is built in: 30 classes are, and come first
+-- the class of a number is the one of a file, unless it is built in: the built-in classes come first
 abbrev pub IsFileOf : ℕ → Option ℕ → Type 0
-IsFileOf number None = number < 30
-IsFileOf number (Some file) = number ≡ 30 + file
+IsFileOf number None = number < built_in_count
+IsFileOf number (Some file) = number ≡ built_in_count + file
 
 -- in whatever world is shown, with whatever class the number has
 abbrev pub IsStatus : Shared → (number : ℕ) → ClassStatus → Type 0

@@ -1,5 +1,6 @@
 -- The locks that events inflate, as the calls of monitors keep them: a flag for each object; and what the calls answer and refuse.
 use Rattle.std.specs.Prelude.{◌≡◌, ℕ, ◌<◌, List, [], ◌∷◌, ◌++◌, Option, Some, None, Result, Ok, Err, Bool, true, false, if◌then◌else◌, length, replicate, slice_get, slice_index_or, slice_set, count_by, IsTrue}
+use Rattle.model.specs.BuiltInNumbers.{most_threads}
 use Rattle.model.specs.declared.end.RunCause.{RunCause}
 use Rattle.model.specs.declared.end.RunCause.TheVariants as cause
 use Rattle.model.specs.declared.monitor_answer.MonitorAnswer.{MonitorAnswer}
@@ -89,7 +90,7 @@ AreWaitsAsTaken =
 abbrev pub AreRelocksAllowed : Type 0
 AreRelocksAllowed =
     (locks : Locks) (objects : List ℕ) (object thread count : ℕ) → AreFlags locks.fat objects → Returns (is_inflated objects) object count
-    → object < length locks.monitors → thread < 32767 → IsAllowed (calls.Relock object thread count) locks
+    → object < length locks.monitors → thread < most_threads → IsAllowed (calls.Relock object thread count) locks
 
 -- At words of a well-typed state, with locks that show its monitors, so may each thread that has left a wait set (JLS 17.2.1).
 abbrev pub AreRelocksAtWordsAllowed : Type 0
@@ -98,7 +99,7 @@ AreRelocksAtWordsAllowed =
     → (locks : Locks) (objects : List ℕ) → locks.monitors ≡ at.world.monitors → AreFlags locks.fat objects
     → AreMonitorsCounted (is_inflated objects) at.world
     → (t : ℕ) (thread : Thread) (object count : ℕ) (cause : WakeCause) → slice_get at.world.threads t ≡ Some thread
-    → thread.status ≡ Relock object count cause → t < 32767
+    → thread.status ≡ Relock object count cause → t < most_threads
     → IsAllowed (calls.Relock object t count) locks
 
 -- ---- the statements

@@ -1,5 +1,6 @@
 -- Exceptions that the machine makes, with no call of a constructor (JVMS 2.10).
 use Rattle.std.specs.Prelude.{◌≡◌, ℕ, List, [], Result}
+use Rattle.model.specs.BuiltInNumbers.{abstract_method_error, arithmetic_exception, array_index_out_of_bounds_exception, array_store_exception, class_cast_exception, exception_in_initializer_error, illegal_monitor_state_exception, illegal_thread_state_exception, incompatible_class_change_error, interrupted_exception, negative_array_size_exception, no_class_def_found_error, null_pointer_exception, stack_overflow_error}
 use Rattle.model.specs.Classes.{Program}
 use Rattle.model.specs.Lookup.{instance_fields}
 use Rattle.model.specs.State.{StackOf, WorldOf}
@@ -23,20 +24,20 @@ use Rattle.machine_state.specs.Events.{Becomes}
 
 -- the place of the class among the built-in classes, which come first
 abbrev pub class_number : MachineException → ℕ
-class_number exception.NullPointer = 27
-class_number exception.Arithmetic = 19
-class_number exception.ArrayIndexOutOfBounds = 29
-class_number exception.NegativeArraySize = 26
-class_number exception.ArrayStore = 20
-class_number exception.ClassCast = 21
-class_number exception.IllegalMonitorState = 22
-class_number exception.IllegalThreadState = 28
-class_number exception.InterruptedWait = 18
-class_number exception.IncompatibleClassChange = 12
-class_number exception.AbstractMethod = 15
-class_number exception.StackOverflow = 16
-class_number exception.NoClassDefFound = 13
-class_number exception.ExceptionInInitializer = 14
+class_number exception.NullPointer = null_pointer_exception
+class_number exception.Arithmetic = arithmetic_exception
+class_number exception.ArrayIndexOutOfBounds = array_index_out_of_bounds_exception
+class_number exception.NegativeArraySize = negative_array_size_exception
+class_number exception.ArrayStore = array_store_exception
+class_number exception.ClassCast = class_cast_exception
+class_number exception.IllegalMonitorState = illegal_monitor_state_exception
+class_number exception.IllegalThreadState = illegal_thread_state_exception
+class_number exception.InterruptedWait = interrupted_exception
+class_number exception.IncompatibleClassChange = incompatible_class_change_error
+class_number exception.AbstractMethod = abstract_method_error
+class_number exception.StackOverflow = stack_overflow_error
+class_number exception.NoClassDefFound = no_class_def_found_error
+class_number exception.ExceptionInInitializer = exception_in_initializer_error
 
 -- it is the class of the exception, and has no fields
 pub record IsNumbered (trees : Program) (fault : MachineException) : Type 0 where

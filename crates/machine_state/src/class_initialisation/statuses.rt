@@ -12,7 +12,7 @@ use model::BUILT_IN_CLASSES;
 /// How a thread finds a class that must be initialised.
 #[derive(Clone, Copy)]
 pub enum ClassLook {
-    /// It is initialised, or the thread itself is at it.
+    /// The class is initialised, or the thread itself is at it.
     Ready,
     New,
     /// Another thread is at it.

@@ -1,6 +1,7 @@
 //! The steps of a thread that initialises a class.
 
 ghost use Rattle.std.specs.Prelude.{◌≡◌, ◌<◌, None, drop};
+ghost use Rattle.model.specs.BuiltInNumbers.{most_threads};
 ghost use Rattle.linked_code.specs.declared.thread_stacks.entry.Phase.{Phase};
 ghost use Rattle.machine_state.specs.class_initialisation.Statuses.{IsStatusSet};
 ghost use Rattle.machine_state.specs.class_initialisation.Steps.{Calls, CallsOver, Fails, Initialises, RunsInitialiser};
@@ -56,7 +57,7 @@ fn call(
     callee: Callee,
     frames: usize,
 ) -> Result<Answer, EventRefusal>
-    requires numbered { thread < 32767 }
+    requires numbered { thread < most_threads }
     requires entered { callee.entered ≡ None }
     ensures { Calls result thread callee frames shared.old shared.new stack.old stack.new }
 {
@@ -75,7 +76,7 @@ fn call_over(
     callee: Callee,
     frames: usize,
 ) -> Result<Answer, EventRefusal>
-    requires numbered { thread < 32767 }
+    requires numbered { thread < most_threads }
     requires entered { callee.entered ≡ None }
     ensures { CallsOver result thread callee frames shared.old shared.new stack.old stack.new }
 {
@@ -102,7 +103,7 @@ fn run_initialiser(
     class: u16,
     frames: usize,
 ) -> Result<Answer, EventRefusal>
-    requires { thread < 32767 }
+    requires { thread < most_threads }
     ensures { RunsInitialiser program.now result thread class frames shared.old shared.new stack.old stack.new }
 {
     match initialiser_of(program, class) {
@@ -130,7 +131,7 @@ pub fn initialise(
     phase: Phase,
     frames: usize,
 ) -> Result<Answer, EventRefusal>
-    requires { thread < 32767 }
+    requires { thread < most_threads }
     ensures { Initialises program.now result thread class phase frames shared.old shared.new stack.old stack.new }
 {
     match phase {
@@ -151,7 +152,7 @@ fn begin_step(
     class: u16,
     frames: usize,
 ) -> Result<Answer, EventRefusal>
-    requires { thread < 32767 }
+    requires { thread < most_threads }
     ensures { Initialises program.now result thread class Phase.Super frames shared.old shared.new stack.old stack.new }
 {
     let Some(first) = class_before(program, class) else {

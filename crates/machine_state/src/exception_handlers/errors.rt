@@ -7,9 +7,7 @@ ghost use Rattle.machine_state.specs.exception_handlers.Errors.{class_in, superc
 use crate::method_selection::{class_at, classes_are_read};
 use heap::{Heap, ObjectKind};
 use linked_code::LinkedProgram;
-
-/// The number of java.lang.Error: the built-in classes come first in each program.
-const ERROR: u32 = 8;
+use model::built_in::ERROR;
 
 /// The superclass of a class, if it has one.
 fn superclass_of(program: &LinkedProgram, class: u32) -> Option<u16>
@@ -28,7 +26,7 @@ fn is_error_class(program: &LinkedProgram, class: u32) -> bool
     classes_are_read();
     let mut nearest = class;
     for _ in 0..program.classes.len() {
-        if nearest == ERROR {
+        if nearest == ERROR as u32 {
             return true;
         }
         match superclass_of(program, nearest) {
@@ -36,7 +34,7 @@ fn is_error_class(program: &LinkedProgram, class: u32) -> bool
             None => return false,
         }
     }
-    nearest == ERROR
+    nearest == ERROR as u32
 }
 
 /// The class of an instance.

@@ -1,6 +1,7 @@
 //! The monitor that an invocation enters.
 
 ghost use Rattle.std.specs.Prelude.{◌<◌};
+ghost use Rattle.model.specs.BuiltInNumbers.{most_threads};
 ghost use Rattle.machine_state.specs.invocations.Entering.{IsThere, SaysMayBegin, EntersFor};
 
 use crate::{EventRefusal, Shared};
@@ -31,7 +32,7 @@ pub(crate) fn enter_for(
     entered: Option<u32>,
 ) -> Result<(), EventRefusal>
     requires there { IsThere entered shared.old.heap }
-    requires numbered { thread < 32767 }
+    requires numbered { thread < most_threads }
     ensures { EntersFor result thread entered shared.old shared.new }
 {
     if let Some(object) = entered {

@@ -1,6 +1,7 @@
-//! New frames.
+//! New frames: of a call, and of the first method of a thread.
 
 ghost use Rattle.std.specs.Prelude.{◌<◌};
+ghost use Rattle.model.specs.BuiltInNumbers.{most_threads};
 ghost use Rattle.machine_state.specs.invocations.Entering.{IsThere};
 ghost use Rattle.machine_state.specs.invocations.Calls.{DoesCall, DoesFirstCall};
 
@@ -25,7 +26,7 @@ pub fn call(
     frames: usize,
 ) -> Result<Effect, EventRefusal>
     requires there { IsThere callee.entered shared.old.heap }
-    requires numbered { thread < 32767 }
+    requires numbered { thread < most_threads }
     ensures { DoesCall result thread callee parameters frames shared.old shared.new stack.old stack.new }
 {
     if stack.frame_count() >= frames {
@@ -62,7 +63,7 @@ pub fn first_call(
     frames: usize,
 ) -> Result<Effect, EventRefusal>
     requires there { IsThere callee.entered shared.old.heap }
-    requires numbered { thread < 32767 }
+    requires numbered { thread < most_threads }
     ensures { DoesFirstCall result thread callee arguments.now frames shared.old shared.new stack.old stack.new }
 {
     if stack.frame_count() >= frames {

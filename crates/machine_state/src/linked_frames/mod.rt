@@ -1,5 +1,14 @@
 //! Where the frame on top of a thread stands in linked code, and what an instruction may take for granted there.
 //! The lemmas in `proofs/` are there for a crate above to cite.
+//!
+//! # Proved
+//!
+//! - The frame on top of a thread that runs, with no exception pending, stands at an instruction of the linked code of
+//!   its method, in each state whose words are those of a well-typed one (`frames_stand`). That instruction finds its
+//!   operands and room for what it leaves (`operands_are_there`). A frame that goes on at a place shows the frame of
+//!   the definitions at the offset of that place (`moves_are_shown`). An event that takes nothing is done where the
+//!   world after it is shown (`free_events_are_done`). `instruction_at` answers the instruction. `replace_operands`
+//!   takes memory only where there are more operands then.
 
 mod replacing;
 mod standing;

@@ -6,27 +6,29 @@ ghost use Rattle.heap.specs.Heap.{Allocates};
 ghost use Rattle.heap.specs.declared.kind.ObjectKind.{ObjectKind};
 
 use crate::{Answer, EventRefusal, MachineException, Shared};
+use model::built_in;
 
 /// The number of the class of an exception: the built-in classes come first in each program.
 fn class_of(fault: MachineException) -> u32
     ensures { result ≡ class_number fault }
 {
-    match fault {
-        MachineException::NullPointer => 27,
-        MachineException::Arithmetic => 19,
-        MachineException::ArrayIndexOutOfBounds => 29,
-        MachineException::NegativeArraySize => 26,
-        MachineException::ArrayStore => 20,
-        MachineException::ClassCast => 21,
-        MachineException::IllegalMonitorState => 22,
-        MachineException::IllegalThreadState => 28,
-        MachineException::InterruptedWait => 18,
-        MachineException::IncompatibleClassChange => 12,
-        MachineException::AbstractMethod => 15,
-        MachineException::StackOverflow => 16,
-        MachineException::NoClassDefFound => 13,
-        MachineException::ExceptionInInitializer => 14,
-    }
+    let number = match fault {
+        MachineException::NullPointer => built_in::NULL_POINTER_EXCEPTION,
+        MachineException::Arithmetic => built_in::ARITHMETIC_EXCEPTION,
+        MachineException::ArrayIndexOutOfBounds => built_in::ARRAY_INDEX_OUT_OF_BOUNDS_EXCEPTION,
+        MachineException::NegativeArraySize => built_in::NEGATIVE_ARRAY_SIZE_EXCEPTION,
+        MachineException::ArrayStore => built_in::ARRAY_STORE_EXCEPTION,
+        MachineException::ClassCast => built_in::CLASS_CAST_EXCEPTION,
+        MachineException::IllegalMonitorState => built_in::ILLEGAL_MONITOR_STATE_EXCEPTION,
+        MachineException::IllegalThreadState => built_in::ILLEGAL_THREAD_STATE_EXCEPTION,
+        MachineException::InterruptedWait => built_in::INTERRUPTED_EXCEPTION,
+        MachineException::IncompatibleClassChange => built_in::INCOMPATIBLE_CLASS_CHANGE_ERROR,
+        MachineException::AbstractMethod => built_in::ABSTRACT_METHOD_ERROR,
+        MachineException::StackOverflow => built_in::STACK_OVERFLOW_ERROR,
+        MachineException::NoClassDefFound => built_in::NO_CLASS_DEF_FOUND_ERROR,
+        MachineException::ExceptionInInitializer => built_in::EXCEPTION_IN_INITIALIZER_ERROR,
+    };
+    number as u32
 }
 
 /// The machine makes an exception, with no call of a constructor, and it is pending in a thread. It answers that its

@@ -1,5 +1,11 @@
 //! When two machines are in the same state: they keep the same objects, monitors, static fields, classes, threads and
 //! stacks, and have printed the same.
+//!
+//! # Proved
+//!
+//! - `are_alike` answers true exactly where the objects with their monitors, static fields, classes, threads, stacks
+//!   and numbers printed are the same. Two states of a machine of which these are the same show the same words,
+//!   whichever locks are inflated (`words_are_told`).
 
 mod alike;
 mod heaps;

@@ -1,4 +1,4 @@
-//! Words.
+//! Whether lists of words, or references, are the same.
 
 ghost use Rattle.std.specs.Prelude.{◌≡◌, ◌↔◌, IsTrue};
 

@@ -21,7 +21,8 @@ use Rattle.run_laws.proofs.object_counts.Bounded.{openings_fit}
 use Rattle.machine_state.specs.shown_objects.Shown.{names_of, words_in, ShowsObject, ShowsObjects}
 use Rattle.machine_state.proofs.shown_objects.Objects.{counted}
 use Rattle.machine_state.specs.Shown.{IsProgram}
-use Rattle.machine_threads.specs.machine_opening.Opened.{thread_number, string_number, class_number, print_stream_number, opening_objects}
+use Rattle.machine_threads.specs.machine_opening.Opened.{opening_objects}
+use Rattle.model.specs.BuiltInNumbers.{class_number, print_stream_number, string_number, thread_number}
 
 -- ---- lists that are shown
 

@@ -1,5 +1,6 @@
 -- The objects of the opening state, as a heap keeps them (own).
 use Rattle.std.specs.Prelude.{◌≡◌, ℕ, ◌+◌, List, [], ◌∷◌, ◌++◌, false, length, replicate}
+use Rattle.model.specs.BuiltInNumbers.{class_number, print_stream_number, string_number, thread_number}
 use Rattle.model.specs.declared.limits.Limits.{Limits}
 use Rattle.model.specs.Monitors.{unlocked}
 use Rattle.heap.specs.declared.kind.ObjectKind.TheVariants as kind
@@ -25,18 +26,6 @@ pub record AddsObjects (objects : List Object) (old new : Heap) : Type 0 where
   pub are : (limits : Limits) (before : List Object) → old ≡ opened limits before → new ≡ opened limits (before ++ objects)
 
 -- ---- the objects, by the numbers of their classes: the built-in classes come first in each program
-
-abbrev pub thread_number : ℕ
-thread_number = 2
-
-abbrev pub string_number : ℕ
-string_number = 3
-
-abbrev pub class_number : ℕ
-class_number = 4
-
-abbrev pub print_stream_number : ℕ
-print_stream_number = 6
 
 -- the PrintStream of System.out, the arguments, and the Thread of main, whose one field is its target
 abbrev pub first_objects : ℕ → List Object

@@ -1,5 +1,6 @@
 -- A thread that has left a wait set enters the monitor again (JLS 17.2.1), in whatever state is shown.
 use Rattle.std.specs.Prelude.{◌≡◌, ℕ, ◌<◌, List, Result}
+use Rattle.model.specs.BuiltInNumbers.{most_threads}
 use Rattle.model.specs.Classes.{Program}
 use Rattle.model.specs.State.{WakeCause, Relock, StackOf, StateOf}
 use Rattle.model.specs.LimitStands.{Bounds}
@@ -28,7 +29,7 @@ pub record IsToRelock (p : LinkedProgram) (t object count : ℕ) (cause : WakeCa
   pub state : StateOf ℕ
   pub own : StackOf ℕ
   pub left : HasLeft trees p bounds inflated t object count cause shared stack state own
-  pub numbered : t < 32767
+  pub numbered : t < most_threads
 
 -- in whatever state the thread has left it, the result says what becomes of its event
 abbrev pub RelocksIn : LinkedProgram → (t object count : ℕ) → WakeCause → Result Answer EventRefusal → (old new : Shared)

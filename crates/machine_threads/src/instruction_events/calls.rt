@@ -1,6 +1,7 @@
 //! All instructions: calls, and those that call nothing.
 
 ghost use Rattle.std.specs.Prelude.{◌<◌};
+ghost use Rattle.model.specs.BuiltInNumbers.{most_threads};
 ghost use Rattle.machine_state.specs.linked_frames.Frames.{CanRun, DoesInstruction};
 
 use crate::instruction_events::own::own_instruction;
@@ -22,7 +23,7 @@ pub(crate) fn any_instruction(
     instruction: LinkedInstruction,
 ) -> Result<Effect, EventRefusal>
     requires able { CanRun program.now thread shared.old stack.old instruction }
-    requires numbered { thread < 32767 }
+    requires numbered { thread < most_threads }
     ensures { DoesInstruction program.now instruction frames
         (record { thread = thread; pick = pick }) result shared.old shared.new
         stack.old stack.new }

@@ -8,19 +8,8 @@ ghost use Rattle.machine_threads.specs.machine_opening.Opened.{AddsObjects, open
 use heap::{Heap, ObjectKind};
 use linked_code::LinkedProgram;
 use model::Limits;
+use model::built_in::{CLASS, PRINT_STREAM, STRING, THREAD};
 use std::alloc::{AllocError, Global};
-
-/// The number of java.lang.Thread: the built-in classes come first in each program.
-const THREAD: u32 = 2;
-
-/// The number of java.lang.String.
-const STRING: u32 = 3;
-
-/// The number of java.lang.Class.
-const CLASS: u32 = 4;
-
-/// The number of java.io.PrintStream.
-const PRINT_STREAM: u32 = 6;
 
 /// How many fields a Thread has: `target` alone.
 const THREAD_FIELDS: u32 = 1;
@@ -51,14 +40,20 @@ fn add_first(heap: &mut Heap, string_component: u32) -> Result<(), AllocError>
     ensures { OnOk result (AddsObjects (first_objects string_component) heap.old heap.new) }
 {
     let print_stream = ObjectKind::Instance {
-        class: PRINT_STREAM,
+        class: PRINT_STREAM as u32,
     };
     let arguments = ObjectKind::References {
         of: string_component,
     };
     add(heap, print_stream, 0)?;
     add(heap, arguments, 0)?;
-    add(heap, ObjectKind::Instance { class: THREAD }, THREAD_FIELDS)
+    add(
+        heap,
+        ObjectKind::Instance {
+            class: THREAD as u32,
+        },
+        THREAD_FIELDS,
+    )
 }
 
 /// The objects of the opening state: behind the first ones a Class for each class, and a String for each text of a
@@ -73,7 +68,7 @@ pub(crate) fn opening_heap(
 {
     let mut heap = Heap::new(alloc, limits);
     add_first(&mut heap, program.string_component)?;
-    add_instances(&mut heap, CLASS, program.classes.len() as u32)?;
-    add_instances(&mut heap, STRING, program.strings)?;
+    add_instances(&mut heap, CLASS as u32, program.classes.len() as u32)?;
+    add_instances(&mut heap, STRING as u32, program.strings)?;
     Ok(heap)
 }

@@ -10,10 +10,8 @@ use linked_code::LinkedProgram;
 use linked_code::thread_stacks::ThreadStack;
 use machine_state::Shared;
 use model::Limits;
+use model::built_in::MAIN_THREAD_OBJECT;
 use std::alloc::{AllocError, Global};
-
-/// The reference of the Thread object of main.
-const MAIN_THREAD: u32 = 2;
 
 /// The static fields, each of which is 0 or null (JVMS 2.3, 2.4).
 fn opening_statics(alloc: Global, program: &LinkedProgram) -> Result<Vec<u32>, AllocError>
@@ -51,7 +49,7 @@ pub fn opening_state(
         statics: opening_statics(alloc, program)?,
         statuses: opening_statuses(alloc, program)?,
         ready: opening_ready(alloc, program)?,
-        threads: Threads::new(alloc, limits.threads, MAIN_THREAD)?,
+        threads: Threads::new(alloc, limits.threads, MAIN_THREAD_OBJECT)?,
         printed: Vec::new(alloc),
         stacks: opening_stacks(alloc)?,
         heap: opening_heap(alloc, program, limits)?,

@@ -1,6 +1,7 @@
 //! The first frame of a thread.
 
 ghost use Rattle.std.specs.Prelude.{◌<◌};
+ghost use Rattle.model.specs.BuiltInNumbers.{most_threads};
 ghost use Rattle.machine_state.specs.invocations.Entering.{IsThere};
 ghost use Rattle.machine_threads.specs.thread_begins.First.{PushesFirst};
 
@@ -25,7 +26,7 @@ pub fn push_first(
     frames: usize,
 ) -> Result<Effect, EventRefusal>
     requires there { IsThere callee.entered shared.old.heap }
-    requires numbered { thread < 32767 }
+    requires numbered { thread < most_threads }
     ensures { PushesFirst result thread callee argument frames shared.old shared.new stack.old stack.new }
 {
     if frames == 0 {

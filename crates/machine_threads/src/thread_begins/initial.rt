@@ -1,6 +1,7 @@
 //! The method `main` of the initial class (JVMS 5.2).
 
 ghost use Rattle.std.specs.Prelude.{◌≡◌, ◌+◌};
+ghost use Rattle.model.specs.BuiltInNumbers.{first_class_reference};
 ghost use Rattle.machine_state.specs.invocations.Entering.{IsThere};
 ghost use Rattle.machine_threads.specs.thread_begins.Runs.{CanBegin};
 ghost use Rattle.machine_threads.specs.thread_begins.Initial.{IsOfProgram, IsInitialClass, CallsFirst, CallsMain, BeginsMain};
@@ -13,19 +14,14 @@ use machine_state::class_initialisation::need_class;
 use machine_state::method_selection::{method_at, methods_are_read};
 use machine_state::raised_exceptions::apply;
 use machine_state::{Answer, EventRefusal, Shared};
+use model::built_in::{FIRST_CLASS_OBJECT, MAIN_ARGUMENTS, MAIN_THREAD};
 
-/// The word of the reference to the empty array that `main` gets, one of the objects of the opening heap.
-const ARGUMENTS: u32 = 2;
-
-/// The object of the first class among the objects of the opening heap: those of all classes follow in their order.
-const FIRST_CLASS_OBJECT: u32 = 3;
-
-/// The thread that runs `main`.
-const MAIN_THREAD: u16 = 0;
+/// The word of the reference to the empty array that `main` gets.
+const ARGUMENTS: u32 = MAIN_ARGUMENTS + 1;
 
 /// The Class object of a class, by the class's number.
 fn class_object(class: u16) -> u32
-    ensures { result ≡ 3 + class }
+    ensures { result ≡ first_class_reference + class }
 {
     FIRST_CLASS_OBJECT + class as u32
 }

@@ -1,6 +1,7 @@
 //! The method `run` of a Thread object.
 
 ghost use Rattle.std.specs.Prelude.{◌≡◌, ◌<◌, ◌+◌, IfSome, length};
+ghost use Rattle.model.specs.BuiltInNumbers.{most_threads};
 ghost use Rattle.machine_threads.specs.thread_begins.Callees.{MayEnter};
 ghost use Rattle.machine_threads.specs.thread_begins.Runs.{SelectsRun, FindsRun, CanBegin, BeginsRun};
 
@@ -57,7 +58,7 @@ pub fn begin_run(
     frames: usize,
 ) -> Result<Effect, EventRefusal>
     requires able { CanBegin program.now thread shared.old stack.old }
-    requires numbered { thread < 32767 }
+    requires numbered { thread < most_threads }
     ensures { BeginsRun program.now result thread frames shared.old shared.new stack.old stack.new }
 {
     let object = shared.threads.object(thread);

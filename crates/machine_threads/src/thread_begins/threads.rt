@@ -1,6 +1,7 @@
 //! The first event of a thread.
 
 ghost use Rattle.std.specs.Prelude.{◌<◌};
+ghost use Rattle.model.specs.BuiltInNumbers.{most_threads};
 ghost use Rattle.machine_threads.specs.thread_begins.Runs.{CanBegin};
 ghost use Rattle.machine_threads.specs.thread_begins.Threads.{BeginsStarted, BeginsThread};
 
@@ -20,7 +21,7 @@ fn begin_started(
     frames: usize,
 ) -> Result<Answer, EventRefusal>
     requires able { CanBegin program.now thread shared.old stack.old }
-    requires numbered { thread < 32767 }
+    requires numbered { thread < most_threads }
     ensures { BeginsStarted program.now result thread frames shared.old shared.new stack.old stack.new }
 {
     match begin_run(shared, stack, program, thread, frames) {
@@ -45,7 +46,7 @@ pub fn begin_thread(
     frames: usize,
 ) -> Result<Answer, EventRefusal>
     requires able { CanBegin program.now thread shared.old stack.old }
-    requires numbered { thread < 32767 }
+    requires numbered { thread < most_threads }
     ensures { BeginsThread program.now result thread frames shared.old shared.new stack.old stack.new }
 {
     if thread == 0 {

@@ -1,6 +1,7 @@
 //! The event of a thread that runs, with no exception pending.
 
 ghost use Rattle.std.specs.Prelude.{◌≡◌, ◌<◌, None};
+ghost use Rattle.model.specs.BuiltInNumbers.{most_threads};
 ghost use Rattle.model.specs.State.{Running};
 ghost use Rattle.heap.specs.java_threads.Table.{thread_at as row_at};
 ghost use Rattle.machine_threads.specs.thread_events.Events.{HasThread, DoesRunning};
@@ -25,7 +26,7 @@ pub(crate) fn running_event(
     requires able { HasThread program.now thread shared.old stack.old }
     requires runs { (row_at shared.old.threads.threads thread).status ≡ Running }
     requires goes_on { (row_at shared.old.threads.threads thread).pending ≡ None }
-    requires numbered { thread < 32767 }
+    requires numbered { thread < most_threads }
     ensures { DoesRunning program.now result
         (record { thread = thread; pick = pick }) frames shared.old shared.new stack.old stack.new }
 {

@@ -1,6 +1,7 @@
 //! The events of a thread of which nothing is chosen: with another pick than 0 they are not enabled.
 
 ghost use Rattle.std.specs.Prelude.{◌≡◌, ◌<◌, Some};
+ghost use Rattle.model.specs.BuiltInNumbers.{most_threads};
 ghost use Rattle.model.specs.State.{Relock, Running};
 ghost use Rattle.heap.specs.java_threads.Statuses.{cause_of};
 ghost use Rattle.heap.specs.java_threads.Table.{thread_at as row_at};
@@ -30,7 +31,7 @@ pub(crate) fn relock(
 ) -> Result<Answer, EventRefusal>
     requires able { HasThread program.now thread shared.old stack.old }
     requires left { (row_at shared.old.threads.threads thread).status ≡ Relock object count (cause_of cause) }
-    requires numbered { thread < 32767 }
+    requires numbered { thread < most_threads }
     ensures { DoesRelock program.now result (record { thread = thread; pick = pick }) object count
         (cause_of cause) shared.old shared.new
         stack.old stack.new }
@@ -72,7 +73,7 @@ pub(crate) fn initialisation(
     phase: Phase,
     frames: usize,
 ) -> Result<Answer, EventRefusal>
-    requires numbered { thread < 32767 }
+    requires numbered { thread < most_threads }
     ensures { DoesInitialisation program.now result
         (record { thread = thread; pick = pick }) class phase frames shared.old shared.new
         stack.old stack.new }
@@ -93,7 +94,7 @@ pub(crate) fn begin(
     frames: usize,
 ) -> Result<Answer, EventRefusal>
     requires able { CanBegin program.now thread shared.old stack.old }
-    requires numbered { thread < 32767 }
+    requires numbered { thread < most_threads }
     ensures { DoesBegin program.now result
         (record { thread = thread; pick = pick }) frames shared.old shared.new stack.old stack.new }
 {

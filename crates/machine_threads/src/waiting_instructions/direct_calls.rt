@@ -1,6 +1,7 @@
 //! For what `invokestatic` and `invokespecial` wait, whose method no receiver's class chooses.
 
 ghost use Rattle.std.specs.Prelude.{◌≡◌, ◌+◌, ℕ};
+ghost use Rattle.model.specs.BuiltInNumbers.{first_class_reference};
 ghost use Rattle.linked_code.specs.declared.instruction.LinkedInstruction.TheVariants as linked;
 ghost use Rattle.machine_instructions.specs.called_methods.Selected.{IsClassObject};
 ghost use Rattle.machine_threads.specs.waiting_instructions.Held.{StandsInInstruction};
@@ -12,14 +13,11 @@ use linked_code::LinkedProgram;
 use linked_code::thread_stacks::ThreadStack;
 use machine_state::Shared;
 use machine_state::method_selection::{method_at, methods_are_read};
-
-/// The reference to the first of the Class objects, which stand in the order of the classes behind the PrintStream of
-/// System.out, the arguments and the Thread of `main`.
-const FIRST_CLASS_OBJECT: u32 = 3;
+use model::built_in::FIRST_CLASS_OBJECT;
 
 /// The Class object of a class.
 fn class_object_of(class: u16) -> u32
-    ensures { result ≡ 3 + class }
+    ensures { result ≡ first_class_reference + class }
 {
     FIRST_CLASS_OBJECT + u32::from(class)
 }

@@ -4,16 +4,16 @@
 #[derive(Clone, Copy)]
 pub enum Standing {
     Ended,
-    /// It ended with an exception of the class of this number.
+    /// The thread ended with an exception of the class of this number.
     Threw(u32),
-    /// It waits for a monitor.
+    /// The thread waits for a monitor.
     Blocked,
-    /// It is in a wait set.
+    /// The thread is in a wait set.
     Waiting,
-    /// It waits for the end of another thread.
+    /// The thread waits for the end of another thread.
     Joining,
-    /// It waits for a class that another thread initialises.
+    /// The thread waits for a class that another thread initialises.
     Initialising,
-    /// It has an event that is enabled.
+    /// The thread has an event that is enabled.
     Runnable,
 }

@@ -1,4 +1,4 @@
-//! Classes.
+//! Class files that are made of their parts.
 
 use crate::class_builder::pool::PoolBuilder;
 use class_tree::{ClassFile, Code, Field, Method, MethodAttribute, encode};

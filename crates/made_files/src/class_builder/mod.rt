@@ -1,5 +1,9 @@
 //! Class files for tests and trials: a constant pool that has each entry once, a class whose parts are given by their
 //! texts, code that grows, and a class file as bytes.
+//!
+//! # Not proved
+//!
+//! - It is proved safe, and nothing is promised of what it makes.
 
 mod bytes;
 mod class;

@@ -1,4 +1,4 @@
-//! Constant pools.
+//! Constant pools that have each entry once.
 
 use class_tree::{Constant, Pool};
 use std::alloc::{AllocError, Global};

@@ -77,7 +77,7 @@ fn raised_code(body: &mut Body, number: u32) -> Result<(), AllocError> {
     end_protected(body, start, number)
 }
 
-/// The same over stores that change the type of each local variable, so that each raises the frame types of all
+/// So many handlers over stores that change the type of each local variable, so that each raises the frame types of all
 /// handlers.
 pub fn raised_handlers(alloc: Global, number: u32) -> Result<Vec<Vec<u8>>, AllocError> {
     let mut set = Set::new(alloc);
@@ -87,7 +87,7 @@ pub fn raised_handlers(alloc: Global, number: u32) -> Result<Vec<Vec<u8>>, Alloc
     Ok(set.finish())
 }
 
-/// The same, with the handlers first.
+/// What `raised_code` adds, with the handlers first.
 fn early_code(body: &mut Body, number: u32) -> Result<(), AllocError> {
     body.go_to(number.wrapping_add(5))?;
     let first = add_handlers(body, number)?;
@@ -99,7 +99,8 @@ fn early_code(body: &mut Body, number: u32) -> Result<(), AllocError> {
     protect_by_all(body, start, end, first, number)
 }
 
-/// The same with the handlers before the stores, so that each is looked at again as often as it is raised.
+/// What `raised_handlers` makes, with the handlers before the stores, so that each is looked at again as often as it is
+/// raised.
 pub fn early_handlers(alloc: Global, number: u32) -> Result<Vec<Vec<u8>>, AllocError> {
     let mut set = Set::new(alloc);
     let mut main = set.main()?;

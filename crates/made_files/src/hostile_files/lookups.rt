@@ -109,7 +109,7 @@ fn interface_of_fields(alloc: Global, number: u32) -> Result<ClassBuilder, Alloc
     Ok(upmost)
 }
 
-/// The same with static fields in the place of methods.
+/// What `inherited_methods` makes, with static fields in the place of methods.
 pub fn inherited_fields(alloc: Global, number: u32) -> Result<Vec<Vec<u8>>, AllocError> {
     let mut set = Set::new(alloc);
     add_main_with_reads(&mut set, &numbered(b'C', last(number)), number)?;

@@ -106,7 +106,7 @@ fn objects_in_a_loop(
     Ok(objects)
 }
 
-/// The same, where so many objects are made in the loop.
+/// A loop up a chain of so many classes, where as many objects are made in it.
 pub fn objects_up_a_chain(alloc: Global, number: u32) -> Result<Vec<Vec<u8>>, AllocError> {
     let mut set = Set::new(alloc);
     let mut class = set.main_class()?;
@@ -218,8 +218,8 @@ fn main_with_descriptor(set: &Set, name: &[u8], number: u32) -> Result<ClassBuil
     Ok(class)
 }
 
-/// The same, where the method that is called is a private one. Its descriptor names a class whose name is four times
-/// as many bytes long.
+/// A loop up a chain of so many classes, where the method that is called in it is a private one. Its descriptor names a
+/// class whose name is four times as many bytes long.
 pub fn descriptors_up_a_chain(alloc: Global, number: u32) -> Result<Vec<Vec<u8>>, AllocError> {
     let mut set = Set::new(alloc);
     let name = long_name(alloc, number.wrapping_mul(4))?;

@@ -53,7 +53,7 @@ pub fn overriding_methods(alloc: Global, number: u32) -> Result<Vec<Vec<u8>>, Al
     Ok(set.finish())
 }
 
-/// The same, beside a class that has final methods of the same names.
+/// What `overriding_methods` makes, beside a class that has final methods of the same names.
 pub fn overriding_beside_finals(alloc: Global, number: u32) -> Result<Vec<Vec<u8>>, AllocError> {
     let mut set = Set::new(alloc);
     let mut main = set.idle_main()?;

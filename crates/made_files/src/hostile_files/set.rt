@@ -50,7 +50,7 @@ impl Set {
         self.class(MAIN, OBJECT)
     }
 
-    /// The same, with the code of `main`, of which there is nothing yet.
+    /// The class with `main` and its code, of which there is nothing yet.
     pub fn main(&self) -> Result<Main, AllocError> {
         let class = self.main_class()?;
         Ok(Main {

@@ -17,7 +17,7 @@ use crate::hostile_files::members::{
 use crate::hostile_files::variables::{deep_stack, slow_loop};
 use std::alloc::{AllocError, Global};
 
-/// Their names, in the order of the alphabet.
+/// The names of the shapes, in the order of the alphabet.
 pub const SHAPES: [&str; 24] = [
     "alternating-handlers",
     "calls-up-a-chain",
@@ -45,7 +45,7 @@ pub const SHAPES: [&str; 24] = [
     "slow-loop",
 ];
 
-/// Those of a shape of one method, which has many local variables, handlers or operands.
+/// The files of a shape of one method, which has many local variables, handlers or operands.
 fn with_variables(
     alloc: Global,
     shape: &str,
@@ -63,7 +63,7 @@ fn with_variables(
     Ok(Some(files?))
 }
 
-/// Those of a shape of a chain of classes or a ladder of interfaces, or of loops up one.
+/// The files of a shape of a chain of classes or a ladder of interfaces, or of loops up one.
 fn with_chains(
     alloc: Global,
     shape: &str,
@@ -82,7 +82,7 @@ fn with_chains(
     Ok(Some(files?))
 }
 
-/// Those of a shape of members that are found far from where they are named.
+/// The files of a shape of members that are found far from where they are named.
 fn with_lookups(
     alloc: Global,
     shape: &str,
@@ -99,7 +99,7 @@ fn with_lookups(
     Ok(Some(files?))
 }
 
-/// Those of a shape of many members, or of long names.
+/// The files of a shape of many members, or of long names.
 fn with_members(
     alloc: Global,
     shape: &str,

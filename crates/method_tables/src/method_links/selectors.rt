@@ -30,7 +30,7 @@ fn text_of<'a>(file: &'a ClassFile, method: &'a Method, part: Part) -> &'a [u8]
     }
 }
 
-/// That of the method at a place.
+/// The name of the method at a place, or its descriptor.
 fn text_at(set: &ClassSet, place: MemberPlace, part: Part) -> Option<&[u8]>
     ensures { option_map (λ t. t.now) result ≡ option_map (part_of part) (member_at set.now place) }
 {

@@ -1,4 +1,4 @@
-//! Calls of methods.
+//! Tests of what calls of methods need.
 
 use crate::linking_tests::methods::{CLASSES, GIVES, MAIN, NO_ROWS};
 use crate::linking_tests::program::{Answers, asked};

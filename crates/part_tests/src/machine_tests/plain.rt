@@ -2,11 +2,13 @@
 
 ghost use Rattle.std.specs.Prelude.{◌≡◌, ◌<◌, [], ◌∷◌, ◌++◌, length, true, false, Some, IfOk, OnOk, OnErr, IfSome, MatchOption, count_by};
 ghost use Rattle.std.specs.List.{remove};
+ghost use Rattle.model.specs.BuiltInNumbers.{most_threads};
 ghost use Rattle.model.specs.Monitors.{owns, without, unlocked};
 ghost use Rattle.heap.specs.monitor.Locks.{inflates, is_count_full_by, answered_by, joins_by};
 
 use heap::monitor::{Call, MonitorCalls, MonitorRefusal, Waiter};
 use model::MonitorAnswer;
+use model::built_in::MOST_THREADS;
 use std::alloc::{AllocError, Global};
 use std::marker::Model;
 
@@ -276,9 +278,9 @@ impl MonitorCalls for PlainMonitors {
             return false;
         }
         match call {
-            Call::Enter { thread, .. } | Call::Wait { thread, .. } => thread < 32767,
+            Call::Enter { thread, .. } | Call::Wait { thread, .. } => thread < MOST_THREADS,
             Call::Relock { thread, count, .. } => {
-                thread < 32767 && 0 < count && (count <= 256 || self.fat[object])
+                thread < MOST_THREADS && 0 < count && (count <= 256 || self.fat[object])
             }
             _ => true,
         }

@@ -129,7 +129,7 @@ module _ (trees : Program) (limits : Limits) (budget : ℕ) (opened : WorldOf) (
   all : (follows.left ≡ []) ⊎ (w.budget ≤ length w.events) → (follows.left ≡ []) ⊎ (length follows.front ≡ budget)
   all (inl none) = inl none
   all (inr used_up) =
-      let few : length (events_of r.schedule) ≤ budget = record_is.2.few in
+      let few : length (events_of r.schedule) ≤ budget = record_is.3.few in
       let many : length (events_of r.schedule) ≡ length follows.front + length turns.more = ap length events_are ∙ length-append follows.front turns.more in
       let front : length w.events ≡ length follows.front = ap length (front_is trees limits budget opened is_new schedule stopped.Most w follows) in
       let same : w.budget ≡ budget = follows.same.budget ∙ is_new.budget_is in

@@ -20,6 +20,7 @@ use Rattle.machine.specs.machine_reports.Told.{ReportsOn, Reports}
 use Rattle.machine.proofs.machine_replay.Replayed.{told_of, operands_found}
 use Rattle.program_runs.specs.declared.worlds.records.Recorded.{Recorded}
 use Rattle.program_runs.specs.worlds.Worlds.{WorldOf, Holds, EndFits}
+use Rattle.schedule.specs.Joined.{AreJoined}
 use Rattle.program_runs.specs.worlds.Records.{IsRecorded, IsRecordOf, Keeps}
 use Rattle.program_runs.specs.worlds.Finishing.{HasTakenTurns, IsReportOn, IsRecordAt}
 use Rattle.program_runs.proofs.worlds.Staying.{of_record}
@@ -68,21 +69,21 @@ module _ (reported : AreReportsOfWords) (sound : IsNoEventWrong) (w : WorldOf) (
       }
 
   is_record_at : (r : Recorded) → arc_value r.verified ≡ w.trees → r.limits ≡ w.machine.limits → events_of r.schedule ≡ w.events
-      → IsReportOn w r.report → r.end ≡ end → IsRecordAt w end r
-  is_record_at r trees limits events reports end_is =
+      → AreJoined r.schedule → IsReportOn w r.report → r.end ≡ end → IsRecordAt w end r
+  is_record_at r trees limits events joined reports end_is =
       let by_events : IsRecorded w.trees w.machine.limits w.budget (events_of r.schedule) r.report end = subst (λ l. IsRecorded w.trees w.machine.limits w.budget l r.report end) (sym events) (is_recorded r.report reports) in
       record {
-        is = (trees, limits, subst (IsRecorded w.trees w.machine.limits w.budget (events_of r.schedule) r.report) (sym end_is) by_events);
+        is = (trees, limits, joined, subst (IsRecorded w.trees w.machine.limits w.budget (events_of r.schedule) r.report) (sym end_is) by_events);
         end_is = end_is;
         events = events;
       }
 
 pub is_record_of : AreReportsOfWords → IsNoEventWrong → (w of : WorldOf) → w ≡ of → Holds w → (end : End) → of.end ≡ Some end
     → (r : Recorded) → arc_value r.verified ≡ w.trees → r.limits ≡ w.machine.limits
-    → events_of r.schedule ≡ w.events → IsReportOn of r.report → r.end ≡ end → IsRecordAt of end r
-is_record_of reported sound w of same h end ended r trees limits events reports end_is =
+    → events_of r.schedule ≡ w.events → AreJoined r.schedule → IsReportOn of r.report → r.end ≡ end → IsRecordAt of end r
+is_record_of reported sound w of same h end ended r trees limits events joined reports end_is =
     is_record_at reported sound of (subst Holds same h) end ended r (trees ∙ ap (λ (x : WorldOf). x.trees) same) (limits ∙ ap (λ (x : WorldOf). x.machine.limits) same)
-    (events ∙ ap (λ (x : WorldOf). x.events) same) reports end_is
+    (events ∙ ap (λ (x : WorldOf). x.events) same) joined reports end_is
 
 -- ---- after turns
 

@@ -13,6 +13,7 @@ use Rattle.model.specs.Run.{run}
 use Rattle.model.specs.Schedule.{events_of}
 use Rattle.model.specs.State.{State}
 use Rattle.machine.specs.machine_replay.Replays.{AreOperandsFound, text_of}
+use Rattle.schedule.specs.Joined.{AreJoined}
 use Rattle.program_runs.specs.declared.worlds.records.Recorded.{Recorded}
 use Rattle.program_runs.specs.worlds.Worlds.{WorldOf, EndFits}
 
@@ -30,9 +31,9 @@ pub record IsRecorded (trees : Program) (limits : Limits) (budget : ℕ) (events
   pub ended : EndFits trees (bounds_of limits) state budget events (Some end)
   pub found : (next : Event) → AreOperandsFound trees limits.frames (events ++ next ∷ [])
 
--- the record of a run of these class files, under these limits and with this budget
+-- the record of a run of these class files, under these limits and with this budget: its events are in as few entries as they can be
 abbrev pub IsRecordOf : Program → Limits → (budget : ℕ) → Recorded → Type 0
-IsRecordOf trees limits budget r = (arc_value r.verified ≡ trees) × (r.limits ≡ limits) × IsRecorded trees limits budget (events_of r.schedule) r.report r.end
+IsRecordOf trees limits budget r = (arc_value r.verified ≡ trees) × (r.limits ≡ limits) × AreJoined r.schedule × IsRecorded trees limits budget (events_of r.schedule) r.report r.end
 
 -- where a world had an end, the record has that end and its events
 abbrev pub Keeps : WorldOf → Recorded → Type 0

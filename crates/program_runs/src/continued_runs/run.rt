@@ -3,12 +3,15 @@
 ghost use Rattle.std.specs.Prelude.{length, IfOk};
 ghost use Rattle.std.specs.Arc.{arc_value};
 ghost use Rattle.model.specs.Schedule.{events_of};
+ghost use Rattle.machine.specs.Machines.{IsProgramOf};
 ghost use Rattle.machine.specs.machine_replay.Shown.{Tells};
 ghost use Rattle.program_runs.specs.continued_runs.Continuing.{GoesOn};
 
 use crate::continued_runs::following::follow;
 use crate::continued_runs::rotation::take_turns;
+use crate::verified_programs::verified_program;
 use crate::worlds::{Recorded, World};
+use linked_code::LinkedProgram;
 use machine::Stopped;
 use machine::machine_replay::report_after;
 use model::{End, Limits, Report};
@@ -24,8 +27,8 @@ use verifier::Verified;
 pub enum Continued {
     /// The events of the schedule were done, as far as the budget allows, and then the threads went on in turn.
     Whole(Recorded),
-    /// One of them within the budget is not enabled, or a limit refuses it: the report of those before it, and the
-    /// end, which says so.
+    /// An event of the schedule within the budget is not enabled, or a limit refuses it: the report of those before it,
+    /// and the end, which says so.
     Part(Report, End),
 }
 
@@ -56,9 +59,25 @@ pub fn run_on(
 ) -> Result<Continued, AllocError>
     ensures { IfOk result (GoesOn (arc_value verified) (events_of schedule.now) limits budget) }
 {
+    let program = verified_program(alloc, &verified)?;
+    run_linked_on(alloc, verified, program, schedule, limits, budget)
+}
+
+/// The same, where what a run needs of the class files is there already.
+pub fn run_linked_on(
+    alloc: Global,
+    verified: Arc<Verified>,
+    program: Arc<LinkedProgram>,
+    schedule: &Schedule,
+    limits: Limits,
+    budget: u32,
+) -> Result<Continued, AllocError>
+    requires { IsProgramOf (arc_value verified) (arc_value program) }
+    ensures { IfOk result (GoesOn (arc_value verified) (events_of schedule.now) limits budget) }
+{
     reports_of_words();
     no_event_is_wrong();
-    let mut world = World::open(alloc, verified, limits, budget)?;
+    let mut world = World::open_linked(alloc, verified, program, limits, budget)?;
     let why = follow(&mut world, schedule)?;
     if let Stopped::Most = why {
         take_turns(&mut world);

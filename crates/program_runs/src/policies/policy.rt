@@ -2,6 +2,7 @@
 
 ghost use Rattle.std.specs.Prelude.{◌↔◌, IfOk, IsTrue, OnOk};
 ghost use Rattle.std.specs.Arc.{arc_value};
+ghost use Rattle.machine.specs.Machines.{IsProgramOf};
 ghost use Rattle.program_runs.specs.policies.Policies.{HasTurns};
 ghost use Rattle.program_runs.specs.worlds.Records.{IsRecordOf};
 ghost use Rattle.program_runs.specs.worlds.Worlds.{IsOfSame};
@@ -9,8 +10,10 @@ ghost use Rattle.program_runs.specs.worlds.Worlds.{IsOfSame};
 use crate::policies::mixed::run_mixed;
 use crate::policies::random::run_random;
 use crate::policies::rotation::run_rotation;
+use crate::verified_programs::verified_program;
 use crate::workers::Gate;
 use crate::worlds::{Recorded, World};
+use linked_code::LinkedProgram;
 use model::Limits;
 use std::alloc::{AllocError, Global};
 use std::sync::Arc;
@@ -72,7 +75,25 @@ pub fn run_by_policy<G: Gate>(
     requires { HasTurns policy }
     ensures { IfOk result (IsRecordOf (arc_value verified) limits budget) }
 {
-    let mut world = World::open(alloc, verified, limits, budget)?;
+    let program = verified_program(alloc, &verified)?;
+    run_linked(alloc, verified, program, limits, budget, policy, gate)
+}
+
+/// The same, where what a run needs of the class files is there already.
+pub fn run_linked<G: Gate>(
+    alloc: Global,
+    verified: Arc<Verified>,
+    program: Arc<LinkedProgram>,
+    limits: Limits,
+    budget: u32,
+    policy: Policy,
+    gate: &G,
+) -> Result<Recorded, AllocError>
+    requires turns { HasTurns policy }
+    requires linked { IsProgramOf (arc_value verified) (arc_value program) }
+    ensures { IfOk result (IsRecordOf (arc_value verified) limits budget) }
+{
+    let mut world = World::open_linked(alloc, verified, program, limits, budget)?;
     take_turns(&mut world, policy, gate)?;
     world.into_recorded(alloc)
 }

@@ -17,7 +17,7 @@ const FIRST_TURN: u32 = 10_000;
 pub(crate) enum Turn {
     /// There was none before.
     First,
-    /// That thread's again.
+    /// The turn of the thread before, again.
     Same,
     /// Another thread's.
     Another,
@@ -54,7 +54,7 @@ fn counted_length<R: Rng>(random: &mut R, n: u32, short_turns: &mut u32) -> u32
 impl TurnLengths {
     ghost use Rattle.program_runs.specs.policies.Lengths.{AreNew, HasLength, IsLengthOfAnother, IsFirstLength, IsLengthOfSame};
 
-    /// Those of a run without a turn so far.
+    /// The lengths of a run without a turn so far.
     pub(crate) fn new(n: u32, is_main_first: bool) -> TurnLengths
         requires { n < 7 }
         ensures { AreNew n is_main_first result }

@@ -1,4 +1,4 @@
-//! A whole run.
+//! The trace of a whole run.
 
 ghost use Rattle.std.specs.Prelude.{[], IfOk, OnErr};
 ghost use Rattle.std.specs.Io.KnownBytes.{Appends};

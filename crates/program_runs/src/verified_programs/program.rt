@@ -3,7 +3,8 @@
 ghost use Rattle.std.specs.Prelude.{IfOk};
 ghost use Rattle.std.specs.Arc.{arc_value};
 ghost use Rattle.model.specs.Schedule.{events_of};
-ghost use Rattle.machine.specs.Machines.{IsProgramOf};
+ghost use Rattle.model.specs.Classes.{Program};
+ghost use Rattle.machine.specs.Machines.{IsOfAccepted, IsProgramOf};
 ghost use Rattle.machine.specs.machine_replay.Replays.{IsReplay};
 ghost use Rattle.machine.specs.machine_replay.Shown.{IsOpened};
 
@@ -39,8 +40,21 @@ pub fn open_machine(
 ) -> Result<Machine, AllocError>
     ensures { IfOk result (IsOpened verified.now limits) }
 {
-    runs_are_opened();
     let program = verified_program(alloc, verified)?;
+    open_linked_machine(alloc, program, limits)
+}
+
+/// The machine of class files before any event, of which there is all that a run needs. The only error is a want of
+/// memory.
+pub(crate) fn open_linked_machine(
+    alloc: Global,
+    program: Arc<LinkedProgram>,
+    limits: Limits,
+) -> Result<Machine, AllocError>
+    requires { IsOfAccepted (arc_value program) }
+    ensures { (trees : Program) → IsProgramOf trees (arc_value program) → IfOk result (IsOpened trees limits) }
+{
+    runs_are_opened();
     Machine::open(alloc, program, limits)
 }
 

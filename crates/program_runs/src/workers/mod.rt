@@ -1,4 +1,34 @@
 //! Workers: threads that run a world by turns, and do its bursts side by side.
+//!
+//! # Proved
+//!
+//! - `run_workers` (`IsRecordOf`), for all accepted files, limits and budgets, any number of workers and any quantum:
+//!   where the workers end and there is memory, the record names the class files and the limits that were handed in;
+//!   the printed numbers and the threads of its report are those of the state to which `run` leads by its events, at
+//!   none of which a limit stood; they are no more than the budget; and the text of the report is their `meaning` with
+//!   the end, which is one of three:
+//!   - `Quiet`: no thread has an event that is enabled;
+//!   - `Budget`: the events are as many as the budget, and some thread has one more that is enabled;
+//!   - `Refused`: they are fewer; some event is enabled, and the limit that is told stands at it, or there was no
+//!     memory for it.
+//! - No clause joins this with that of `replay`, but by both of them a replay of what is recorded, over the same files
+//!   and under the same limits, can only stop before its end for want of memory, and has the report of the run. Where
+//!   the run ended with `Budget` it ends with `Schedule`.
+//! - The workers share a world under one lock. What is known when they have ended is what its type keeps whenever the
+//!   lock is free (`Holds`), and that its files, limits and budget are those that were given (`IsWorldOf`). No rule
+//!   over atomics is used.
+//! - Of what a worker does to the world while it holds the lock: `take_over` commits a burst that has steps exactly
+//!   where it can be committed, and else changes nothing, memory aside (`TakesOver`); `shared_steps` takes a turn
+//!   (`TakesTurn`).
+//!
+//! # Not proved
+//!
+//! - Shown by tests alone (`worker_tests`): that bursts of two Java threads overlap (`gate_two_bursts_at_once`, which a
+//!   body with one worker fails, and one that holds the lock during bursts, and one without bursts); that bursts are
+//!   committed (`one_worker_commits_bursts`, by the schedule of one worker); that recorded runs replay to the equal
+//!   report (`what_is_recorded_replays`, with 1, 2 and 4 workers, with bursts and without).
+//! - Neither proved nor shown: which schedule comes of several workers, that they end, that each gets the lock in turn,
+//!   and how fast they are.
 
 mod gate;
 mod held;

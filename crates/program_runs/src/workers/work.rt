@@ -1,4 +1,4 @@
-//! The workers.
+//! What a worker does: bursts and turns, until the run has an end.
 
 ghost use Rattle.std.specs.Prelude.{◌≤◌, IfOk};
 ghost use Rattle.std.specs.Arc.{arc_value};
@@ -38,9 +38,9 @@ fn burst_from<J: Given, R: Wait, G: Gate>(
 /// What a worker did in a turn, while it held the lock.
 #[derive(Clone, Copy)]
 enum Turn {
-    /// It took its burst over.
+    /// The worker took its burst over.
     Burst,
-    /// It did events of a thread.
+    /// The worker did events of a thread.
     Events(u16),
     /// Nothing: an end is set.
     Over,

@@ -19,7 +19,7 @@ pub struct ThreadBurst {
 /// What became of a burst.
 #[derive(Clone, Copy, Debug)]
 pub enum Commit {
-    /// Its steps are events of the world now.
+    /// The steps of the burst are events of the world now.
     Committed,
     /// The thread doesn't stand where the burst started, or the budget doesn't leave as many events, or the world has
     /// ended.
@@ -44,7 +44,7 @@ fn first_copy(
     Ok(None)
 }
 
-/// So of the first one in rotation.
+/// A burst of no step of the first thread in rotation that runs with no exception pending and has a frame on top.
 fn first_in_rotation(
     machine: &Machine,
     alloc: Global,

@@ -14,8 +14,8 @@ use std::alloc::{AllocError, Global};
 use std::sync::Arc;
 use verifier::Verified;
 
-/// A run that has ended: its class files and its limits, the events that were done, the report of where they led, and
-/// why there were no more.
+/// A run that has ended: its class files and its limits, the events that were done, in as few entries as they can
+/// have, the report of where they led, and why there were no more.
 #[derive(Drop)]
 pub struct Recorded {
     pub verified: Arc<Verified>,

@@ -1,10 +1,12 @@
-//! A world.
+//! The world that workers share, and what is always so of it.
 
 ghost use Rattle.std.specs.Prelude.{◌≡◌, length, IfOk};
 ghost use Rattle.std.specs.Arc.{arc_value};
+ghost use Rattle.machine.specs.Machines.{IsProgramOf};
 ghost use Rattle.program_runs.specs.worlds.Worlds.{Holds, IsNew};
 
-use crate::verified_programs::open_machine;
+use crate::verified_programs::{open_linked_machine, verified_program};
+use linked_code::LinkedProgram;
 use machine::Machine;
 use model::{End, Limits};
 use schedule::recorded_events::RecordedEvents;
@@ -46,7 +48,22 @@ impl World {
     ) -> Result<World, AllocError>
         ensures { IfOk result (IsNew (arc_value verified) limits budget) }
     {
-        let machine = open_machine(alloc, &verified, limits)?;
+        let program = verified_program(alloc, &verified)?;
+        World::open_linked(alloc, verified, program, limits, budget)
+    }
+
+    /// The same, where what a run needs of the class files is there already.
+    pub fn open_linked(
+        alloc: Global,
+        verified: Arc<Verified>,
+        program: Arc<LinkedProgram>,
+        limits: Limits,
+        budget: u32,
+    ) -> Result<World, AllocError>
+        requires { IsProgramOf (arc_value verified) (arc_value program) }
+        ensures { IfOk result (IsNew (arc_value verified) limits budget) }
+    {
+        let machine = open_linked_machine(alloc, program, limits)?;
         Ok(World {
             verified,
             budget,

@@ -112,7 +112,7 @@ const DONE: [Done; 9] = [
 ];
 
 /// What is answered, what is written, and whether a file is made, where a device fails after so many calls.
-type Outcome = (Result<Status, Complaint>, Vec<u8>, bool);
+type Outcome = (Result<Status, Complaint<'static>>, Vec<u8>, bool);
 
 fn outcome<R: Threads + Wait + Sync>(
     rt: &R,
@@ -138,6 +138,7 @@ fn outcome<R: Threads + Wait + Sync>(
         rt,
         alloc,
         &Open,
+        &[],
         &mut folder,
         texts.as_slice(),
         &mut input,

@@ -62,7 +62,7 @@ fn seen<R: Threads + Wait + Sync>(
     rt: &R,
     alloc: Global,
     words: &[&str],
-) -> Result<(Result<Status, Complaint>, u64), AllocError> {
+) -> Result<(Result<Status, Complaint<'static>>, u64), AllocError> {
     let watch = Watch {
         seen: AtomicU64::new(0),
     };
@@ -80,6 +80,7 @@ fn seen<R: Threads + Wait + Sync>(
         rt,
         alloc,
         &watch,
+        &[],
         &mut folder,
         texts.as_slice(),
         &mut Counted::new(alloc, none),

@@ -6,9 +6,10 @@ use Rattle.std.proofs.lemmas.List.{take-append-drop, take-append-le, take_all}
 use Rattle.std.proofs.lemmas.Slice.Eq.{bytes_eq-Decides}
 use Rattle.std.proofs.Math.Bridge.{le_prop}
 use Rattle.model.specs.LimitRanges.{AreLimits}
-use Rattle.model.specs.Schedule.{AreEntries, RecordedFits, Recording, RecordingFits}
+use Rattle.model.specs.Schedule.{AreEntries}
 use Rattle.model.specs.declared.event.ScheduleEntry.{ScheduleEntry}
 use Rattle.model.specs.declared.limits.Limits.{Limits}
+use Rattle.schedule.specs.Files.{Checksums, RecordedFits, Recording, RecordingFits}
 use Rattle.schedule.proofs.schedule_text.EntryLaws.{no_heading}
 use Rattle.schedule.specs.schedule_text.Text.{entry_word, recording_words}
 
@@ -67,8 +68,11 @@ are_made (Some k) o c m t f l is kept eo ec em et ef = ap Some (same_limits k l 
 
 -- ---- recordings
 
-pub same_recording : (p q : Recording) → p.limits ≡ q.limits → p.lengths ≡ q.lengths → p ≡ q
-same_recording p q l n = ap (λ (x : Limits). record { limits = x; lengths = p.lengths }) l ∙ ap (λ (x : List ℕ). record { limits = q.limits; lengths = x }) n
+pub same_recording : (p q : Recording) → p.limits ≡ q.limits → p.lengths ≡ q.lengths → p.checksums ≡ q.checksums → p ≡ q
+same_recording p q l n c =
+    ap (λ (x : Limits). record { limits = x; lengths = p.lengths; checksums = p.checksums }) l
+    ∙ ap (λ (x : List ℕ). record { limits = q.limits; lengths = x; checksums = p.checksums }) n
+    ∙ ap (λ (x : Option Checksums). record { limits = q.limits; lengths = q.lengths; checksums = x }) c
 
 pub same_Some : {A : Type 0} (x y : A) → Some x ≡ Some y → x ≡ y
 same_Some x y e = cc

@@ -1,16 +1,18 @@
 -- A text spells at most one list of entries, and at most one recording.
-use Rattle.std.proofs.Common.{◌≡◌, ◌<◌, ◌^◌, ◌+◌, ℕ, List, [], ◌∷◌, ◌++◌, length, map, get_or, refl, sym, ap, subst, ◌∙◌, arith, Option, None, Some, codes, decimal, length-append, inl, inr}
+use Rattle.std.proofs.Common.{◌≡◌, ◌<◌, ◌^◌, ◌+◌, ℕ, List, [], ◌∷◌, ◌++◌, length, map, get_or, refl, sym, ap, subst, ◌∙◌, arith, Option, None, Some, codes, decimal, append_assoc, length-append, inl, inr}
 use Rattle.std.specs.List.{AllByRecursion}
 use Rattle.std.proofs.lemmas.Fmt.{decimal_injective}
 use Rattle.std.proofs.lemmas.List.{append_cancel_left, get_or_append_left, get_or-append-add}
-use Rattle.model.specs.Schedule.{AreEntries, EntryFits, RecordedFits, Recording}
+use Rattle.model.specs.Schedule.{AreEntries, EntryFits}
 use Rattle.model.specs.declared.event.ScheduleEntry.{ScheduleEntry}
 use Rattle.model.specs.declared.limits.Limits.{Limits}
+use Rattle.schedule.specs.Files.{CheckedFits, RecordedFits, Recording}
+use Rattle.schedule.proofs.schedule_text.ChecksumLaws.{ends_lengths, last_once}
 use Rattle.schedule.proofs.schedule_text.EntryLaws.{decimal_digits, form_of, no_heading, same_cons, tail_is_no_digit, word_parts}
-use Rattle.schedule.proofs.schedule_text.LengthLaws.{no_number}
+use Rattle.schedule.proofs.schedule_text.LengthLaws.{one_way}
 use Rattle.schedule.proofs.schedule_text.LimitLaws.{same_limits, same_recording}
 use Rattle.schedule.specs.schedule_text.Digits.{HasDigits, IsDigit}
-use Rattle.schedule.specs.schedule_text.Text.{SpellsSchedule, entry_tail, entry_word, length_words, limit_words, recording_words}
+use Rattle.schedule.specs.schedule_text.Text.{SpellsSchedule, entry_tail, entry_word, last_words, limit_words, recording_words}
 
 -- ---- entries
 
@@ -88,16 +90,6 @@ one_list (e ∷ es) (f ∷ fs) a b is =
 
 -- ---- recordings
 
-one_length : (ms ns : List ℕ) (rest more : List (List ℕ)) → AllByRecursion (λ n. n < 2 ^ 64) ms → AllByRecursion (λ n. n < 2 ^ 64) ns
-    → length_words ms ++ rest ≡ length_words ns ++ more → (ms ≡ ns) × (rest ≡ more)
-one_length [] [] rest more a b is = (refl, (same_cons (codes "#events") (codes "#events") rest more is).1)
-one_length [] (n ∷ ns) rest more a b is = absurd (no_number n b.0 (same_cons (codes "#events") (decimal n) rest (length_words ns ++ more) is).0)
-one_length (m ∷ ms) [] rest more a b is = absurd (no_number m a.0 (sym (same_cons (decimal m) (codes "#events") (length_words ms ++ rest) more is).0))
-one_length (m ∷ ms) (n ∷ ns) rest more a b is =
-    let h = same_cons (decimal m) (decimal n) (length_words ms ++ rest) (length_words ns ++ more) is in
-    let others = one_length ms ns rest more a.1 b.1 h.1 in
-    (ap (λ x. x ∷ ms) (decimal_injective m n a.0 b.0 h.0) ∙ ap (λ x. n ∷ x) others.0, others.1)
-
 one_number : (name : List ℕ) (m n : ℕ) → m < 2 ^ 64 → n < 2 ^ 64 → name ++ decimal m ≡ name ++ decimal n → m ≡ n
 one_number name m n a b is = decimal_injective m n a b (append_cancel_left name (decimal m) (decimal n) is)
 
@@ -118,6 +110,16 @@ one_limits k l rest more a b is =
       frames.1,
     )
 
+-- what stands behind the limits
+abbrev behind : Recording → List (List ℕ) → List (List ℕ)
+behind r rest = codes "#lengths" ∷ (map decimal r.lengths ++ (last_words r.checksums ++ rest))
+
+regroup : (r : Recording) (rest : List (List ℕ))
+    → (limit_words r.limits ++ codes "#lengths" ∷ (map decimal r.lengths ++ last_words r.checksums)) ++ rest ≡ limit_words r.limits ++ behind r rest
+regroup r rest =
+    append_assoc (limit_words r.limits) (codes "#lengths" ∷ (map decimal r.lengths ++ last_words r.checksums)) rest
+    ∙ ap (λ ws. limit_words r.limits ++ codes "#lengths" ∷ ws) (append_assoc (map decimal r.lengths) (last_words r.checksums) rest)
+
 one_schedule : (p q : Option Recording) (es fs : List ScheduleEntry) → RecordedFits p → RecordedFits q → AreEntries es → AreEntries fs
     → recording_words p ++ map entry_word es ≡ recording_words q ++ map entry_word fs → (p ≡ q) × (es ≡ fs)
 one_schedule None None es fs x y a b is = (refl, one_list es fs a.each b.each is)
@@ -125,10 +127,15 @@ one_schedule None (Some q) es fs x y a b is = absurd (no_heading _ es a.each is)
 one_schedule (Some p) None es fs x y a b is = absurd (no_heading _ fs b.each (sym is))
 one_schedule (Some p) (Some q) es fs x y a b is =
     let first = same_cons (codes "#limits") (codes "#limits") _ _ is in
-    let limits = one_limits p.limits q.limits (codes "#lengths" ∷ (length_words p.lengths ++ map entry_word es)) (codes "#lengths" ∷ (length_words q.lengths ++ map entry_word fs)) x.cells y.cells first.1 in
+    let left = map entry_word es in
+    let right = map entry_word fs in
+    let limits = one_limits p.limits q.limits (behind p left) (behind q right) x.cells y.cells (sym (regroup p left) ∙ first.1 ∙ regroup q right) in
     let second = same_cons (codes "#lengths") (codes "#lengths") _ _ limits.1 in
-    let lengths = one_length p.lengths q.lengths (map entry_word es) (map entry_word fs) x.lengths y.lengths second.1 in
-    (ap Some (same_recording p q limits.0 lengths.0), one_list es fs a.each b.each lengths.1)
+    let lengths = one_way p.lengths q.lengths (last_words p.checksums ++ left) (last_words q.checksums ++ right) x.lengths y.lengths
+    (ends_lengths p.checksums left) (ends_lengths q.checksums right) second.1 in
+    let last = last_once (length p.lengths) p.checksums q.checksums left right x.checksums
+    (subst (λ n. CheckedFits n q.checksums) (ap length (sym lengths.0)) y.checksums) lengths.1 in
+    (ap Some (same_recording p q limits.0 lengths.0 last.0), one_list es fs a.each b.each last.1)
 
 pub spelled_once : (text : List ℕ) (p q : Option Recording) (es fs : List ScheduleEntry) → SpellsSchedule text p es
     → SpellsSchedule text q fs → (p ≡ q) × (es ≡ fs)

@@ -5,7 +5,7 @@ use Rattle.std.proofs.lemmas.Bool.{cases_eq}
 use Rattle.std.proofs.lemmas.Grind.{common_steps}
 use Rattle.std.proofs.lemmas.List.{drop_more, get_or-drop, take_more}
 use Rattle.std.proofs.Math.Seq.{drop-length}
-use Rattle.schedule.specs.schedule_text.Text.{begins_comment, is_blank, with_word, words_from, words_of}
+use Rattle.schedule.specs.schedule_text.Text.{begins_comment, begins_slashes, behind_comments, is_blank, with_word, words_from, words_of}
 
 -- ---- one byte
 
@@ -154,3 +154,43 @@ pub comment_first : (bytes : List ℕ) (comment : Bool) → 0 < length bytes →
     → words_from true [] (drop 1 bytes) ≡ words_from comment [] bytes
 comment_first [] comment h e f g = absurd (elim h [ ])
 comment_first (b ∷ bs) comment h e f g = rw e (sym (comment_ends b [] bs f g))
+
+-- ---- the comments in front
+
+pub comment_goes_on : (bytes : List ℕ) (comment : Bool) → 0 < length bytes → comment ≡ true
+    → behind_comments (not (get_or bytes 0 0 == 10)) (drop 1 bytes) ≡ behind_comments comment bytes
+unfolding behind_comments
+comment_goes_on [] comment h e = absurd (elim h [ ])
+comment_goes_on (b ∷ bs) comment h e = rw e refl
+
+pub front_is_blank : (bytes : List ℕ) (comment : Bool) → 0 < length bytes → comment ≡ false → is_blank (get_or bytes 0 0) ≡ true
+    → behind_comments false (drop 1 bytes) ≡ behind_comments comment bytes
+unfolding behind_comments
+front_is_blank [] comment h e f = absurd (elim h [ ])
+front_is_blank (b ∷ bs) comment h e f = rw (e, f) refl
+
+pub front_begins : (bytes : List ℕ) (comment : Bool) → 0 < length bytes → comment ≡ false → is_blank (get_or bytes 0 0) ≡ false
+    → (begins_comment bytes || begins_slashes bytes) ≡ true
+    → behind_comments true (drop 1 bytes) ≡ behind_comments comment bytes
+unfolding behind_comments
+front_begins [] comment h e f g = absurd (elim h [ ])
+front_begins (b ∷ bs) comment h e f g = rw (e, f, g) refl
+
+pub front_ends : (bytes : List ℕ) (comment : Bool) → 0 < length bytes → comment ≡ false → is_blank (get_or bytes 0 0) ≡ false
+    → (begins_comment bytes || begins_slashes bytes) ≡ false
+    → behind_comments comment bytes ≡ bytes
+unfolding behind_comments
+front_ends [] comment h e f g = absurd (elim h [ ])
+front_ends (b ∷ bs) comment h e f g = rw (e, f, g) refl
+
+pub front_is_all : (bytes : List ℕ) (comment : Bool) (at : ℕ) → length bytes ≤ at → at ≤ length bytes
+    → behind_comments comment (drop at bytes) ≡ behind_comments false bytes → drop (length bytes) bytes ≡ behind_comments false bytes
+unfolding behind_comments
+front_is_all bytes comment at le ge so_far =
+    let is : at ≡ length bytes = omega arith in
+    let gone : drop at bytes ≡ [] = ap (λ k. drop k bytes) is ∙ drop-length bytes in
+    drop-length bytes ∙ none comment ∙ ap (behind_comments comment) (sym gone) ∙ so_far
+  where
+    none : (comment : Bool) → [] ≡ behind_comments comment []
+    none true = refl
+    none false = refl

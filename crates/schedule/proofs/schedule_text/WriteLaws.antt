@@ -1,18 +1,22 @@
 -- Words that are written.
-use Rattle.std.proofs.Common.{codes, ◌≡◌, ◌<◌, ◌^◌, ◌+◌, ◌-◌, ◌%◌, ℕ, suc, Bool, true, false, List, [], ◌∷◌, ◌++◌, length, map, get_or, drop, refl, sym, ap, ◌∙◌, arith, decimal, append_assoc, length-append, inl, inr, Option, Some, None}
+use Rattle.std.proofs.Common.{codes, ◌≡◌, ◌<◌, ◌^◌, ◌+◌, ◌-◌, ◌%◌, ℕ, suc, Bool, true, false, List, [], ◌∷◌, ◌++◌, length, map, get_or, drop, refl, sym, ap, ◌∙◌, arith, decimal, append_assoc, length-append, mod-lt, ◌/◌, inl, inr, Option, Some, None}
 use Rattle.std.specs.Prelude.{◌==◌, ◌||◌, ◌&&◌, nat_lt, if◌then◌else◌}
 use Rattle.std.specs.List.{AllByRecursion}
 use Rattle.std.proofs.Math.Seq.{drop-length}
 use Rattle.std.proofs.lemmas.Bool.{eqb-true, lt-ltb, ltb-true}
 use Rattle.std.proofs.lemmas.Fmt.{decimal_nonempty}
-use Rattle.std.proofs.lemmas.List.{append-nil, drop_more, length-drop, length-map}
-use Rattle.model.specs.Schedule.{AreEntries, EntryFits, RecordedFits, Recording}
+use Rattle.std.proofs.lemmas.List.{append-nil, drop_more, get_or_append_left, length-drop, length-map}
+use Rattle.byteorder.specs.Endian.{big_bytes}
+use Rattle.hex.specs.Hex.{IsBytes, encode_with, lower_digits}
+use Rattle.model.specs.Schedule.{AreEntries, EntryFits}
 use Rattle.model.specs.declared.event.ScheduleEntry.{ScheduleEntry}
 use Rattle.model.specs.declared.limits.Limits.{Limits}
-use Rattle.schedule.specs.schedule_text.Printing.{gap_after, in_lines, laid_out, printed_recording, printed_schedule}
-use Rattle.schedule.specs.schedule_text.Text.{SpellsSchedule, begins_comment, entry_tail, entry_word, is_blank, limit_words, recording_words, with_word, words_from, words_of}
+use Rattle.schedule.specs.Files.{Checksums, RecordedFits, Recording}
+use Rattle.schedule.specs.schedule_text.Printing.{gap_after, in_lines, laid_out, printed_checksums, printed_library, printed_recording, printed_schedule}
+use Rattle.schedule.specs.schedule_text.Text.{SpellsSchedule, begins_comment, begins_slashes, behind_comments, checked_words, entry_tail, entry_word, hex_word, is_blank, last_words, library_words, limit_words, recording_words, with_word, words_from, words_of}
 use Rattle.schedule.proofs.schedule_text.EntryLaws.{AreDigits, decimal_digits, form_of}
-use Rattle.schedule.proofs.schedule_text.WordLaws.{begun, blank_ends, no_byte, stays_there}
+use Rattle.schedule.proofs.schedule_text.HexLaws.{are_bytes, digit_behind, length_of_word}
+use Rattle.schedule.proofs.schedule_text.WordLaws.{begun, blank_ends, front_ends, no_byte, stays_there}
 
 -- ---- plain words
 
@@ -101,6 +105,21 @@ lengths_are_plain : (ns : List ℕ) → AllByRecursion (λ n. n < 2 ^ 64) ns →
 lengths_are_plain [] all = tt
 lengths_are_plain (n ∷ ns) all = (named_is_plain [] n refl all.0, lengths_are_plain ns all.1)
 
+plain_hex : (bytes : List ℕ) → IsBytes bytes → is_plain (encode_with lower_digits bytes) ≡ true
+unfolding encode_with
+plain_hex [] small = refl
+plain_hex (b ∷ bytes) small =
+    let high : b / 16 < 16 = omega (arith, small 0) in
+    let low : b % 16 < 16 = mod-lt b {m = 16} (omega arith) in
+    rw (digit_behind (b / 16) high, digit_behind (b % 16) low, plain_hex bytes (λ i. small (suc i))) refl
+
+hex_is_plain : (n : ℕ) → IsPlainWord (hex_word n)
+hex_is_plain n = (plain_hex (big_bytes 8 n) (are_bytes 8 n), omega (arith, length_of_word n))
+
+hexes_are_plain : (ns : List ℕ) → AllByRecursion IsPlainWord (map hex_word ns)
+hexes_are_plain [] = tt
+hexes_are_plain (n ∷ ns) = (hex_is_plain n, hexes_are_plain ns)
+
 limits_are_plain : (l : Limits) → l.cells < 2 ^ 32 → AllByRecursion IsPlainWord (limit_words l)
 limits_are_plain l cells = (
   named_is_plain (codes "objects=") l.objects refl (omega (arith, l.objects_fit)),
@@ -126,11 +145,40 @@ lengths_stand : (more : List ℕ) → words_of (codes "#lengths " ++ more) ≡ c
 unfolding words_from
 lengths_stand more = refl
 
+checksums_stand : (more : List ℕ) → words_of (codes "#checksums " ++ more) ≡ codes "#checksums" ∷ words_of more
+unfolding words_from
+checksums_stand more = refl
+
+library_stands : (more : List ℕ) → words_of (codes "#library " ++ more) ≡ codes "#library" ∷ words_of more
+unfolding words_from
+library_stands more = refl
+
 events_stand : (more : List ℕ) → words_of (codes "#events\n" ++ more) ≡ codes "#events" ∷ words_of more
 unfolding words_from
 events_stand more = refl
 
 -- ---- what is printed
+
+library_is_printed : (library : ℕ) (more : List ℕ) → words_of (printed_library library ++ more) ≡ library_words library ++ words_of more
+library_is_printed library more = elim (library == 0) as (λ t. words_of ((if t then [] else codes "#library " ++ (hex_word library ++ 10 ∷ [])) ++ more)
+    ≡ (if t then [] else codes "#library" ∷ hex_word library ∷ []) ++ words_of more) [
+      | true ↦ refl
+      | false ↦
+          let plain = hex_is_plain library in
+          library_stands ((hex_word library ++ 10 ∷ []) ++ more)
+          ∙ ap (λ x. codes "#library" ∷ words_from false [] x) (append_assoc (hex_word library) (10 ∷ []) more)
+          ∙ ap (λ x. codes "#library" ∷ x) (plain_word (hex_word library) [] 10 more plain.0 refl ∙ begun (hex_word library) (words_of more) plain.1)
+    ]
+
+checksums_are_printed : (c : Option Checksums) (more : List ℕ) → words_of (printed_checksums c ++ more) ≡ checked_words c ++ words_of more
+checksums_are_printed None more = refl
+checksums_are_printed (Some c) more =
+    let files = in_lines (map hex_word c.files) in
+    let library = printed_library c.library in
+    let behind : words_of ((files ++ library) ++ more) ≡ (map hex_word c.files ++ library_words c.library) ++ words_of more =
+    ap words_of (append_assoc files library more) ∙ laid_words 0 (map hex_word c.files) (library ++ more) (hexes_are_plain c.files)
+    ∙ ap (λ x. map hex_word c.files ++ x) (library_is_printed c.library more) ∙ sym (append_assoc (map hex_word c.files) (library_words c.library) (words_of more)) in
+    checksums_stand ((files ++ library) ++ more) ∙ ap (λ x. codes "#checksums" ∷ x) behind
 
 recording_stands : (recorded : Option Recording) (more : List ℕ) → RecordedFits recorded
     → words_of (printed_recording recorded ++ more) ≡ recording_words recorded ++ words_of more
@@ -138,19 +186,57 @@ recording_stands None more fits = refl
 recording_stands (Some r) more fits =
     let limits = in_lines (limit_words r.limits) in
     let lengths = in_lines (map decimal r.lengths) in
+    let checksums = printed_checksums r.checksums in
     let events = codes "#events\n" in
-    let behind = codes "#lengths " ++ (lengths ++ events) in
-    let last : words_of ((lengths ++ events) ++ more) ≡ map decimal r.lengths ++ codes "#events" ∷ words_of more =
-    ap words_of (append_assoc lengths events more) ∙ laid_words 0 (map decimal r.lengths) (events ++ more) (lengths_are_plain r.lengths fits.lengths)
-    ∙ ap (λ x. map decimal r.lengths ++ x) (events_stand more) in
-    let second : words_of (behind ++ more) ≡ codes "#lengths" ∷ (map decimal r.lengths ++ codes "#events" ∷ words_of more) =
-    ap words_of (append_assoc (codes "#lengths ") (lengths ++ events) more) ∙ lengths_stand ((lengths ++ events) ++ more) ∙ ap (λ x. codes "#lengths" ∷ x) last in
+    let behind = codes "#lengths " ++ (lengths ++ (checksums ++ events)) in
+    let checked : words_of ((checksums ++ events) ++ more) ≡ last_words r.checksums ++ words_of more =
+    ap words_of (append_assoc checksums events more) ∙ checksums_are_printed r.checksums (events ++ more)
+    ∙ ap (λ x. checked_words r.checksums ++ x) (events_stand more) ∙ sym (append_assoc (checked_words r.checksums) (codes "#events" ∷ []) (words_of more)) in
+    let last : words_of ((lengths ++ (checksums ++ events)) ++ more) ≡ (map decimal r.lengths ++ last_words r.checksums) ++ words_of more =
+    ap words_of (append_assoc lengths (checksums ++ events) more) ∙ laid_words 0 (map decimal r.lengths) ((checksums ++ events) ++ more) (lengths_are_plain r.lengths fits.lengths)
+    ∙ ap (λ x. map decimal r.lengths ++ x) checked ∙ sym (append_assoc (map decimal r.lengths) (last_words r.checksums) (words_of more)) in
+    let second : words_of (behind ++ more) ≡ codes "#lengths" ∷ ((map decimal r.lengths ++ last_words r.checksums) ++ words_of more) =
+    lengths_stand ((lengths ++ (checksums ++ events)) ++ more) ∙ ap (λ x. codes "#lengths" ∷ x) last in
     let first : words_of ((limits ++ behind) ++ more) ≡ limit_words r.limits ++ words_of (behind ++ more) =
     ap words_of (append_assoc limits behind more) ∙ laid_words 0 (limit_words r.limits) (behind ++ more) (limits_are_plain r.limits fits.cells) in
-    let whole : words_of (printed_recording (Some r) ++ more) ≡ codes "#limits" ∷ (limit_words r.limits ++ words_of (behind ++ more)) =
-    ap words_of (append_assoc (codes "#limits ") (limits ++ behind) more) ∙ limits_stand ((limits ++ behind) ++ more) ∙ ap (λ x. codes "#limits" ∷ x) first in
-    whole ∙ ap (λ x. codes "#limits" ∷ (limit_words r.limits ++ x)) second
-    ∙ ap (λ x. codes "#limits" ∷ (limit_words r.limits ++ codes "#lengths" ∷ x)) (sym (append_assoc (map decimal r.lengths) (codes "#events" ∷ []) (words_of more)))
+    limits_stand ((limits ++ behind) ++ more)
+    ∙ ap (λ x. codes "#limits" ∷ x) (first ∙ ap (λ x. limit_words r.limits ++ x) second
+    ∙ sym (append_assoc (limit_words r.limits) (codes "#lengths" ∷ (map decimal r.lengths ++ last_words r.checksums)) (words_of more)))
+
+-- ---- nothing of it is a comment in front
+
+no_slash : (b : ℕ) (bs : List ℕ) → 47 < b → begins_slashes (b ∷ bs) ≡ false
+no_slash b [] big = refl
+no_slash b (c ∷ bs) big = rw (not_equal b 47 (λ h. omega (arith, big, h))) refl
+
+front_stays : (text : List ℕ) → 47 < get_or text 0 0 → behind_comments false text ≡ text
+front_stays [] big = absurd (omega (arith, big))
+front_stays (b ∷ bs) big =
+    let more : 35 < b = omega (arith, big) in
+    let plain = plain_byte b bs (lt-ltb 35 b more) in
+    let apart = both_false (is_blank b) (begins_comment (b ∷ bs)) plain in
+    front_ends (b ∷ bs) false (omega arith) refl apart.0 (rw (apart.1, no_slash b bs big) refl)
+  where
+    both_false : (p q : Bool) → (p || q) ≡ false → (p ≡ false) × (q ≡ false)
+    both_false true q e = (e, elim (q) as (λ t. t ≡ false) [ true ↦ e | false ↦ refl ])
+    both_false false q e = (refl, e)
+
+entry_first : (e : ScheduleEntry) (more : List ℕ) → EntryFits e → 47 < get_or (entry_word e ++ more) 0 0
+entry_first e more fits =
+    let small : e.event.thread < 2 ^ 64 = omega (arith, fits.thread) in
+    let some : 0 < length (decimal e.event.thread) = omega (arith, decimal_nonempty e.event.thread small) in
+    let digit = decimal_digits e.event.thread small 0 some in
+    let first : get_or (entry_word e ++ more) 0 0 ≡ get_or (decimal e.event.thread) 0 0 =
+    ap (λ t. get_or t 0 0) (append_assoc (decimal e.event.thread) (entry_tail e) more) ∙ get_or_append_left (decimal e.event.thread) (entry_tail e ++ more) 0 0 some in
+    omega (arith, digit.0, first)
+
+front_of : (recorded : Option Recording) (entries : List ScheduleEntry) → AllByRecursion EntryFits entries
+    → behind_comments false (printed_schedule recorded entries) ≡ printed_schedule recorded entries
+unfolding behind_comments
+front_of (Some r) entries fits = refl
+front_of None [] fits = refl
+front_of None (e ∷ entries) fits =
+    front_stays (in_lines (map entry_word (e ∷ entries))) (entry_first e (gap_after 0 (length (map entry_word entries)) ∷ laid_out 1 (map entry_word entries)) fits.0)
 
 -- what is printed spells the schedule
 pub printed_spells : (recorded : Option Recording) (entries : List ScheduleEntry) → RecordedFits recorded → AreEntries entries
@@ -162,7 +248,7 @@ printed_spells recorded entries recording_fits fits =
     record {
       fits = fits;
       recording_fits = recording_fits;
-      spelled = recording_stands recorded (in_lines words) recording_fits ∙ ap (λ x. recording_words recorded ++ x) ends;
+      spelled = ap words_of (front_of recorded entries fits.each) ∙ recording_stands recorded (in_lines words) recording_fits ∙ ap (λ x. recording_words recorded ++ x) ends;
     }
 
 -- ---- one more word
@@ -198,3 +284,10 @@ five_parts x a b c d e n1 n2 n3 n4 n5 e1 e2 e3 e4 e5 =
     let four : n4 ≡ x ++ (a ++ (b ++ (c ++ d))) = e4 ∙ ap (λ n. n ++ d) three ∙ append_assoc x (a ++ (b ++ c)) d ∙ ap (λ y. x ++ y) (append_assoc a (b ++ c) d ∙ ap (λ y. a ++ y) (append_assoc b c d)) in
     e5 ∙ ap (λ n. n ++ e) four ∙ append_assoc x (a ++ (b ++ (c ++ d))) e
     ∙ ap (λ y. x ++ y) (append_assoc a (b ++ (c ++ d)) e ∙ ap (λ y. a ++ y) (append_assoc b (c ++ d) e ∙ ap (λ y. b ++ y) (append_assoc c d e)))
+
+-- six parts
+pub six_parts : (x a b c d e f n1 n2 n3 n4 n5 n6 : List ℕ) → n1 ≡ x ++ a → n2 ≡ n1 ++ b → n3 ≡ n2 ++ c → n4 ≡ n3 ++ d → n5 ≡ n4 ++ e → n6 ≡ n5 ++ f
+    → n6 ≡ x ++ (a ++ (b ++ (c ++ (d ++ (e ++ f)))))
+six_parts x a b c d e f n1 n2 n3 n4 n5 n6 e1 e2 e3 e4 e5 e6 =
+    let rest = five_parts n1 b c d e f n2 n3 n4 n5 n6 e2 e3 e4 e5 e6 in
+    rest ∙ ap (λ n. n ++ (b ++ (c ++ (d ++ (e ++ f))))) e1 ∙ append_assoc x a (b ++ (c ++ (d ++ (e ++ f))))

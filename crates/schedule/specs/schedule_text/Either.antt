@@ -2,7 +2,8 @@
 use Rattle.std.specs.Prelude.{◌≡◌, ◌⊎◌, ℕ, List, [], ◌∷◌, Option, Result, Ok, Err, Bool, true, false, nat_lt, ◌==◌, ◌&&◌, ◌||◌}
 use Rattle.model.specs.declared.event.Event.{Event}
 use Rattle.model.specs.declared.event.ScheduleEntry.{ScheduleEntry}
-use Rattle.model.specs.Schedule.{Recording, ScheduleFile, events_of, schedule}
+use Rattle.model.specs.Schedule.{events_of}
+use Rattle.schedule.specs.Files.{Recording, ScheduleFile, schedule}
 use Rattle.schedule.specs.declared.fault.ScheduleFault.TheVariants as files
 use Rattle.schedule.specs.Outcomes as of_file
 use Rattle.schedule.specs.declared.schedule_text.fault.TextFault.TheVariants as texts
@@ -10,10 +11,10 @@ use Rattle.schedule.specs.declared.schedule_text.either.EitherFault.{EitherFault
 use Rattle.schedule.specs.declared.schedule_text.either.EitherFault.TheVariants as faults
 use Rattle.schedule.specs.schedule_text.Text.{SpellsSchedule, is_blank}
 
--- A text begins with a digit, with `#`, or with white space. A schedule file begins with `J`.
+-- A text begins with a digit, with `/`, with `#`, or with white space. A schedule file begins with `J`.
 abbrev pub begins_text : List ℕ → Bool
 begins_text [] = false
-begins_text (b ∷ _) = nat_lt 47 b && nat_lt b 58 || b == 35 || is_blank b
+begins_text (b ∷ _) = nat_lt 46 b && nat_lt b 58 || b == 35 || is_blank b
 
 -- they are a text that spells these entries
 abbrev pub IsText : List ℕ → Option Recording → List ScheduleEntry → Type 0

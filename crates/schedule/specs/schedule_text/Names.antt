@@ -7,5 +7,6 @@ abbrev pub text_fault_name : TextFault → List ℕ
 text_fault_name (faults.Entry line) = codes "Entry line " ++ decimal line
 text_fault_name (faults.Limits line) = codes "Limits line " ++ decimal line
 text_fault_name (faults.Lengths line) = codes "Lengths line " ++ decimal line
+text_fault_name (faults.Checksums line) = codes "Checksums line " ++ decimal line
 text_fault_name (faults.TooMany line) = codes "TooMany line " ++ decimal line
 text_fault_name faults.OutOfMemory = codes "OutOfMemory"

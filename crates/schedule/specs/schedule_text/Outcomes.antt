@@ -1,7 +1,7 @@
 -- What reading a schedule's text answers.
 use Rattle.std.specs.Prelude.{◌≡◌, List, Option, Result, Ok, Err}
 use Rattle.model.specs.declared.event.ScheduleEntry.{ScheduleEntry}
-use Rattle.model.specs.Schedule.{Recording}
+use Rattle.schedule.specs.Files.{Recording}
 use Rattle.schedule.specs.declared.schedule_text.fault.TextFault.{TextFault}
 use Rattle.schedule.specs.declared.schedule_text.fault.TextFault.TheVariants.{OutOfMemory}
 

@@ -1,8 +1,8 @@
 -- The text that is printed of a schedule (own).
 use Rattle.std.specs.Prelude.{◌≡◌, ◌+◌, ◌%◌, ℕ, List, [], ◌∷◌, ◌++◌, map, length, codes, Option, Some, None, ◌==◌, ◌||◌, if◌then◌else◌, decimal, refl}
 use Rattle.model.specs.declared.event.ScheduleEntry.{ScheduleEntry}
-use Rattle.model.specs.Schedule.{Recording}
-use Rattle.schedule.specs.schedule_text.Text.{entry_word, limit_words}
+use Rattle.schedule.specs.Files.{Checksums, Recording}
+use Rattle.schedule.specs.schedule_text.Text.{entry_word, hex_word, limit_words}
 
 -- What stands behind a word, by its place, counted from 0, and the number of words left: a line feed behind each 16th
 -- word and the last one, and a space behind each other one.
@@ -18,11 +18,21 @@ laid_out place (w ∷ ws) = w ++ gap_after place (length ws) ∷ laid_out (place
 abbrev pub in_lines : List (List ℕ) → List ℕ
 in_lines words = laid_out 0 words
 
+-- what a library adds, if it adds anything
+abbrev pub printed_library : ℕ → List ℕ
+printed_library library = if library == 0 then [] else codes "#library " ++ (hex_word library ++ 10 ∷ [])
+
+-- checksums, if they are told
+abbrev pub printed_checksums : Option Checksums → List ℕ
+printed_checksums None = []
+printed_checksums (Some c) = codes "#checksums " ++ (in_lines (map hex_word c.files) ++ printed_library c.library)
+
 -- with what a schedule was recorded, if that is told
 abbrev pub printed_recording : Option Recording → List ℕ
 printed_recording None = []
 printed_recording (Some r) =
-    codes "#limits " ++ (in_lines (limit_words r.limits) ++ (codes "#lengths " ++ (in_lines (map decimal r.lengths) ++ codes "#events\n")))
+    codes "#limits " ++ (in_lines (limit_words r.limits)
+    ++ (codes "#lengths " ++ (in_lines (map decimal r.lengths) ++ (printed_checksums r.checksums ++ codes "#events\n"))))
 
 -- the entries, and in front of them with what they were recorded
 abbrev pub printed_schedule : Option Recording → List ScheduleEntry → List ℕ

@@ -1,10 +1,11 @@
 //! A list of events that grows.
 
-ghost use Rattle.std.specs.Prelude.{◌≡◌, ◌+◌, ◌-◌, ◌<◌, ◌^◌, ◌++◌, [], length, map, replicate, slice_set, vec_len, vec_capacity, OnOk, IfSome, IfNone};
+ghost use Rattle.std.specs.Prelude.{◌≡◌, ◌+◌, ◌<◌, ◌^◌, ◌++◌, [], length, replicate, OnOk};
 ghost use Rattle.model.specs.Schedule.{events_of};
-ghost use Rattle.schedule.specs.recorded_events.Recorded.{ArePacked, AreRuns, IsLonger, IsApart};
+ghost use Rattle.schedule.specs.Joined.{AreJoined};
 
 use crate::Schedule;
+use crate::joining::append_events;
 use model::{Event, ScheduleEntry};
 use std::alloc::{AllocError, Global};
 use std::marker::Model;
@@ -26,42 +27,6 @@ impl Model for RecordedEvents {
     ghost view = { λ r. record { events = events_of r.entries.items; room = vec_capacity r.entries - vec_len r.entries } };
 
     ghost invariant = { λ r. IsRecord r.entries.items r.total };
-}
-
-/// How often the last entry stands for its event once it also stands for so many more events, where they are equal
-/// and pick nothing.
-fn longer(entries: &[ScheduleEntry], event: Event, count: u32) -> Option<u32>
-    requires { length (events_of entries.now) + count < 2 ^ 32 }
-    ensures longer { IfSome result (λ n. IsLonger entries.now event count n) }
-    ensures other { IfNone result (IsApart entries.now event) }
-{
-    let last = entries.last()?;
-    if last.event != event || event.pick != 0 {
-        return None;
-    }
-    Some(last.repeat + count)
-}
-
-/// Makes the last entry longer, or adds one.
-fn append_run(entries: &mut Vec<ScheduleEntry>, event: Event, count: u32)
-    requires room { vec_len entries.old < vec_capacity entries.old }
-    requires some { 0 < count }
-    requires alone { 1 < count → event.pick ≡ 0 }
-    requires most { length (events_of entries.old.items) + count < 2 ^ 32 }
-    requires runs { AreRuns entries.old.items }
-    ensures events { events_of entries.new.items ≡ events_of entries.old.items ++ replicate count event }
-    ensures runs { AreRuns entries.new.items }
-{
-    match longer(entries.as_slice(), event, count) {
-        Some(repeat) => {
-            let last = entries.len() - 1;
-            entries[last] = ScheduleEntry { event, repeat };
-        }
-        None => entries.push_reserved(ScheduleEntry {
-            event,
-            repeat: count,
-        }),
-    }
 }
 
 impl RecordedEvents {
@@ -106,13 +71,13 @@ impl RecordedEvents {
             return;
         }
         self.total += count;
-        append_run(&mut self.entries, event, count);
+        append_events(&mut self.entries, event, count);
     }
 
-    /// The schedule of its events, in which equal neighbours that pick nothing are one entry.
+    /// The schedule of its events, in as few entries as they can have.
     pub fn into_schedule(self) -> Schedule
         ensures events { events_of result ≡ self.events }
-        ensures packed { ArePacked (map (λ e. e.event) result) }
+        ensures joined { AreJoined result }
     {
         Schedule::of_entries(self.entries)
     }

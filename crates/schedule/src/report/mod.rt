@@ -1,4 +1,8 @@
 //! The text of a report.
+//!
+//! # Proved
+//!
+//! - `text` is the text that the definitions give for the report and the end, memory aside.
 
 mod lines;
 

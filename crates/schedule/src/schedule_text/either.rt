@@ -1,8 +1,9 @@
 //! Schedules in either form.
 
 ghost use Rattle.std.specs.Prelude.{◌≡◌, ◌⊎◌, List, Option, IfErr, IfOk};
-ghost use Rattle.model.specs.Schedule.{Recording as Recorded, events_of};
+ghost use Rattle.model.specs.Schedule.{events_of};
 ghost use Rattle.model.specs.declared.event.Event.{Event};
+ghost use Rattle.schedule.specs.Files.{Recording as Recorded};
 ghost use Rattle.schedule.specs.schedule_text.Either.{AnswersEvents, GivesEntries, GivesEvents, IsFaultOf, begins_text};
 
 use crate::schedule_text::fault::TextFault;
@@ -13,9 +14,9 @@ use std::alloc::Global;
 /// Why bytes are no schedule.
 #[derive(Clone, Copy)]
 pub enum EitherFault {
-    /// They are read as a schedule file, and are none.
+    /// The bytes are read as a schedule file, and are none.
     File(ScheduleFault),
-    /// They are read as text, and spell no schedule.
+    /// The bytes are read as text, and spell no schedule.
     Text(TextFault),
 }
 
@@ -24,18 +25,18 @@ fn is_text(bytes: &[u8]) -> bool
     ensures { result ≡ begins_text bytes.now }
 {
     match bytes {
-        [first, ..] => matches!(*first, b'0'..=b'9' | b'#' | b'\t' | b'\n' | b'\r' | b' '),
+        [first, ..] => matches!(*first, b'/'..=b'9' | b'#' | b'\t' | b'\n' | b'\r' | b' '),
         [] => false,
     }
 }
 
 /// The schedule that bytes give, and with what it was recorded, where they tell that.
 ///
-/// They are read as text where the first is a digit, `#`, or white space, and else as a schedule file.
+/// The bytes are read as text where the first is a digit, `/`, `#`, or white space, and else as a schedule file.
 ///
 /// # Errors
 ///
-/// Those of `parse` and those of `read_schedule`.
+/// The errors of `parse` and those of `read_schedule`.
 pub fn read_either(
     alloc: Global,
     bytes: &[u8],

@@ -57,7 +57,7 @@ fn with_tail(thread: u16, bytes: &[u8]) -> Option<ScheduleEntry>
 }
 
 /// The entry that a word spells.
-fn entry(word: &[u8]) -> Option<ScheduleEntry>
+pub(crate) fn entry(word: &[u8]) -> Option<ScheduleEntry>
     ensures found { IfSome result (λ e. (word.now ≡ entry_word e) × EntryFits e) }
     ensures only { (e : Entry) → EntryFits e → word.now ≡ entry_word e → result ≡ Some e }
 {

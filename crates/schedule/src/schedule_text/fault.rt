@@ -14,8 +14,10 @@ pub enum TextFault {
     Entry(u64),
     /// A word of the limits is missing, is another, or has a number outside its range.
     Limits(u64),
-    /// Behind the limits `#lengths` or `#events` is missing, or a word between them is no length.
+    /// Behind the limits `#lengths` is missing, or a word behind that is no length.
     Lengths(u64),
+    /// Behind `#checksums` there are not as many as lengths, or `#library` has no checksum, or `#events` is missing.
+    Checksums(u64),
     /// There are more entries or lengths than a schedule may have.
     TooMany(u64),
     OutOfMemory,
@@ -33,6 +35,7 @@ impl fmt::Display for TextFault {
             TextFault::Entry(line) => write!(f, "Entry line {line}"),
             TextFault::Limits(line) => write!(f, "Limits line {line}"),
             TextFault::Lengths(line) => write!(f, "Lengths line {line}"),
+            TextFault::Checksums(line) => write!(f, "Checksums line {line}"),
             TextFault::TooMany(line) => write!(f, "TooMany line {line}"),
             TextFault::OutOfMemory => f.write_str("OutOfMemory"),
         }

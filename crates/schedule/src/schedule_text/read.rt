@@ -1,8 +1,8 @@
 //! Reading the text of a schedule.
 
 ghost use Rattle.std.specs.Prelude.{◌≡◌, List, Option, IfOk};
-ghost use Rattle.model.specs.Schedule.{Recording as Recorded};
 ghost use Rattle.model.specs.declared.event.ScheduleEntry.{ScheduleEntry};
+ghost use Rattle.schedule.specs.Files.{Recording as Recorded};
 ghost use Rattle.schedule.specs.schedule_text.Outcomes.{Answers};
 ghost use Rattle.schedule.specs.schedule_text.Text.{SpellsSchedule};
 
@@ -17,8 +17,8 @@ use std::alloc::Global;
 ///
 /// # Errors
 ///
-/// The first fault in the order of the words, with its line: `Limits`, `Lengths`, `Entry` and `TooMany`; and
-/// `OutOfMemory`.
+/// The first fault in the order of the words, with its line: `Limits`, `Lengths`, `Checksums`, `Entry` and
+/// `TooMany`; and `OutOfMemory`.
 pub fn parse(alloc: Global, text: &[u8]) -> Result<(Schedule, Option<Recording>), TextFault>
     // What is read is spelled so.
     ensures found { IfOk result (λ read. SpellsSchedule text.now read.1 read.0) }

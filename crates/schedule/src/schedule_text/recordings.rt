@@ -1,14 +1,17 @@
 //! Reading with what a schedule was recorded.
 
-ghost use Rattle.std.specs.Prelude.{◌≡◌, ◌∷◌, ◌++◌, ◌<◌, ◌^◌, ℕ, List, [], length, map, true, None, Some, Option, IsTrue, IfSome, IfOk, codes, decimal};
+ghost use Rattle.std.specs.Prelude.{◌≡◌, ◌↔◌, ◌∷◌, ◌++◌, ◌<◌, ◌^◌, ℕ, List, [], length, map, true, None, Some, Option, IsTrue, IfSome, IfOk, decimal};
 ghost use Rattle.std.specs.List.{AllByRecursion};
-ghost use Rattle.model.specs.Schedule as file;
+ghost use Rattle.model.specs.Schedule.{AreEntries};
 ghost use Rattle.model.specs.declared.event.ScheduleEntry.{ScheduleEntry};
 ghost use Rattle.model.specs.declared.limits.Limits.{Limits as Bounds};
+ghost use Rattle.schedule.specs.Files as file;
 ghost use Rattle.schedule.specs.schedule_text.Outcomes.{Reads};
-ghost use Rattle.schedule.specs.schedule_text.Text.{entry_word, length_words, limit_words, recording_words};
+ghost use Rattle.schedule.specs.schedule_text.Recordings.{EndLengths};
+ghost use Rattle.schedule.specs.schedule_text.Text.{entry_word, limit_words, recording_words};
 
 use crate::Recording;
+use crate::schedule_text::checksum_words::checked;
 use crate::schedule_text::fault::TextFault;
 use crate::schedule_text::numbers::number_within;
 use crate::schedule_text::words::Words;
@@ -47,6 +50,18 @@ fn limit(words: &mut Words<'_>, name: &[u8]) -> Option<u32>
     }
 }
 
+/// The length that the next word spells.
+fn length(words: &mut Words<'_>) -> Option<u64>
+    ensures found { IfSome result (λ n. words.old ≡ decimal n ∷ words.new) }
+    ensures only { (n : ℕ) (rest : List (List ℕ)) → n < 2 ^ 64 → words.old ≡ decimal n ∷ rest
+        → (result ≡ Some n) × (words.new ≡ rest) }
+{
+    match words.next() {
+        Some(word) => number_within(word, 0, u64::MAX),
+        None => None,
+    }
+}
+
 /// The limits that the next five words spell.
 fn limits(words: &mut Words<'_>) -> Option<Limits>
     ensures found { IfSome result (λ l. (words.old ≡ limit_words l ++ words.new) × (l.cells < 2 ^ 32)) }
@@ -61,19 +76,23 @@ fn limits(words: &mut Words<'_>) -> Option<Limits>
     Limits::new(objects, cells, monitors, threads, frames)
 }
 
-/// The lengths up to the word that ends them, which is read, too.
+/// Whether the next word ends lengths.
+fn end_lengths(words: &Words<'_>) -> bool
+    ensures is { IsTrue result ↔ EndLengths words.now }
+{
+    words.begins_with(b"#events") || words.begins_with(b"#checksums")
+}
+
+/// The lengths up to the word that ends them, which is not read.
 fn lengths(alloc: Global, words: &mut Words<'_>) -> Result<Vec<u64>, TextFault>
-    ensures found { IfOk result (λ v. (words.old ≡ length_words v.items ++ words.new) × (length v.items < 2 ^ 32)) }
+    ensures found { IfOk result (λ v. (words.old ≡ map decimal v.items ++ words.new) × (length v.items < 2 ^ 32)) }
     ensures only { (ns : List ℕ) (rest : List (List ℕ)) → AllByRecursion (λ n. n < 2 ^ 64) ns → length ns < 2 ^ 32
-        → words.old ≡ length_words ns ++ rest
+        → EndLengths rest → words.old ≡ map decimal ns ++ rest
         → Reads {Y = List ℕ × List (List ℕ)} (λ v. (v.items, words.new)) result (ns, rest) }
 {
     let mut lengths = Vec::new(alloc);
-    'lengths: while let Some(word) = words.next() {
-        if word == b"#events".as_slice() {
-            return Ok(lengths);
-        }
-        let Some(length) = number_within(word, 0, u64::MAX) else {
+    'lengths: while !end_lengths(words) {
+        let Some(length) = length(words) else {
             return Err(TextFault::Lengths(words.line()));
         };
         if lengths.len() == MOST {
@@ -81,7 +100,7 @@ fn lengths(alloc: Global, words: &mut Words<'_>) -> Result<Vec<u64>, TextFault>
         }
         lengths.push(length)?;
     }
-    Err(TextFault::Lengths(words.line()))
+    Ok(lengths)
 }
 
 /// What the words say up to the entries.
@@ -101,13 +120,17 @@ fn recording(alloc: Global, words: &mut Words<'_>) -> Result<Recording, TextFaul
         return Err(TextFault::Lengths(words.line()));
     }
     let lengths = lengths(alloc, words)?;
-    Ok(Recording::new(limits, lengths))
+    let checksums = checked(alloc, lengths.len(), words)?;
+    if !heading(words, b"#events") {
+        return Err(TextFault::Checksums(words.line()));
+    }
+    Ok(Recording::new(limits, lengths, checksums))
 }
 
 /// What stands in front of the entries, if anything does.
 pub(crate) fn recorded(alloc: Global, words: &mut Words<'_>) -> Result<Option<Recording>, TextFault>
     ensures found { IfOk result (λ r. (words.old ≡ recording_words r ++ words.new) × file.RecordedFits r) }
-    ensures only { (r : Option file.Recording) (es : List ScheduleEntry) → file.RecordedFits r → file.AreEntries es
+    ensures only { (r : Option file.Recording) (es : List ScheduleEntry) → file.RecordedFits r → AreEntries es
         → words.old ≡ recording_words r ++ map entry_word es
         → Reads {Y = Option file.Recording × List (List ℕ)} (λ x. (x, words.new)) result (r, map entry_word es) }
 {

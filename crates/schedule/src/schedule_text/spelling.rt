@@ -1,8 +1,8 @@
 //! What is true of texts whatever reads them.
 
 ghost use Rattle.std.specs.Prelude.{◌≡◌, ℕ, List, Option};
-ghost use Rattle.model.specs.Schedule.{Recording};
 ghost use Rattle.model.specs.declared.event.ScheduleEntry.{ScheduleEntry};
+ghost use Rattle.schedule.specs.Files.{Recording};
 ghost use Rattle.schedule.specs.schedule_text.Text.{SpellsSchedule};
 
 /// A text spells at most one list of entries, and at most one recording beside it.

@@ -1,7 +1,7 @@
 //! The words of a text, from left to right.
 
 ghost use Rattle.std.specs.Prelude.{◌≡◌, ◌∷◌, ◌≤◌, ◌<◌, ◌||◌, ℕ, List, [], length, drop, take, get_or, true, false, None, IsTrue, IfSome};
-ghost use Rattle.schedule.specs.schedule_text.Text.{begins_comment as comment_begins, is_blank as blank, words_from, words_of};
+ghost use Rattle.schedule.specs.schedule_text.Text.{begins_comment as comment_begins, begins_slashes as slashes_begin, behind_comments, is_blank as blank, text_words, words_from, words_of};
 
 use std::marker::Model;
 
@@ -19,6 +19,47 @@ fn begins_comment(bytes: &[u8]) -> bool
         [b'#'] => true,
         _ => false,
     }
+}
+
+/// Whether a comment of the front, of either kind, stands first.
+fn begins_front_comment(bytes: &[u8]) -> bool
+    ensures { result ≡ (comment_begins bytes.now || slashes_begin bytes.now) }
+{
+    begins_comment(bytes) || matches!(bytes, [b'/', b'/', ..])
+}
+
+/// Whether such a comment goes on behind the first of these bytes, and `None` where the front ends.
+fn front_after(comment: bool, bytes: &[u8]) -> Option<bool>
+    requires { 0 < length bytes.now }
+    ensures goes_on { IfSome result (λ next.
+        behind_comments next (drop 1 bytes.now) ≡ behind_comments comment bytes.now) }
+    ensures ends { result ≡ None → behind_comments comment bytes.now ≡ bytes.now }
+{
+    if comment {
+        return Some(bytes[0] != b'\n');
+    }
+    if is_blank(bytes[0]) {
+        return Some(false);
+    }
+    if begins_front_comment(bytes) {
+        return Some(true);
+    }
+    None
+}
+
+/// How many bytes the comments take with which a text may begin, and the white space between them.
+fn front(bytes: &[u8]) -> usize
+    ensures within { result ≤ length bytes.now }
+    ensures behind { drop result bytes.now ≡ behind_comments false bytes.now }
+{
+    let mut comment = false;
+    'front: for at in 0..bytes.len() {
+        match front_after(comment, &bytes[at..]) {
+            Some(next) => comment = next,
+            None => return at,
+        }
+    }
+    bytes.len()
 }
 
 /// Whether a word ends before these bytes: white space or a comment stands first.
@@ -100,9 +141,12 @@ impl<'a> Model for Words<'a> {
 
 impl<'a> Words<'a> {
     pub(crate) fn new(text: &'a [u8]) -> Words<'a>
-        ensures { result ≡ words_of text.now }
+        ensures { result ≡ text_words text.now }
     {
-        Words { text, at: 0 }
+        Words {
+            text,
+            at: front(text),
+        }
     }
 
     /// The next word, or `None` where no more comes.

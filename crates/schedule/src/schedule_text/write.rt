@@ -2,13 +2,14 @@
 
 ghost use Rattle.std.specs.Prelude.{◌≡◌, ◌++◌, ◌∷◌, [], Some, map, IfOk, OnOk, decimal};
 ghost use Rattle.std.specs.Option.{option_map};
-ghost use Rattle.model.specs.Schedule.{EntryFits, RecordedFits, RecordingFits};
+ghost use Rattle.schedule.specs.Files.{RecordedFits, RecordingFits};
 ghost use Rattle.schedule.specs.schedule_text.Printing as printing;
-ghost use Rattle.schedule.specs.schedule_text.Printing.{in_lines, printed_recording, printed_schedule};
-ghost use Rattle.schedule.specs.schedule_text.Text.{SpellsSchedule, entry_word, limit_words, unless_usual};
+ghost use Rattle.schedule.specs.schedule_text.Printing.{in_lines, printed_checksums, printed_library, printed_recording, printed_schedule};
+ghost use Rattle.schedule.specs.schedule_text.Text.{SpellsSchedule, entry_word, hex_word, limit_words, unless_usual};
 
+use crate::schedule_text::hex_words::push_hex_word;
 use crate::schedule_text::numbers::push_number;
-use crate::{Recording, Schedule};
+use crate::{Checksums, Recording, Schedule};
 use model::{Limits, ScheduleEntry};
 use std::alloc::{AllocError, Global};
 
@@ -94,6 +95,49 @@ fn push_lengths(text: &mut Vec<u8>, lengths: &[u64]) -> Result<(), AllocError>
     Ok(())
 }
 
+fn push_hex_words(text: &mut Vec<u8>, numbers: &[u64]) -> Result<(), AllocError>
+    ensures { OnOk result (text.new.items ≡ text.old.items ++ in_lines (map hex_word numbers.now)) }
+{
+    'numbers: for place in 0..numbers.len() {
+        let left = numbers.len() - 1 - place;
+        push_hex_word(text, numbers[place])?;
+        text.push(gap_after(place, left))?;
+    }
+    Ok(())
+}
+
+/// What a library adds, where it adds anything.
+fn push_library(text: &mut Vec<u8>, library: u64) -> Result<(), AllocError>
+    ensures { OnOk result (text.new.items ≡ text.old.items ++ printed_library library) }
+{
+    if library == 0 {
+        return Ok(());
+    }
+    text.extend_from_slice(b"#library ")?;
+    push_hex_word(text, library)?;
+    text.push(b'\n')?;
+    Ok(())
+}
+
+fn push_checksums(text: &mut Vec<u8>, checksums: &Checksums) -> Result<(), AllocError>
+    ensures { OnOk result (text.new.items ≡ text.old.items ++ printed_checksums (Some checksums.now)) }
+{
+    text.extend_from_slice(b"#checksums ")?;
+    push_hex_words(text, checksums.files())?;
+    push_library(text, checksums.library())?;
+    Ok(())
+}
+
+fn push_checked(text: &mut Vec<u8>, checksums: Option<&Checksums>) -> Result<(), AllocError>
+    ensures { OnOk result (text.new.items
+        ≡ text.old.items ++ printed_checksums (option_map (λ c. c.now) checksums.entry)) }
+{
+    match checksums {
+        Some(checksums) => push_checksums(text, checksums),
+        None => Ok(()),
+    }
+}
+
 fn push_recording(text: &mut Vec<u8>, recording: &Recording) -> Result<(), AllocError>
     ensures fits { RecordingFits recording.now }
     ensures added { OnOk result (text.new.items ≡ text.old.items ++ printed_recording (Some recording.now)) }
@@ -103,6 +147,7 @@ fn push_recording(text: &mut Vec<u8>, recording: &Recording) -> Result<(), Alloc
     push_limits(text, recording.limits())?;
     text.extend_from_slice(b"#lengths ")?;
     push_lengths(text, lengths)?;
+    push_checked(text, recording.checksums())?;
     text.extend_from_slice(b"#events\n")?;
     Ok(())
 }
@@ -119,7 +164,7 @@ fn push_recorded(text: &mut Vec<u8>, recording: Option<&Recording>) -> Result<()
 }
 
 /// The text of a schedule, and of what it was recorded with, where that is given. A line has at most 16 entries, or
-/// lengths of class files.
+/// lengths or checksums of class files.
 pub fn print(
     alloc: Global,
     schedule: &Schedule,

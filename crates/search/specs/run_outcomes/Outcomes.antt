@@ -4,7 +4,7 @@ use Rattle.std.specs.Cmp.Lexicographic.{slice_cmp}
 use Rattle.std.specs.List.{flat_map, insert, list_any}
 use Rattle.std.specs.List.Sorted.{IsStrictlySortedBy}
 use Rattle.std.specs.BTreeSet.{insert_key}
-use Rattle.std.specs.Ordering.{nat_cmp, int_cmp, ordering_then}
+use Rattle.std.specs.Ordering.{eq_by_cmp, nat_cmp, int_cmp, ordering_then}
 use Rattle.std.specs.declared.cmp.Ordering.{Ordering}
 use Rattle.model.specs.Report.{ThreadEnd, Ended, Threw, Blocked, Waiting, Joining, Initialising, Runnable, end_state_of, line, signed_number}
 use Rattle.run_laws.specs.interleavings.Ends.{Outcome, Has}
@@ -67,6 +67,10 @@ end_cmp one other = ordering_then (nat_cmp (rank_of one) (rank_of other)) (slice
 -- by the numbers printed, the first that differ, and by how the threads stand, the first that differ
 abbrev pub outcome_cmp : Outcome → Outcome → Ordering
 outcome_cmp one other = ordering_then (slice_cmp int_cmp one.printed other.printed) (slice_cmp end_cmp one.ends other.ends)
+
+-- whether they are the same, where neither comes first
+abbrev pub is_same : Outcome → Outcome → Bool
+is_same = eq_by_cmp outcome_cmp
 
 -- ---- lists of them
 

@@ -11,7 +11,7 @@ use Rattle.machine.specs.machine_replay.Replays.{text_of}
 use Rattle.search.specs.declared.run_outcomes.wanted.Wanted.{Wanted}
 use Rattle.search.specs.declared.searching.Verdict.{Verdict}
 use Rattle.search.specs.GivingUp.{GivesUp}
-use Rattle.search.specs.Verdicts.{IsFound, IsComplete, Says}
+use Rattle.search.specs.Verdicts.{IsFoundBy, IsComplete, Says}
 use Rattle.search.specs.declared.search_reports.answers.Answer.{Answer}
 use Rattle.search.specs.declared.search_reports.answers.Answer.TheVariants as answer
 
@@ -23,7 +23,7 @@ IsReportOf trees frames events r = meaning trees frames events ends.Quiet ≡ So
 -- runs that end, and none is wanted. Of runs that never end nothing is said. A search gives up only where so many states are met as may be,
 -- or where some run can't be gone on with.
 abbrev pub Answers : Program → Limits → Wanted → (most states : ℕ) → Answer → Type 0
-Answers trees limits want most states (answer.Found schedule r) = IsFound trees limits want (events_of schedule) × IsReportOf trees limits.frames (events_of schedule) r
+Answers trees limits want most states (answer.Found schedule r) = IsFoundBy trees limits want schedule × IsReportOf trees limits.frames (events_of schedule) r
 Answers trees limits want most states (answer.Complete outcomes) = IsComplete trees limits want states outcomes
 Answers trees limits want most states answer.GaveUp = GivesUp trees limits most states
 

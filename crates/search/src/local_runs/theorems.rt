@@ -21,7 +21,7 @@ pub(crate) fn instructions_are_local()
     local_events_are_their_own();
 }
 
-/// So are no instructions.
+/// No instructions are no events, each of which is local.
 pub(crate) fn none_is_local()
     ensures holds { IsNoneLocal }
 {}

@@ -20,7 +20,7 @@ pub enum Wanted {
     Stuck,
     /// A thread ended with an exception that nothing caught.
     Uncaught,
-    /// This text is what was printed: each number in decimal, and a line feed behind it.
+    /// The run printed this text: each number in decimal, and a line feed behind it.
     Printed(Vec<u8>),
     /// Another text than this is.
     PrintedOther(Vec<u8>),

@@ -13,7 +13,8 @@ use std::alloc::{AllocError, Global};
 /// What a search answers.
 #[derive(Drop)]
 pub enum Answer {
-    /// A schedule of a run whose outcome is wanted, and the report of the run. No thread may go on where it ends.
+    /// A schedule of a run whose outcome is wanted, in as few entries as its events can have, and the report of the
+    /// run. No thread may go on where it ends.
     Found(Schedule, Report),
     /// The outcomes of all runs that end, none of which is wanted.
     Complete(Outcomes),

@@ -16,50 +16,50 @@ pub struct Entries {
 pub enum Deed {
     /// No more than its instruction says, or nothing.
     Nothing,
-    /// It put a word on the stack of its frame.
+    /// The event put a word on the stack of its frame.
     Pushes {
         word: u32,
     },
-    /// It wrote to a local variable.
+    /// The event wrote to a local variable.
     Stores {
         local: u16,
         word: u32,
     },
-    /// It went on at an offset of its code.
+    /// The event went on at an offset of its code.
     Goes {
         offset: u16,
     },
-    /// It read a field, of an object or a static one.
+    /// The event read a field, of an object or a static one.
     ReadsField {
         object: Option<u32>,
         word: u32,
     },
-    /// It wrote to one, which has this word now.
+    /// The event wrote to a field, which has this word now.
     WritesField {
         object: Option<u32>,
         word: u32,
     },
-    /// It read an element of an array.
+    /// The event read an element of an array.
     ReadsElement {
         array: u32,
         index: u32,
         word: u32,
     },
-    /// It wrote to one, which has this word now.
+    /// The event wrote to an element, which has this word now.
     WritesElement {
         array: u32,
         index: u32,
         word: u32,
     },
-    /// It made an object.
+    /// The event made an object.
     Makes {
         object: u32,
     },
-    /// It entered a monitor, which the thread has entered so often now.
+    /// The event entered a monitor, which the thread has entered so often now.
     Enters(Entries),
-    /// It left a monitor, which the thread has entered so often still.
+    /// The event left a monitor, which the thread has entered so often still.
     Exits(Entries),
-    /// It called a method with code, and entered the monitor of a synchronized one.
+    /// The event called a method with code, and entered the monitor of a synchronized one.
     Calls {
         method: u32,
         entered: Option<Entries>,
@@ -77,27 +77,27 @@ pub enum Deed {
     Waits {
         object: u32,
     },
-    /// It took a thread from the wait set of an object, if there was one.
+    /// The event took a thread from the wait set of an object, if there was one.
     Notifies {
         thread: Option<u16>,
     },
-    /// It took all threads from it, which `Before` tells.
+    /// The event took all threads from the wait set of an object, which `Before` tells.
     NotifiesAll,
-    /// It started the thread of a Thread object.
+    /// The event started the thread of a Thread object.
     Starts {
         object: u32,
     },
-    /// It interrupted that thread.
+    /// The event interrupted the thread of a Thread object.
     Interrupts {
         object: u32,
     },
-    /// It found that thread ended.
+    /// The event found that the thread of a Thread object has ended.
     Joins {
         object: u32,
     },
-    /// It let other threads go first.
+    /// The event let other threads go first.
     Yields,
-    /// It printed a number.
+    /// The event printed a number.
     Prints {
         number: i32,
     },
@@ -116,11 +116,11 @@ pub enum Deed {
     BeginsInitialisation {
         class: u16,
     },
-    /// It found that the class which it initialises declares no initialiser.
+    /// The event found that the class which it initialises declares no initialiser.
     NeedsNoInitialiser {
         class: u16,
     },
-    /// It ended the initialisation of a class.
+    /// The event ended the initialisation of a class.
     EndsInitialisation {
         class: u16,
     },
@@ -128,7 +128,7 @@ pub enum Deed {
     FailsInitialisation {
         class: u16,
     },
-    /// It entered the monitor again of the object on which it waited.
+    /// The event entered the monitor again of the object on which it waited.
     EntersAgain {
         entries: Entries,
         cause: WakeCause,

@@ -8,9 +8,7 @@ ghost use Rattle.traces.specs.traced_events.Seen.{IsFrameSeen};
 use linked_code::thread_stacks::{Frame, ThreadStack};
 use linked_code::{LinkedProgram, MethodBody};
 use machine_state::method_selection::method_at;
-
-/// What stands for the offset of a place at which no instruction begins.
-const NO_OFFSET: u16 = 65535;
+use model::built_in::NO_OFFSET;
 
 /// Where the frame on top of a thread stands.
 #[derive(Clone, Copy)]

@@ -7,9 +7,9 @@ use machine_state::Shared;
 /// By which rule the event of a thread goes (JVMS 2.6, 2.10, 5.2, 5.5; JLS 17).
 #[derive(Clone, Copy)]
 pub enum Rule {
-    /// It waits or has ended: no event of it is enabled.
+    /// The thread waits or has ended: no event of it is enabled.
     NoEvent,
-    /// It has left the wait set of an object, and enters its monitor again, as often as before.
+    /// The thread has left the wait set of an object, and enters its monitor again, as often as before.
     Relock {
         object: u32,
         count: u32,
@@ -19,9 +19,9 @@ pub enum Rule {
     Pending {
         exception: u32,
     },
-    /// Its stack is empty: it begins.
+    /// The stack of the thread is empty: it begins.
     Begin,
-    /// It initialises a class, by its number.
+    /// The thread initialises a class, by its number.
     Initialisation {
         class: u16,
         phase: Phase,
@@ -30,7 +30,7 @@ pub enum Rule {
     Bytecode,
 }
 
-/// That of a thread that runs, by what is on top of its stack.
+/// The rule of a thread that runs, by what is on top of its stack.
 fn going_rule(stack: &ThreadStack) -> Rule {
     match stack.top() {
         Top::Empty => Rule::Begin,
@@ -39,7 +39,7 @@ fn going_rule(stack: &ThreadStack) -> Rule {
     }
 }
 
-/// That of a thread, by its number and with its stack.
+/// The rule of a thread, by its number and with its stack.
 pub fn rule_of(shared: &Shared, stack: &ThreadStack, thread: u16) -> Rule {
     match shared.threads.status(thread) {
         ThreadStatus::Waiting { .. } | ThreadStatus::Ended(_) => Rule::NoEvent,

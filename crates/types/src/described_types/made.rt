@@ -12,9 +12,7 @@ ghost use Rattle.types.specs.described_types.Described.{Gives};
 
 use crate::{Element, ReferenceType, VerificationType};
 use hierarchy::ClassSet;
-
-/// The place of java/lang/Object, in every set.
-const OBJECT: usize = 0;
+use model::built_in::OBJECT;
 
 /// The class as which a class counts.
 fn made_class(set: &ClassSet, class: usize) -> usize

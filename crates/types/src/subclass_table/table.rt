@@ -1,4 +1,4 @@
-//! The whole table.
+//! The table of subclasses, made of the rows of all classes.
 
 ghost use Rattle.std.specs.Prelude.{◌≡◌, ◌<◌, ◌^◌, true, is_some, length, IfOk, ℕ};
 ghost use Rattle.model.specs.Classes.{classes_of};

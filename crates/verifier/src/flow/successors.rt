@@ -47,7 +47,8 @@ fn successors_by(
     Ok(Some(SmallVec::from_slice(alloc, &[])?))
 }
 
-/// The same of an instruction that is not local. Its meaning is read unless it is kept, and kept from then on.
+/// The offsets to which an instruction leads that is not local. Its meaning is read unless it is kept, and kept from
+/// then on.
 fn other_successors(
     alloc: Global,
     site: &Site<'_>,

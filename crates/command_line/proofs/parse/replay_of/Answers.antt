@@ -40,4 +40,6 @@ returns-clause-values c = record {
   other_files = files_other (rows_of (found_of c.args.matches.now)) c.in_ok-files.files.items _ c.deref.ensures.value c.in_ok-check_files.ensures.apart;
   explain = c.is_set.ensures;
   quiet = c.is_set-2.ensures;
+  any_files = c.is_set-3.ensures;
+  files_alone = c.is_set-4.ensures;
 }

@@ -18,6 +18,7 @@ returns-in_err-check_files-clause-none c =
 pub returns-clause-values : goal.returns-clause-values
 returns-clause-values c = record {
   options = c.in_ok-options.ensures.numbers;
+  sweep = c.in_ok-sweep.ensures.sweep;
   recording = c.in_ok-record.ensures;
   limits = c.in_ok-limits.ensures.limits;
   main = c.in_ok-main.ensures;
@@ -25,4 +26,5 @@ returns-clause-values c = record {
   other_files = files_other (rows_of (found_of c.args.matches.now)) c.in_ok-files.files.items _ c.deref.ensures.value c.in_ok-check_files.ensures.apart;
   explain = c.is_set.ensures;
   quiet = c.is_set-2.ensures;
+  files_alone = c.is_set-3.ensures;
 }

@@ -13,4 +13,5 @@ returns-clause-values c = record {
   write = c.is_set.ensures;
   explain = c.is_set-2.ensures;
   quiet = c.is_set-3.ensures;
+  as_version = c.in_ok-as_version.ensures.number;
 }

@@ -20,4 +20,6 @@ returns-clause-values c = record {
   files = c.in_ok-files.ensures.files;
   explain = c.is_set-2.ensures;
   quiet = c.is_set-3.ensures;
+  any_files = c.is_set-4.ensures;
+  files_alone = c.is_set-5.ensures;
 }

@@ -14,4 +14,5 @@ returns-clause-values c = record {
   library = c.is_set.ensures;
   explain = c.is_set-2.ensures;
   quiet = c.is_set-3.ensures;
+  files_alone = c.is_set-4.ensures;
 }

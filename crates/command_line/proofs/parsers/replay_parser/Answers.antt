@@ -9,8 +9,9 @@ pub returns : goal.returns
 returns c =
     let new : IsParser c.titled.result (new_app (codes "replay")) = (c.titled.ensures.app, c.titled.ensures.local) in
     let schedule = with_argument _ _ _ _ _ new c.schedule_argument.ensures.rule c.schedule_argument.ensures.local c.in_ok-arg.ensures in
-    let then_run = with_argument _ _ _ _ _ schedule c.flag_argument.ensures.rule c.flag_argument.ensures.local c.in_ok-arg-2.ensures in
-    let budget = with_argument _ _ _ _ _ then_run c.argument.ensures.rule c.argument.ensures.local c.in_ok-arg-3.ensures in
+    let any_files = with_argument _ _ _ _ _ schedule c.any_files_argument.ensures.rule c.any_files_argument.ensures.local c.in_ok-arg-2.ensures in
+    let then_run = with_argument _ _ _ _ _ any_files c.flag_argument.ensures.rule c.flag_argument.ensures.local c.in_ok-arg-3.ensures in
+    let budget = with_argument _ _ _ _ _ then_run c.argument.ensures.rule c.argument.ensures.local c.in_ok-arg-4.ensures in
     let recording = with_argument _ _ _ _ _ budget c.record_argument.ensures.rule c.record_argument.ensures.local c.in_ok-replay.ensures in
     let limited = c.in_ok-with_program.ensures.app ∙ ap with_program recording.0 in
     IfOk-weaker c.with_files.result _ _ (λ whole is. (is.0 ∙ ap₂ with_files limited c.files_argument.ensures.rule, is.1))

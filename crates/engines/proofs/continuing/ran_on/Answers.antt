@@ -1,4 +1,8 @@
-use Rattle.std.proofs.Common.{arith, map, refl, subst, vec_items}
+use Rattle.std.proofs.Common.{Some, arith, map, refl, subst, sym, vec_items}
+use Rattle.std.specs.Prelude.{IfSome}
+use Rattle.std.specs.Option.{option_map}
+use Rattle.schedule.specs.Joined.{RecordedFile}
+use Rattle.engines.specs.Recordings.{recording_over}
 use Rattle.std.proofs.lemmas.List.{length-map}
 use Rattle.model.specs.Classes.{Program}
 use Rattle.model.specs.Schedule.{events_of}
@@ -18,7 +22,7 @@ returns-in-Whole-clause-run c =
     let events = events_of c.args.schedule.now in
     let run = c.in-Whole.run' in
     let goes_on = subst (λ (trees : Program). GoesOn trees events c.args.limits c.args.budget c.in_ok-run.field-0) c.in_ok-verified.ensures.ok c.in_ok-run.ensures in
-    by_three c.outcome_of.result _ _ _ _ (λ outcome told ended spelled bytes options opened. record {
+    by_three c.outcome_of.result _ _ _ _ (λ outcome told ended spelled bytes options same opened. record {
       trees = c.args.verified;
       events = events;
       limits = c.args.limits;
@@ -31,14 +35,16 @@ returns-in-Whole-clause-run c =
       comes_to = (refl, refl, refl);
       told = told;
       ended = ended;
-      spelled = spelled;
+      spelled =
+          subst (λ n. IfSome (option_map vec_items outcome.file) (λ file. RecordedFile file (Some (recording_over c.args.limits n (map vec_items c.args.files.now))) (events_of run.schedule)))
+          (sym same) spelled;
     }) c.outcome_of.ensures.told c.outcome_of.ensures.ended c.outcome_of.ensures.spelled
 
 pub returns-in-Part-clause-run : goal.returns-in-Part-clause-run
 returns-in-Part-clause-run c =
     let events = events_of c.args.schedule.now in
     let goes_on = subst (λ (trees : Program). GoesOn trees events c.args.limits c.args.budget c.in_ok-run.field-0) c.in_ok-verified.ensures.ok c.in_ok-run.ensures in
-    by_three c.outcome_of-in-Part.result _ _ _ _ (λ outcome told ended spelled bytes options opened. record {
+    by_three c.outcome_of-in-Part.result _ _ _ _ (λ outcome told ended spelled bytes options same opened. record {
       trees = c.args.verified;
       events = events;
       limits = c.args.limits;
@@ -51,5 +57,7 @@ returns-in-Part-clause-run c =
       comes_to = (refl, refl, refl);
       told = told;
       ended = ended;
-      spelled = spelled;
+      spelled =
+          subst (λ n. IfSome (option_map vec_items outcome.file) (λ file. RecordedFile file (Some (recording_over c.args.limits n (map vec_items c.args.files.now))) events)) (sym same)
+          spelled;
     }) c.outcome_of-in-Part.ensures.told c.outcome_of-in-Part.ensures.ended c.outcome_of-in-Part.ensures.spelled

@@ -1,7 +1,7 @@
 use Rattle.std.proofs.Common.{List, Option, ℕ, subst}
 use Rattle.std.proofs.lemmas.Result.{err_from_is_err_and}
 use Rattle.model.specs.declared.event.Event.{Event}
-use Rattle.model.specs.Schedule.{Recording}
+use Rattle.schedule.specs.Files.{Recording}
 use Rattle.schedule.specs.schedule_text.Either.{GivesEvents, IsFaultOf, IsMemory}
 use Rattle.engines.proofs.OpeningLemmas.{either_is_kept, either_is_unprinted}
 use Rattle.engines.proofs.opening.read_given.Goals as goal

@@ -9,4 +9,4 @@ returns-in-Ok-clause-done g c =
 
 pub returns-in-Ok-clause-faulty : goal.returns-in-Ok-clause-faulty
 returns-in-Ok-clause-faulty g c =
-    IfErr-weaker c.done.result _ _ (λ complaint undone. (undone.0, undone_stops _ _ _ _ _ _ (map string_bytes c.args.words.now) complaint undone.0 c.in-Ok.ensures.spelled undone.1, undone.2)) c.done.ensures.faulty
+    IfErr-weaker c.done.result _ _ (λ complaint undone. (undone.0, undone_stops _ _ _ _ _ _ _ (map string_bytes c.args.words.now) complaint undone.0 c.in-Ok.ensures.spelled undone.1, undone.2)) c.done.ensures.faulty

@@ -5,7 +5,8 @@ use Rattle.std.specs.Io.KnownBytes.{Appends}
 use Rattle.model.specs.Devices.{AppendsFront}
 use Rattle.model.specs.Accepted.{IsAccepted}
 use Rattle.engines.specs.Refusals.{IsRefused}
-use Rattle.engines.specs.Verifications.{verified_line}
+use Rattle.library_files.specs.Adding.{library_file}
+use Rattle.engines.specs.Verifications.{verified_text}
 use Rattle.engines.proofs.VerificationLemmas.{unread_is_unaccepted, none_written, front_is_unaccepted}
 use Rattle.engines.proofs.verification.verify_engine.Goals as goal
 
@@ -15,7 +16,7 @@ returns-in_err-files-clause-faulty g c =
     let of_file = c.in_err-files.ensures.of_file in
     let remaining = g.S.Source.remaining in
     let within : of_file.0 < length (map remaining c.args.files.now) = omega (arith, of_file.1, length-map c.args.files.now remaining) in
-    rw (p.1, p.2) (unread_is_unaccepted _ _ _ of_file.0 within of_file.2)
+    rw (p.1, p.2) (unread_is_unaccepted _ _ _ _ _ of_file.0 within of_file.2)
 
 pub returns-in_err-count-clause-faulty : goal.returns-in_err-count-clause-faulty
 returns-in_err-count-clause-faulty g c =
@@ -37,9 +38,9 @@ returns-in_err-write_all-clause-faulty g c =
     let told = c.in_ok-count.ensures.accepted in
     let accepted = subst (λ files. IsAccepted (map vec_items files) told.0) c.as_slice.ensures.value told.1 in
     let count = told.2 ∙ ap length c.as_slice.ensures.value ∙ sym (length-map c.in_ok-files.files.items vec_items) in
-    let line = c.as_bytes.ensures.value ∙ c.in_ok-text.ensures ∙ ap verified_line count in
+    let line = c.as_slice-2.ensures.value ∙ c.in_ok-text.ensures ∙ ap (verified_text c.args.given (map library_file c.args.own.now)) count in
     let written = subst (AppendsFront (contents c.args.line.now) (contents c.write_all.new.self)) line c.in_err-write_all.ensures.part in
-    rw (p.1, p.2) (front_is_unaccepted _ _ _ _ (_, (map vec_items c.in_ok-files.files.items, told.0, c.in_ok-files.ensures.read, accepted, refl), written))
+    rw (p.1, p.2) (front_is_unaccepted _ _ _ _ _ _ (_, (map vec_items c.in_ok-files.files.items, told.0, c.in_ok-files.ensures.read, accepted, refl), written))
 
 pub returns-clause-verified : goal.returns-clause-verified
 returns-clause-verified g c =
@@ -47,6 +48,6 @@ returns-clause-verified g c =
     let told = c.in_ok-count.ensures.accepted in
     let accepted = subst (λ files. IsAccepted (map vec_items files) told.0) c.as_slice.ensures.value told.1 in
     let count = told.2 ∙ ap length c.as_slice.ensures.value ∙ sym (length-map c.in_ok-files.files.items vec_items) in
-    let line = c.as_bytes.ensures.value ∙ c.in_ok-text.ensures ∙ ap verified_line count in
+    let line = c.as_slice-2.ensures.value ∙ c.in_ok-text.ensures ∙ ap (verified_text c.args.given (map library_file c.args.own.now)) count in
     let written = subst (Appends (contents c.args.line.now) (contents c.write_all.new.self)) line c.in_ok-write_all.ensures.written in
     (_, refl, (map vec_items c.in_ok-files.files.items, told.0, c.in_ok-files.ensures.read, accepted, refl), written)

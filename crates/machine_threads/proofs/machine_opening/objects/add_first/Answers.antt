@@ -1,7 +1,8 @@
 use Rattle.std.proofs.Common.{[], ◌∷◌}
 use Rattle.heap.specs.declared.kind.ObjectKind.TheVariants as kind
 use Rattle.heap.specs.Heap.{fresh}
-use Rattle.machine_threads.specs.machine_opening.Opened.{AddsObjects, thread_number, print_stream_number, first_objects}
+use Rattle.machine_threads.specs.machine_opening.Opened.{AddsObjects, first_objects}
+use Rattle.model.specs.BuiltInNumbers.{print_stream_number, thread_number}
 use Rattle.machine_threads.proofs.machine_opening.Adding.{after_ok, adds_both}
 use Rattle.machine_threads.proofs.machine_opening.objects.add_first.Goals as goal
 

@@ -1,7 +1,8 @@
 use Rattle.std.proofs.Common.{[], ◌++◌, length, replicate, subst, ◌∙◌}
 use Rattle.heap.specs.declared.kind.ObjectKind.TheVariants as kind
 use Rattle.heap.specs.Heap.{fresh}
-use Rattle.machine_threads.specs.machine_opening.Opened.{AddsObjects, string_number, class_number, first_objects}
+use Rattle.machine_threads.specs.machine_opening.Opened.{AddsObjects, first_objects}
+use Rattle.model.specs.BuiltInNumbers.{class_number, string_number}
 use Rattle.machine_threads.proofs.machine_opening.Adding.{adds_both}
 use Rattle.machine_threads.proofs.machine_opening.objects.opening_heap.Goals as goal
 

@@ -1,6 +1,6 @@
 use Rattle.std.proofs.Common.{◌≡◌, ◌∙◌, ap, sym, List, ℕ, Some, map}
 use Rattle.std.proofs.lemmas.Result.{err_from_is_err_and}
-use Rattle.model.specs.Schedule.{Recording}
+use Rattle.schedule.specs.Files.{Recording}
 use Rattle.schedule.proofs.schedule_text.LimitLaws.{is_told, same_pair}
 use Rattle.schedule.specs.schedule_text.Text.{entry_word}
 use Rattle.schedule.proofs.schedule_text.recordings.recorded.Goals as goal

@@ -1,0 +1,6 @@
+mod Adding
+mod Places
+mod Tallying
+mod RunsSwept
+mod Counting
+mod Telling
