@@ -25,11 +25,13 @@
 
 mod draws;
 mod mixed;
+mod picked_turns;
 mod policy;
 mod random;
 mod rotation;
 mod seeds;
 mod turn_lengths;
+mod turn_order;
 mod waiters;
 
 pub use policy::{Policy, run_by_policy, run_linked};

@@ -3,7 +3,7 @@
 ghost use Rattle.std.specs.Prelude.{◌≡◌, ◌≤◌, OnOk};
 ghost use Rattle.program_runs.specs.worlds.Worlds.{IsOfSame};
 
-use crate::policies::draws::below;
+use crate::policies::draws::{below, pick_below};
 use crate::policies::waiters::waiters_to_pick;
 use crate::workers::Gate;
 use crate::worlds::{World, enabled_at, enabled_count};
@@ -22,15 +22,6 @@ fn drawn_thread(random: &mut Xoshiro256PlusPlus, machine: &Machine) -> Option<u1
     enabled_at(machine, below(random, u32::from(count)) as u16)
 }
 
-/// Which waiter the next event of a thread is to wake, where it may pick one of several.
-fn drawn_pick(random: &mut Xoshiro256PlusPlus, machine: &Machine, thread: u16) -> u16 {
-    let waiters = waiters_to_pick(machine, thread);
-    if waiters < 2 {
-        return 0;
-    }
-    below(random, u32::from(waiters)) as u16
-}
-
 /// An event, or the end. The only error is a want of memory.
 fn take_turn(world: &mut World, random: &mut Xoshiro256PlusPlus) -> Result<(), AllocError>
     ensures { OnOk result (IsOfSame world.old world.new) }
@@ -39,12 +30,9 @@ fn take_turn(world: &mut World, random: &mut Xoshiro256PlusPlus) -> Result<(), A
         world.shared_steps(0, 1);
         return Ok(());
     };
-    let pick = drawn_pick(random, world.machine(), thread);
-    if pick > 0 {
-        let (done, _why) = world.repeat(Event { thread, pick }, 1)?;
-        if done > 0 {
-            return Ok(());
-        }
+    let pick = pick_below(random, waiters_to_pick(world.machine(), thread));
+    if pick > 0 && world.event(Event { thread, pick })? {
+        return Ok(());
     }
     world.shared_steps(thread, 1);
     Ok(())

@@ -1,5 +1,8 @@
 //! Threads that wait (JLS 17.2).
 
+ghost use Rattle.std.specs.Prelude.{◌≡◌};
+ghost use Rattle.program_runs.specs.policies.Runs.{waiting_in};
+
 use heap::Heap;
 use heap::java_threads::{ThreadStatus, Threads};
 use linked_code::thread_stacks::Frame;
@@ -10,7 +13,9 @@ use machine_state::linked_frames::instruction_at;
 use machine_state::method_selection::{class_of_kind, method_at, select_interface, select_virtual};
 
 /// How many threads are in a wait set.
-pub(crate) fn waiting(threads: &Threads) -> u16 {
+pub(crate) fn waiting(threads: &Threads) -> u16
+    ensures { result ≡ waiting_in threads.now.threads }
+{
     let mut count = 0u16;
     'threads: for thread in 0..threads.len() as u16 {
         if matches!(threads.status(thread), ThreadStatus::Waiting { .. }) {

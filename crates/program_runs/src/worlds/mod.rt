@@ -52,10 +52,11 @@
 mod commits;
 mod records;
 mod sharing;
+mod thread_turns;
 mod turns;
 mod world;
 
 pub use commits::{Commit, ThreadBurst};
 pub use records::Recorded;
-pub(crate) use turns::{enabled_at, enabled_count, first_enabled, first_enabled_downwards};
+pub(crate) use turns::{enabled_at, enabled_count, first_enabled, first_enabled_below};
 pub use world::World;

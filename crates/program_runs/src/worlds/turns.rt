@@ -49,16 +49,16 @@ fn last_between(machine: &Machine, from: u16, to: u16) -> Option<u16>
     None
 }
 
-/// The first thread that has an event which is enabled, in rotation downwards: from a number down, and then from the
-/// last thread.
-pub(crate) fn first_enabled_downwards(machine: &Machine, from: u16) -> Option<u16>
-    ensures { IsFoundDownwards machine.now from result }
+/// The first thread that has an event which is enabled, in rotation downwards: below a number, and then from the last
+/// thread down.
+pub(crate) fn first_enabled_below(machine: &Machine, number: u16) -> Option<u16>
+    ensures { IsFoundDownwards machine.now number result }
 {
     let count = machine.shared().threads.len() as u16;
-    let behind = from.saturating_add(1).min(count);
-    match last_between(machine, 0, behind) {
+    let seam = number.min(count);
+    match last_between(machine, 0, seam) {
         Some(thread) => Some(thread),
-        None => last_between(machine, behind, count),
+        None => last_between(machine, seam, count),
     }
 }
 

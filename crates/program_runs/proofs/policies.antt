@@ -1,0 +1,4 @@
+pub mod TurnEvents
+pub mod OneTurn
+pub mod Turning
+pub mod Orders
