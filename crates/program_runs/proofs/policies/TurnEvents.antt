@@ -141,8 +141,8 @@ module _ (trees : Program) (bounds : Bounds) (budget : ℕ) where
       three _ _ _ few runs within
 
   pub cant_past_budget : (done : List Event) (event : Event) → budget ≤ length done → can_do trees bounds budget done event ≡ false
-  cant_past_budget done event past = let no : nat_lt (length done) budget ≡ false = grind (arith, nat_tests, past) in
-      first_no (nat_lt (length done) budget) (is_some (run trees bounds.frames (done ++ event ∷ []))) (within_limits trees bounds (done ++ event ∷ [])) no
+  cant_past_budget done event past = let no_room : nat_lt (length done) budget ≡ false = grind (arith, nat_tests, past) in
+      first_no (nat_lt (length done) budget) (is_some (run trees bounds.frames (done ++ event ∷ []))) (within_limits trees bounds (done ++ event ∷ [])) no_room
 
   pub cant_where_not_enabled : (done : List Event) (event : Event) (state : State) → run trees bounds.frames done ≡ Some state
       → is_enabled trees bounds.frames state event ≡ false → can_do trees bounds budget done event ≡ false

@@ -1,5 +1,5 @@
 -- What turns of a policy do to a world (own): the events that they are to do, but where memory is wanted.
-use Rattle.std.specs.Prelude.{◌≡◌, ◌⊎◌, ◌<◌, ◌++◌, ◌∷◌, ℕ, List, [], Option, Some, None, Bool, true, false, ◌==◌, if◌then◌else◌, length, IsTrue, IsFalse}
+use Rattle.std.specs.Prelude.{◌≡◌, ◌⊎◌, ◌<◌, ◌++◌, ◌∷◌, ℕ, List, [], Option, Some, None, Bool, true, false, ◌==◌, ◌&&◌, if◌then◌else◌, nat_lt, length, IsTrue, IsFalse}
 use Rattle.model.specs.declared.end.End.{End}
 use Rattle.model.specs.declared.end.End.TheVariants as ends
 use Rattle.model.specs.declared.end.RunCause.TheVariants as cause
@@ -63,6 +63,13 @@ DoesEvent event true old new =
     IsTrue (can_do old.trees (bounds_of old.machine.limits) old.budget old.events event) × DoesTurn (old.events ++ event ∷ []) old new
 DoesEvent event false old new =
     IsFalse (can_do old.trees (bounds_of old.machine.limits) old.budget old.events event)
+    × IsOfSame old new × (new.events ≡ old.events) × (new.end ≡ None)
+
+-- whether an event that picks a waiter is all of the turn
+abbrev pub PicksTurn : (t pick : ℕ) → (picked : Bool) → (old new : WorldOf) → Type 0
+PicksTurn t pick true old new = (0 < pick) × DoesEvent (record { thread = t; pick = pick }) true old new
+PicksTurn t pick false old new =
+    IsFalse (nat_lt 0 pick && can_do old.trees (bounds_of old.machine.limits) old.budget old.events (record { thread = t; pick = pick }))
     × IsOfSame old new × (new.events ≡ old.events) × (new.end ≡ None)
 
 -- the end behind a turn, by why no more events were done, how many there are, and how many the turn did

@@ -26,6 +26,10 @@ pub record IsNext (trees : Program) (frames : ℕ) (state : State) (from t : ℕ
 abbrev pub MayStep : MachineOf → ℕ → Bool → Type 0
 MayStep m t = MaySo m.program m.shared t m.limits.frames
 
+-- there is the thread, and it has one
+abbrev pub MayGo : MachineOf → ℕ → Type 0
+MayGo m t = (t < length m.shared.threads.threads) × MayStep m t true
+
 -- none of the threads from a number up to another has one
 abbrev pub MayNone : MachineOf → (from to : ℕ) → Type 0
 MayNone m from to = (u : ℕ) → from ≤ u → u < to → MayStep m u false

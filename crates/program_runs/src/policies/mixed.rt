@@ -18,6 +18,7 @@ use crate::worlds::World;
 use machine::Machine;
 use rand_core::SeedableRng;
 use rand_xoshiro::Xoshiro256PlusPlus;
+use run_laws::word_reports::reports_of_words;
 use std::alloc::AllocError;
 
 /// What the seed says, and where the turns are.
@@ -90,6 +91,9 @@ impl Mixed {
         ensures kept { OnOk result (kept_by self.new ≡ (mixed_turn world.old.trees
             (bounds_of world.old.machine.limits) world.old.budget (kept_by self.old) world.old.events).kept) }
     {
+        reports_of_words();
+        // what is known of the world
+        let _ = world.end();
         let Some(thread) = next_thread(world.machine(), self.last, self.direction) else {
             world.end_quietly();
             return Ok(());

@@ -1,20 +1,24 @@
 //! `random`: each event is of a thread that is drawn.
 
-ghost use Rattle.std.specs.Prelude.{◌≡◌, ◌≤◌, OnOk};
+ghost use Rattle.std.specs.Prelude.{◌≡◌, ◌≤◌, None, IfSome, OnOk};
+ghost use Rattle.program_runs.specs.worlds.Turns.{MayGo};
 ghost use Rattle.program_runs.specs.worlds.Worlds.{IsOfSame};
 
 use crate::policies::draws::{below, pick_below};
+use crate::policies::picked_turns::give_turn;
 use crate::policies::waiters::waiters_to_pick;
 use crate::workers::Gate;
 use crate::worlds::{World, enabled_at, enabled_count};
 use machine::Machine;
-use model::Event;
 use rand_core::SeedableRng;
 use rand_xoshiro::Xoshiro256PlusPlus;
+use run_laws::word_reports::reports_of_words;
 use std::alloc::AllocError;
 
 /// One of the threads that have an event which is enabled, if there is one.
-fn drawn_thread(random: &mut Xoshiro256PlusPlus, machine: &Machine) -> Option<u16> {
+fn drawn_thread(random: &mut Xoshiro256PlusPlus, machine: &Machine) -> Option<u16>
+    ensures { IfSome result (MayGo machine.now) }
+{
     let count = enabled_count(machine);
     if count == 0 {
         return None;
@@ -24,18 +28,16 @@ fn drawn_thread(random: &mut Xoshiro256PlusPlus, machine: &Machine) -> Option<u1
 
 /// An event, or the end. The only error is a want of memory.
 fn take_turn(world: &mut World, random: &mut Xoshiro256PlusPlus) -> Result<(), AllocError>
+    requires { world.old.end ≡ None }
     ensures { OnOk result (IsOfSame world.old world.new) }
 {
+    reports_of_words();
     let Some(thread) = drawn_thread(random, world.machine()) else {
         world.shared_steps(0, 1);
         return Ok(());
     };
     let pick = pick_below(random, waiters_to_pick(world.machine(), thread));
-    if pick > 0 && world.event(Event { thread, pick })? {
-        return Ok(());
-    }
-    world.shared_steps(thread, 1);
-    Ok(())
+    give_turn(world, thread, pick, 1)
 }
 
 /// Does events until there is an end. The gate is told how many are done. The only error is a want of memory.

@@ -10,6 +10,7 @@ ghost use Rattle.program_runs.specs.worlds.Worlds.{IsOfSame};
 use crate::policies::turn_order::{Direction, next_thread};
 use crate::workers::Gate;
 use crate::worlds::World;
+use run_laws::word_reports::reports_of_words;
 
 /// A turn, or the end. Answers the thread of the last turn.
 fn take_turn(world: &mut World, last: Option<u16>, quantum: u32) -> Option<u16>
@@ -20,6 +21,9 @@ fn take_turn(world: &mut World, last: Option<u16>, quantum: u32) -> Option<u16>
     ensures kept { result ≡ (rotation_turn world.old.trees (bounds_of world.old.machine.limits) world.old.budget
         quantum last world.old.events).kept }
 {
+    reports_of_words();
+    // what is known of the world
+    let _ = world.end();
     let Some(thread) = next_thread(world.machine(), last, Direction::Upwards) else {
         world.end_quietly();
         return last;

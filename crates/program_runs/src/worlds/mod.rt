@@ -58,5 +58,6 @@ mod world;
 
 pub use commits::{Commit, ThreadBurst};
 pub use records::Recorded;
+pub(crate) use thread_turns::unless_memory;
 pub(crate) use turns::{enabled_at, enabled_count, first_enabled, first_enabled_below};
 pub use world::World;

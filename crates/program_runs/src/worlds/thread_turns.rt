@@ -1,7 +1,8 @@
 //! Turns that are given to a thread.
 
-ghost use Rattle.std.specs.Prelude.{◌≡◌, ◌≤◌, ◌++◌, ◌∷◌, [], None, IfOk};
+ghost use Rattle.std.specs.Prelude.{◌≡◌, ◌≤◌, None, IfErr, IfOk};
 ghost use Rattle.model.specs.LimitStands.{bounds_of};
+ghost use Rattle.program_runs.specs.continued_runs.Following.{WantsMemory};
 ghost use Rattle.program_runs.specs.policies.PolicyTurns.{DoesEvent, DoesTurn, IsAble, turn_end as end_of_turn};
 ghost use Rattle.program_runs.specs.policies.Runs.{with_turn};
 ghost use Rattle.program_runs.specs.worlds.Turns.{IsFound};
@@ -12,6 +13,17 @@ use machine_state::EventRefusal;
 use model::{End, Event, RunCause};
 use run_laws::word_reports::reports_of_words;
 use std::alloc::AllocError;
+
+/// Why no more events were done, where it is no want of memory.
+pub(crate) fn unless_memory(why: Stopped) -> Result<Stopped, AllocError>
+    ensures same { IfOk result (λ told. (told ≡ why) × (WantsMemory why → ⊥)) }
+    ensures memory { IfErr result (λ _. WantsMemory why) }
+{
+    match why {
+        Stopped::Refused(EventRefusal::Memory) => Err(AllocError),
+        Stopped::Most | Stopped::NotEnabled | Stopped::Refused(_) => Ok(why),
+    }
+}
 
 /// The end behind a turn that did so many of the events that there are: there is one where memory was wanted, or a
 /// limit refused the first event.
@@ -46,11 +58,11 @@ impl World {
         requires { self.old.end ≡ None }
         ensures { IfOk result (λ done. DoesEvent event done self.old self.new) }
     {
+        // what is known of the world
+        let _ = self.end();
         let (done, why) = self.repeat(event, 1)?;
-        match why {
-            Stopped::Refused(EventRefusal::Memory) => Err(AllocError),
-            Stopped::Refused(_) | Stopped::Most | Stopped::NotEnabled => Ok(done > 0),
-        }
+        unless_memory(why)?;
+        Ok(done > 0)
     }
 
     /// A turn of a thread that has an event which is enabled: up to so many events of it within the budget, none of

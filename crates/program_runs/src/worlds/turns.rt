@@ -1,7 +1,7 @@
 //! Whose turn it is.
 
-ghost use Rattle.std.specs.Prelude.{true, IfSome};
-ghost use Rattle.program_runs.specs.worlds.Turns.{IsFirst, IsFound, IsFoundDownwards, IsLast, MayStep};
+ghost use Rattle.std.specs.Prelude.{IfSome};
+ghost use Rattle.program_runs.specs.worlds.Turns.{IsFirst, IsFound, IsFoundDownwards, IsLast, MayGo, MayStep};
 
 use machine::Machine;
 use machine::thread_standings::may_step;
@@ -75,7 +75,7 @@ pub(crate) fn enabled_count(machine: &Machine) -> u16 {
 
 /// The thread that has an event which is enabled, behind so many others that have one.
 pub(crate) fn enabled_at(machine: &Machine, place: u16) -> Option<u16>
-    ensures { IfSome result (λ thread. MayStep machine.now thread true) }
+    ensures { IfSome result (MayGo machine.now) }
 {
     let mut left = place;
     'threads: for thread in 0..machine.shared().threads.len() as u16 {
