@@ -4,3 +4,4 @@ pub mod Turning
 pub mod Orders
 pub mod GivenTurns
 pub mod Mixing
+pub mod Recorded

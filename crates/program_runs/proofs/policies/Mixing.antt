@@ -59,6 +59,13 @@ rotation_appends trees bounds budget quantum last done =
     (λ state. if_appends (first_of trees bounds.frames state (in_rotation false last (length state.world.threads))) _ last done
     (λ t. turn_appends trees bounds budget quantum t done))
 
+abbrev pub rotation_next : (quantum : ℕ) → Program → Bounds → (budget : ℕ) → (last : Option ℕ) → List Event → Turned (Option ℕ)
+rotation_next quantum trees bounds budget = rotation_turn trees bounds budget quantum
+
+pub rotation_next_appends : (quantum : ℕ) (trees : Program) (bounds : Bounds) (budget : ℕ) (last : Option ℕ) (done : List Event)
+    → (more : List Event) × ((rotation_next quantum trees bounds budget last done).events ≡ done ++ more)
+rotation_next_appends quantum trees bounds budget last done = rotation_appends trees bounds budget quantum last done
+
 -- ---- the length of a turn
 
 -- what is kept is that of the lengths

@@ -19,7 +19,7 @@ use Rattle.program_runs.specs.continued_runs.Turns.{behind}
 use Rattle.program_runs.specs.policies.Keeping.{IsFoundBehind}
 use Rattle.program_runs.specs.policies.PolicyTurns.{IsAble}
 use Rattle.program_runs.specs.policies.Runs.{counting_down, first_of, in_rotation}
-use Rattle.program_runs.specs.worlds.Turns.{IsFound, IsFoundDownwards, MayNone, MayStep}
+use Rattle.program_runs.specs.worlds.Turns.{IsFound, IsFoundDownwards, MayGo, MayNone, MayStep}
 use Rattle.program_runs.specs.worlds.Worlds.{WorldOf, Holds}
 
 -- ---- found in a list
@@ -196,3 +196,6 @@ pub able_if : AreReportsOfWords → (w : WorldOf) (down : Bool) (last : Option �
 able_if reported w down last t found holds =
     let is = there reported w holds down last t found in
     (may_is reported w holds t true is.1, subst (λ k. t < k) (counts reported w holds) is.0)
+
+pub able_there : AreReportsOfWords → (w : WorldOf) (t : ℕ) → MayGo w.machine t → IsAble w t
+able_there reported w t go holds = (may_is reported w holds t true go.1, subst (λ k. t < k) (counts reported w holds) go.0)

@@ -1,12 +1,15 @@
 -- Turn after turn, by whatever a policy keeps from one to the next.
 use Rattle.std.proofs.Common.{◌≡◌, ◌⊎◌, inl, inr, ◌<◌, ◌≤◌, ◌+◌, ◌-◌, ℕ, zero, suc, List, [], ◌∷◌, ◌++◌, Option, Some, None, Bool, true, false, length, refl, sym, ap, subst, ◌∙◌, append_assoc, arith}
-use Rattle.std.specs.Prelude.{nat_lt, if◌then◌else◌}
+use Rattle.std.specs.Prelude.{is_some, nat_lt, if◌then◌else◌}
 use Rattle.std.proofs.Math.Decide.{dec_lt}
 use Rattle.std.proofs.lemmas.Bool.Decides.{nat_tests}
 use Rattle.std.proofs.lemmas.List.{append-nil, length-append}
 use Rattle.std.proofs.lemmas.Option.{none-some}
 use Rattle.model.specs.declared.end.End.{End}
 use Rattle.model.specs.declared.event.Event.{Event}
+use Rattle.model.specs.declared.limits.Limits.{Limits}
+use Rattle.model.specs.Classes.{Program}
+use Rattle.model.specs.LimitStands.{Bounds, bounds_of}
 use Rattle.program_runs.specs.policies.PolicyTurns.{DoesTurn, HasRunThrough, IsForMemory, IsOn, IsOver, IsShort}
 use Rattle.program_runs.specs.policies.Runs.{Turned, turns}
 use Rattle.program_runs.specs.worlds.Worlds.{WorldOf, Holds, IsOfSame}
@@ -152,3 +155,47 @@ module _ {Kept : Type 0} (next : Kept → List Event → Turned Kept) (appends :
           by : IsGoing all first.budget w kept k ⊎ HasRunThrough all w → IsGoing all first.budget new turned.kept (k + 1) ⊎ HasRunThrough all new
           by (inl going) = goes going does.how
           by (inr through) = absurd (none-some through.end (sym on ∙ through.is))
+
+-- ---- by the files, the limits and the budget of a world
+
+module _ {Kept : Type 0} (next_of : Program → Bounds → (budget : ℕ) → Kept → List Event → Turned Kept)
+    (appends : (trees : Program) (bounds : Bounds) (budget : ℕ) (kept : Kept) (done : List Event) → Appends done (next_of trees bounds budget kept done).events)
+    (first : WorldOf) where
+  abbrev pub next_in : WorldOf → Kept → List Event → Turned Kept
+  next_in w = next_of w.trees (bounds_of w.machine.limits) w.budget
+
+  abbrev pub Far : (all : List Event) → WorldOf → Kept → (k : ℕ) → Type 0
+  Far all w kept k = SoFar (next_in first) (appends first.trees (bounds_of first.machine.limits) first.budget) all first w kept k
+
+  -- before any turn
+  pub far_at_first : (kept start : Kept) → start ≡ kept → first.end ≡ None → first.events ≡ [] → Far (turns (next_in first) (first.budget + 1) kept []) first start 0
+  far_at_first kept start same on none =
+      subst (λ k. Far (turns (next_in first) (first.budget + 1) k []) first start 0) same (begins (next_in first) (appends first.trees (bounds_of first.machine.limits) first.budget) first start on none)
+
+  module _ (all : List Event) (w : WorldOf) (kept : Kept) (k : ℕ) (far : Far all w kept k) where
+    next_is : next_in w kept w.events ≡ next_in first kept w.events
+    next_is =
+        ap (λ (t : Program). next_of t (bounds_of w.machine.limits) w.budget kept w.events) far.same.trees
+        ∙ ap (λ (l : Limits). next_of first.trees (bounds_of l) w.budget kept w.events) far.same.limits
+        ∙ ap (λ b. next_of first.trees (bounds_of first.machine.limits) b kept w.events) far.same.budget
+
+    -- behind one turn more
+    pub far_behind : (new : WorldOf) (then : Kept) → w.end ≡ None → k ≤ first.budget → DoesTurn (next_in w kept w.events).events w new → then ≡ (next_in w kept w.events).kept
+        → Far all new then (k + 1)
+    far_behind new then on few does keeps =
+        let by_first : DoesTurn (next_in first kept w.events).events w new = subst (λ (x : Turned Kept). DoesTurn x.events w new) next_is does in
+        let kept_is : (next_in first kept w.events).kept ≡ then = sym (keeps ∙ ap (λ (x : Turned Kept). x.kept) next_is) in
+        subst (λ x. Far all new x (k + 1)) kept_is
+        (goes_on (next_in first) (appends first.trees (bounds_of first.machine.limits) first.budget) all first w kept k far on few new by_first)
+
+    -- where there is an end
+    pub through_if : (o : Option End) → o ≡ w.end → (r : Bool) → r ≡ is_some o → r ≡ true → HasRunThrough all w
+    through_if None is r some is_so = let bad : false ≡ true = sym some ∙ is_so in absurd cc
+    through_if (Some end) is r some is_so =
+        over (next_in first) (appends first.trees (bounds_of first.machine.limits) first.budget) all first w kept k far end (sym is)
+
+    -- behind as many turns as there may be
+    pub through_at_last : first.budget < k → (last : WorldOf) → last ≡ w → Holds last → HasRunThrough all last
+    through_at_last past last same holds =
+        subst (λ (x : WorldOf). HasRunThrough all x) (sym same)
+        (over_at_last (next_in first) (appends first.trees (bounds_of first.machine.limits) first.budget) all first w kept k far past (subst Holds same holds))
