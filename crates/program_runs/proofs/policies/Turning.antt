@@ -156,6 +156,10 @@ module _ {Kept : Type 0} (next : Kept → List Event → Turned Kept) (appends :
           by (inl going) = goes going does.how
           by (inr through) = absurd (none-some through.end (sym on ∙ through.is))
 
+pub on_if : (w : WorldOf) (o : Option End) → o ≡ w.end → (r : Bool) → r ≡ is_some o → r ≡ false → w.end ≡ None
+on_if w None is r some is_so = sym is
+on_if w (Some end) is r some is_so = let bad : true ≡ false = sym some ∙ is_so in absurd cc
+
 -- ---- by the files, the limits and the budget of a world
 
 module _ {Kept : Type 0} (next_of : Program → Bounds → (budget : ℕ) → Kept → List Event → Turned Kept)
@@ -180,11 +184,11 @@ module _ {Kept : Type 0} (next_of : Program → Bounds → (budget : ℕ) → Ke
         ∙ ap (λ b. next_of first.trees (bounds_of first.machine.limits) b kept w.events) far.same.budget
 
     -- behind one turn more
-    pub far_behind : (new : WorldOf) (then : Kept) → w.end ≡ None → k ≤ first.budget → DoesTurn (next_in w kept w.events).events w new → then ≡ (next_in w kept w.events).kept
-        → Far all new then (k + 1)
-    far_behind new then on few does keeps =
+    pub far_behind : (new : WorldOf) (later : Kept) → w.end ≡ None → k ≤ first.budget → DoesTurn (next_in w kept w.events).events w new → later ≡ (next_in w kept w.events).kept
+        → Far all new later (k + 1)
+    far_behind new later on few does keeps =
         let by_first : DoesTurn (next_in first kept w.events).events w new = subst (λ (x : Turned Kept). DoesTurn x.events w new) next_is does in
-        let kept_is : (next_in first kept w.events).kept ≡ then = sym (keeps ∙ ap (λ (x : Turned Kept). x.kept) next_is) in
+        let kept_is : (next_in first kept w.events).kept ≡ later = sym (keeps ∙ ap (λ (x : Turned Kept). x.kept) next_is) in
         subst (λ x. Far all new x (k + 1)) kept_is
         (goes_on (next_in first) (appends first.trees (bounds_of first.machine.limits) first.budget) all first w kept k far on few new by_first)
 

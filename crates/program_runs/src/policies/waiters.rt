@@ -26,9 +26,10 @@ pub(crate) fn waiting(threads: &Threads) -> u16
 {
     let mut count = 0u16;
     'threads: for thread in 0..threads.len() as u16 {
-        if is_waiting(threads.status(thread)) {
-            count += 1;
+        if !is_waiting(threads.status(thread)) {
+            continue;
         }
+        count += 1;
     }
     count
 }
