@@ -1,16 +1,15 @@
 -- An event that is done if it can be; and a turn that may be such an event.
-use Rattle.std.proofs.Common.{◌≡◌, ◌⊎◌, inl, inr, ◌<◌, ◌≤◌, ◌+◌, ◌-◌, ℕ, zero, suc, List, [], ◌∷◌, ◌++◌, Option, Some, None, Bool, true, false, ◌&&◌, length, replicate, Result, Ok, Err, refl, sym, ap, subst, ◌∙◌, arith}
-use Rattle.std.specs.Prelude.{IsFalse, IsTrue, OnOk, if◌then◌else◌, min, nat_lt}
+use Rattle.std.proofs.Common.{◌≡◌, ◌⊎◌, inl, inr, ◌<◌, ◌≤◌, ◌-◌, ℕ, zero, suc, List, [], ◌∷◌, ◌++◌, Some, None, Bool, true, false, ◌&&◌, length, replicate, refl, sym, subst, ◌∙◌, arith}
+use Rattle.std.specs.Prelude.{IsFalse, IsTrue, if◌then◌else◌, min, nat_lt}
 use Rattle.std.proofs.Math.Nat.{min-eq_left}
 use Rattle.std.proofs.lemmas.Bool.Decides.{nat_tests}
 use Rattle.std.proofs.lemmas.List.{append-nil, length-append}
 use Rattle.std.proofs.lemmas.Option.{same_Some}
-use Rattle.model.specs.declared.end.RunCause.{RunCause}
 use Rattle.model.specs.declared.end.RunCause.TheVariants as cause
 use Rattle.model.specs.declared.event.Event.{Event}
 use Rattle.model.specs.declared.limits.Limits.{Limits}
 use Rattle.model.specs.Classes.{Program}
-use Rattle.model.specs.LimitStands.{bounds_of, within_limits}
+use Rattle.model.specs.LimitStands.{bounds_of}
 use Rattle.model.specs.Run.{may_step, run}
 use Rattle.model.specs.State.{State}
 use Rattle.model.specs.Step.{is_enabled}
@@ -169,9 +168,8 @@ able_still t pick w v is before able holds =
     (subst (λ (p : Program). run p v.machine.limits.frames v.events ≡ Some state) is.1.trees holds.done.run.lead.reached))
     in
     let same : before.done.run.lead.state ≡ state = same_Some before.done.run.lead.state state (sym before.done.run.lead.reached ∙ here) in
-    let may : IsTrue (may_step w.trees w.machine.limits.frames state t) = subst (λ s. IsTrue (may_step w.trees w.machine.limits.frames s t)) same (able before).0 in
-    (
+    let may : IsTrue (may_step w.trees w.machine.limits.frames state t) = subst (λ s. IsTrue (may_step w.trees w.machine.limits.frames s t)) same (able before).0 in (
       subst (λ (p : Program). IsTrue (may_step p v.machine.limits.frames state t)) (sym is.1.trees)
-      (subst (λ (l : Limits). IsTrue (may_step w.trees l.frames state t)) (sym is.1.limits) may),
+          (subst (λ (l : Limits). IsTrue (may_step w.trees l.frames state t)) (sym is.1.limits) may),
       subst (λ (s : State). t < length s.world.threads) same (able before).1,
     )

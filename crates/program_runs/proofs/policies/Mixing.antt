@@ -1,5 +1,5 @@
 -- Turns of the policies mixed and rotation in a world.
-use Rattle.std.proofs.Common.{◌≡◌, ◌<◌, ◌≤◌, ◌+◌, ◌-◌, ℕ, suc, List, [], ◌∷◌, ◌++◌, Option, Some, None, Bool, true, false, ◌&&◌, length, Result, Ok, Err, refl, sym, ap, subst, ◌∙◌}
+use Rattle.std.proofs.Common.{◌≡◌, ℕ, List, [], ◌∷◌, ◌++◌, Option, Some, None, Bool, true, false, ◌&&◌, length, Result, Ok, Err, refl, sym, ap, subst, ◌∙◌}
 use Rattle.std.specs.Prelude.{◌==◌, OnOk, if◌then◌else◌, nat_lt}
 use Rattle.std.proofs.lemmas.List.{append-nil}
 use Rattle.rand_core.specs.Stream.{Stream}
@@ -12,7 +12,6 @@ use Rattle.run_laws.specs.word_reports.Reports.{AreReportsOfWords}
 use Rattle.program_runs.specs.declared.policies.turn_lengths.Turn.{Turn}
 use Rattle.program_runs.specs.declared.policies.turn_lengths.Turn.TheVariants as turn
 use Rattle.program_runs.specs.declared.policies.turn_lengths.TurnLengths.{TurnLengths}
-use Rattle.program_runs.specs.policies.Draws.{counted_length}
 use Rattle.program_runs.specs.policies.Keeping.{IsFoundBehind, drawn_pick, turn_for}
 use Rattle.program_runs.specs.policies.Lengths.{HasLength, IsFirstLength, IsLengthOfAnother, IsLengthOfSame}
 use Rattle.program_runs.specs.policies.PolicyTurns.{DoesTurn}

@@ -27,12 +27,12 @@ use Rattle.machine_state.specs.shown_runs.Runs.{IsRefusedAfter}
 use Rattle.machine.specs.declared.machine.Stopped.{Stopped}
 use Rattle.machine.specs.declared.machine.Stopped.TheVariants as stopped
 use Rattle.machine.specs.Tops.{plain}
-use Rattle.machine.specs.schedule_runs.Done.{HasDone, OfNext, EndsBy}
+use Rattle.machine.specs.schedule_runs.Done.{OfNext, EndsBy}
 use Rattle.machine.specs.machine_replay.Replays.{IsRefusedFor}
 use Rattle.machine.proofs.machine_replay.Replayed.{refused_for}
 use Rattle.program_runs.specs.policies.PolicyTurns.{DoesTurn, IsAble, turn_end}
 use Rattle.program_runs.specs.policies.Runs.{can_do, with_turn}
-use Rattle.program_runs.specs.worlds.Worlds.{WorldOf, Holds, EndFits, HasRepeated}
+use Rattle.program_runs.specs.worlds.Worlds.{WorldOf, Holds, HasRepeated}
 use Rattle.program_runs.proofs.policies.TurnEvents.{cant_at_limit, cant_past_budget, cant_where_not_enabled, stops, turn_appends, turn_front, turn_is}
 
 -- ---- an event that was done again and again
@@ -326,13 +326,12 @@ module _ (t most n : ℕ) (why : Stopped) (w v : WorldOf) (holds : Holds w) (abl
           in
           let same : last ≡ state = same_Some last state (sym (reached (plain t) most n why w v holds r) ∙ here) in
           let for : IsRefusedFor w.trees (bounds_of w.machine.limits) front (plain t) (cause_of told) = refused_for w.trees (bounds_of w.machine.limits) last front (plain t) told both.1 in
-          let enabled : IsTrue (is_enabled w.trees frames state (plain t)) = subst (λ s. IsTrue (is_enabled w.trees frames s (plain t))) same both.0 in
-          (
+          let enabled : IsTrue (is_enabled w.trees frames state (plain t)) = subst (λ s. IsTrue (is_enabled w.trees frames s (plain t))) same both.0 in (
             subst (λ (p : Program). IsTrue (is_enabled p v.machine.limits.frames state (plain t))) (sym r.same.trees)
-            (subst (λ (l : Limits). IsTrue (is_enabled w.trees l.frames state (plain t))) (sym r.same.limits) enabled),
+                (subst (λ (l : Limits). IsTrue (is_enabled w.trees l.frames state (plain t))) (sym r.same.limits) enabled),
             subst (λ (p : Program). IsRefusedFor p (bounds_of v.machine.limits) v.events (plain t) (cause_of told)) (sym r.same.trees)
-            (subst (λ (l : Limits). IsRefusedFor w.trees (bounds_of l) v.events (plain t) (cause_of told)) (sym r.same.limits)
-            (subst (λ l. IsRefusedFor w.trees (bounds_of w.machine.limits) l (plain t) (cause_of told)) (sym r.events) for)),
+                (subst (λ (l : Limits). IsRefusedFor w.trees (bounds_of l) v.events (plain t) (cause_of told)) (sym r.same.limits)
+                (subst (λ l. IsRefusedFor w.trees (bounds_of w.machine.limits) l (plain t) (cause_of told)) (sym r.events) for)),
           )
 
       ends_here : Holds (record v { end = Some (ends.Refused count (cause_of told)) })

@@ -1,12 +1,10 @@
 -- The record of a run by a policy.
-use Rattle.std.proofs.Common.{◌≡◌, ◌⊎◌, inl, inr, ℕ, List, [], ◌++◌, Result, Ok, Err, refl, sym, ap, subst, ◌∙◌}
+use Rattle.std.proofs.Common.{◌≡◌, ◌⊎◌, ℕ, [], ◌++◌, Result, Ok, Err, sym, ap, subst, ◌∙◌}
 use Rattle.std.specs.Prelude.{IfOk}
 use Rattle.model.specs.declared.end.End.{End}
-use Rattle.model.specs.declared.event.Event.{Event}
 use Rattle.model.specs.declared.limits.Limits.{Limits}
 use Rattle.model.specs.Classes.{Program}
 use Rattle.model.specs.LimitStands.{bounds_of}
-use Rattle.model.specs.Schedule.{events_of}
 use Rattle.program_runs.specs.declared.policies.policy.Policy.{Policy}
 use Rattle.program_runs.specs.declared.policies.policy.Policy.TheVariants as policy
 use Rattle.program_runs.specs.declared.worlds.records.Recorded.{Recorded}

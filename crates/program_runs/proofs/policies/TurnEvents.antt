@@ -3,7 +3,7 @@ use Rattle.std.proofs.Common.{◌≡◌, ◌⊎◌, inl, inr, ◌<◌, ◌≤◌
 use Rattle.std.specs.Prelude.{is_none, is_some, nat_lt, if◌then◌else◌}
 use Rattle.std.specs.Option.{option_and_then}
 use Rattle.std.proofs.lemmas.Bool.{and_parts}
-use Rattle.std.proofs.lemmas.Bool.Decides.{leb_tells, nat_tests}
+use Rattle.std.proofs.lemmas.Bool.Decides.{nat_tests}
 use Rattle.std.proofs.lemmas.List.{append-nil, length-append}
 use Rattle.std.proofs.lemmas.Option.{none-some, same_Some}
 use Rattle.model.specs.declared.end.RunCause.{RunCause}
@@ -12,7 +12,6 @@ use Rattle.model.specs.Classes.{Program}
 use Rattle.model.specs.LimitStands.{Bounds, if_next, inflated_by, inflated_from, is_crowded, limit_after, limit_at, limit_of, within_limits, within_limits_from}
 use Rattle.model.specs.Opening.{opening}
 use Rattle.model.specs.Operands.{values}
-use Rattle.model.specs.Outcomes.{Cost}
 use Rattle.model.specs.Run.{run, run_from}
 use Rattle.model.specs.State.{State}
 use Rattle.model.specs.Step.{SteppedOf, NotEnabled, WrongKind, Next, is_enabled, is_enabled_by, next_by, step, stepped}

@@ -10,7 +10,7 @@ use Rattle.model.specs.declared.event.Event.{Event}
 use Rattle.model.specs.declared.limits.Limits.{Limits}
 use Rattle.model.specs.Classes.{Program}
 use Rattle.model.specs.LimitStands.{Bounds, bounds_of}
-use Rattle.program_runs.specs.policies.PolicyTurns.{DoesTurn, HasRunThrough, IsForMemory, IsOn, IsOver, IsShort}
+use Rattle.program_runs.specs.policies.PolicyTurns.{DoesTurn, HasRunThrough, IsOn, IsOver, IsShort}
 use Rattle.program_runs.specs.policies.Runs.{Turned, turns}
 use Rattle.program_runs.specs.worlds.Worlds.{WorldOf, Holds, IsOfSame}
 use Rattle.program_runs.proofs.worlds.Staying.{joined}

@@ -9,7 +9,6 @@ use Rattle.model.specs.Classes.{Program}
 use Rattle.model.specs.LimitStands.{bounds_of}
 use Rattle.model.specs.Run.{may_step}
 use Rattle.model.specs.Schedule.{events_of}
-use Rattle.machine_state.specs.declared.refusals.EventRefusal.{EventRefusal}
 use Rattle.machine_state.specs.declared.refusals.EventRefusal.TheVariants as refusal
 use Rattle.machine_state.specs.Refusals.{cause_of}
 use Rattle.machine.specs.declared.machine.Stopped.{Stopped}

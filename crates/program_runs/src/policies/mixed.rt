@@ -77,10 +77,7 @@ impl Mixed {
     fn next_pick(&mut self, machine: &Machine) -> u16
         ensures { (result, kept_by self.new) ≡ drawn_pick machine.now (kept_by self.old) }
     {
-        pick_below(
-            &mut self.random,
-            waiting(&machine.shared().threads),
-        )
+        pick_below(&mut self.random, waiting(&machine.shared().threads))
     }
 
     /// A turn, or the end. The only error is a want of memory.

@@ -14,11 +14,7 @@ pub(crate) enum Direction {
 
 /// The thread that has the next turn: the first one behind that of the last, in rotation, that has an event which is
 /// enabled. The first turn is for the threads from 0 on.
-pub(crate) fn next_thread(
-    machine: &Machine,
-    last: Option<u16>,
-    direction: Direction,
-) -> Option<u16>
+pub(crate) fn next_thread(machine: &Machine, last: Option<u16>, direction: Direction) -> Option<u16>
     ensures { IsFoundBehind machine.now (is_down direction) last result }
 {
     match (last, direction) {

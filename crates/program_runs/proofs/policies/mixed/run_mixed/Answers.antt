@@ -1,4 +1,4 @@
-use Rattle.std.proofs.Common.{◌+◌, [], arith, ◌∙◌}
+use Rattle.std.proofs.Common.{◌+◌, [], arith}
 use Rattle.program_runs.specs.policies.Keeping.{kept_by}
 use Rattle.program_runs.specs.policies.Runs.{mixed_of, mixed_turn, turns}
 use Rattle.program_runs.proofs.policies.Mixing.{mixed_appends}
@@ -32,5 +32,5 @@ returns-clause-through g c = elim c.turns-test.branch [
       (far_behind mixed_turn mixed_appends c.args.world.now (turns (next_in mixed_turn mixed_appends c.args.world.now c.args.world.now) (c.args.world.now.budget + 1) (mixed_of c.args.seed) []) c.turns.world (kept_by c.turns.mixed) c.turns.counter c.turns.invariant w.take_turn.new.world (kept_by w.take_turn.new.self)
       (on_if c.turns.world w.end.result w.end.ensures.is w.is_some.result w.is_some.ensures w.if-is_some.false)
       (omega (arith, w.turns-test.true, c.budget-end.ensures)) w.in_ok-take_turn.ensures.does w.in_ok-take_turn.ensures.kept)
-      (omega (arith, w.if-counter-end.false, c.budget-end.ensures)) c.turns-test.world w.world-is c.end-2.ensures.holds
+      (omega (arith, c.budget-end.ensures)) c.turns-test.world w.world-is c.end-2.ensures.holds
 ]

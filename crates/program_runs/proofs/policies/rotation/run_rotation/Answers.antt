@@ -30,5 +30,5 @@ returns-clause-through g c = elim c.turns-test.branch [
       (far_behind (rotation_next c.args.quantum) (rotation_next_appends c.args.quantum) c.args.world.now (turns (next_in (rotation_next c.args.quantum) (rotation_next_appends c.args.quantum) c.args.world.now c.args.world.now) (c.args.world.now.budget + 1) None []) c.turns.world c.turns.last c.turns.counter c.turns.invariant w.take_turn-last.new.world w.take_turn-last.result
       (on_if c.turns.world w.end.result w.end.ensures.is w.is_some.result w.is_some.ensures w.if-is_some.false)
       (omega (arith, w.turns-test.true, c.budget-end.ensures)) w.take_turn-last.ensures.does w.take_turn-last.ensures.kept)
-      (omega (arith, w.if-counter-end.false, c.budget-end.ensures)) c.turns-test.world w.world-is c.end-2.ensures.holds
+      (omega (arith, c.budget-end.ensures)) c.turns-test.world w.world-is c.end-2.ensures.holds
 ]
