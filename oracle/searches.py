@@ -257,7 +257,7 @@ def write() -> None:
         text, printed = cases_of(*row)
         lines, shown = [*lines, *text], shown + printed
     (CONFORMANCE / "data/searches.cases").write_text("\n".join([*lines, ""]))
-    store(stored().split("case search-")[0] + shown.encode().decode("latin-1"))
+    store(stored().split("case search-lost-update-")[0] + shown.encode().decode("latin-1"))
 
 
 def main() -> int:

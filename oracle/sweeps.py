@@ -4,7 +4,7 @@
     oracle/sweeps.py --seeds A..B [--policy NAME] [--budget N] [--for OUTCOME] FILE..
     oracle/sweeps.py --write
 
-There is a run for each seed, by docs/FORMATS.md ("The schedule of a seed") and the plain machine alone. With --write
+There is a run for each seed, by docs/REFERENCE.md ("The schedule of a seed") and the plain machine alone. With --write
 the sweeps of the lessons below become cases of `crates/conformance`, with what they have to print.
 """
 
@@ -64,8 +64,8 @@ class Sweep:
             lines += [f"outcome {number}", *lines_of(outcome)]
             lines += [f"runs {len(seeds)} of {self.runs}, first seed {seeds[0]}"]
         lines += [f"outcomes {len(outcomes)}"]
-        for (word, outcome), seeds in self.shown.items():
-            if outcome is None:
+        for (word, shown_outcome), seeds in self.shown.items():
+            if shown_outcome is None:
                 lines += [f"{word} {len(seeds)} runs, first seed {seeds[0]}"]
         once = sum(len(seeds) == 1 for _, seeds in outcomes)
         last = self.first + self.runs - 1
@@ -136,9 +136,9 @@ def write() -> None:
         text, printed = cases_of(*row)
         lines, shown = [*lines, *text], shown + printed
     (CONFORMANCE / "data/sweeps.cases").write_text("\n".join([*lines, ""]))
-    before, _, after = stored().partition("case search-")
+    before, _, after = stored().partition("case search-lost-update-")
     before = before.split("case sweep-")[0]
-    store(before + shown + "case search-" + after)
+    store(before + shown + "case search-lost-update-" + after)
 
 
 def main() -> int:

@@ -14,7 +14,7 @@ use Rattle.clap.specs.declared.parser.matches.SubCommand.{SubCommand}
 use Rattle.clap.specs.declared.error.Error.{Error}
 use Rattle.clap.specs.declared.error.kind.ErrorKind.{ErrorKind}
 use Rattle.clap.specs.declared.error.kind.ErrorKind.TheVariants as errors
-use Rattle.command_line.specs.CommandLine.{AreDisasmValues, AreNumbers, AreNumerals, AreRunValues, AreScheduleValues, AreSearchValues, AreTraceValues, AreValues, AreVerifyValues, Asks, Fails, IsNumber, IsThenRun, Refuses, Spells, SpellsNothing, jvm, parts_of, usage_by, usage_of}
+use Rattle.command_line.specs.CommandLine.{AreDisasmValues, AreNumbers, AreNumerals, AreRunValues, AreScheduleValues, AreSearchValues, AreShrinkValues, AreTraceValues, AreValues, AreVerifyValues, Asks, Fails, IsNumber, IsThenRun, Refuses, Spells, SpellsNothing, jvm, parts_of, usage_by, usage_of}
 use Rattle.command_line.specs.Numerals.{IsNumeralWithin}
 use Rattle.command_line.specs.declared.usage.Usage.{Usage}
 use Rattle.command_line.specs.declared.usage.Usage.TheVariants.{Parser, Number, Asked, OutOfMemory}
@@ -25,6 +25,7 @@ use Rattle.command_line.specs.declared.options.Replay.{Replay}
 use Rattle.command_line.specs.declared.options.Run.{Run}
 use Rattle.command_line.specs.declared.options.Schedule.{Schedule}
 use Rattle.command_line.specs.declared.options.Search.{Search}
+use Rattle.command_line.specs.declared.options.Shrink.{Shrink}
 use Rattle.command_line.specs.declared.options.ThenRun.{ThenRun}
 use Rattle.command_line.specs.declared.options.Trace.{Trace}
 use Rattle.command_line.specs.declared.options.Verify.{Verify}
@@ -174,21 +175,23 @@ rows_met matches words name rows has met rows_are = sym (has is_simple_jvm).1 �
 pub spells_none : (matches : ArgMatches) (words : List Text) → HasMatchesOf jvm words matches
     → (subcommand_name_of matches ≡ Some (codes "run") → ⊥) → (subcommand_name_of matches ≡ Some (codes "replay") → ⊥)
     → (subcommand_name_of matches ≡ Some (codes "trace") → ⊥) → (subcommand_name_of matches ≡ Some (codes "search") → ⊥)
-    → (subcommand_name_of matches ≡ Some (codes "verify") → ⊥) → (subcommand_name_of matches ≡ Some (codes "disasm") → ⊥)
-    → (subcommand_name_of matches ≡ Some (codes "schedule") → ⊥) → (command : Command) → Spells words command → ⊥
-spells_none matches words has no_run no_replay no_trace no_search no_verify no_disasm no_schedule (commands.Run run) spelled =
+    → (subcommand_name_of matches ≡ Some (codes "shrink") → ⊥) → (subcommand_name_of matches ≡ Some (codes "verify") → ⊥)
+    → (subcommand_name_of matches ≡ Some (codes "disasm") → ⊥) → (subcommand_name_of matches ≡ Some (codes "schedule") → ⊥) → (command : Command) → Spells words command → ⊥
+spells_none matches words has no_run no_replay no_trace no_search no_shrink no_verify no_disasm no_schedule (commands.Run run) spelled =
     no_run (sym (named_rows matches) ∙ ap (option_map (λ p. p.0)) ((has is_simple_jvm).1 ∙ spelled.1))
-spells_none matches words has no_run no_replay no_trace no_search no_verify no_disasm no_schedule (commands.Replay replay) spelled =
+spells_none matches words has no_run no_replay no_trace no_search no_shrink no_verify no_disasm no_schedule (commands.Replay replay) spelled =
     no_replay (sym (named_rows matches) ∙ ap (option_map (λ p. p.0)) ((has is_simple_jvm).1 ∙ spelled.1))
-spells_none matches words has no_run no_replay no_trace no_search no_verify no_disasm no_schedule (commands.Trace trace) spelled =
+spells_none matches words has no_run no_replay no_trace no_search no_shrink no_verify no_disasm no_schedule (commands.Trace trace) spelled =
     no_trace (sym (named_rows matches) ∙ ap (option_map (λ p. p.0)) ((has is_simple_jvm).1 ∙ spelled.1))
-spells_none matches words has no_run no_replay no_trace no_search no_verify no_disasm no_schedule (commands.Search search) spelled =
+spells_none matches words has no_run no_replay no_trace no_search no_shrink no_verify no_disasm no_schedule (commands.Search search) spelled =
     no_search (sym (named_rows matches) ∙ ap (option_map (λ p. p.0)) ((has is_simple_jvm).1 ∙ spelled.1))
-spells_none matches words has no_run no_replay no_trace no_search no_verify no_disasm no_schedule (commands.Verify verify) spelled =
+spells_none matches words has no_run no_replay no_trace no_search no_shrink no_verify no_disasm no_schedule (commands.Shrink shrink) spelled =
+    no_shrink (sym (named_rows matches) ∙ ap (option_map (λ p. p.0)) ((has is_simple_jvm).1 ∙ spelled.1))
+spells_none matches words has no_run no_replay no_trace no_search no_shrink no_verify no_disasm no_schedule (commands.Verify verify) spelled =
     no_verify (sym (named_rows matches) ∙ ap (option_map (λ p. p.0)) ((has is_simple_jvm).1 ∙ spelled.1))
-spells_none matches words has no_run no_replay no_trace no_search no_verify no_disasm no_schedule (commands.Disasm disasm) spelled =
+spells_none matches words has no_run no_replay no_trace no_search no_shrink no_verify no_disasm no_schedule (commands.Disasm disasm) spelled =
     no_disasm (sym (named_rows matches) ∙ ap (option_map (λ p. p.0)) ((has is_simple_jvm).1 ∙ spelled.1))
-spells_none matches words has no_run no_replay no_trace no_search no_verify no_disasm no_schedule (commands.Schedule schedule) spelled =
+spells_none matches words has no_run no_replay no_trace no_search no_shrink no_verify no_disasm no_schedule (commands.Schedule schedule) spelled =
     no_schedule (sym (named_rows matches) ∙ ap (option_map (λ p. p.0)) ((has is_simple_jvm).1 ∙ spelled.1))
 
 -- the two first bytes of the name of a subcommand
@@ -219,6 +222,10 @@ spells_other_run words rows met none (commands.Trace trace) spelled =
     cc
 spells_other_run words rows met none (commands.Search search) spelled =
     let same : Some (codes "run", rows) ≡ Some (codes "search", spelled.0) = sym met ∙ spelled.1 in
+    let bad : true ≡ false = ap (λ met. eqb (first_byte met) 114) same in
+    cc
+spells_other_run words rows met none (commands.Shrink shrink) spelled =
+    let same : Some (codes "run", rows) ≡ Some (codes "shrink", spelled.0) = sym met ∙ spelled.1 in
     let bad : true ≡ false = ap (λ met. eqb (first_byte met) 114) same in
     cc
 spells_other_run words rows met none (commands.Verify verify) spelled =
@@ -253,6 +260,10 @@ spells_other_replay words rows met none (commands.Search search) spelled =
     let same : Some (codes "replay", rows) ≡ Some (codes "search", spelled.0) = sym met ∙ spelled.1 in
     let bad : true ≡ false = ap (λ met. eqb (first_byte met) 114) same in
     cc
+spells_other_replay words rows met none (commands.Shrink shrink) spelled =
+    let same : Some (codes "replay", rows) ≡ Some (codes "shrink", spelled.0) = sym met ∙ spelled.1 in
+    let bad : true ≡ false = ap (λ met. eqb (first_byte met) 114) same in
+    cc
 spells_other_replay words rows met none (commands.Verify verify) spelled =
     let same : Some (codes "replay", rows) ≡ Some (codes "verify", spelled.0) = sym met ∙ spelled.1 in
     let bad : true ≡ false = ap (λ met. eqb (first_byte met) 114) same in
@@ -283,6 +294,10 @@ spells_other_trace words rows met none (commands.Trace trace) spelled =
     none trace (subst (λ r. AreTraceValues r trace) (sym rows_are) spelled.2)
 spells_other_trace words rows met none (commands.Search search) spelled =
     let same : Some (codes "trace", rows) ≡ Some (codes "search", spelled.0) = sym met ∙ spelled.1 in
+    let bad : true ≡ false = ap (λ met. eqb (first_byte met) 116) same in
+    cc
+spells_other_trace words rows met none (commands.Shrink shrink) spelled =
+    let same : Some (codes "trace", rows) ≡ Some (codes "shrink", spelled.0) = sym met ∙ spelled.1 in
     let bad : true ≡ false = ap (λ met. eqb (first_byte met) 116) same in
     cc
 spells_other_trace words rows met none (commands.Verify verify) spelled =
@@ -317,6 +332,10 @@ spells_other_search words rows met none (commands.Search search) spelled =
     let same : Some (codes "search", rows) ≡ Some (codes "search", spelled.0) = sym met ∙ spelled.1 in
     let rows_are : rows ≡ spelled.0 = ap rows_in same in
     none search (subst (λ r. AreSearchValues r search) (sym rows_are) spelled.2)
+spells_other_search words rows met none (commands.Shrink shrink) spelled =
+    let same : Some (codes "search", rows) ≡ Some (codes "shrink", spelled.0) = sym met ∙ spelled.1 in
+    let bad : true ≡ false = ap (λ met. eqb (second_byte met) 101) same in
+    cc
 spells_other_search words rows met none (commands.Verify verify) spelled =
     let same : Some (codes "search", rows) ≡ Some (codes "verify", spelled.0) = sym met ∙ spelled.1 in
     let bad : true ≡ false = ap (λ met. eqb (first_byte met) 115) same in
@@ -328,6 +347,42 @@ spells_other_search words rows met none (commands.Disasm disasm) spelled =
 spells_other_search words rows met none (commands.Schedule schedule) spelled =
     let same : Some (codes "search", rows) ≡ Some (codes "schedule", spelled.0) = sym met ∙ spelled.1 in
     let bad : true ≡ false = ap (λ met. eqb (second_byte met) 101) same in
+    cc
+
+pub spells_other_shrink : (words : List Text) (rows : List Row) → subcommand_of jvm words ≡ Some (codes "shrink", rows)
+    → ((shrink : Shrink) → AreShrinkValues rows shrink → ⊥) → (command : Command) → Spells words command → ⊥
+unfolding first_byte second_byte rows_in
+spells_other_shrink words rows met none (commands.Run run) spelled =
+    let same : Some (codes "shrink", rows) ≡ Some (codes "run", spelled.0) = sym met ∙ spelled.1 in
+    let bad : true ≡ false = ap (λ met. eqb (first_byte met) 115) same in
+    cc
+spells_other_shrink words rows met none (commands.Replay replay) spelled =
+    let same : Some (codes "shrink", rows) ≡ Some (codes "replay", spelled.0) = sym met ∙ spelled.1 in
+    let bad : true ≡ false = ap (λ met. eqb (first_byte met) 115) same in
+    cc
+spells_other_shrink words rows met none (commands.Trace trace) spelled =
+    let same : Some (codes "shrink", rows) ≡ Some (codes "trace", spelled.0) = sym met ∙ spelled.1 in
+    let bad : true ≡ false = ap (λ met. eqb (first_byte met) 115) same in
+    cc
+spells_other_shrink words rows met none (commands.Search search) spelled =
+    let same : Some (codes "shrink", rows) ≡ Some (codes "search", spelled.0) = sym met ∙ spelled.1 in
+    let bad : true ≡ false = ap (λ met. eqb (second_byte met) 104) same in
+    cc
+spells_other_shrink words rows met none (commands.Shrink shrink) spelled =
+    let same : Some (codes "shrink", rows) ≡ Some (codes "shrink", spelled.0) = sym met ∙ spelled.1 in
+    let rows_are : rows ≡ spelled.0 = ap rows_in same in
+    none shrink (subst (λ r. AreShrinkValues r shrink) (sym rows_are) spelled.2)
+spells_other_shrink words rows met none (commands.Verify verify) spelled =
+    let same : Some (codes "shrink", rows) ≡ Some (codes "verify", spelled.0) = sym met ∙ spelled.1 in
+    let bad : true ≡ false = ap (λ met. eqb (first_byte met) 115) same in
+    cc
+spells_other_shrink words rows met none (commands.Disasm disasm) spelled =
+    let same : Some (codes "shrink", rows) ≡ Some (codes "disasm", spelled.0) = sym met ∙ spelled.1 in
+    let bad : true ≡ false = ap (λ met. eqb (first_byte met) 115) same in
+    cc
+spells_other_shrink words rows met none (commands.Schedule schedule) spelled =
+    let same : Some (codes "shrink", rows) ≡ Some (codes "schedule", spelled.0) = sym met ∙ spelled.1 in
+    let bad : true ≡ false = ap (λ met. eqb (second_byte met) 104) same in
     cc
 
 pub spells_other_verify : (words : List Text) (rows : List Row) → subcommand_of jvm words ≡ Some (codes "verify", rows)
@@ -347,6 +402,10 @@ spells_other_verify words rows met none (commands.Trace trace) spelled =
     cc
 spells_other_verify words rows met none (commands.Search search) spelled =
     let same : Some (codes "verify", rows) ≡ Some (codes "search", spelled.0) = sym met ∙ spelled.1 in
+    let bad : true ≡ false = ap (λ met. eqb (first_byte met) 118) same in
+    cc
+spells_other_verify words rows met none (commands.Shrink shrink) spelled =
+    let same : Some (codes "verify", rows) ≡ Some (codes "shrink", spelled.0) = sym met ∙ spelled.1 in
     let bad : true ≡ false = ap (λ met. eqb (first_byte met) 118) same in
     cc
 spells_other_verify words rows met none (commands.Verify verify) spelled =
@@ -381,6 +440,10 @@ spells_other_disasm words rows met none (commands.Search search) spelled =
     let same : Some (codes "disasm", rows) ≡ Some (codes "search", spelled.0) = sym met ∙ spelled.1 in
     let bad : true ≡ false = ap (λ met. eqb (first_byte met) 100) same in
     cc
+spells_other_disasm words rows met none (commands.Shrink shrink) spelled =
+    let same : Some (codes "disasm", rows) ≡ Some (codes "shrink", spelled.0) = sym met ∙ spelled.1 in
+    let bad : true ≡ false = ap (λ met. eqb (first_byte met) 100) same in
+    cc
 spells_other_disasm words rows met none (commands.Verify verify) spelled =
     let same : Some (codes "disasm", rows) ≡ Some (codes "verify", spelled.0) = sym met ∙ spelled.1 in
     let bad : true ≡ false = ap (λ met. eqb (first_byte met) 100) same in
@@ -411,6 +474,10 @@ spells_other_schedule words rows met none (commands.Trace trace) spelled =
     cc
 spells_other_schedule words rows met none (commands.Search search) spelled =
     let same : Some (codes "schedule", rows) ≡ Some (codes "search", spelled.0) = sym met ∙ spelled.1 in
+    let bad : true ≡ false = ap (λ met. eqb (second_byte met) 99) same in
+    cc
+spells_other_schedule words rows met none (commands.Shrink shrink) spelled =
+    let same : Some (codes "schedule", rows) ≡ Some (codes "shrink", spelled.0) = sym met ∙ spelled.1 in
     let bad : true ≡ false = ap (λ met. eqb (second_byte met) 99) same in
     cc
 spells_other_schedule words rows met none (commands.Verify verify) spelled =

@@ -24,11 +24,13 @@ use Rattle.command_line.specs.declared.usage.Usage.TheVariants.{Parser, Number, 
 use Rattle.command_line.specs.declared.options.Command.{Command}
 use Rattle.command_line.specs.declared.options.Command.TheVariants as commands
 use Rattle.command_line.specs.declared.options.Disasm.{Disasm}
+use Rattle.command_line.specs.declared.options.Goal.{Goal}
 use Rattle.command_line.specs.declared.options.LimitOptions.{LimitOptions}
 use Rattle.command_line.specs.declared.options.Replay.{Replay}
 use Rattle.command_line.specs.declared.options.Run.{Run}
 use Rattle.command_line.specs.declared.options.Schedule.{Schedule}
 use Rattle.command_line.specs.declared.options.Search.{Search}
+use Rattle.command_line.specs.declared.options.Shrink.{Shrink}
 use Rattle.command_line.specs.declared.options.ThenRun.{ThenRun}
 use Rattle.command_line.specs.declared.options.Trace.{Trace}
 use Rattle.command_line.specs.declared.options.TraceForm.{TraceForm}
@@ -59,6 +61,10 @@ record_option = path_option (codes "record")
 -- `--for OUTCOME`
 abbrev pub goal_option : Rule
 goal_option = path_option (codes "for")
+
+-- the same, which has to be there
+abbrev pub required_goal_option : Rule
+required_goal_option = record goal_option { required = true }
 
 -- `--schedule FILE`, which has to be there
 abbrev pub schedule_option : Rule
@@ -171,6 +177,13 @@ with_search_options app = with_rule (with_rule (with_rule (with_rule app
 abbrev pub jvm_search : App
 jvm_search = with_files (with_program (with_search_options (new_app (codes "search")))) class_files
 
+-- which outcome is to be kept, under which schedule, with how many events a try, and where the schedule is recorded
+abbrev pub with_shrink_options : App → App
+with_shrink_options app = with_rule (with_rule (with_schedule (with_rule app required_goal_option)) (number_option (codes "budget") 0 4294967295)) record_option
+
+abbrev pub jvm_shrink : App
+jvm_shrink = with_files (with_program (with_shrink_options (new_app (codes "shrink")))) class_files
+
 abbrev pub jvm_verify : App
 jvm_verify = with_files (with_rule (with_rule (with_rule (new_app (codes "verify")) (flag (codes "library"))) main_option) alone_flag) class_files
 
@@ -185,12 +198,13 @@ abbrev pub with_version : Shape → Shape
 with_version shape = record shape { has_version = true; subcommand_required = true }
 
 abbrev pub jvm : App
-jvm = with_subcommand (with_subcommand (with_subcommand (with_subcommand (with_subcommand (with_subcommand (with_subcommand
+jvm = with_subcommand (with_subcommand (with_subcommand (with_subcommand (with_subcommand (with_subcommand (with_subcommand (with_subcommand
     (record (new_app (codes "jvm")) { top = with_version (new_app (codes "jvm")).top })
     jvm_run.top)
     jvm_replay.top)
     jvm_trace.top)
     jvm_search.top)
+    jvm_shrink.top)
     jvm_verify.top)
     jvm_disasm.top)
     jvm_schedule.top
@@ -317,6 +331,26 @@ pub record AreSearchValues (rows : List Row) (search : Search) : Type 0 where
   pub quiet : search.quiet ≡ is_set (first_of (codes "quiet") rows)
   pub files_alone : search.files_alone ≡ is_set (first_of (codes "files-alone") rows)
 
+-- the outcome that has to be there; and the file that it is read from is none that is written
+abbrev pub IsRequiredGoal : List Row → Goal → Type 0
+IsRequiredGoal rows goal = IsGoal (first_of (codes "for") rows) (Some goal) × IsGoalApart (first_of (codes "record") rows) (Some goal)
+
+-- the values that the words give to `jvm shrink`
+pub record AreShrinkValues (rows : List Row) (shrink : Shrink) : Type 0 where
+  pub goal : IsRequiredGoal rows shrink.goal
+  pub schedule : first_of (codes "schedule") rows ≡ Some (string_bytes shrink.schedule)
+  pub any_files : shrink.any_files ≡ is_set (first_of (codes "any-files") rows)
+  pub budget : IsNumber 0 4294967295 (first_of (codes "budget") rows) shrink.budget
+  pub recording : first_of (codes "record") rows ≡ option_map string_bytes shrink.record
+  pub limits : AreLimitNumbers rows shrink.limits
+  pub main : first_of (codes "main") rows ≡ option_map string_bytes shrink.main
+  pub files : all_of (codes "files") rows ≡ Some (map string_bytes shrink.files.items)
+  pub other_schedule : IsApart (first_of (codes "record") rows) (string_bytes shrink.schedule)
+  pub other_files : All (IsApart (first_of (codes "record") rows)) (map string_bytes shrink.files.items)
+  pub explain : shrink.explain ≡ is_set (first_of (codes "explain") rows)
+  pub quiet : shrink.quiet ≡ is_set (first_of (codes "quiet") rows)
+  pub files_alone : shrink.files_alone ≡ is_set (first_of (codes "files-alone") rows)
+
 -- the values that the words give to `jvm verify`
 pub record AreVerifyValues (rows : List Row) (verify : Verify) : Type 0 where
   pub main : first_of (codes "main") rows ≡ option_map string_bytes verify.main
@@ -347,6 +381,7 @@ Spells words (commands.Run run) = (rows : List Row) × (subcommand_of jvm words 
 Spells words (commands.Replay replay) = (rows : List Row) × (subcommand_of jvm words ≡ Some (codes "replay", rows)) × AreValues rows replay
 Spells words (commands.Trace trace) = (rows : List Row) × (subcommand_of jvm words ≡ Some (codes "trace", rows)) × AreTraceValues rows trace
 Spells words (commands.Search search) = (rows : List Row) × (subcommand_of jvm words ≡ Some (codes "search", rows)) × AreSearchValues rows search
+Spells words (commands.Shrink shrink) = (rows : List Row) × (subcommand_of jvm words ≡ Some (codes "shrink", rows)) × AreShrinkValues rows shrink
 Spells words (commands.Verify verify) = (rows : List Row) × (subcommand_of jvm words ≡ Some (codes "verify", rows)) × AreVerifyValues rows verify
 Spells words (commands.Disasm disasm) = (rows : List Row) × (subcommand_of jvm words ≡ Some (codes "disasm", rows)) × AreDisasmValues rows disasm
 Spells words (commands.Schedule schedule) = (rows : List Row) × (subcommand_of jvm words ≡ Some (codes "schedule", rows)) × AreScheduleValues rows schedule

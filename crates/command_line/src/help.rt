@@ -134,6 +134,26 @@ Statuses:
 Example:
   jvm search --for deadlock --record found.schedule A.class";
 
+/// What stands below the options of `shrink`.
+pub(crate) const SHRINK_PAGE: &str = "\
+What it does:
+  Looks for a schedule with fewer switches from a thread to another one, behind
+  which a run ends with the outcome of --for, too, as `jvm replay --then-run` does
+  it. It leaves out entries, and brings those of a thread together, and tries each
+  such schedule, with --budget events at most. What is left is printed as text; a
+  run behind it has the outcome. How many entries there were and are is told on
+  standard error. Of the outcomes of --for tells `jvm search --help`.
+
+Statuses:
+  0  a schedule is printed that has the outcome
+  1  the given schedule hasn't got it
+  2  a class file or the schedule is refused
+  3  memory was missing
+  6  the command is wrong, or a file can't be read, or the output not written
+
+Example:
+  jvm shrink --for deadlock --schedule found.schedule A.class";
+
 /// What stands below the options of `verify`.
 pub(crate) const VERIFY_PAGE: &str = "\
 What it does:

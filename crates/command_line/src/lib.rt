@@ -36,8 +36,8 @@ mod sweep_options;
 mod usage;
 
 pub use options::{
-    Command, Disasm, Goal, LimitOptions, Replay, Run, Schedule, Search, ThenRun, Trace, TraceForm,
-    Verify,
+    Command, Disasm, Goal, LimitOptions, Replay, Run, Schedule, Search, Shrink, ThenRun, Trace,
+    TraceForm, Verify,
 };
 pub use parse::command;
 pub use paths::is_same_path;

@@ -14,12 +14,13 @@ pub enum Command {
     Replay(Replay),
     Trace(Trace),
     Search(Search),
+    Shrink(Shrink),
     Verify(Verify),
     Disasm(Disasm),
     Schedule(Schedule),
 }
 
-/// The usual budget of a run of a sweep, and of one that goes on behind a schedule, in events.
+/// The usual budget of a run of a sweep, of one that goes on behind a schedule, and of a try of `shrink`, in events.
 pub(crate) const USUAL_BUDGET: u32 = 10_000_000;
 
 /// How many states a search may meet, unless another number is asked for.
@@ -135,7 +136,7 @@ pub struct Search {
     pub files_alone: bool,
 }
 
-/// Which outcome of a run a search is to find.
+/// Which outcome of a run is to be found, or to be kept.
 #[derive(Drop)]
 pub enum Goal {
     /// No thread may go on, and one hasn't ended.
@@ -161,6 +162,41 @@ impl Search {
         ensures { result ≡ unwrap_or self.now.memory 1000000000 }
     {
         self.memory.unwrap_or(USUAL_MEMORY)
+    }
+}
+
+/// `jvm shrink`: a schedule with fewer switches is looked for behind which a run has the same outcome.
+#[derive(Drop)]
+pub struct Shrink {
+    /// The outcome that is to be kept.
+    pub goal: Goal,
+    /// The path of the schedule file, or the schedule itself.
+    pub schedule: String,
+    /// Whether any class files will do, whatever the schedule was recorded over.
+    pub any_files: bool,
+    /// How many events each try may have, and `None` for the usual number.
+    pub budget: Option<u32>,
+    /// The path of the file that the schedule is written to, if any.
+    pub record: Option<String>,
+    pub limits: LimitOptions,
+    /// The name of the class whose `main` is run, with dots or slashes, if it is given.
+    pub main: Option<String>,
+    /// The paths of the class files, and of folders of them.
+    pub files: Vec<String>,
+    /// Whether a refusal is explained.
+    pub explain: bool,
+    /// Whether standard error tells no more than why there is no output.
+    pub quiet: bool,
+    /// Whether no class is added from the library.
+    pub files_alone: bool,
+}
+
+impl Shrink {
+    /// The budget of each try, in events.
+    pub fn budget(&self) -> u32
+        ensures { result ≡ unwrap_or self.now.budget 10000000 }
+    {
+        self.budget.unwrap_or(USUAL_BUDGET)
     }
 }
 

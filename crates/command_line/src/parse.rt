@@ -4,7 +4,7 @@ ghost use Rattle.std.specs.Prelude.{◌≡◌, ◌⊎◌, List, false, Some, cod
 ghost use Rattle.std.specs.Option.{option_map};
 ghost use Rattle.clap.specs.Words.{HasMatchesOf, all_of, first_of, found_of, kind_of, rows_of, Text};
 ghost use Rattle.clap.specs.declared.error.kind.ErrorKind.TheVariants.{UnknownArgument as unknown_argument};
-ghost use Rattle.command_line.specs.CommandLine.{AreDisasmValues, AreLimitNumbers, AreRunNumbers, AreRunValues, AreScheduleValues, AreSearchValues, AreTraceValues, AreValues, AreVerifyValues, Asks, Fails, IsThenRun, IsTraceForm, Refuses, Spells, is_set as is_true, jvm, usage_of};
+ghost use Rattle.command_line.specs.CommandLine.{AreDisasmValues, AreLimitNumbers, AreRunNumbers, AreRunValues, AreScheduleValues, AreSearchValues, AreShrinkValues, AreTraceValues, AreValues, AreVerifyValues, Asks, Fails, IsRequiredGoal, IsThenRun, IsTraceForm, Refuses, Spells, is_set as is_true, jvm, usage_of};
 ghost use Rattle.command_line.specs.Goals.{IsGoal};
 
 use crate::goal::goal_by;
@@ -14,7 +14,8 @@ use crate::numbers::{
 };
 use crate::options;
 use crate::options::{
-    Disasm, Goal, LimitOptions, Replay, Run, Schedule, Search, ThenRun, Trace, TraceForm, Verify,
+    Disasm, Goal, LimitOptions, Replay, Run, Schedule, Search, Shrink, ThenRun, Trace, TraceForm,
+    Verify,
 };
 use crate::parsers::program;
 use crate::paths::{check_file, check_files, check_goal};
@@ -51,6 +52,9 @@ fn command_of(alloc: Global, matches: &ArgMatches<'_>) -> Result<options::Comman
     }
     if let Some(search) = matches.subcommand_matches("search") {
         return Ok(options::Command::Search(search_of(alloc, search)?));
+    }
+    if let Some(shrink) = matches.subcommand_matches("shrink") {
+        return Ok(options::Command::Shrink(shrink_of(alloc, shrink)?));
     }
     if let Some(verify) = matches.subcommand_matches("verify") {
         return Ok(options::Command::Verify(verify_of(alloc, verify)?));
@@ -218,6 +222,49 @@ fn search_of(alloc: Global, matches: &ArgMatches<'_>) -> Result<Search, Usage>
         quiet: is_set(matches, "quiet"),
         files_alone: is_set(matches, "files-alone"),
     })
+}
+
+fn shrink_of(alloc: Global, matches: &ArgMatches<'_>) -> Result<Shrink, Usage>
+    ensures values { IfOk result (AreShrinkValues (rows_of (found_of matches.now))) }
+    ensures none { IfErr result (λ usage. Refuses usage ((shrink : _)
+        → AreShrinkValues (rows_of (found_of matches.now)) shrink → ⊥)) }
+{
+    let goal = required_goal_of(alloc, matches)?;
+    let schedule = required_path_of(alloc, matches, "schedule")?;
+    let budget = WHOLE_BUDGET.number(alloc, matches)?;
+    let record = path_of(alloc, matches, "record")?;
+    let limits = limits_of(alloc, matches)?;
+    let main = path_of(alloc, matches, "main")?;
+    let files = files_of(alloc, matches)?;
+    check_file(alloc, matches, schedule.as_str())?;
+    check_files(alloc, matches, &files)?;
+    Ok(Shrink {
+        goal,
+        schedule,
+        any_files: is_set(matches, "any-files"),
+        budget,
+        record,
+        limits,
+        main,
+        files,
+        explain: is_set(matches, "explain"),
+        quiet: is_set(matches, "quiet"),
+        files_alone: is_set(matches, "files-alone"),
+    })
+}
+
+/// The outcome that has to be there, and that is read from no file which is to be written.
+fn required_goal_of(alloc: Global, matches: &ArgMatches<'_>) -> Result<Goal, Usage>
+    ensures goal { IfOk result (IsRequiredGoal (rows_of (found_of matches.now))) }
+    ensures none { IfErr result (λ usage. Refuses usage ((goal : _)
+        → IsRequiredGoal (rows_of (found_of matches.now)) goal → ⊥)) }
+{
+    let goal = goal_of(alloc, matches)?;
+    check_goal(alloc, matches, &goal)?;
+    match goal {
+        Some(goal) => Ok(goal),
+        None => Err(missing(alloc, "an outcome is missing")),
+    }
 }
 
 /// The outcome that a search is to find, where one is asked for.

@@ -3,11 +3,11 @@
 ghost use Rattle.std.specs.Prelude.{◌≡◌, codes, false, IfOk, IfErr};
 ghost use Rattle.clap.specs.Words.{App, app_of, kind_of, new_app, rule_of, with_subcommand};
 ghost use Rattle.clap.specs.declared.error.kind.ErrorKind.TheVariants.{OutOfMemory as no_memory};
-ghost use Rattle.command_line.specs.CommandLine.{IsLocal, class_files, flag, goal_option, jvm, jvm_disasm, jvm_replay, jvm_run, jvm_schedule, jvm_search, jvm_trace, jvm_verify, main_option, one_file, path_option, record_option, schedule_option, with_files as over_files, with_limits as limited, with_main as started, with_program as programmed, alone_flag};
+ghost use Rattle.command_line.specs.CommandLine.{IsLocal, class_files, flag, goal_option, jvm, jvm_disasm, jvm_replay, jvm_run, jvm_schedule, jvm_search, jvm_shrink, jvm_trace, jvm_verify, main_option, one_file, path_option, record_option, required_goal_option, schedule_option, with_files as over_files, with_limits as limited, with_main as started, with_program as programmed, alone_flag};
 
 use crate::help::{
     ABOUT, AFTER, DISASM_PAGE, FILES_HELP, LISTED_HELP, REPLAY_PAGE, RUN_PAGE, SCHEDULE_PAGE,
-    SEARCH_PAGE, TRACE_PAGE, VERIFY_PAGE, VERSION,
+    SEARCH_PAGE, SHRINK_PAGE, TRACE_PAGE, VERIFY_PAGE, VERSION,
 };
 use crate::numbers::{
     AS_VERSION, BUDGET, CELLS, FRAMES, FROM, MEMORY, MONITORS, OBJECTS, ONLY, QUANTUM, STATES,
@@ -32,6 +32,7 @@ pub(crate) fn program<'a>(alloc: Global) -> Result<clap::Command<'a>, clap::Erro
     let program = with_parser(program, replay_parser(alloc))?;
     let program = with_parser(program, trace_parser(alloc))?;
     let program = with_parser(program, search_parser(alloc))?;
+    let program = with_parser(program, shrink_parser(alloc))?;
     let program = with_parser(program, verify_parser(alloc))?;
     let program = with_parser(program, disasm_parser(alloc))?;
     let program = with_parser(program, schedule_parser(alloc))?;
@@ -159,6 +160,27 @@ fn search_parser<'a>(alloc: Global) -> Result<clap::Command<'a>, AllocError>
     )
 }
 
+fn shrink_parser<'a>(alloc: Global) -> Result<clap::Command<'a>, AllocError>
+    ensures { IfOk result (λ shrink. (app_of shrink ≡ jvm_shrink) × IsLocal shrink) }
+{
+    let shrink = titled(
+        alloc,
+        "shrink",
+        "Looks for a schedule with fewer switches that has the same outcome",
+        SHRINK_PAGE,
+    )
+    .arg(required_goal_argument(alloc))?
+    .arg(schedule_argument(alloc))?
+    .arg(any_files_argument(alloc))?
+    .arg(WHOLE_BUDGET.argument(alloc))?
+    .arg(record_argument(alloc))?;
+    with_files(
+        alloc,
+        with_program(alloc, shrink)?,
+        files_argument(alloc, FILES_HELP),
+    )
+}
+
 fn verify_parser<'a>(alloc: Global) -> Result<clap::Command<'a>, AllocError>
     ensures { IfOk result (λ verify. (app_of verify ≡ jvm_verify) × IsLocal verify) }
 {
@@ -267,7 +289,15 @@ fn alone_argument<'a>(alloc: Global) -> Arg<'a>
     )
 }
 
-/// The outcome that a search or a sweep is to find.
+/// The outcome that is to be kept, which has to be there.
+fn required_goal_argument<'a>(alloc: Global) -> Arg<'a>
+    ensures rule { rule_of result ≡ required_goal_option }
+    ensures local { result.global ≡ false }
+{
+    goal_argument(alloc).required(true)
+}
+
+/// The outcome that is to be found, or to be kept.
 fn goal_argument<'a>(alloc: Global) -> Arg<'a>
     ensures rule { rule_of result ≡ goal_option }
     ensures local { result.global ≡ false }
@@ -276,7 +306,7 @@ fn goal_argument<'a>(alloc: Global) -> Arg<'a>
         .long("for")
         .value_name("OUTCOME")
         .action(ArgAction::Set)
-        .help("What is searched for: deadlock, uncaught, output=NUMBERS or differs=FILE")
+        .help("The outcome: deadlock, uncaught, output=NUMBERS or differs=FILE")
 }
 
 /// The class files, one or more.

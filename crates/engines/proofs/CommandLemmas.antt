@@ -1,5 +1,5 @@
 -- What a command does over the files that its words stand for.
-use Rattle.std.proofs.Common.{arith, ◌≡◌, ◌∙◌, ℕ, List, Option, inl, inr, length, map, refl, string_bytes, subst, sym}
+use Rattle.std.proofs.Common.{arith, ◌≡◌, ◌⊎◌, ◌∙◌, ℕ, List, Option, inl, inr, length, map, refl, string_bytes, subst, sym}
 use Rattle.std.proofs.lemmas.List.{length-map}
 use Rattle.std.specs.Prelude.{None, Some}
 use Rattle.model.specs.Names.{Name}
@@ -12,9 +12,10 @@ use Rattle.command_line.specs.declared.usage.Usage.{Usage}
 use Rattle.program_files.specs.Folders.{Held, Listed, Written}
 use Rattle.program_files.specs.declared.files_fault.FilesFault.{FilesFault}
 use Rattle.program_files.specs.declared.files_fault.FilesFault.TheVariants as files
-use Rattle.engines.specs.Commands.{AreFiles, HasNoFiles, IsDone, IsDoneOver, IsReadToo, IsUndone, IsUndoneAs, IsUndoneOver, IsUnread, Stops, record_path}
+use Rattle.engines.specs.Commands.{AreFiles, HasNoFiles, IsDone, IsDoneOver, IsKeptFirst, IsReadToo, IsUndone, IsUndoneAs, IsUndoneOver, IsUnread, Stops, record_path}
 use Rattle.library_files.specs.Adding.{LibraryFile}
 use Rattle.engines.specs.Complaints.{complaint_of}
+use Rattle.engines.specs.Devices.{IsUnable}
 use Rattle.engines.specs.Handed.{AreHanded, IsComplaint, IsUnread as IsUnreadFile, refused_name}
 use Rattle.engines.specs.Failures.{TellsComplaint, TellsFailure}
 use Rattle.engines.specs.Files.{held_at, known}
@@ -76,9 +77,12 @@ module _ (library : List LibraryFile) (held : Held) (listed : Listed) (input : O
           let over = subst (λ n. IsDoneOver held n own (known files) input command text written status) all done in
           (map string_bytes paths, are_paths, unread, files, added, own, handed, over)
 
-  -- where a file can't be read, nothing is done
-  pub unread_over : (fault : Fault) → IsUnreadFile fault → new ≡ old → IsUndone library held listed input command old new (complaints.Fault fault) None
-  unread_over fault unread same = inl (inr unread, same, refl)
+  -- where a file can't be read, nothing is done: what comes before it is told
+  pub unread_over : (fault first : Fault) → IsUnreadFile fault → (first ≡ fault) ⊎ (IsUnable first ⊎ IsKeptFirst held command first) → new ≡ old
+      → IsUndone library held listed input command old new (complaints.Fault first) None
+  unread_over fault first unread (inl is) same = inl (subst (λ f. IsUnable f ⊎ (IsUnreadFile f ⊎ IsKeptFirst held command f)) (sym is) (inr (inl unread)), same, refl)
+  unread_over fault first unread (inr (inl unable)) same = inl (inl unable, same, refl)
+  unread_over fault first unread (inr (inr kept)) same = inl (inr (inr kept), same, refl)
 
   -- what a command does not do, the words do not
   pub undone_stops : (words : List (List ℕ)) (complaint : Complaint) (written : Written) → Spells words command
@@ -105,3 +109,9 @@ told_complaint elsewhere given added fault (complaints.Usage usage) old new is t
 told_complaint elsewhere given added fault (complaints.Files other) old new is told = absurd is
 told_complaint elsewhere given added fault (complaints.Fault f) old new (same, name) told = subst (λ g. TellsFailure elsewhere g old new) (sym same) told
 told_complaint elsewhere given added fault (complaints.Library f n) old new (same, name) told = subst (λ g. TellsFailure elsewhere g old new) (sym same) told
+
+-- what comes before files that can't be read is told as it is, or else that they can't be
+pub told_first : (elsewhere : Type 0) (fault first : Fault) (n : ℕ) → TellsFailure elsewhere fault n n
+    → (first ≡ fault) ⊎ ((m : ℕ) → TellsFailure elsewhere first m m) → TellsFailure elsewhere first n n
+told_first elsewhere fault first n told (inl is) = subst (λ f. TellsFailure elsewhere f n n) (sym is) told
+told_first elsewhere fault first n told (inr all) = all n

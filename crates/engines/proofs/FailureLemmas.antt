@@ -17,6 +17,19 @@ failed_of (There bytes) n failures = absurd (omega (arith, failures))
 failed_of Behind n failures = absurd (omega (arith, failures))
 failed_of Failed n failures = refl
 
+-- ---- beside as many others
+
+counts_with : (fault : Fault) (old new n : ℕ) → CountsWith fault old new → CountsWith fault (old + n) (new + n)
+counts_with faults.Device old new n counted = omega (arith, counted)
+counts_with faults.Memory old new n counted = omega (arith, counted)
+counts_with (faults.Refusal refusal) old new n counted = omega (arith, counted)
+counts_with (faults.Schedule fault) old new n counted = omega (arith, counted)
+counts_with (faults.Text fault) old new n counted = omega (arith, counted)
+
+counts_besides : {A : Type 0} (result : Result A Fault) (old new n : ℕ) → CountsFailure result old new → CountsFailure result (old + n) (new + n)
+counts_besides (Ok value) old new n counted = omega (arith, counted)
+counts_besides (Err fault) old new n counted = counts_with fault old new n counted
+
 -- ---- none of some sources has failed, or one has
 
 module _ {S : Type 0} (failures : S → ℕ) where
@@ -51,6 +64,11 @@ module _ {S : Type 0} (failures : S → ℕ) where
     told_by (Ok value) counted = omega (arith, none, counted)
     told_by (Err fault) counted = fault_told fault counted
 
+    -- whatever else has failed
+    pub told_alone : {A : Type 0} (result : Result A Fault) → old ≡ new → CountsFailure result before (sum_by failures sources) → TellsFailures elsewhere result old new
+    told_alone result same counted =
+        told_by result (subst (λ n. CountsFailure result (before + old) (sum_by failures sources + n)) same (counts_besides result before (sum_by failures sources) old counted))
+
   -- the same of an engine that has one source more, or one alone
   module _ (elsewhere : Type 0) (told : (source : S) (n : ℕ) → failures source ≡ suc n → elsewhere) {A : Type 0} (result : Result A Fault)
       (source : S) where
@@ -65,6 +83,10 @@ module _ {S : Type 0} (failures : S → ℕ) where
     told_by_one before old new none counted =
         let one : sum_by failures (source ∷ []) ≡ failures source = omega (arith, sum_by-cons failures source []) in
         told_by elsewhere told (source ∷ []) before old new none result (subst (λ n. CountsFailure result (before + old) (n + new)) (sym one) counted)
+
+    -- whatever else has failed
+    pub told_by_itself : (before n : ℕ) → before ≡ 0 → CountsFailure result before (failures source) → TellsFailures elsewhere result n n
+    told_by_itself before n none counted = told_by_one before n n none (counts_besides result before (failures source) n counted)
 
 -- ---- beside others
 

@@ -12,6 +12,7 @@ pub mod RecordLemmas
 pub mod RunLemmas
 pub mod ScheduleLemmas
 pub mod SearchLemmas
+pub mod ShrinkLemmas
 pub mod SweepLemmas
 pub mod TraceLemmas
 pub mod VerificationLemmas

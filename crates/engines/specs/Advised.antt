@@ -29,6 +29,7 @@ is_quiet (commands.Run run) = run.quiet
 is_quiet (commands.Replay replay) = replay.quiet
 is_quiet (commands.Trace trace) = trace.quiet
 is_quiet (commands.Search search) = search.quiet
+is_quiet (commands.Shrink shrink) = shrink.quiet
 is_quiet (commands.Verify verify) = verify.quiet
 is_quiet (commands.Disasm disasm) = disasm.quiet
 is_quiet (commands.Schedule schedule) = schedule.quiet

@@ -32,10 +32,12 @@ use Rattle.program_files.specs.declared.files_fault.FilesFault.{FilesFault}
 use Rattle.engines.specs.Goals.{IsAskedFor}
 use Rattle.engines.specs.Libraries.{IsUnacceptedLibrary, VerifiesLibrary}
 use Rattle.engines.specs.Listings.{AreClassFiles, IsUnlisted, IsUnnamed, Lists}
+use Rattle.engines.specs.Opening.{IsKeptBy}
 use Rattle.engines.specs.Recordings.{conditions_of}
 use Rattle.engines.specs.Replays.{IsFaulty, Replays}
 use Rattle.engines.specs.Runs.{IsUnrun, Runs}
 use Rattle.engines.specs.Searches.{IsUnsearched, Searches, most_states}
+use Rattle.engines.specs.Shrinks.{IsShrinkDone, IsShrinkUndone}
 use Rattle.engines.specs.Sweeps.{IsUnswept, SweepsOver}
 use Rattle.engines.specs.Traces.{IsUntraced, Traces}
 use Rattle.engines.specs.Transcriptions.{IsUnprinted, IsUntranscribed, Prints, Transcribes}
@@ -43,6 +45,7 @@ use Rattle.engines.specs.Verifications.{IsUnaccepted, Verifies}
 use Rattle.engines.specs.declared.complaint.Complaint.{Complaint}
 use Rattle.engines.specs.declared.complaint.Complaint.TheVariants as complaints
 use Rattle.engines.specs.declared.fault.Fault.{Fault}
+use Rattle.engines.specs.declared.recording.Conditions.{Conditions}
 use Rattle.engines.specs.declared.status.Status.{Status}
 use Rattle.engines.specs.declared.status.Status.TheVariants.{Returned}
 
@@ -64,6 +67,7 @@ AreFiles held listed (commands.Run run) files = AreHandedOn held listed (option_
 AreFiles held listed (commands.Replay replay) files = AreHandedOn held listed (option_map string_bytes replay.main) (map string_bytes replay.files.items) files
 AreFiles held listed (commands.Trace trace) files = AreHandedOn held listed (option_map string_bytes trace.main) (map string_bytes trace.files.items) files
 AreFiles held listed (commands.Search search) files = AreHandedOn held listed (option_map string_bytes search.main) (map string_bytes search.files.items) files
+AreFiles held listed (commands.Shrink shrink) files = AreHandedOn held listed (option_map string_bytes shrink.main) (map string_bytes shrink.files.items) files
 AreFiles held listed (commands.Verify verify) files = AreVerified held listed verify.library (option_map string_bytes verify.main) (map string_bytes verify.files.items) files
 AreFiles held listed (commands.Disasm disasm) files = AreGiven listed (map string_bytes disasm.files.items) files
 AreFiles held listed (commands.Schedule schedule) files = files ≡ []
@@ -74,6 +78,7 @@ HasNoFiles held listed (commands.Run run) fault = IsUnhanded held listed (option
 HasNoFiles held listed (commands.Replay replay) fault = IsUnhanded held listed (option_map string_bytes replay.main) (map string_bytes replay.files.items) fault
 HasNoFiles held listed (commands.Trace trace) fault = IsUnhanded held listed (option_map string_bytes trace.main) (map string_bytes trace.files.items) fault
 HasNoFiles held listed (commands.Search search) fault = IsUnhanded held listed (option_map string_bytes search.main) (map string_bytes search.files.items) fault
+HasNoFiles held listed (commands.Shrink shrink) fault = IsUnhanded held listed (option_map string_bytes shrink.main) (map string_bytes shrink.files.items) fault
 HasNoFiles held listed (commands.Verify verify) fault = IsUnverified held listed verify.library (option_map string_bytes verify.main) (map string_bytes verify.files.items) fault
 HasNoFiles held listed (commands.Disasm disasm) fault = IsUngiven listed (map string_bytes disasm.files.items) fault
 HasNoFiles held listed (commands.Schedule schedule) fault = IsUnableFor fault
@@ -84,6 +89,7 @@ record_path (commands.Run run) = option_map string_bytes run.record
 record_path (commands.Replay replay) = option_and_then (λ (then_run : ThenRun). option_map string_bytes then_run.record) replay.then_run
 record_path (commands.Trace trace) = None
 record_path (commands.Search search) = option_map string_bytes search.record
+record_path (commands.Shrink shrink) = option_map string_bytes shrink.record
 record_path (commands.Verify verify) = None
 record_path (commands.Disasm disasm) = None
 record_path (commands.Schedule schedule) = None
@@ -172,7 +178,8 @@ IsReplayDone held given lefts replay (Some then_run) text written status = IsCon
 abbrev pub IsReplayUndone : Held → (given : ℕ) → (lefts : List (Option (List ℕ))) → Replay → Option ThenRun → (old new : Option (List ℕ)) → Fault → Written → Type 0
 IsReplayUndone held given lefts replay None old new fault written =
     OfSchedule held (string_bytes replay.schedule) (λ left. IsFaulty left lefts (conditions_of replay.limits replay.any_files given) old new fault) × (written ≡ None)
-IsReplayUndone held given lefts replay (Some then_run) old new fault written = IsContinuationUndone held given lefts replay then_run old new fault written
+IsReplayUndone held given lefts replay (Some then_run) old new fault written =
+    (IsUnable fault × (new ≡ old) × (written ≡ None)) ⊎ IsContinuationUndone held given lefts replay then_run old new fault written
 
 -- ---- trace
 
@@ -255,6 +262,7 @@ IsDoneOver held given own lefts input (commands.Run run) text written status = I
 IsDoneOver held given own lefts input (commands.Replay replay) text written status = IsReplayDone held given lefts replay replay.then_run text written status
 IsDoneOver held given own lefts input (commands.Trace trace) text written status = IsTraceDone held given lefts trace text written status
 IsDoneOver held given own lefts input (commands.Search search) text written status = IsSearchDone held given lefts search text written status
+IsDoneOver held given own lefts input (commands.Shrink shrink) text written status = IsShrinkDone held given lefts shrink text written status
 IsDoneOver held given own lefts input (commands.Verify verify) text written status =
     VerifiesAs verify.library given own lefts text × (written ≡ None) × (status ≡ Returned)
 IsDoneOver held given own lefts input (commands.Disasm disasm) text written status =
@@ -268,6 +276,8 @@ IsUndoneOver held given own lefts input (commands.Replay replay) old new fault w
 IsUndoneOver held given own lefts input (commands.Trace trace) old new fault written = IsTraceUndone held given lefts trace old new fault written
 IsUndoneOver held given own lefts input (commands.Search search) old new fault written =
     (IsUnable fault × (new ≡ old) × (written ≡ None)) ⊎ IsSearchUndone held given lefts search old new fault written
+IsUndoneOver held given own lefts input (commands.Shrink shrink) old new fault written =
+    (IsUnable fault × (new ≡ old) × (written ≡ None)) ⊎ IsShrinkUndone held given lefts shrink old new fault written
 IsUndoneOver held given own lefts input (commands.Verify verify) old new fault written =
     ((IsUnable fault × (new ≡ old)) ⊎ IsUnacceptedAs verify.library given own lefts old new fault) × (written ≡ None)
 IsUndoneOver held given own lefts input (commands.Disasm disasm) old new fault written =
@@ -287,15 +297,27 @@ IsUndoneAs library held listed input command old new fault refused written = (pa
     × AreHanded library command (held_at held paths) files added own × (refused ≡ refused_name (length paths) added fault)
     × IsUndoneOver held (length paths) own (known files) input command old new fault written
 
+-- the schedule that a word is, or whose path it is, keeps from a run of any class files
+abbrev pub KeepsSchedule : Held → (word : List ℕ) → Fault → Type 0
+KeepsSchedule held word fault = OfSchedule held word (λ left. (lefts : List (Option (List ℕ))) (options : Conditions) → IsKeptBy left lefts options fault)
+
+-- the schedule of a command does
+abbrev pub IsKeptFirst : Held → Command → Fault → Type 0
+IsKeptFirst held (commands.Replay replay) fault = KeepsSchedule held (string_bytes replay.schedule) fault
+IsKeptFirst held (commands.Trace trace) fault = KeepsSchedule held (string_bytes trace.schedule) fault
+IsKeptFirst held (commands.Shrink shrink) fault = KeepsSchedule held (string_bytes shrink.schedule) fault
+IsKeptFirst held command fault = ⊥
+
 -- What keeps a command from a status: one of its files is to be written, or its words stand for none, and nothing is done; or there is a
--- fault.
+-- fault, of a class file that can't be read, or of the schedule where one can't be.
 abbrev pub IsUndone : List LibraryFile → Held → Listed → (input : Option (List ℕ)) → Command → (old new : Option (List ℕ)) → Complaint → Written → Type 0
 IsUndone library held listed input command old new (complaints.Usage usage) written =
     Refuses usage ((files : List Path) × AreFiles held listed command files × IsReadToo (record_path command) files)
     × (new ≡ old) × (written ≡ None)
 IsUndone library held listed input command old new (complaints.Files fault) written = HasNoFiles held listed command fault × (new ≡ old) × (written ≡ None)
 IsUndone library held listed input command old new (complaints.Fault fault) written =
-    ((IsUnable fault ⊎ IsUnreadFile fault) × (new ≡ old) × (written ≡ None)) ⊎ IsUndoneAs library held listed input command old new fault None written
+    ((IsUnable fault ⊎ (IsUnreadFile fault ⊎ IsKeptFirst held command fault)) × (new ≡ old) × (written ≡ None))
+    ⊎ IsUndoneAs library held listed input command old new fault None written
 IsUndone library held listed input command old new (complaints.Library fault name) written =
     IsUndoneAs library held listed input command old new fault (Some name.now) written
 

@@ -17,6 +17,7 @@ pub mod Refusals
 pub mod Replays
 pub mod Runs
 pub mod Searches
+pub mod Shrinks
 pub mod Sweeps
 pub mod Statuses
 pub mod Traces

@@ -76,7 +76,8 @@ fn advice_on<F: Folder>(
     library: &[LibraryClass<'_>],
 ) -> Vec<u8>
     ensures { (result.items ≡ [])
-        ⊎ OfFiles (map library_file library.now) (F.held folder.now) (F.listed folder.now) command.now (IsAdviceOn result.items) }
+        ⊎ OfFiles (map library_file library.now) (F.held folder.now) (F.listed folder.now) command.now
+        (IsAdviceOn result.items) }
 {
     let Ok(paths) = command_files(alloc, folder, command) else {
         return Vec::new(alloc);
@@ -97,7 +98,8 @@ pub(crate) fn advised<F: Folder>(
     fault: &Fault,
 ) -> Vec<u8>
     ensures { (result.items ≡ [])
-        ⊎ IsAdvised (map library_file library.now) (F.held folder.now) (F.listed folder.now) command.now fault.now result.items }
+        ⊎ IsAdvised (map library_file library.now) (F.held folder.now) (F.listed folder.now) command.now fault.now
+        result.items }
 {
     match (command, fault) {
         (Command::Verify(_), Fault::Refusal(_)) => advice_on(alloc, folder, command, library),

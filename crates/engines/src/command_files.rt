@@ -27,6 +27,7 @@ pub(crate) fn command_files<F: Folder>(
         Command::Replay(options) => handed_on(alloc, folder, &options.files, &options.main),
         Command::Trace(options) => handed_on(alloc, folder, &options.files, &options.main),
         Command::Search(options) => handed_on(alloc, folder, &options.files, &options.main),
+        Command::Shrink(options) => handed_on(alloc, folder, &options.files, &options.main),
         Command::Verify(options) => verified_files(alloc, folder, options),
         Command::Disasm(options) => given_paths(alloc, folder, &options.files),
         Command::Schedule(_) => Ok(Vec::new(alloc)),
@@ -79,6 +80,7 @@ pub(crate) fn record_path(command: &Command) -> Option<&str>
             None => None,
         },
         Command::Search(options) => options.record.as_deref(),
+        Command::Shrink(options) => options.record.as_deref(),
         Command::Trace(_) | Command::Verify(_) | Command::Disasm(_) | Command::Schedule(_) => None,
     }
 }

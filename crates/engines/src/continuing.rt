@@ -84,7 +84,8 @@ fn ran_on(
 ) -> Result<Outcome, AllocError>
     requires { IsAccepted (map vec_items files.now) verified }
     ensures run { IfOk result (λ ran. (bytes : _) (options : _)
-        → options.given ≡ given → IsOpened bytes (map vec_items files.now) options verified (events_of schedule.now) limits
+        → options.given ≡ given
+        → IsOpened bytes (map vec_items files.now) options verified (events_of schedule.now) limits
         → IsContinued bytes (map vec_items files.now) options budget ran.text.items
         (option_map vec_items ran.file) ran.status) }
     ensures asked { IfOk result (λ ran. IsTrue is_recorded → IsTrue (is_some ran.file)) }

@@ -19,9 +19,8 @@ pub(crate) fn differing<F: Folder>(
     paths: &[String],
 ) -> Option<Vec<u8>> {
     let bytes = folder.read(alloc, schedule).ok()?;
-    let Ok((_, Some(recording))) = read_either(alloc, &bytes) else {
-        return None;
-    };
+    let (_, recorded) = read_either(alloc, &bytes).ok()?;
+    let recording = recorded?;
     let handed = handed_files(alloc, folder, command, library, paths).ok()?;
     let files = handed.files.as_slice();
     let given = given_files(files, paths.len());

@@ -96,7 +96,8 @@ fn explain_fault<F: Folder>(
     explanation: &mut Explanation,
 )
     ensures { (explanation.new ≡ explanation.old)
-        ⊎ IsToldOf (map library_file library.now) (F.held folder.now) (F.listed folder.now) command.now fault.now explanation.new }
+        ⊎ IsToldOf (map library_file library.now) (F.held folder.now) (F.listed folder.now) command.now fault.now
+        explanation.new }
 {
     let (is_explained, is_quiet) = flags_of(command);
     if is_quiet || !(is_explained || explanation.is_wanted()) {
@@ -140,6 +141,7 @@ fn flags_of(command: &Command) -> (bool, bool)
         Command::Replay(options) => (options.explain, options.quiet),
         Command::Trace(options) => (options.explain, options.quiet),
         Command::Search(options) => (options.explain, options.quiet),
+        Command::Shrink(options) => (options.explain, options.quiet),
         Command::Verify(options) => (options.explain, options.quiet),
         Command::Disasm(options) => (options.explain, options.quiet),
         Command::Schedule(options) => (options.explain, options.quiet),
@@ -159,6 +161,7 @@ fn schedule_of(command: &Command) -> Option<&str> {
     match command {
         Command::Replay(options) => Some(options.schedule.as_str()),
         Command::Trace(options) => Some(options.schedule.as_str()),
+        Command::Shrink(options) => Some(options.schedule.as_str()),
         Command::Schedule(options) if !options.write => Some(options.file.as_str()),
         _ => None,
     }
@@ -193,6 +196,7 @@ fn words_of(command: &Command) -> &[String] {
         Command::Replay(options) => options.files.as_slice(),
         Command::Trace(options) => options.files.as_slice(),
         Command::Search(options) => options.files.as_slice(),
+        Command::Shrink(options) => options.files.as_slice(),
         Command::Verify(options) => options.files.as_slice(),
         Command::Disasm(options) => options.files.as_slice(),
         Command::Schedule(_) => &[],

@@ -48,6 +48,7 @@ fn library_of<'a, 'b>(command: &Command, library: &'a [LibraryClass<'b>]) -> &'a
         Command::Replay(options) => unless_alone(options.files_alone, library),
         Command::Trace(options) => unless_alone(options.files_alone, library),
         Command::Search(options) => unless_alone(options.files_alone, library),
+        Command::Shrink(options) => unless_alone(options.files_alone, library),
         Command::Verify(options) => unless_alone(options.files_alone, library),
         Command::Disasm(_) => &[],
         Command::Schedule(_) => &[],
@@ -88,8 +89,8 @@ pub(crate) fn handed_files<'a, F: Folder>(
 }
 
 impl<'a> Handed<'a> {
-    /// What is told of a fault of a command that hands these files on, of which the first so many are given: the name of
-    /// the class, too, where one is refused that the library adds.
+    /// What is told of a fault of a command that hands these files on, of which the first so many are given: the name
+    /// of the class, too, where one is refused that the library adds.
     pub(crate) fn complaint(&self, given: usize, fault: Fault) -> Complaint<'a>
         ensures { IsComplaint given (map library_file self.now.added.items) fault result }
     {

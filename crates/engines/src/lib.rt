@@ -8,16 +8,19 @@
 //!   and the status are those of the command's engine, below, over the bytes of the files that the words stand for:
 //!   - these are in the order in which they are handed on (`AreFiles`): by `AreGiven` for `disasm` and of a library,
 //!     and else by `AreHandedOn`; none of them is the one that is written (`IsUnread`);
+//!   - behind them come the files of the classes that the library adds (`AreHanded`, by `AreAdded` of `library_files`).
+//!     It adds none for `disasm` and with `--files-alone` (`library_of`);
 //!   - `run`, `replay` and `search` hand on all their options; `trace` its window and its form (`IsWindow`); `search`
 //!     its goal (`IsAskedFor`), with the text of the file of `differs`; `verify` whether it is of a library; `disasm`
-//!     whether names are asked for; `schedule` whether a file is made;
+//!     whether names are asked for; `schedule` whether a file is made; `run` over seeds its sweep (`IsSweepDone`);
 //!   - the file that is asked for holds the bytes of the schedule, and each other file what it held (`IsWith`).
 //! - `run` with a complaint: usage only where the words spell no command, or one that would write a file that it reads
 //!   (`IsReadToo`), and nothing is written then. A fault of files only where the words of the command stand for none,
 //!   or these have no order; nothing is written then, either (`HasNoFiles`). Another fault only where the engine may
-//!   answer it, or where help can't be written, memory is wanted for paths, or a folder, or a file that is read for its
-//!   class or for `differs`, can't be read (`faulty`, `Stops`, `IsUndone`). A file is written whole or not at all:
-//!   after a fault it is made only where a beginning of the report was written.
+//!   answer it, or where help can't be written, memory is wanted for paths, or a folder, a class file or the file of
+//!   `differs` can't be read, or the schedule is refused where a class file can't be read (`faulty`, `Stops`,
+//!   `IsUndone`). Where a class is refused that the library adds, the complaint has its name (`IsUndoneAs`). A file is
+//!   written whole or not at all: after a fault it is made only where a beginning of the report was written.
 //! - `explain_complaint` (`IsExplained`): it tells nothing behind words that are refused or stand for no files, nor of
 //!   a command with `--quiet`; where help can't be written it may tell any text. Of another command's fault it may tell
 //!   a text of which nothing is said. The advice behind that text is nothing, or what `advice` answers, on the bytes of
@@ -51,15 +54,15 @@
 //! - `search_engine`, over any readers and writers:
 //!   - with a status, one text was appended and nothing else: what a search over all schedules of the program of these
 //!     bytes answers, within the limits of the options (`searched`, `IsSearched`, with `Answers` of `search_reports`).
-//!     Where a run was found and its schedule is asked for, a file is made, which spells the events, the limits and the
-//!     lengths of the class files; else none is;
+//!     Where a run was found and its schedule is asked for, a file is made, which spells the events, the limits and
+//!     what is recorded of the class files (`recording_over`); else none is;
 //!   - with a refusal nothing was written, and it is one that linking or verification may give of these bytes; with
 //!     `memory` or `device` nothing was written or made, or the file was made and a beginning of the text was written
 //!     (`faulty`, `IsUnsearched`); `counted` as above.
 //! - `continue_engine`, over any readers and writers: what is proved of `replay_engine`, but that text, status and file
 //!   are those of a run that goes on behind the events of the schedule (`continued`, `IsContinued`, with `GoesOn` of
-//!   `continued_runs`): the file, where one is asked for, spells the events of the whole, the limits and the lengths of
-//!   the class files; and of a run that went no further than a replay, those of the schedule.
+//!   `continued_runs`): the file, where one is asked for, spells the events of the whole, the limits and what is
+//!   recorded of the class files; and of a run that went no further than a replay, those of the schedule.
 //! - `schedule_engine`: with a status, which is 0, a text was appended and nothing else. It is that which the
 //!   definitions give for the entries of the schedule that was read, as they stand, and for what it was recorded with
 //!   (`printed`). With a fault nothing was written, or a beginning of that, and a fault of the schedule stands in its
@@ -72,24 +75,31 @@
 //!     (`asked`): those of a run of these bytes (`ran`, `IsRun`). The class files are accepted; the limits are those of
 //!     the options; events, report and end are those of a record of their program with these limits and this budget
 //!     (`IsRecorded` of `worlds`); the text is the report's, the status is its own; and the file spells the events, the
-//!     limits and the lengths of the class files (`ScheduleFile`);
+//!     limits and what is recorded of the class files: the lengths and checksums of those that are given, and the
+//!     checksum of those that the library adds (`recording_over`);
 //!   - with a refusal nothing was written, and it is one that linking or verification may give of these bytes; with
 //!     `memory` or `device` nothing was written or made, or the file was made and a beginning of the text was written
 //!     (`faulty`, `IsUnrun`);
 //!   - `Device` exactly with one more failure of a device (`counted`).
+//! - `sweep_engine`, over any readers and writer: with a status, one text was appended and nothing else: that of a
+//!   sweep over the seeds that are asked for (`swept`, `IsSwept`, with `Sweeps` of `sweeps`). With a refusal nothing
+//!   was written, with `memory` or `device` nothing or a beginning of the text (`faulty`, `IsUnswept`); `counted` as
+//!   above.
 //! - `policy_for`, by which a run without workers gives turns: it is the policy that the options ask for, with the seed
 //!   or the quantum of these, or the usual quantum, or a seed of 32 bits (`IsAskedFor`). No clause says where a seed
 //!   that is drawn comes from, nor that it is told.
 //! - `verify_engine`, over any readers and writer:
-//!   - with a status, which is 0, the files are accepted, and their line was appended and nothing else (`verified`);
+//!   - with a status, which is 0, the files are accepted, and what is told of them was appended and nothing else
+//!     (`verified`): how many are given, how many the library adds, and its classes in whose place files have their own
+//!     (`verified_text`, `AreOwnOf`);
 //!   - with a refusal nothing was written, and it is one that linking or verification may give of these bytes; accepted
 //!     files are refused only for want of memory, or as `TooLarge` where the searches over their methods take more than
-//!     2,000,000,000 steps (`accepted` of `IsRefused`); with `memory` or `device` a beginning of the line may be
+//!     2,000,000,000 steps (`accepted` of `IsRefused`); with `memory` or `device` a beginning of that may be
 //!     written (`faulty`);
 //!   - `Device` exactly with one more failure of a device (`counted`).
 //! - `verify_library_engine`: the same as of `verify_engine`, but that the files are accepted, or refused, behind a
-//!   class that stands in the definitions byte by byte (`library_main`): it has a static main, which returns. The line
-//!   has the number of the files without it, and so has a refusal (`verified`, `faulty`, `counted`).
+//!   class that stands in the definitions byte by byte (`library_main`): it has a static main, which returns. Files are
+//!   counted without it, in the line and in a refusal (`verified`, `faulty`, `counted`).
 //! - `disasm_engine`, over any readers and writer:
 //!   - with a status, which is 0, the listings of the trees that the bytes spell were appended, one behind the other,
 //!     and nothing else (`listed`);
@@ -99,9 +109,9 @@
 //!   - `Device` exactly with one more failure of a device (`counted`).
 //! - `names_engine`: the same as of `disasm_engine`, but that nothing is said of the text (`listed`, `faulty`,
 //!   `counted`).
-//! - The status of each outcome (`Status::of`, `of_complaint`, `of_files`, `of_fault`, `of_usage`, `code`); and that the line of a
-//!   fault (`fault_line`) is written where no write fails, with its end and nothing else (`Fault::write_line`,
-//!   `Complaint::write_text`).
+//! - The status of each outcome (`Status::of`, `of_complaint`, `of_files`, `of_fault`, `of_usage`, `code`); and that
+//!   the line of a fault (`fault_line`), or of a refused class of the library (`library_line`), is written where no
+//!   write fails, with its end and nothing else (`Fault::write_line`, `Complaint::write_text`).
 //! - No clause refuses a body that always answers a want of memory, or does so in the place of a refusal that stands in
 //!   the files. All cases show that this isn't so, of which some meet each refusal, and the tests of `linking_tests`
 //!   that link 65,000 files and files of half a megabyte.

@@ -10,7 +10,9 @@ ghost use Rattle.library_files.specs.Adding.{library_file};
 ghost use Rattle.engines.specs.Failures.{FolderMayFail, TellsComplaint, TellsFailures};
 
 use crate::command_files::{check_record, command_files};
-use crate::commands::{disasm, replay, run as run_command, schedule, search, trace, verify};
+use crate::commands::{
+    disasm, replay, run as run_command, schedule, search, shrink, trace, unread, verify,
+};
 use crate::complaint::Complaint;
 use crate::explanation::Explanation;
 use crate::fault::Fault;
@@ -56,9 +58,11 @@ pub fn run<
 ) -> Result<Status, Complaint<'a>>
     // What the command that the words spell does with the files that they name is done, and nothing else.
     ensures done { IfOk result (Leaves
-        (Does (map library_file library.now) (F.held folder.old) (F.listed folder.old) (I.remaining input.old) (map string_bytes words.now))
+        (Does (map library_file library.now) (F.held folder.old) (F.listed folder.old)
+        (I.remaining input.old) (map string_bytes words.now))
         (W.contents output.old) (W.contents output.new) (F.held folder.old) (F.held folder.new)) }
-    ensures faulty { IfErr result (LeavesAt (Stops (map library_file library.now) (F.held folder.old) (F.listed folder.old)
+    ensures faulty { IfErr result (LeavesAt
+        (Stops (map library_file library.now) (F.held folder.old) (F.listed folder.old)
         (I.remaining input.old)
         (map string_bytes words.now) (W.contents output.old) (W.contents output.new))
         (F.held folder.old) (F.held folder.new)) }
@@ -134,7 +138,8 @@ fn done<
         (IsDone (map library_file library.now) (F.held folder.old) (F.listed folder.old) (I.remaining input.old)
         command.now)
         (W.contents output.old) (W.contents output.new) (F.held folder.old) (F.held folder.new)) }
-    ensures faulty { IfErr result (LeavesAt (IsUndone (map library_file library.now) (F.held folder.old) (F.listed folder.old)
+    ensures faulty { IfErr result (LeavesAt
+        (IsUndone (map library_file library.now) (F.held folder.old) (F.listed folder.old)
         (I.remaining input.old)
         command.now (W.contents output.old) (W.contents output.new)) (F.held folder.old) (F.held folder.new)) }
     ensures told { MatchResult result
@@ -145,7 +150,13 @@ fn done<
     let files = command_files(alloc, folder, command)?;
     let paths = files.as_slice();
     check_record(alloc, command, paths)?;
-    let handed = handed_files(alloc, folder, command, library, paths)?;
+    let handed = match handed_files(alloc, folder, command, library, paths) {
+        Ok(handed) => handed,
+        Err(fault) => {
+            let first = unread(alloc, folder, command, fault, explanation);
+            return Err(Complaint::Fault(first));
+        }
+    };
     let given = paths.len();
     let outcome = done_over(
         rt,
@@ -185,11 +196,13 @@ fn done_over<
     explanation: &mut Explanation,
 ) -> Result<Status, Fault>
     ensures done { IfOk result (Leaves
-        (IsDoneOver (F.held folder.old) given (map library_file handed.now.own.items) (known (map vec_items handed.now.files.items))
+        (IsDoneOver (F.held folder.old) given (map library_file handed.now.own.items)
+        (known (map vec_items handed.now.files.items))
         (I.remaining input.old) command.now)
         (W.contents output.old) (W.contents output.new) (F.held folder.old) (F.held folder.new)) }
     ensures faulty { IfErr result
-        (LeavesAt (IsUndoneOver (F.held folder.old) given (map library_file handed.now.own.items) (known (map vec_items handed.now.files.items))
+        (LeavesAt (IsUndoneOver (F.held folder.old) given (map library_file handed.now.own.items)
+        (known (map vec_items handed.now.files.items))
         (I.remaining input.old)
         command.now (W.contents output.old) (W.contents output.new)) (F.held folder.old) (F.held folder.new)) }
     ensures told { TellsFailures (FolderMayFail F.may_fail) result
@@ -221,6 +234,15 @@ fn done_over<
         Command::Search(options) => search(
             alloc,
             gate,
+            folder,
+            files,
+            given,
+            options,
+            output,
+            explanation,
+        ),
+        Command::Shrink(options) => shrink(
+            alloc,
             folder,
             files,
             given,

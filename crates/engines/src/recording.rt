@@ -55,8 +55,10 @@ fn differ(recording: &Recording, files: &[Vec<u8>], given: usize) -> bool
     ensures fit { result ≡ false → FitsFiles false given (Some recording.now) (map vec_items files.now) }
     ensures differ { result ≡ true → FitsFiles false given (Some recording.now) (map vec_items files.now) → ⊥ }
 {
-    let difference = recording.difference(given_files(files, given), added_files(files, given));
-    difference.is_some()
+    match recording.difference(given_files(files, given), added_files(files, given)) {
+        None => false,
+        Some(_) => true,
+    }
 }
 
 /// The limits of the run: those that were recorded, and else those of the options.
@@ -68,7 +70,8 @@ pub(crate) fn limits_of(
     files: &[Vec<u8>],
     conditions: &Conditions,
 ) -> Result<Limits, ScheduleFault>
-    ensures files { IfOk result (λ _. FitsFiles conditions.now.any_files conditions.now.given recorded.now (map vec_items files.now)) }
+    ensures files { IfOk result (λ _. FitsFiles conditions.now.any_files conditions.now.given recorded.now
+        (map vec_items files.now)) }
     ensures options { IfOk result (λ _. FitsOptions recorded.now conditions.now.limits) }
     ensures limits { IfOk result (HasLimits recorded.now conditions.now.limits) }
     ensures refused { IfErr result (Disagrees recorded.now (map vec_items files.now) conditions.now) }
@@ -85,7 +88,8 @@ fn recorded_limits(
     files: &[Vec<u8>],
     conditions: &Conditions,
 ) -> Result<Limits, ScheduleFault>
-    ensures files { IfOk result (λ _. FitsFiles conditions.now.any_files conditions.now.given (Some recording.now) (map vec_items files.now)) }
+    ensures files { IfOk result (λ _. FitsFiles conditions.now.any_files conditions.now.given (Some recording.now)
+        (map vec_items files.now)) }
     ensures options { IfOk result (λ _. FitsOptions (Some recording.now) conditions.now.limits) }
     ensures limits { IfOk result (HasLimits (Some recording.now) conditions.now.limits) }
     ensures refused { IfErr result (Disagrees (Some recording.now) (map vec_items files.now) conditions.now) }

@@ -214,7 +214,8 @@ fn file_of(
     schedule: &Schedule,
 ) -> Result<Vec<u8>, AllocError>
     requires { length files.now < 2 ^ 32 }
-    ensures { IfOk result (λ bytes. RecordedFile bytes.items (Some (recording_over limits given (map vec_items files.now)))
+    ensures { IfOk result (λ bytes. RecordedFile bytes.items
+        (Some (recording_over limits given (map vec_items files.now)))
         (events_of schedule.now)) }
 {
     let recording = recording_over(alloc, limits, files, given)?;

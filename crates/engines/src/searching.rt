@@ -129,7 +129,8 @@ fn found_file(
     answer: &Answer,
 ) -> Result<Option<Vec<u8>>, AllocError>
     requires { length files.now < 2 ^ 32 }
-    ensures { IfOk result (λ file. IsFileOf (recording_over limits given (map vec_items files.now)) is_recorded answer.now
+    ensures { IfOk result (λ file. IsFileOf
+        (recording_over limits given (map vec_items files.now)) is_recorded answer.now
         (option_map vec_items file)) }
 {
     match answer {

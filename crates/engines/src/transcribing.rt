@@ -51,7 +51,8 @@ pub fn write_schedule_engine<S: Source, W: Sink>(
     ensures written { IfOk result (λ status. (bytes : _) × (status ≡ Status.Returned)
         × Transcribes as_version (S.remaining text.old) bytes
         × Appends (W.contents file.old) (W.contents file.new) bytes) }
-    ensures faulty { IfErr result (IsUntranscribed as_version (S.remaining text.old) (W.contents file.old) (W.contents file.new)) }
+    ensures faulty { IfErr result (IsUntranscribed as_version (S.remaining text.old)
+        (W.contents file.old) (W.contents file.new)) }
     ensures counted { CountsFailure result (S.failures text.old + W.failures file.old)
         (S.failures text.new + W.failures file.new) }
 {

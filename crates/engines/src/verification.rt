@@ -6,7 +6,7 @@ ghost use Rattle.model.specs.Accepted.{IsAccepted};
 ghost use Rattle.model.specs.Classes.{Program};
 ghost use Rattle.engines.specs.Engines.{CountsFailure};
 ghost use Rattle.engines.specs.Refusals.{IsRefused};
-ghost use Rattle.engines.specs.Verifications.{IsUnaccepted, Verifies, given_count, own_line, own_names, verified_line, verified_text};
+ghost use Rattle.engines.specs.Verifications.{IsUnaccepted, Verifies, given_count, of_library, own_line, own_names, verified_line, verified_text};
 ghost use Rattle.library_files.specs.Adding.{library_file};
 
 use crate::class_files::read_class_files;
@@ -96,10 +96,20 @@ fn given_count(count: usize, given: usize) -> usize
 fn line_of(alloc: Global, given: usize, added: usize) -> Result<String, AllocError>
     ensures { IfOk result (λ text. string_bytes text ≡ verified_line given added) }
 {
+    let mut line = format!(in alloc; "verified {given} classes")?;
+    push_added(alloc, &mut line, added)?;
+    line.push_str("\n")?;
+    Ok(line)
+}
+
+/// How many classes a library adds, if it adds any.
+fn push_added(alloc: Global, line: &mut String, added: usize) -> Result<(), AllocError>
+    ensures { OnOk result (string_bytes line.new ≡ string_bytes line.old ++ of_library added) }
+{
     if added == 0 {
-        return format!(in alloc; "verified {given} classes\n");
+        return Ok(());
     }
-    format!(in alloc; "verified {given} classes, {added} of the library\n")
+    line.push_str(format!(in alloc; ", {added} of the library")?.as_str())
 }
 
 /// The line of the classes of a library in whose place files have their own, if there are any.

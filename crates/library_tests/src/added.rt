@@ -72,7 +72,10 @@ fn a_class_of_a_name_of_the_library_is_told(rt: HostRuntime) -> Result<(), Fail>
     let files = file_of(alloc, &library, "java/util/concurrent/locks/Lock")?;
     let own = own_of(alloc, &files, &library)?;
     let names = names_of(alloc, &own)?;
-    assert_eq!(rt; names.as_slice(), b" java/util/concurrent/locks/Lock");
+    assert_eq!(rt;
+        names.as_slice(),
+        b" java/util/concurrent/locks/Lock".as_slice()
+    );
     Ok(())
 }
 

@@ -1,5 +1,7 @@
 -- A replay that goes on and comes to an outcome within a budget does so with a greater one, too.
-use Rattle.std.proofs.Common.{◌≡◌, ◌⊎◌, inl, inr, ◌≤◌, ◌<◌, ◌+◌, ◌++◌, ℕ, suc, List, [], ◌∷◌, Some, length, refl, sym, ap, ◌∙◌, arith}
+use Rattle.std.proofs.Common.{◌≡◌, ◌⊎◌, inl, inr, ◌≤◌, ◌+◌, ℕ, Bool, true, false, leb, List, [], ◌∷◌, Some, length, refl, sym, ap, ◌∙◌, arith}
+use Rattle.std.specs.Prelude.{IsFalse, IsTrue}
+use Rattle.std.proofs.lemmas.Bool.{leb-false, leb-true}
 use Rattle.std.proofs.lemmas.List.{length-append}
 use Rattle.model.specs.declared.end.End.{End}
 use Rattle.model.specs.declared.end.End.TheVariants as ends
@@ -61,3 +63,18 @@ module _ (trees : Program) (events : List Event) (limits : Limits) (budget more 
   pub goes_on : (want : Wanted) (c : Continued) → ComesTo want c → GoesOn trees events limits budget c → GoesOn trees events limits more c
   goes_on want (continued.Whole r) wanted h = ((h.0.0, h.0.1, h.0.2, recorded want _ r.report r.end wanted h.0.3), continues limits.frames _ h.1)
   goes_on want (continued.Part r end) wanted h = elim wanted [ ]
+
+-- ---- a try, of which a replay that goes on came to this
+
+module _ (for : TriesFor) (events : List Event) (c : Continued) (goes : GoesOn for.trees events for.limits for.budget c) where
+  module _ (count budget : ℕ) (count_is : count ≡ length events) (budget_is : budget ≡ for.budget) where
+    pub has_by : ComesTo for.want c → IsTrue (leb count budget) → Has for events
+    has_by wanted within =
+        let fits : length events ≤ for.budget = omega (arith, leb-true count budget within, count_is, budget_is) in
+        (c, wanted, λ more le. goes_on for.trees events for.limits for.budget more fits le for.want c wanted goes)
+
+    pub lacks_by : IsFalse (leb count budget) → Lacks for events
+    lacks_by over = (c, goes, λ fits wanted. omega (arith, leb-false count budget over, count_is, budget_is, fits))
+
+  pub lacks_other : (b : Bool) → (ComesTo for.want c → IsTrue b) → IsFalse b → Lacks for events
+  lacks_other b comes isnt = (c, goes, λ fits wanted. let bad : true ≡ false = sym (comes wanted) ∙ isnt in cc)

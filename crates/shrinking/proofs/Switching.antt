@@ -1,12 +1,12 @@
 -- How often entries go from a thread to another one.
-use Rattle.std.proofs.Common.{◌≡◌, ◌≤◌, ◌<◌, ◌+◌, ◌==◌, ◌++◌, ℕ, zero, suc, Bool, true, false, List, [], ◌∷◌, Some, length, replicate, drop, get_or, cond, refl, sym, ap, subst, ◌∙◌, arith, zero-add}
+use Rattle.std.proofs.Common.{◌≡◌, ◌≤◌, ◌<◌, ◌+◌, ◌==◌, ◌++◌, ℕ, zero, suc, List, [], ◌∷◌, Some, length, replicate, drop, get_or, cond, refl, sym, ap, ◌∙◌, arith, zero-add}
 use Rattle.std.specs.List.{AllByRecursion, slice_get}
 use Rattle.std.proofs.Math.Seq.{drop-cons}
 use Rattle.std.proofs.lemmas.Bool.{eq-eqb}
 use Rattle.std.proofs.lemmas.Option.{same_Some}
 use Rattle.model.specs.declared.event.Event.{Event}
 use Rattle.model.specs.declared.event.ScheduleEntry.{ScheduleEntry}
-use Rattle.model.specs.Schedule.{AreEntries, EntryFits, events_of}
+use Rattle.model.specs.Schedule.{EntryFits, events_of}
 use Rattle.shrinking.specs.Switches.{switches, switches_behind}
 
 -- more events of the same thread are no switch

@@ -103,6 +103,7 @@ impl Tries for ContinuedTries<'_> {
         let program = Arc::try_clone(self.program)?;
         let run = run_linked_on(alloc, verified, program, schedule, self.limits, self.budget)?;
         let comes_to = comes_to(alloc, self.wanted, run)?;
-        Ok(comes_to && schedule.count() <= u64::from(self.budget))
+        let is_within = schedule.count() <= u64::from(self.budget);
+        Ok(comes_to && is_within)
     }
 }

@@ -5,13 +5,13 @@
 //! - `shrink`, memory aside, for whatever tries schedules (`Tries`): it answers a schedule that has what is wanted, and
 //!   whose events go from a thread to another one no more often than those of the given one; or none, where the given
 //!   one hasn't got it (`IsShrunk`).
-//! - `ContinuedTries`: a schedule has what is wanted where a replay that goes on behind it has an outcome which is wanted,
-//!   with the budget of the tries and with each greater one (`Has`). It hasn't got it where the replay ends otherwise,
-//!   or the schedule has more events than the budget (`Lacks`). So what `shrink` answers has the outcome by
+//! - `ContinuedTries`: a schedule has what is wanted where a replay that goes on behind it has an outcome which is
+//!   wanted, with the budget of the tries and with each greater one (`Has`). It hasn't got it where the replay ends
+//!   otherwise, or the schedule has more events than the budget (`Lacks`). So what `shrink` answers has the outcome by
 //!   `jvm replay --then-run`, too.
 //! - `switch_count` is the number of events that are of another thread than the one before them (`switches`).
-//! - Of what is tried: `without` leaves out the entries from one place up to another, and `gathered` has an entry behind
-//!   one of those before it (`IsGathered`); each is joined, so that it has as few entries as its events can have.
+//! - Of what is tried: `without` leaves out the entries from one place up to another, and `gathered` has an entry
+//!   behind one of those before it (`IsGathered`); each is joined, so that it has as few entries as its events can have.
 //!
 //! # Not proved
 //!

@@ -24,14 +24,14 @@
 //!
 //! - `sweeping-skips-the-last-seed`, `sweeping-runs-the-first-seed`, `sweeping-counts-another-seed`: a seed has no run,
 //!   or another one's; refused by `HasRun` of `run_seed`, and by `Sweeps`.
-//! - `sweeping-passes-over-what-is-wanted`, `sweeping-found-is-done`, `sweeping-gives-up-unasked`: a sweep goes on behind
-//!   what is wanted, says nothing of it, or ends before the last seed; refused by `EndsSo` of `sweep`.
+//! - `sweeping-passes-over-what-is-wanted`, `sweeping-found-is-done`, `sweeping-gives-up-unasked`: a sweep goes on
+//!   behind what is wanted, says nothing of it, or ends before the last seed; refused by `EndsSo` of `sweep`.
 //! - `same_runs-counts-twice`, `same_runs-begins-with-none`, `same_runs-another-first-seed`: a run is counted twice, or
 //!   not, or the first seed is another one; refused by `with_one_more` of `count`.
 //! - `tallies-forgets-the-events`: fewer events than there were; refused by `with_run` of `Tally::add`.
-//! - `shown-each-is-the-same`, `shown-refused-is-without-an-end`, `shown-without-an-end-is-wanted`: what differs is told
-//!   as one, a refusal as a used up budget, or a run without an end as what is wanted; refused by `Shown::is_same`,
-//!   `Shown::of` and `Shown::is_wanted`.
+//! - `shown-each-is-the-same`, `shown-refused-is-without-an-end`, `shown-without-an-end-is-wanted`: what differs is
+//!   told as one, a refusal as a used up budget, or a run without an end as what is wanted; refused by
+//!   `Shown::is_same`, `Shown::of` and `Shown::is_wanted`.
 //! - `policy_runs-another-policy`, `policy_runs-memory-is-refused`: it goes by another policy, or a want of memory is
 //!   told as a limit; refused by `SeededPolicy::with` and by `IsRunWith`.
 //! - `sweep_texts-numbers-from-zero`, `sweep_texts-one-number-for-all`, `sweep_texts-budget-is-refused`,

@@ -1,10 +1,11 @@
 //! `replay`, also one that goes on.
 
-ghost use Rattle.std.specs.Prelude.{IfErr, IfOk, IsTrue, Some, is_some, string_bytes, unwrap_or, vec_items, map};
+ghost use Rattle.std.specs.Prelude.{◌≡◌, ◌⊎◌, IfErr, IfOk, IsTrue, None, Some, is_some, string_bytes, unwrap_or, vec_items, map};
 ghost use Rattle.std.specs.Option.{option_map};
 ghost use Rattle.std.specs.Io.KnownBytes.{Appends};
 ghost use Rattle.engines.specs.Commands.{IsContinuationDone, IsContinuationUndone, IsReplayDone, IsReplayUndone, Leaves, LeavesAt};
 ghost use Rattle.engines.specs.Continuations.{Continues, IsUncontinued};
+ghost use Rattle.engines.specs.Devices.{IsUnable};
 ghost use Rattle.engines.specs.Files.{OfSchedule, known};
 ghost use Rattle.engines.specs.Recordings.{conditions_of};
 ghost use Rattle.engines.specs.Failures.{FolderMayFail, TellsFailures};
@@ -129,10 +130,10 @@ fn replay_on<F: Folder, W: Sink>(
         (Leaves (IsContinuationDone (F.held folder.old) given
         (known (map vec_items files.now)) options.now then_run.now)
         (W.contents output.old) (W.contents output.new) (F.held folder.old) (F.held folder.new)) }
-    ensures faulty { IfErr result
-        (LeavesAt (IsContinuationUndone (F.held folder.old) given
-        (known (map vec_items files.now)) options.now then_run.now
-        (W.contents output.old) (W.contents output.new)) (F.held folder.old) (F.held folder.new)) }
+    ensures faulty { IfErr result (LeavesAt (λ fault written.
+        (IsUnable fault × (W.contents output.new ≡ W.contents output.old) × (written ≡ None))
+        ⊎ IsContinuationUndone (F.held folder.old) given (known (map vec_items files.now)) options.now then_run.now
+        (W.contents output.old) (W.contents output.new) fault written) (F.held folder.old) (F.held folder.new)) }
     ensures told { TellsFailures (FolderMayFail F.may_fail) result (W.failures output.old) (W.failures output.new) }
 {
     try_record(alloc, folder, &then_run.record, explanation)?;
@@ -162,7 +163,8 @@ fn continued<'a, F: Folder, W: Sink>(
     ensures continued { IfOk result (λ status. (text : _)
         × OfSchedule (F.held folder.now) (string_bytes options.now.schedule) (λ left. Continues left
         (known (map vec_items files.now))
-        (conditions_of options.now.limits options.now.any_files given) (unwrap_or then_run.now.budget 10000000) text (option_map vec_items file.new) status)
+        (conditions_of options.now.limits options.now.any_files given) (unwrap_or then_run.now.budget 10000000) text
+        (option_map vec_items file.new) status)
         × Appends (W.contents output.old) (W.contents output.new) text) }
     ensures asked { IfOk result (λ _. IsTrue (is_some then_run.now.record) → IsTrue (is_some file.new)) }
     ensures faulty { IfErr result (λ fault.

@@ -144,7 +144,7 @@ pub(crate) fn wanted_by<F: Folder>(
 }
 
 /// The outcome that a search for a goal is to find.
-fn wanted_for<F: Folder>(alloc: Global, folder: &F, goal: &Goal) -> Result<Wanted, Fault>
+pub(crate) fn wanted_for<F: Folder>(alloc: Global, folder: &F, goal: &Goal) -> Result<Wanted, Fault>
     ensures asked { IfOk result (IsAskedFor (F.held folder.now) (Some goal.now)) }
     ensures unable { IfErr result IsUnable }
     ensures failed { IfErr result (λ fault. fault ≡ Device → FolderMayFail F.may_fail) }

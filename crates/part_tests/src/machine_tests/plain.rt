@@ -8,6 +8,7 @@ ghost use Rattle.heap.specs.monitor.Locks.{inflates, is_count_full_by, answered_
 
 use heap::monitor::{Call, MonitorCalls, MonitorRefusal, Waiter};
 use model::MonitorAnswer;
+use model::built_in::MOST_THREADS;
 use std::alloc::{AllocError, Global};
 use std::marker::Model;
 
@@ -277,9 +278,9 @@ impl MonitorCalls for PlainMonitors {
             return false;
         }
         match call {
-            Call::Enter { thread, .. } | Call::Wait { thread, .. } => thread < most_threads,
+            Call::Enter { thread, .. } | Call::Wait { thread, .. } => thread < MOST_THREADS,
             Call::Relock { thread, count, .. } => {
-                thread < most_threads && 0 < count && (count <= 256 || self.fat[object])
+                thread < MOST_THREADS && 0 < count && (count <= 256 || self.fat[object])
             }
             _ => true,
         }

@@ -1,4 +1,8 @@
-use Rattle.std.proofs.Common.{arith, map, refl, subst, vec_items}
+use Rattle.std.proofs.Common.{Some, arith, map, refl, subst, sym, vec_items}
+use Rattle.std.specs.Prelude.{IfSome}
+use Rattle.std.specs.Option.{option_map}
+use Rattle.schedule.specs.Joined.{RecordedFile}
+use Rattle.engines.specs.Recordings.{recording_over}
 use Rattle.std.proofs.lemmas.List.{length-map}
 use Rattle.model.specs.Classes.{Program}
 use Rattle.model.specs.Schedule.{events_of}
@@ -31,7 +35,9 @@ returns-in-Whole-clause-run c =
       comes_to = (refl, refl, refl);
       told = told;
       ended = ended;
-      spelled = spelled;
+      spelled =
+          subst (λ n. IfSome (option_map vec_items outcome.file) (λ file. RecordedFile file (Some (recording_over c.args.limits n (map vec_items c.args.files.now))) (events_of run.schedule)))
+          (sym same) spelled;
     }) c.outcome_of.ensures.told c.outcome_of.ensures.ended c.outcome_of.ensures.spelled
 
 pub returns-in-Part-clause-run : goal.returns-in-Part-clause-run
@@ -51,5 +57,7 @@ returns-in-Part-clause-run c =
       comes_to = (refl, refl, refl);
       told = told;
       ended = ended;
-      spelled = spelled;
+      spelled =
+          subst (λ n. IfSome (option_map vec_items outcome.file) (λ file. RecordedFile file (Some (recording_over c.args.limits n (map vec_items c.args.files.now))) events)) (sym same)
+          spelled;
     }) c.outcome_of-in-Part.ensures.told c.outcome_of-in-Part.ensures.ended c.outcome_of-in-Part.ensures.spelled

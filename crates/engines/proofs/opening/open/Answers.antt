@@ -12,5 +12,12 @@ pub returns-in_err-limits-clause-schedule_first : goal.returns-in_err-limits-cla
 returns-in_err-limits-clause-schedule_first g c =
     let p = err_from_is_err_and c.from_residual-in_err-limits.result c.from_residual-in_err-limits.ensures.1 in
     let schedule = c.in_ok-schedule.ensures.read in
-    let disagrees = subst (λ files. Disagrees c.in_ok-schedule.recorded (map vec_items files) c.args.limits.now c.in_err-limits.field-0.0) c.as_slice.ensures.value c.in_err-limits.ensures.refused in
+    let disagrees = subst (λ files. Disagrees c.in_ok-schedule.recorded (map vec_items files) c.args.conditions.now c.in_err-limits.field-0.0) c.as_slice.ensures.value c.in_err-limits.ensures.refused in
     rw (p.1, p.2) (λ _. inr (schedule.0, _, _, _, schedule.1, c.in_ok-files.ensures.read, schedule.2, disagrees))
+
+pub returns-in_err-limits-clause-kept : goal.returns-in_err-limits-clause-kept
+returns-in_err-limits-clause-kept g c =
+    let p = err_from_is_err_and c.from_residual-in_err-limits.result c.from_residual-in_err-limits.ensures.1 in
+    let schedule = c.in_ok-schedule.ensures.read in
+    let disagrees = subst (λ files. Disagrees c.in_ok-schedule.recorded (map vec_items files) c.args.conditions.now c.in_err-limits.field-0.0) c.as_slice.ensures.value c.in_err-limits.ensures.refused in
+    rw (p.1, p.2) (inr (inr (schedule.0, _, _, _, schedule.1, c.in_ok-files.ensures.read, schedule.2, disagrees)))

@@ -10,7 +10,7 @@ use Rattle.engines.proofs.transcribing.write_schedule_engine.Goals as goal
 pub returns-in_err-read-clause-faulty : goal.returns-in_err-read-clause-faulty
 returns-in_err-read-clause-faulty g c =
     let p = err_from_is_err_and c.from_residual.result c.from_residual.ensures.1 in
-    rw (p.1, p.2) (c.in_err-read.ensures.faulty _ _)
+    rw (p.1, p.2) (c.in_err-read.ensures.faulty c.args.as_version _)
 
 pub returns-in_err-write_all-clause-faulty : goal.returns-in_err-write_all-clause-faulty
 returns-in_err-write_all-clause-faulty g c =
@@ -19,4 +19,4 @@ returns-in_err-write_all-clause-faulty g c =
     let spelled = subst (λ text. SpellsSchedule text c.in_ok-schedule.recorded c.in_ok-schedule.schedule) c.as_slice.ensures.value c.in_ok-schedule.ensures.found in
     let bytes_are : c.in_ok-bytes.bytes.items ≡ schedule (told_as c.args.as_version c.in_ok-schedule.recorded) c.in_ok-schedule.schedule = search rules in
     let front = subst (AppendsFront (contents c.args.file.now) (contents c.write_all.new.self)) c.as_slice-2.ensures.value c.in_err-write_all.ensures.part in
-    rw (p.1, p.2) (part_is_untranscribed _ _ _ _ _ (inr (_, (_, _, _, c.in_ok-read.ensures.read, spelled, bytes_are), front)))
+    rw (p.1, p.2) (part_is_untranscribed _ c.args.as_version _ _ _ (inr (_, (_, _, _, c.in_ok-read.ensures.read, spelled, bytes_are), front)))

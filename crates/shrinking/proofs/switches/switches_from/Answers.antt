@@ -1,4 +1,4 @@
-use Rattle.std.proofs.Common.{◌≡◌, ◌==◌, ◌+◌, ◌<◌, ◌≤◌, ℕ, Bool, cond, ap, arith, slice_index_or}
+use Rattle.std.proofs.Common.{◌≡◌, ◌==◌, ℕ, Bool, cond, ap, arith, slice_index_or}
 use Rattle.std.proofs.lemmas.Bool.{eq-eqb, ne_eqb}
 use Rattle.model.specs.declared.event.ScheduleEntry.{ScheduleEntry}
 use Rattle.shrinking.proofs.Switching.{entry_behind}
