@@ -1,9 +1,10 @@
 //! Which policies there are, and a run by one.
 
-ghost use Rattle.std.specs.Prelude.{◌↔◌, IfOk, IsTrue, OnOk};
+ghost use Rattle.std.specs.Prelude.{◌≡◌, ◌↔◌, [], None, IfOk, IsTrue, OnOk};
 ghost use Rattle.std.specs.Arc.{arc_value};
 ghost use Rattle.machine.specs.Machines.{IsProgramOf};
 ghost use Rattle.program_runs.specs.policies.Policies.{HasTurns};
+ghost use Rattle.program_runs.specs.policies.PolicyTurns.{IsRunBy, RunsThrough};
 ghost use Rattle.program_runs.specs.worlds.Records.{IsRecordOf};
 ghost use Rattle.program_runs.specs.worlds.Worlds.{IsOfSame};
 
@@ -48,8 +49,11 @@ impl Policy {
 
 /// Gives turns until there is an end.
 fn take_turns<G: Gate>(world: &mut World, policy: Policy, gate: &G) -> Result<(), AllocError>
-    requires { HasTurns policy }
-    ensures { OnOk result (IsOfSame world.old world.new) }
+    requires turns { HasTurns policy }
+    requires on { world.old.end ≡ None }
+    requires none { world.old.events ≡ [] }
+    ensures same { OnOk result (IsOfSame world.old world.new) }
+    ensures through { OnOk result (RunsThrough policy world.old world.new) }
 {
     match policy {
         Policy::Mixed { seed } => run_mixed(world, seed, gate),
@@ -73,7 +77,8 @@ pub fn run_by_policy<G: Gate>(
     gate: &G,
 ) -> Result<Recorded, AllocError>
     requires { HasTurns policy }
-    ensures { IfOk result (IsRecordOf (arc_value verified) limits budget) }
+    ensures recorded { IfOk result (IsRecordOf (arc_value verified) limits budget) }
+    ensures by_policy { IfOk result (IsRunBy policy (arc_value verified) limits budget) }
 {
     let program = verified_program(alloc, &verified)?;
     run_linked(alloc, verified, program, limits, budget, policy, gate)
@@ -91,7 +96,8 @@ pub fn run_linked<G: Gate>(
 ) -> Result<Recorded, AllocError>
     requires turns { HasTurns policy }
     requires linked { IsProgramOf (arc_value verified) (arc_value program) }
-    ensures { IfOk result (IsRecordOf (arc_value verified) limits budget) }
+    ensures recorded { IfOk result (IsRecordOf (arc_value verified) limits budget) }
+    ensures by_policy { IfOk result (IsRunBy policy (arc_value verified) limits budget) }
 {
     let mut world = World::open_linked(alloc, verified, program, limits, budget)?;
     take_turns(&mut world, policy, gate)?;
