@@ -1,16 +1,23 @@
 -- Why class files are not run, and how far a run is written.
-use Rattle.std.proofs.Common.{arith, ℕ, ◌^◌, ◌<◌, ◌≤◌, List, length, Option, inl, refl}
+use Rattle.std.proofs.Common.{◌≡◌, arith, ℕ, ◌^◌, ◌<◌, ◌≤◌, List, length, Option, Some, None, inl, refl, subst, sym}
 use Rattle.std.specs.Prelude.{IfOk, Result, Ok, Err}
 use Rattle.std.proofs.lemmas.Bool.{ltb-false}
 use Rattle.model.specs.declared.device.DeviceFault.{DeviceFault}
 use Rattle.model.specs.declared.device.DeviceFault.TheVariants as devices
 use Rattle.model.specs.Accepted.{IsAccepted}
+use Rattle.model.specs.declared.limits.Limits.{Limits}
 use Rattle.model.specs.Classes.{Program}
+use Rattle.model.specs.Schedule.{events_of}
 use Rattle.run_laws.proofs.laws.Unrefused.{unrefused_of}
 use Rattle.command_line.specs.declared.options.LimitOptions.{LimitOptions}
 use Rattle.command_line.specs.declared.run_options.RunOptions.{RunOptions}
+use Rattle.program_runs.specs.declared.policies.policy.Policy.{Policy}
+use Rattle.program_runs.specs.declared.worlds.records.Recorded.{Recorded}
+use Rattle.program_runs.specs.policies.PolicyTurns.{IsRunBy}
+use Rattle.program_runs.specs.worlds.Records.{IsRecordOf}
 use Rattle.engines.specs.Devices.{fault_of}
 use Rattle.engines.specs.Engines.{IsOfFile}
+use Rattle.engines.specs.Policies.{IsAskedFor, IsRunFor}
 use Rattle.engines.specs.Runs.{IsUnrun, RunsPart}
 use Rattle.engines.specs.declared.fault.Fault.{Fault}
 use Rattle.engines.specs.declared.fault.Fault.TheVariants as faults
@@ -45,3 +52,32 @@ pub by_three : {A E : Type 0} (result : Result A E) (p q r all : A → Type 0) �
     → IfOk result p → IfOk result q → IfOk result r → IfOk result all
 by_three (Ok value) p q r all on first second third = on value first second third
 by_three (Err fault) p q r all on first second third = tt
+
+-- ---- what is recorded
+
+-- of the files and the budget that are asked for
+pub record_of_budget : {E : Type 0} (trees asked : Program) (limits : Limits) (budget wanted : ℕ) → trees ≡ asked → budget ≡ wanted
+    → (result : Result Recorded E) → IfOk result (IsRecordOf trees limits budget) → IfOk result (IsRecordOf asked limits wanted)
+record_of_budget trees asked limits budget wanted files count result is =
+    subst (λ (t : Program). IfOk result (IsRecordOf t limits wanted)) files (subst (λ b. IfOk result (IsRecordOf trees limits b)) count is)
+
+-- by workers
+pub run_of_workers : {E : Type 0} (options : RunOptions) (count : ℕ) → options.workers ≡ Some count → (trees : Program) (limits : Limits) (budget : ℕ)
+    → (result : Result Recorded E) → IfOk result (λ (r : Recorded). IsRunFor options.workers options trees limits budget (events_of r.schedule) r.end)
+run_of_workers options count is trees limits budget (Ok r) =
+    subst (λ w. IsRunFor w options trees limits budget (events_of r.schedule) r.end) (sym is) tt
+run_of_workers options count is trees limits budget (Err e) = tt
+
+-- by the policy that is asked for
+pub run_of_policy : {E : Type 0} (options : RunOptions) → options.workers ≡ None → (policy : Policy) → IsAskedFor options policy
+    → (trees asked : Program) (limits : Limits) (budget wanted : ℕ) → trees ≡ asked → budget ≡ wanted → (result : Result Recorded E)
+    → IfOk result (λ (r : Recorded). IsRunBy policy trees limits budget (events_of r.schedule) r.end)
+    → IfOk result (λ (r : Recorded). IsRunFor options.workers options asked limits wanted (events_of r.schedule) r.end)
+run_of_policy options none policy is_asked trees asked limits budget wanted files count (Ok r) run =
+    subst (λ w. IsRunFor w options asked limits wanted (events_of r.schedule) r.end) (sym none) (
+      policy,
+      is_asked,
+      subst (λ (t : Program). IsRunBy policy t limits wanted (events_of r.schedule) r.end) files
+          (subst (λ b. IsRunBy policy trees limits b (events_of r.schedule) r.end) count run),
+    )
+run_of_policy options none policy is_asked trees asked limits budget wanted files count (Err e) run = tt

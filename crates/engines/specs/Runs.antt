@@ -15,6 +15,7 @@ use Rattle.command_line.specs.Choices.{AreChosen}
 use Rattle.command_line.specs.declared.options.LimitOptions.{LimitOptions}
 use Rattle.command_line.specs.declared.run_options.RunOptions.{RunOptions}
 use Rattle.engines.specs.Engines.{ReadsEach}
+use Rattle.engines.specs.Policies.{IsRunFor}
 use Rattle.engines.specs.Recordings.{recording_over}
 use Rattle.engines.specs.Refusals.{IsRefused}
 use Rattle.engines.specs.Statuses.{status_of}
@@ -25,8 +26,8 @@ use Rattle.engines.specs.declared.status.Status.{Status}
 
 -- ---- what is written
 
--- The class files are accepted. Workers, or one by its policy, have run their program within the limits and the budget, and this is the text of
--- their report, and its status. The bytes of a file spell the events that were done, in as few entries as they can have, the limits, and the
+-- The class files are accepted. Workers, or one by the policy that is asked for, have run their program within the limits and the budget, and this
+-- is the text of their report, and its status. The bytes of a file spell the events that were done, in as few entries as they can have, the limits, and the
 -- lengths and checksums of the class files, of which the first so many are given, and a library adds the others.
 pub record IsRun (given : ℕ) (files : List (List ℕ)) (asked : LimitOptions) (options : RunOptions) (text : List ℕ) (file : Option (List ℕ))
     (status : Status) : Type 0 where
@@ -38,6 +39,7 @@ pub record IsRun (given : ℕ) (files : List (List ℕ)) (asked : LimitOptions) 
   pub report : Report
   pub end : End
   pub recorded : IsRecorded trees limits (unwrap_or options.budget 4294967295) events report end
+  pub as_asked : IsRunFor options.workers options trees limits (unwrap_or options.budget 4294967295) events end
   pub told : text ≡ text_of report end
   pub ended : status ≡ status_of report.threads.items end
   pub spelled : IfSome file (λ bytes. RecordedFile bytes (Some (recording_over limits given files)) events)

@@ -74,9 +74,12 @@
 //!   - with a status, one text was appended to the report and nothing else, and a file was made where it is asked for
 //!     (`asked`): those of a run of these bytes (`ran`, `IsRun`). The class files are accepted; the limits are those of
 //!     the options; events, report and end are those of a record of their program with these limits and this budget
-//!     (`IsRecorded` of `worlds`); the text is the report's, the status is its own; and the file spells the events, the
-//!     limits and what is recorded of the class files: the lengths and checksums of those that are given, and the
-//!     checksum of those that the library adds (`recording_over`);
+//!     (`IsRecorded` of `worlds`); without workers they are those of the policy that is asked for, by the seed or the
+//!     quantum of the options (`as_asked`, `IsRunFor`, with `IsRunBy` of `policies`): of `mixed` and `rotation` all that
+//!     `events_by` says, or a front of them where the end says that memory was wanted;
+//!   - the text is the report's, the status is its own; and the file spells the events, the limits and what is recorded
+//!     of the class files: the lengths and checksums of those that are given, and the checksum of those that the library
+//!     adds (`recording_over`);
 //!   - with a refusal nothing was written, and it is one that linking or verification may give of these bytes; with
 //!     `memory` or `device` nothing was written or made, or the file was made and a beginning of the text was written
 //!     (`faulty`, `IsUnrun`);
@@ -122,7 +125,7 @@
 //! - Tested in `engine_tests`: devices that fail at each of their calls, and files that can't be read or written.
 //! - Shown by cases alone: the places of refusals that `linker` doesn't promise; the texts of usage faults; that what
 //!   threads are about is told of the schedule of the very run; that runs come to an end, and their replays to the same
-//!   report; that workers, quantum, policy and seed are heeded, which no clause of a run says.
+//!   report; that workers and their quantum are heeded, and the seed of `random`, which no clause of a run says.
 //! - Shown by `tools/try-files` alone: what stands in a file of the system after a failure, and what its links and
 //!   pipes get.
 #![tactic(auto)]

@@ -8,6 +8,7 @@ ghost use Rattle.model.specs.Schedule.{events_of};
 ghost use Rattle.machine.specs.machine_replay.Replays.{text_of};
 ghost use Rattle.program_runs.specs.worlds.Records.{IsRecordOf};
 ghost use Rattle.engines.specs.Engines.{CountsFailure};
+ghost use Rattle.engines.specs.Policies.{IsRunFor};
 ghost use Rattle.engines.specs.Statuses.{status_of};
 ghost use Rattle.engines.specs.Runs.{IsRun, IsUnrun, Runs};
 ghost use Rattle.engines.specs.Recordings.{recording_over};
@@ -161,7 +162,10 @@ fn recorded_run<R: Threads + Wait + Sync, G: Gate + Seeds + Sync>(
     limits: Limits,
     options: &Run,
 ) -> Result<Recorded, AllocError>
-    ensures { IfOk result (IsRecordOf verified limits (unwrap_or options.now.options.budget 4294967295)) }
+    ensures recorded { IfOk result
+        (IsRecordOf verified limits (unwrap_or options.now.options.budget 4294967295)) }
+    ensures as_asked { IfOk result (λ r. IsRunFor options.now.options.workers options.now.options verified limits
+        (unwrap_or options.now.options.budget 4294967295) (events_of r.schedule) r.end) }
 {
     let verified = Arc::new(alloc, verified)?;
     let asked = &options.options;

@@ -2,6 +2,7 @@
 
 ghost use Rattle.std.specs.Prelude.{◌≡◌, ◌↔◌, [], None, IfOk, IsTrue, OnOk};
 ghost use Rattle.std.specs.Arc.{arc_value};
+ghost use Rattle.model.specs.Schedule.{events_of};
 ghost use Rattle.machine.specs.Machines.{IsProgramOf};
 ghost use Rattle.program_runs.specs.policies.Policies.{HasTurns};
 ghost use Rattle.program_runs.specs.policies.PolicyTurns.{IsRunBy, RunsThrough};
@@ -78,7 +79,8 @@ pub fn run_by_policy<G: Gate>(
 ) -> Result<Recorded, AllocError>
     requires { HasTurns policy }
     ensures recorded { IfOk result (IsRecordOf (arc_value verified) limits budget) }
-    ensures by_policy { IfOk result (IsRunBy policy (arc_value verified) limits budget) }
+    ensures by_policy { IfOk result (λ r. IsRunBy policy (arc_value verified) limits budget (events_of r.schedule)
+        r.end) }
 {
     let program = verified_program(alloc, &verified)?;
     run_linked(alloc, verified, program, limits, budget, policy, gate)
@@ -97,7 +99,8 @@ pub fn run_linked<G: Gate>(
     requires turns { HasTurns policy }
     requires linked { IsProgramOf (arc_value verified) (arc_value program) }
     ensures recorded { IfOk result (IsRecordOf (arc_value verified) limits budget) }
-    ensures by_policy { IfOk result (IsRunBy policy (arc_value verified) limits budget) }
+    ensures by_policy { IfOk result (λ r. IsRunBy policy (arc_value verified) limits budget (events_of r.schedule)
+        r.end) }
 {
     let mut world = World::open_linked(alloc, verified, program, limits, budget)?;
     take_turns(&mut world, policy, gate)?;
