@@ -1,5 +1,5 @@
 -- A world (own; JVMS 2.6; JLS 17): what has been done, and why no more.
-use Rattle.std.specs.Prelude.{◌≡◌, ◌<◌, ◌≤◌, ◌-◌, ◌++◌, ℕ, List, [], Option, Some, None, IsTrue, IsFalse, length, replicate, min}
+use Rattle.std.specs.Prelude.{◌≡◌, ◌⊎◌, ◌<◌, ◌≤◌, Bool, ◌-◌, ◌++◌, ℕ, List, [], Option, Some, None, IsTrue, IsFalse, length, replicate, min}
 use Rattle.model.specs.declared.end.End.{End}
 use Rattle.model.specs.declared.end.End.TheVariants as ends
 use Rattle.model.specs.declared.event.Event.{Event}
@@ -62,6 +62,20 @@ pub record IsOfSame (old new : WorldOf) : Type 0 where
   pub trees : new.trees ≡ old.trees
   pub budget : new.budget ≡ old.budget
   pub limits : new.machine.limits ≡ old.machine.limits
+
+-- of a budget so much is spent: all of it, or, where a run may be stopped, no more than that
+abbrev pub IsSpent : (may_stop : Bool) → (budget spent : ℕ) → Type 0
+IsSpent may_stop budget spent = (spent ≡ budget) ⊎ (IsTrue may_stop × (spent ≤ budget))
+
+-- files and limits stay, and the budget, unless the run may be stopped
+pub record IsOfLess (may_stop : Bool) (old new : WorldOf) : Type 0 where
+  pub trees : new.trees ≡ old.trees
+  pub budget : IsSpent may_stop old.budget new.budget
+  pub limits : new.machine.limits ≡ old.machine.limits
+
+-- it does no more events than it has done
+abbrev pub stopped_world : WorldOf → WorldOf
+stopped_world w = record w { budget = length w.events }
 
 -- So often an event was done and recorded, of as many times as were asked for and the budget has left, and no more for this reason.
 pub record HasRepeated (event : Event) (most n : ℕ) (why : Stopped) (old new : WorldOf) : Type 0 where

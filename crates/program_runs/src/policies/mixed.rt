@@ -1,7 +1,7 @@
 //! `mixed`: turns in rotation, whose lengths are drawn.
 
 ghost use Rattle.std.specs.Prelude.{◌≡◌, ◌≤◌, IfOk, OnOk};
-ghost use Rattle.program_runs.specs.worlds.Worlds.{IsOfSame};
+ghost use Rattle.program_runs.specs.worlds.Worlds.{IsOfLess, IsOfSame};
 
 use crate::policies::draws::below;
 use crate::policies::turn_lengths::{Turn, TurnLengths};
@@ -108,9 +108,10 @@ impl Mixed {
     }
 }
 
-/// Does turns until there is an end. The gate is told how many events are done. The only error is a want of memory.
+/// Does turns until there is an end. The gate is told how many events are done, and may
+/// stop them. The only error is a want of memory.
 pub(crate) fn run_mixed<G: Gate>(world: &mut World, seed: u64, gate: &G) -> Result<(), AllocError>
-    ensures { OnOk result (IsOfSame world.old world.new) }
+    ensures { OnOk result (IsOfLess (G.may_stop gate.now) world.old world.new) }
 {
     let mut mixed = Mixed::from_seed(seed);
     'turns: for _ in 0..=world.budget() {
@@ -119,6 +120,9 @@ pub(crate) fn run_mixed<G: Gate>(world: &mut World, seed: u64, gate: &G) -> Resu
         }
         mixed.take_turn(world)?;
         gate.turn_ends(world.count());
+        if gate.is_over() {
+            world.stop();
+        }
     }
     Ok(())
 }

@@ -4,8 +4,8 @@ ghost use Rattle.std.specs.Prelude.{◌↔◌, IfOk, IsTrue, OnOk};
 ghost use Rattle.std.specs.Arc.{arc_value};
 ghost use Rattle.machine.specs.Machines.{IsProgramOf};
 ghost use Rattle.program_runs.specs.policies.Policies.{HasTurns};
-ghost use Rattle.program_runs.specs.worlds.Records.{IsRecordOf};
-ghost use Rattle.program_runs.specs.worlds.Worlds.{IsOfSame};
+ghost use Rattle.program_runs.specs.worlds.Records.{IsRunOf};
+ghost use Rattle.program_runs.specs.worlds.Worlds.{IsOfLess};
 
 use crate::policies::mixed::run_mixed;
 use crate::policies::random::run_random;
@@ -49,7 +49,7 @@ impl Policy {
 /// Gives turns until there is an end.
 fn take_turns<G: Gate>(world: &mut World, policy: Policy, gate: &G) -> Result<(), AllocError>
     requires { HasTurns policy }
-    ensures { OnOk result (IsOfSame world.old world.new) }
+    ensures { OnOk result (IsOfLess (G.may_stop gate.now) world.old world.new) }
 {
     match policy {
         Policy::Mixed { seed } => run_mixed(world, seed, gate),
@@ -62,8 +62,8 @@ fn take_turns<G: Gate>(world: &mut World, policy: Policy, gate: &G) -> Result<()
 }
 
 /// Runs verified class files by a policy until there is an end (JVMS 2.5, 2.6, 5.5, chapter 6; JLS 17), and records
-/// the events that were done. The gate is told how many there are, at the end of each turn. The only error is a want
-/// of memory.
+/// the events that were done. The gate is told how many there are, at the end of each turn, and may stop
+/// the run behind one. The only error is a want of memory.
 pub fn run_by_policy<G: Gate>(
     alloc: Global,
     verified: Arc<Verified>,
@@ -73,7 +73,7 @@ pub fn run_by_policy<G: Gate>(
     gate: &G,
 ) -> Result<Recorded, AllocError>
     requires { HasTurns policy }
-    ensures { IfOk result (IsRecordOf (arc_value verified) limits budget) }
+    ensures { IfOk result (IsRunOf (G.may_stop gate.now) (arc_value verified) limits budget) }
 {
     let program = verified_program(alloc, &verified)?;
     run_linked(alloc, verified, program, limits, budget, policy, gate)
@@ -91,7 +91,7 @@ pub fn run_linked<G: Gate>(
 ) -> Result<Recorded, AllocError>
     requires turns { HasTurns policy }
     requires linked { IsProgramOf (arc_value verified) (arc_value program) }
-    ensures { IfOk result (IsRecordOf (arc_value verified) limits budget) }
+    ensures { IfOk result (IsRunOf (G.may_stop gate.now) (arc_value verified) limits budget) }
 {
     let mut world = World::open_linked(alloc, verified, program, limits, budget)?;
     take_turns(&mut world, policy, gate)?;

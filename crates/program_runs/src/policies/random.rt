@@ -1,7 +1,7 @@
 //! `random`: each event is of a thread that is drawn.
 
 ghost use Rattle.std.specs.Prelude.{◌≡◌, ◌≤◌, OnOk};
-ghost use Rattle.program_runs.specs.worlds.Worlds.{IsOfSame};
+ghost use Rattle.program_runs.specs.worlds.Worlds.{IsOfLess, IsOfSame};
 
 use crate::policies::draws::below;
 use crate::policies::waiters::waiters_to_pick;
@@ -50,9 +50,10 @@ fn take_turn(world: &mut World, random: &mut Xoshiro256PlusPlus) -> Result<(), A
     Ok(())
 }
 
-/// Does events until there is an end. The gate is told how many are done. The only error is a want of memory.
+/// Does events until there is an end. The gate is told how many are done, and may stop
+/// them. The only error is a want of memory.
 pub(crate) fn run_random<G: Gate>(world: &mut World, seed: u64, gate: &G) -> Result<(), AllocError>
-    ensures { OnOk result (IsOfSame world.old world.new) }
+    ensures { OnOk result (IsOfLess (G.may_stop gate.now) world.old world.new) }
 {
     let mut random = Xoshiro256PlusPlus::seed_from_u64(seed);
     'turns: for _ in 0..=world.budget() {
@@ -61,6 +62,9 @@ pub(crate) fn run_random<G: Gate>(world: &mut World, seed: u64, gate: &G) -> Res
         }
         take_turn(world, &mut random)?;
         gate.turn_ends(world.count());
+        if gate.is_over() {
+            world.stop();
+        }
     }
     Ok(())
 }

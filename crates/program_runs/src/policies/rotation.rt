@@ -1,7 +1,7 @@
 //! `rotation`: turns in the order of the threads' numbers.
 
 ghost use Rattle.std.specs.Prelude.{◌≤◌};
-ghost use Rattle.program_runs.specs.worlds.Worlds.{IsOfSame};
+ghost use Rattle.program_runs.specs.worlds.Worlds.{IsOfLess};
 
 use crate::workers::Gate;
 use crate::worlds::World;
@@ -10,7 +10,7 @@ use crate::worlds::World;
 /// of the last, in rotation, that has an event which is enabled. The gate is told how many events are done.
 pub(crate) fn run_rotation<G: Gate>(world: &mut World, quantum: u32, gate: &G)
     requires { 1 ≤ quantum }
-    ensures { IsOfSame world.old world.new }
+    ensures { IsOfLess (G.may_stop gate.now) world.old world.new }
 {
     let mut from = 0u16;
     'turns: for _ in 0..=world.budget() {
@@ -19,5 +19,8 @@ pub(crate) fn run_rotation<G: Gate>(world: &mut World, quantum: u32, gate: &G)
         };
         from = thread.wrapping_add(1);
         gate.turn_ends(world.count());
+        if gate.is_over() {
+            world.stop();
+        }
     }
 }

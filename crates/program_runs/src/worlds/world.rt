@@ -1,9 +1,9 @@
 //! The world that workers share, and what is always so of it.
 
-ghost use Rattle.std.specs.Prelude.{◌≡◌, length, IfOk};
+ghost use Rattle.std.specs.Prelude.{◌≡◌, length, IfOk, MatchOption};
 ghost use Rattle.std.specs.Arc.{arc_value};
 ghost use Rattle.machine.specs.Machines.{IsProgramOf};
-ghost use Rattle.program_runs.specs.worlds.Worlds.{Holds, IsNew};
+ghost use Rattle.program_runs.specs.worlds.Worlds.{Holds, IsNew, stopped_world};
 
 use crate::verified_programs::{open_linked_machine, verified_program};
 use linked_code::LinkedProgram;
@@ -99,6 +99,15 @@ impl World {
         ensures { result ≡ length self.now.events }
     {
         self.recorded.len()
+    }
+
+    /// Does no more events than it has done, from now on.
+    pub fn stop(&mut self)
+        ensures { MatchOption self.old.end (self.new ≡ stopped_world self.old) (λ _. self.new ≡ self.old) }
+    {
+        if self.end.is_none() {
+            self.budget = self.recorded.len();
+        }
     }
 
     /// Why it does no more events, where that is known.

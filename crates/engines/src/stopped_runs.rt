@@ -1,0 +1,31 @@
+//! The text of a run that was stopped.
+
+ghost use Rattle.std.specs.Prelude.{◌≡◌, IfOk};
+ghost use Rattle.engines.specs.Stopped.{is_stopped, stopped_text};
+
+use model::{End, Report};
+use schedule::report::{push_line, push_printed, push_threads};
+use std::alloc::{AllocError, Global};
+
+/// Whether a run was stopped: it has fewer events than its budget, and would go on.
+pub(crate) fn is_stopped(report: &Report, end: End, budget: u32) -> bool
+    ensures { result ≡ is_stopped budget report.now end }
+{
+    match end {
+        End::Budget => report.events < u64::from(budget),
+        End::Schedule | End::NotEnabled(_) | End::Refused(_, _) | End::Quiet => false,
+    }
+}
+
+/// The text of the report of a run that was stopped: that of another run, with the end `seconds`.
+pub(crate) fn stopped_text(alloc: Global, report: &Report) -> Result<Vec<u8>, AllocError>
+    ensures { IfOk result (λ text. text.items ≡ stopped_text report.now) }
+{
+    let mut text = Vec::new(alloc);
+    push_printed(alloc, &mut text, &report.printed)?;
+    push_threads(alloc, &mut text, &report.threads)?;
+    let events = report.events;
+    push_line(&mut text, format!(in alloc; "events {events}")?.as_bytes())?;
+    push_line(&mut text, b"end seconds")?;
+    Ok(text)
+}
