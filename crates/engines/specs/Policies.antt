@@ -1,5 +1,5 @@
 -- By which policy one worker runs class files, by the options (own).
-use Rattle.std.specs.Prelude.{◌≡◌, ◌<◌, ◌^◌, ℕ, List, Option, Some, None, unwrap_or}
+use Rattle.std.specs.Prelude.{◌≡◌, ◌<◌, ◌^◌, ℕ, Bool, List, Option, Some, None, unwrap_or}
 use Rattle.model.specs.declared.end.End.{End}
 use Rattle.model.specs.declared.event.Event.{Event}
 use Rattle.model.specs.declared.limits.Limits.{Limits}
@@ -28,7 +28,8 @@ IsNamed name options policy = ⊥
 abbrev pub IsAskedFor : RunOptions → Policy → Type 0
 IsAskedFor options policy = IsNamed (policy_of options.quantum options.policy) options policy
 
--- one worker does the events of that policy; which ones several workers do isn't said
-abbrev pub IsRunFor : (workers : Option ℕ) → RunOptions → Program → Limits → (budget : ℕ) → List Event → End → Type 0
-IsRunFor (Some workers) options trees limits budget events end = Unit {0}
-IsRunFor None options trees limits budget events end = (policy : Policy) × IsAskedFor options policy × IsRunBy policy trees limits budget events end
+-- one worker does the events of that policy, or a front of them, where the end is early; which ones several workers do isn't said
+abbrev pub IsRunFor : (workers : Option ℕ) → RunOptions → (may_stop : Bool) → Program → Limits → (budget : ℕ) → List Event → End → Type 0
+IsRunFor (Some workers) options may_stop trees limits budget events end = Unit {0}
+IsRunFor None options may_stop trees limits budget events end =
+    (policy : Policy) × IsAskedFor options policy × IsRunBy policy may_stop trees limits budget events end

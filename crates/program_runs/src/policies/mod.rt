@@ -31,6 +31,7 @@ mod policy;
 mod random;
 mod rotation;
 mod seeds;
+mod stopping;
 mod turn_lengths;
 mod turn_order;
 mod waiters;

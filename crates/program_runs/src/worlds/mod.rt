@@ -54,6 +54,7 @@
 mod commits;
 mod records;
 mod sharing;
+mod stopping;
 mod thread_turns;
 mod turns;
 mod world;
