@@ -6,4 +6,4 @@ use Rattle.program_runs.proofs.policies.mixed.run_mixed.Given as goal
 
 -- what is left to do leads to the events of the policy
 abbrev pub invariant-turns : goal.invariant-turns
-invariant-turns g l = Far mixed_turn mixed_appends (g.G.Gate.may_stop l.fn.gate.now) l.fn.world (mixed_of l.fn.seed) l.world (kept_by l.mixed) l.counter
+invariant-turns g l = Far mixed_turn mixed_appends (g.G.Gate.may_stop l.fn.gate) l.fn.world (mixed_of l.fn.seed) l.world (kept_by l.mixed) l.counter

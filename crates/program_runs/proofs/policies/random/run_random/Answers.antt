@@ -1,6 +1,5 @@
 use Rattle.std.proofs.Common.{refl}
 use Rattle.program_runs.proofs.worlds.Staying.{less_behind, less_of, of_equal}
-use Rattle.program_runs.proofs.policies.random.run_random.Goals.{else-turns-test, then-turns-test+else-is_some+in_ok-take_turn+else-counter-end}
 use Rattle.program_runs.proofs.policies.random.run_random.Goals as goal
 
 pub turns-init : goal.turns-init
