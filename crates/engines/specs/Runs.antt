@@ -28,8 +28,9 @@ use Rattle.engines.specs.declared.status.Status.{Status}
 -- ---- what is written
 
 -- The class files are accepted. Workers, or one by the policy that is asked for, have run their program within the limits and the budget, or, where
--- they may be stopped, what was spent of it; and this is the text of their report, and its status. The bytes of a file spell the events that were done, in as few entries as they can have, the limits, and the
--- lengths and checksums of the class files, of which the first so many are given, and a library adds the others.
+-- they may be stopped, what was spent of it; and this is the text of their report, and its status. The bytes of a file spell the events that were
+-- done, in as few entries as they can have, the limits, and the lengths and checksums of the class files, of which the first so many are given, and a
+-- library adds the others.
 pub record IsRun (given : ℕ) (files : List (List ℕ)) (asked : LimitOptions) (options : RunOptions) (may_stop : Bool) (text : List ℕ) (file : Option (List ℕ))
     (status : Status) : Type 0 where
   pub trees : Program

@@ -74,9 +74,11 @@
 //!   - with a status, one text was appended to the report and nothing else, and a file was made where it is asked for
 //!     (`asked`): those of a run of these bytes (`ran`, `IsRun`). The class files are accepted; the limits are those of
 //!     the options; events, report and end are those of a record of their program with these limits and this budget
-//!     (`IsRecorded` of `worlds`); without workers they are those of the policy that is asked for, by the seed or the
+//!     (`IsRecorded` of `worlds`), or, with `--seconds`, with what was spent of it (`IsSpent`); the text says `end seconds`
+//!     where less was (`run_text`). Without workers they are those of the policy that is asked for, by the seed or the
 //!     quantum of the options (`as_asked`, `IsRunFor`, with `IsRunBy` of `policies`): of `mixed` and `rotation` all that
-//!     `events_by` says, or a front of them where the end says that memory was wanted;
+//!     `events_by` says, or a front of them where the end says that memory was wanted, or with `--seconds` where it was
+//!     stopped;
 //!   - the text is the report's, the status is its own; and the file spells the events, the limits and what is recorded
 //!     of the class files: the lengths and checksums of those that are given, and the checksum of those that the library
 //!     adds (`recording_over`);
@@ -91,6 +93,8 @@
 //! - `policy_for`, by which a run without workers gives turns: it is the policy that the options ask for, with the seed
 //!   or the quantum of these, or the usual quantum, or a seed of 32 bits (`IsAskedFor`). No clause says where a seed
 //!   that is drawn comes from, nor that it is told.
+//! - `Until`, by which `--seconds` stops a run, a search or a sweep: it is over only where so many are asked for, and the
+//!   `Deadline` says that they have passed (`is_late`). No clause says when a clock does.
 //! - `verify_engine`, over any readers and writer:
 //!   - with a status, which is 0, the files are accepted, and what is told of them was appended and nothing else
 //!     (`verified`): how many are given, how many the library adds, and its classes in whose place files have their own

@@ -143,8 +143,8 @@ fn ran<R: Threads + Wait + Sync, G: Gate + Seeds + Deadline + Sync, F: Folder, W
         × Appends (W.contents output.old) (W.contents output.new) text) }
     ensures asked { IfOk result (λ _. IsTrue (is_some options.now.record) → IsTrue (is_some file.new)) }
     ensures faulty { IfErr result (IsUnrun given (known (map vec_items files.now))
-        options.now.limits options.now.options (is_some options.now.seconds) (W.contents output.old) (W.contents output.new)
-        (option_map vec_items file.old) (option_map vec_items file.new)) }
+        options.now.limits options.now.options (is_some options.now.seconds) (W.contents output.old)
+        (W.contents output.new) (option_map vec_items file.old) (option_map vec_items file.new)) }
     ensures told { TellsFailures (FolderMayFail F.may_fail) result (W.failures output.old) (W.failures output.new) }
 {
     let mut sources = sources(alloc, folder, files)?;

@@ -106,12 +106,12 @@ fn searched<P: Progress + Deadline, F: Folder, W: Sink>(
 ) -> Result<Status, Fault>
     ensures searched { IfOk result (λ status. (text : _)
         × Searches given (known (map vec_items files.now)) options.now.limits wanted.now
-        (is_some options.now.seconds) (most_states options.now)
-        (is_some options.now.record) text (option_map vec_items file.new) status
+        (is_some options.now.seconds) (most_states options.now) (is_some options.now.record) text
+        (option_map vec_items file.new) status
         × Appends (W.contents output.old) (W.contents output.new) text) }
     ensures faulty { IfErr result (IsUnsearched given (known (map vec_items files.now))
-        options.now.limits wanted.now (is_some options.now.seconds) (most_states options.now) (is_some options.now.record) (W.contents output.old)
-        (W.contents output.new)
+        options.now.limits wanted.now (is_some options.now.seconds) (most_states options.now)
+        (is_some options.now.record) (W.contents output.old) (W.contents output.new)
         (option_map vec_items file.old) (option_map vec_items file.new)) }
     ensures told { TellsFailures (FolderMayFail F.may_fail) result (W.failures output.old) (W.failures output.new) }
 {
