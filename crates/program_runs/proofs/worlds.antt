@@ -8,4 +8,3 @@ pub mod Staying
 pub mod Finishing
 mod Recording
 mod Opening
-mod Stopping

@@ -4,4 +4,3 @@ mod Tallying
 mod RunsSwept
 mod Counting
 mod Telling
-mod Unstopped
