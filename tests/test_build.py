@@ -1,10 +1,17 @@
 """The order in which crates are proved side by side."""
 
 import unittest
+from typing import Dict, List
 
 from tools.build_plan import all_below, chains, ready, time_left
 
-CRATES = {"model": [], "heap": ["model"], "linker": ["model"], "machine": ["heap"], "jvm": ["machine", "linker"]}
+CRATES: Dict[str, List[str]] = {
+    "model": [],
+    "heap": ["model"],
+    "linker": ["model"],
+    "machine": ["heap"],
+    "jvm": ["machine", "linker"],
+}
 SECONDS = {"model": 10.0, "heap": 20.0, "linker": 60.0, "machine": 5.0, "jvm": 1.0}
 
 
