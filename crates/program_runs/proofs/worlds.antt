@@ -8,3 +8,4 @@ pub mod Staying
 pub mod Finishing
 mod Recording
 mod Opening
+mod Stopping

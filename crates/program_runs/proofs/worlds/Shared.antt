@@ -143,6 +143,11 @@ module _ (reported : AreReportsOfWords) (w : WorldOf) (holds : Holds w) where
   pub ends_by_budget : (from t : ℕ) → IsFound m from (Some t) → length w.events ≡ w.budget → Holds (record w { end = Some ends.Budget })
   ends_by_budget from t found all = record { files = holds.files; done = holds.done; within = holds.within; fits = (all, not_quiet from t found) }
 
+  -- the budget is what is used up of it
+  pub ends_where_stopped : (from t : ℕ) → IsFound m from (Some t) → (b : ℕ) → b ≡ length w.events → Holds (record w { budget = b; end = Some ends.Budget })
+  ends_where_stopped from t found b used =
+      record { files = holds.files; done = holds.done; within = omega (arith, used); fits = (sym used, not_quiet from t found) }
+
   module _ (from t : ℕ) (found : IsFound m from (Some t)) (other : length w.events ≡ w.budget → ⊥) (i : ℕ) (count : i ≡ length w.events) where
     below : i < w.budget
     below = omega (arith, holds.within, other, count)
