@@ -10,7 +10,7 @@ use Rattle.program_runs.specs.declared.worlds.commits.ThreadBurst.{ThreadBurst}
 use Rattle.program_runs.specs.worlds.Commits.{Commits}
 use Rattle.program_runs.specs.declared.worlds.records.Recorded.{Recorded}
 use Rattle.program_runs.specs.worlds.Records.{IsRecordOf, IsRecordWithin}
-use Rattle.program_runs.specs.worlds.Worlds.{WorldOf, IsOfSame, IsSpent, Stops, TakesTurn, stopped_world}
+use Rattle.program_runs.specs.worlds.Worlds.{WorldOf, IsNew, IsOfSame, IsSpent, Stops, TakesTurn, stopped_world}
 use Rattle.program_runs.specs.workers.Runs.{IsWorldOf, TakesOver}
 use Rattle.program_runs.proofs.worlds.Staying.{at_most, record_within}
 
@@ -47,11 +47,13 @@ module _ (trees : Program) (limits : Limits) (budget : ℕ) (may_stop : Bool) wh
       there : IsWorldOf trees limits budget may_stop (stopped_world old)
       there = record { trees_are = is.trees_are; limits_are = is.limits_are; budget_is = inr (may, omega (arith, h.0, at_most may_stop budget old.budget is.budget_is)) }
 
--- the record of a world that workers share
-pub record_of_shared : (trees : Program) (limits : Limits) (budget : ℕ) (may_stop : Bool) (w : WorldOf) → IsWorldOf trees limits budget may_stop w
+-- the record of a world that workers share, which was new
+pub record_of_shared : (trees : Program) (limits : Limits) (budget : ℕ) (may_stop : Bool) (old w : WorldOf) → IsNew trees limits budget old
+    → IsWorldOf old.trees old.machine.limits old.budget may_stop w
     → {E : Type 0} (result : Result Recorded E) → IfOk result (IsRecordOf w.trees w.machine.limits w.budget) → IfOk result (IsRecordWithin may_stop trees limits budget)
-record_of_shared trees limits budget may_stop w is result recorded =
-    record_within may_stop trees limits budget w is.trees_are is.limits_are is.budget_is result recorded
+record_of_shared trees limits budget may_stop old w is_new is result recorded =
+    record_within may_stop trees limits budget w (is.trees_are ∙ is_new.trees_are) (is.limits_are ∙ is_new.limits_are)
+    (subst (λ b. IsSpent may_stop b w.budget) is_new.budget_is is.budget_is) result recorded
 
 -- what became of a burst that has steps
 pub taken : (r : Commit) (old : WorldOf) (given : Option ThreadBurst) (out : ThreadBurst) (new now : WorldOf) → r ≡ commit.Committed
