@@ -1,0 +1,5 @@
+pub mod Runs
+pub mod Staying
+pub mod Law
+pub mod AccessesByWords
+pub mod SameWords

@@ -1,0 +1,81 @@
+-- Events that are alone: persistent sets of one thread (Godefroid) that stay; and which states do the same.
+use Rattle.std.specs.Prelude.{◌≡◌, ℕ, List, [], ◌∷◌, Some}
+use Rattle.model.specs.declared.event.Event.{Event}
+use Rattle.model.specs.Accepted.{IsAccepted}
+use Rattle.model.specs.Classes.{Program}
+use Rattle.model.specs.Run.{run_from, is_quiet}
+use Rattle.model.specs.State.{State}
+use Rattle.model.specs.Step.{step}
+use Rattle.model.specs.WellTyped.{IsWellTyped}
+use Rattle.model.specs.Words.{words_of}
+use Rattle.run_laws.specs.interleavings.Ends.{outcome_of}
+use Rattle.search_laws.specs.Accesses.{AreRacing}
+
+-- ---- states that do the same
+
+-- A bisimulation that is an equivalence of well-typed states, and keeps whether a state is quiet, what is seen of it, and races.
+pub record IsBisimulation (files : Program) (frames : ℕ) (Like : State → State → Type 0) : Type 0 where
+  pub reflexive : (state : State) → IsWellTyped files state → Like state state
+  pub symmetric : (one other : State) → Like one other → Like other one
+  pub transitive : (one two three : State) → Like one two → Like two three → Like one three
+  pub steps : (one other next : State) (event : Event) → Like one other → step files frames one event ≡ Some next
+      → (after : State) × ((step files frames other event ≡ Some after) × Like next after)
+  pub quiet : (one other : State) → Like one other → is_quiet files frames other ≡ is_quiet files frames one
+  pub outcome : (one other : State) → Like one other → outcome_of files frames other ≡ outcome_of files frames one
+  pub races : (one other : State) (t u : ℕ) → Like one other → AreRacing files one t u → AreRacing files other t u
+
+-- both are well typed, with the same words
+pub record HaveSameWords (files : Program) (one other : State) : Type 0 where
+  pub one_typed : IsWellTyped files one
+  pub other_typed : IsWellTyped files other
+  pub same : words_of other ≡ words_of one
+
+abbrev pub AreSameWordsBisimilar : Type 0
+AreSameWordsBisimilar =
+    (files : List (List ℕ)) (trees : Program) → IsAccepted files trees → (frames : ℕ) → IsBisimulation trees frames (HaveSameWords trees)
+
+-- ---- events that are alone
+
+-- the event of a thread where nothing is picked
+abbrev pub next_event : ℕ → Event
+next_event t = record { thread = t; pick = 0 }
+
+-- none of the events is of the thread
+abbrev pub AreOfOthers : ℕ → List Event → Type 0
+AreOfOthers t [] = Unit {0}
+AreOfOthers t (event ∷ events) = (t ≡ event.thread → ⊥) × AreOfOthers t events
+
+-- Behind events of other threads, which lead from a state to `later`: the event of the thread, which led from that state to `first`.
+pub record IsAloneBehind (files : Program) (frames : ℕ) (Like : State → State → Type 0) (t : ℕ) (first : State) (others : List Event)
+    (later : State) : Type 0 where
+  -- it is enabled
+  pub last : State
+  pub goes : step files frames later (next_event t) ≡ Some last
+  -- it is the only one of the thread
+  pub only : (pick : ℕ) (next : State) → step files frames later (record { thread = t; pick = pick }) ≡ Some next → pick ≡ 0
+  -- done first, it leads to the same
+  pub after : State
+  pub runs : run_from files frames first others ≡ Some after
+  pub like : Like after last
+  -- no next event of another thread is in a race with it
+  pub free : (u : ℕ) → AreRacing files later t u → ⊥
+
+-- the next event of a thread is alone, and leads to `first`
+pub record IsAlone (files : Program) (frames : ℕ) (Like : State → State → Type 0) (state : State) (t : ℕ) (first : State) : Type 0 where
+  pub goes : step files frames state (next_event t) ≡ Some first
+  pub behind : (others : List Event) (later : State) → AreOfOthers t others → run_from files frames state others ≡ Some later
+      → IsAloneBehind files frames Like t first others later
+
+-- it stays alone behind each event of another thread
+abbrev pub DoesAloneStay : Type 0
+DoesAloneStay =
+    (files : List (List ℕ)) (trees : Program) → IsAccepted files trees → (frames : ℕ) (state next : State) (event : Event) (t : ℕ)
+    (first : State) → IsAlone trees frames (HaveSameWords trees) state t first → (t ≡ event.thread → ⊥)
+    → step trees frames state event ≡ Some next
+    → (after : State) × IsAlone trees frames (HaveSameWords trees) next t after
+
+-- events that are alone, of these threads, one after another, lead from a state to another
+abbrev pub AreAlone : Program → ℕ → (State → State → Type 0) → List ℕ → State → State → Type 0
+AreAlone files frames Like [] state last = state ≡ last
+AreAlone files frames Like (t ∷ threads) state last =
+    (first : State) × (IsAlone files frames Like state t first × AreAlone files frames Like threads first last)

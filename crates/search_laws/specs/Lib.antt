@@ -1,0 +1,3 @@
+pub mod Accesses
+pub mod Alone
+pub mod KeptStates
