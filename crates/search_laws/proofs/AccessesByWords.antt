@@ -24,7 +24,6 @@ use Rattle.model.specs.WrongKind.{finds_operands, finds_in}
 use Rattle.run_laws.specs.interleavings.Local.{is_going}
 use Rattle.run_laws.specs.laws.Steps.{Rooted}
 use Rattle.run_laws.specs.word_runs.Words.{map_outcome}
-use Rattle.run_laws.proofs.interleavings.Own.{going}
 use Rattle.run_laws.proofs.laws.Answered.{thread_of_stack}
 use Rattle.run_laws.proofs.laws.Lists.{Pairwise}
 use Rattle.run_laws.proofs.laws.Progress.{ready_finds}
@@ -50,6 +49,16 @@ done_words Interrupts accesses = refl
 done_words (Calls callee rest) accesses = refl
 done_words (Returns world results) accesses = refl
 done_words (Waits cost world rest) accesses = refl
+
+none_of : (p : Option ℕ) → is_none p ≡ true → p ≡ None
+none_of None h = refl
+none_of (Some x) h = absurd (false≢true h)
+
+going : (s : ThreadStatus) (p : Option ℕ) → is_going s p ≡ true → (s ≡ Running) × (p ≡ None)
+going Running p h = (refl, none_of p h)
+going (Waiting object count) p h = absurd (false≢true h)
+going (Relock object count cause) p h = absurd (false≢true h)
+going (Ended exception) p h = absurd (false≢true h)
 
 module _ (files : Program) (t : ℕ) (world : World) where
   abbrev event : Event
