@@ -1,5 +1,4 @@
 pub mod Runs
 pub mod Staying
 pub mod Law
-pub mod AccessesByWords
 pub mod SameWords

@@ -7,7 +7,7 @@ use Rattle.model.specs.Classes.{Program}
 use Rattle.model.specs.Run.{run_from}
 use Rattle.model.specs.State.{State}
 use Rattle.model.specs.Step.{step}
-use Rattle.search_laws.specs.Alone.{IsBisimulation}
+use Rattle.search_laws.specs.Alone.{Relation, IsBisimulation}
 
 -- what a value that is there was made of
 pub made_of : {A B : Type 0} (o : Option A) (f : A → Option B) (z : B) → option_and_then f o ≡ Some z
@@ -32,7 +32,7 @@ module _ (files : Program) (frames : ℕ) where
       let s = first_of state middle event first r in
       begun state s.0 last event (first ++ second) s.1.0 (joined first second s.0 middle last s.1.1 q)
 
-  module _ (Like : State → State → Type 0) (b : IsBisimulation files frames Like) where
+  module _ (Conflict : Relation) (Like : State → State → Type 0) (b : IsBisimulation files frames Conflict Like) where
     -- a run is matched from a state that is like the one where it began
     pub matched : (events : List Event) (one other last : State) → Like one other → run_from files frames one events ≡ Some last
         → (after : State) × ((run_from files frames other events ≡ Some after) × Like last after)

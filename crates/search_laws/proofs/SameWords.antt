@@ -1,5 +1,5 @@
 -- Well-typed states with the same words do the same.
-use Rattle.std.proofs.Common.{◌≡◌, ℕ, List, Some, None, refl, sym, ap, ◌∙◌, subst}
+use Rattle.std.proofs.Common.{◌≡◌, ℕ, List, Bool, Some, refl, sym, ap, ◌∙◌}
 use Rattle.std.proofs.lemmas.Option.{same_Some, none-some}
 use Rattle.model.specs.declared.event.Event.{Event}
 use Rattle.model.specs.Accepted.{IsAccepted}
@@ -12,7 +12,7 @@ use Rattle.model.specs.State.{State, StateOf}
 use Rattle.model.specs.Step.{SteppedOf, NotEnabled, WrongKind, Next, next_by, stepped, step}
 use Rattle.model.specs.WellTyped.{IsWellTyped}
 use Rattle.model.specs.Words.{words_of}
-use Rattle.run_laws.specs.interleavings.Ends.{Has, Outcome, outcome_of}
+use Rattle.run_laws.specs.interleavings.Ends.{Outcome, outcome_of}
 use Rattle.run_laws.specs.laws.Steps.{Rooted}
 use Rattle.run_laws.specs.word_reports.Reports.{IsReportedAs}
 use Rattle.run_laws.specs.word_runs.Words.{map_stepped, IsCarried}
@@ -20,9 +20,8 @@ use Rattle.run_laws.proofs.laws.LinkedOf.{linked_of}
 use Rattle.run_laws.proofs.soundness.Sound.{kept}
 use Rattle.run_laws.proofs.word_reports.Reported.{reported}
 use Rattle.run_laws.proofs.word_runs.Carried.{carried}
-use Rattle.search_laws.specs.Accesses.{Access, next_accesses, AreRacing}
-use Rattle.search_laws.specs.Alone.{IsBisimulation, HaveSameWords, AreSameWordsBisimilar}
-use Rattle.search_laws.proofs.AccessesByWords.{accesses_by_words}
+use Rattle.search_laws.specs.Alone.{Relation, passing, IsBisimulation, HaveSameWords, IsToldByWords, AreSameWordsBisimilar, DoesAloneStay}
+use Rattle.search_laws.proofs.Staying.{passed}
 
 -- ---- answers
 
@@ -90,24 +89,11 @@ module _ (files : List (List ℕ)) (trees : Program) (accepted : IsAccepted file
         ap (λ ends. let o : Outcome = record { printed = other.world.printed; ends = ends } in o) (sym also_told.ends ∙ told.ends)
         ∙ ap (λ (w : StateOf ℕ). let o : Outcome = record { printed = w.world.printed; ends = thread_ends trees frames one } in o) l.same
 
-    accesses : (t : ℕ) → next_accesses values trees one t ≡ next_accesses values trees other t
-    accesses t =
-        sym (accesses_by_words trees rooted one l.one_typed t)
-        ∙ (ap (λ (w : StateOf ℕ). next_accesses words trees w t) (sym l.same) ∙ accesses_by_words trees rooted other l.other_typed t)
-
-    races : (t u : ℕ) → AreRacing trees one t u → AreRacing trees other t u
-    races t u r =
-        record {
-          differ = r.differ;
-          mine = r.mine;
-          is_mine = subst (λ xs. Has xs r.mine) (accesses t) r.is_mine;
-          other = r.other;
-          is_other = subst (λ xs. Has xs r.other) (accesses u) r.is_other;
-          conflict = r.conflict;
-        }
-
-  pub bisimilar : IsBisimulation trees frames Like
-  bisimilar =
+  -- whatever relation keeps them
+  pub bisimilar_with : (Conflict : Relation)
+      → ((one other : State) (t u : ℕ) → Like one other → Conflict one t u → Conflict other t u)
+      → IsBisimulation trees frames Conflict Like
+  bisimilar_with Conflict conflicts =
       record {
         reflexive = λ state h. record { one_typed = h; other_typed = h; same = refl };
         symmetric = symmetric;
@@ -115,8 +101,16 @@ module _ (files : List (List ℕ)) (trees : Program) (accepted : IsAccepted file
         steps = λ one other next event l e. steps one other l next event e;
         quiet = λ one other l. sym (also_told one other l).quiet ∙ (told one other l).quiet;
         outcome = outcome;
-        races = λ one other t u l r. races one other l t u r;
+        conflicts = conflicts;
       }
 
+  pub bisimilar : (conflict : State → ℕ → ℕ → Bool) → IsToldByWords trees conflict → IsBisimulation trees frames (passing conflict) Like
+  bisimilar conflict told = bisimilar_with (passing conflict) (λ one other t u l c. told one other t u l ∙ c)
+
 pub same_words_bisimilar : AreSameWordsBisimilar
-same_words_bisimilar files trees accepted frames = bisimilar files trees accepted frames
+same_words_bisimilar files trees accepted frames conflict told = bisimilar files trees accepted frames conflict told
+
+pub alone_stays : DoesAloneStay
+alone_stays files trees accepted frames conflict told state next event t first a ne goes =
+    let p = passed trees frames (passing conflict) (HaveSameWords trees) (bisimilar files trees accepted frames conflict told) state next event t first a ne goes in
+    (p.last, p.alone)

@@ -1,3 +1,2 @@
-pub mod Accesses
 pub mod Alone
 pub mod KeptStates
