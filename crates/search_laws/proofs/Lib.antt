@@ -2,3 +2,4 @@ pub mod Runs
 pub mod Staying
 pub mod Law
 pub mod SameWords
+pub mod Verdicts

@@ -3,3 +3,4 @@
 #![tactic(auto)]
 
 pub mod alone;
+pub mod kept_states;

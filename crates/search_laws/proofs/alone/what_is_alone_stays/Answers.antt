@@ -1,4 +1,3 @@
-use Rattle.search_laws.proofs.Law
 use Rattle.search_laws.proofs.SameWords.{alone_stays}
 use Rattle.search_laws.proofs.alone.what_is_alone_stays.Goals as goal
 
