@@ -3,3 +3,5 @@ pub mod Staying
 pub mod Law
 pub mod SameWords
 pub mod Verdicts
+pub mod Events
+pub mod Ends

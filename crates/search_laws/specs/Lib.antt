@@ -1,3 +1,4 @@
 pub mod Alone
 pub mod KeptStates
 pub mod Verdicts
+pub mod Ends

@@ -1,5 +1,6 @@
 //! What the states that a search keeps tell of all runs. Each function here is a theorem, and does nothing.
 
+ghost use Rattle.search_laws.specs.Ends.{AreExceptionsMet, AreStuckMet};
 ghost use Rattle.search_laws.specs.Verdicts.{AreAllFollowed, AreConflictsMet, AreEndlessTrapped, AreOutcomesMet, AreRunsFollowed, AreTrapsEndless, IsLastingMet};
 
 /// Each run from a kept state is followed, past events that are alone, to a kept state that edges reach.
@@ -35,4 +36,14 @@ pub fn endless_states_are_trapped()
 /// Threads in conflict are met.
 pub fn conflicts_are_met()
     ensures holds { AreConflictsMet }
+{}
+
+/// Where a thread ends by an exception in some run, a kept state is one in which it has.
+pub fn exceptions_are_met()
+    ensures holds { AreExceptionsMet }
+{}
+
+/// Where a thread is stuck in a state of some run, it is in a kept state.
+pub fn stuck_threads_are_met()
+    ensures holds { AreStuckMet }
 {}
