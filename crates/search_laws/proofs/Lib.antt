@@ -5,3 +5,5 @@ pub mod SameWords
 pub mod Verdicts
 pub mod Events
 pub mod Ends
+pub mod Bounded
+pub mod OwnEvents

@@ -99,6 +99,7 @@ module _ (files : List (List ℕ)) (trees : Program) (accepted : IsAccepted file
         symmetric = symmetric;
         transitive = λ one two three p q. record { one_typed = p.one_typed; other_typed = q.other_typed; same = q.same ∙ p.same };
         steps = λ one other next event l e. steps one other l next event e;
+        may = λ one other t l. sym ((also_told one other l).may t) ∙ (told one other l).may t;
         quiet = λ one other l. sym (also_told one other l).quiet ∙ (told one other l).quiet;
         outcome = outcome;
         conflicts = conflicts;

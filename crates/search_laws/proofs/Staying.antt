@@ -127,7 +127,7 @@ module _ (files : Program) (frames : ℕ) (Conflict : Relation) (Like : State �
         Behind (t ∷ threads) c.0 moved (p.last, (p.alone, c.1.0)) is_moved (b.transitive c.0 after moved (b.symmetric after c.0 c.1.1) like)
 
     -- the event of the thread that is alone is that one
-    itself : (state next : State) (event : Event) (t : ℕ) (first : State) → Alone state t first → t ≡ event.thread
+    pub itself : (state next : State) (event : Event) (t : ℕ) (first : State) → Alone state t first → t ≡ event.thread
         → step files frames state event ≡ Some next → first ≡ next
     itself state next event t first a same goes =
         let x = a.behind [] state tt refl in

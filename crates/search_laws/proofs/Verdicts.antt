@@ -19,7 +19,7 @@ use Rattle.run_laws.specs.interleavings.Ends.{Has, Outcome, outcome_of, EndsWith
 use Rattle.run_laws.proofs.interleavings.Reduction.{opened, run_typed}
 use Rattle.run_laws.proofs.typed_runs.Settled.{lengths_same}
 use Rattle.search_laws.specs.Alone.{Relation, passing, IsBisimulation, HaveSameWords, next_event, AreAlone}
-use Rattle.search_laws.specs.KeptStates.{Graph, Keeps, Reaches, Here, Onward, IsReached, IsFollowed, IsExpanded, AreExpandedFrom, IsEdge, IsExplored, IsEndless, IsTrapped}
+use Rattle.search_laws.specs.KeptStates.{Graph, Keeps, Reaches, Here, Onward, IsReached, IsFollowed, IsExpanded, AreExpandedFrom, IsEdge, AreEdges, IsExplored, IsEndless, IsTrapped}
 use Rattle.search_laws.specs.Verdicts.{IsSearch, IsWholeSearch, IsMet as IsMetBy, AreRunsFollowed, AreAllFollowed, AreListed, AreOutcomesMet, IsLasting, IsLastingMet, AreTrapsEndless, AreEndlessTrapped, IsLastingConflict, AreConflictsMet}
 use Rattle.search_laws.proofs.Law.{kept_followed, IsMet, run_met}
 use Rattle.search_laws.proofs.Runs.{first_of, begun, joined, matched}
@@ -142,15 +142,15 @@ module _ (files : List (List ℕ)) (trees : Program) (accepted : IsAccepted file
             let m = matched trees frames Conflict Like same q.0 middle p.1 q.1 (same.symmetric p.1 middle p.2.1) q.2.0 in
             (p.0 ++ q.0, m.0, (joined trees frames p.0 q.0 state p.1 m.0 p.2.0 m.1.0, same.transitive m.0 q.1 kept (same.symmetric q.1 m.0 m.1.1) q.2.1))
 
-        path_leads : (node to : ℕ) (state kept : State) → Keeps graph node state → Keeps graph to kept → Reaches graph node to
+        path_leads : (edges : AreEdges trees frames Conflict Like graph) → (node to : ℕ) (state kept : State) → Keeps graph node state → Keeps graph to kept → Reaches graph node to
             → Leads state kept
-        path_leads node to state kept is is_kept Here =
+        path_leads edges node to state kept is is_kept Here =
             let one : state ≡ kept = same_Some state kept (sym is ∙ is_kept) in
             let h = reached_typed state (x.reached node state is) in
             ([], state, (refl, subst (Like state) one (same.reflexive state h)))
-        path_leads node to state kept is is_kept (Onward middle next path edge) =
-            let e = x.edges middle to edge in
-            let before = path_leads node middle state e.state is e.is_kept path in
+        path_leads edges node to state kept is is_kept (Onward middle next path edge) =
+            let e = edges middle to edge in
+            let before = path_leads edges node middle state e.state is e.is_kept path in
             let f = e.followed in
             let g = followed_leads e.next to f in
             let one : f.kept ≡ kept = same_Some f.kept kept (sym f.is_kept ∙ is_kept) in
@@ -177,9 +177,9 @@ module _ (files : List (List ℕ)) (trees : Program) (accepted : IsAccepted file
               let k = quiet_kept e.state f.0 (reached_typed e.state r) e.quiet f.1 in
               (f.0, f.1.kept, (f.1.is_kept, (k.0, k.1 ∙ e.outcome_is)))
 
-          pub endless_trapped : (state : State) → IsReached trees frames state → IsEndless trees frames state
+          pub endless_trapped : AreEdges trees frames Conflict Like graph → (state : State) → IsReached trees frames state → IsEndless trees frames state
               → (node : ℕ) × (kept : State) × (Keeps graph node kept × IsTrapped trees frames graph node)
-          endless_trapped state r endless =
+          endless_trapped edges state r endless =
               let f = all_followed state r in
               let g = f.1 in
               (
@@ -188,7 +188,7 @@ module _ (files : List (List ℕ)) (trees : Program) (accepted : IsAccepted file
                 (
                   g.is_kept,
                   λ to kept reaches is q.
-                      let l = onward state g.kept kept (followed_leads state f.0 g) (path_leads f.0 to g.kept kept g.is_kept is reaches) in
+                      let l = onward state g.kept kept (followed_leads state f.0 g) (path_leads edges f.0 to g.kept kept g.is_kept is reaches) in
                       endless l.0 l.1 l.2.0 (sym (same.quiet l.1 kept l.2.1) ∙ q),
                 ),
               )
@@ -263,8 +263,8 @@ traps_endless files trees frames conflict graph s node state is expanded trapped
     trapped_endless files trees s.accepted frames (passing conflict) (alike files trees frames conflict graph s) graph s.explored node state is expanded trapped
 
 pub endless_states_trapped : AreEndlessTrapped
-endless_states_trapped files trees frames conflict graph w state r endless =
-    endless_trapped files trees w.search.accepted frames (passing conflict) (alike files trees frames conflict graph w.search) graph w.search.explored w.expanded state r endless
+endless_states_trapped files trees frames conflict graph w edges state r endless =
+    endless_trapped files trees w.search.accepted frames (passing conflict) (alike files trees frames conflict graph w.search) graph w.search.explored w.expanded edges state r endless
 
 pub all_conflicts_met : AreConflictsMet
 all_conflicts_met files trees frames conflict graph w k state t u r c = conflicts_met files trees frames conflict graph w k state t u r c

@@ -3,7 +3,7 @@ use Rattle.std.specs.Prelude.{◌≡◌, ℕ, List, [], ◌∷◌, Some, Bool, I
 use Rattle.model.specs.declared.event.Event.{Event}
 use Rattle.model.specs.Accepted.{IsAccepted}
 use Rattle.model.specs.Classes.{Program}
-use Rattle.model.specs.Run.{run_from, is_quiet}
+use Rattle.model.specs.Run.{run_from, may_step, is_quiet}
 use Rattle.model.specs.State.{State}
 use Rattle.model.specs.Step.{step}
 use Rattle.model.specs.WellTyped.{IsWellTyped}
@@ -31,13 +31,15 @@ AreOfOthers t (event ∷ events) = (t ≡ event.thread → ⊥) × AreOfOthers t
 module _ (files : Program) (frames : ℕ) (Conflict : Relation) (Like : State → State → Type 0) where
   -- ---- states that do the same
 
-  -- A bisimulation that is an equivalence of well-typed states, and keeps whether a state is quiet, what is seen of it, and conflicts.
+  -- A bisimulation that is an equivalence of well-typed states, and keeps which threads may step, what is seen of a state,
+  -- and conflicts.
   pub record IsBisimulation : Type 0 where
     pub reflexive : (state : State) → IsWellTyped files state → Like state state
     pub symmetric : (one other : State) → Like one other → Like other one
     pub transitive : (one two three : State) → Like one two → Like two three → Like one three
     pub steps : (one other next : State) (event : Event) → Like one other → step files frames one event ≡ Some next
         → (after : State) × ((step files frames other event ≡ Some after) × Like next after)
+    pub may : (one other : State) (t : ℕ) → Like one other → may_step files frames other t ≡ may_step files frames one t
     pub quiet : (one other : State) → Like one other → is_quiet files frames other ≡ is_quiet files frames one
     pub outcome : (one other : State) → Like one other → outcome_of files frames other ≡ outcome_of files frames one
     pub conflicts : (one other : State) (t u : ℕ) → Like one other → Conflict one t u → Conflict other t u

@@ -56,10 +56,12 @@ module _ (files : Program) (frames : ℕ) (Conflict : Relation) (Like : State �
     pub goes : step files frames state event ≡ Some next
     pub followed : IsFollowed next to
 
+  abbrev pub AreEdges : Type 0
+  AreEdges = (node to : ℕ) → IsTrue (graph.edge node to) → IsEdge node to
+
   -- what a search keeps, whether it has ended or not
   pub record IsExplored : Type 0 where
     pub reached : (node : ℕ) (state : State) → Keeps graph node state → IsReached files frames state
-    pub edges : (node to : ℕ) → IsTrue (graph.edge node to) → IsEdge node to
     pub start : ℕ
     pub opened : IsFollowed (opening values files) start
 

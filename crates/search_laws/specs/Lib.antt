@@ -2,3 +2,5 @@ pub mod Alone
 pub mod KeptStates
 pub mod Verdicts
 pub mod Ends
+pub mod Preemptions
+pub mod OwnEvents

@@ -11,7 +11,7 @@ use Rattle.model.specs.State.{State}
 use Rattle.model.specs.Step.{step}
 use Rattle.run_laws.specs.interleavings.Ends.{Has, Outcome, outcome_of, AreAllOutcomes}
 use Rattle.search_laws.specs.Alone.{HaveSameWords, IsToldByWords, passing}
-use Rattle.search_laws.specs.KeptStates.{Graph, Keeps, Reaches, IsReached, IsFollowed, IsExpanded, AreExpandedFrom, IsExplored, IsEndless, IsTrapped}
+use Rattle.search_laws.specs.KeptStates.{Graph, Keeps, Reaches, IsReached, IsFollowed, IsExpanded, AreExpandedFrom, AreEdges, IsExplored, IsEndless, IsTrapped}
 
 -- ---- searches where states do the same that have the same words
 
@@ -95,7 +95,8 @@ AreTrapsEndless = OfSearches (λ files frames conflict graph.
 
 abbrev pub AreEndlessTrapped : Type 0
 AreEndlessTrapped = OfWholeSearches (λ files frames conflict graph.
-    (state : State) → IsReached files frames state → IsEndless files frames state
+    AreEdges files frames (passing conflict) (HaveSameWords files) graph
+    → (state : State) → IsReached files frames state → IsEndless files frames state
     → (node : ℕ) × (kept : State) × (Keeps graph node kept × IsTrapped files frames graph node))
 
 -- ---- conflicts

@@ -1,6 +1,7 @@
 //! What the states that a search keeps tell of all runs. Each function here is a theorem, and does nothing.
 
 ghost use Rattle.search_laws.specs.Ends.{AreExceptionsMet, AreStuckMet};
+ghost use Rattle.search_laws.specs.OwnEvents.{AreSearchesWhole};
 ghost use Rattle.search_laws.specs.Verdicts.{AreAllFollowed, AreConflictsMet, AreEndlessTrapped, AreOutcomesMet, AreRunsFollowed, AreTrapsEndless, IsLastingMet};
 
 /// Each run from a kept state is followed, past events that are alone, to a kept state that edges reach.
@@ -46,4 +47,9 @@ pub fn exceptions_are_met()
 /// Where a thread is stuck in a state of some run, it is in a kept state.
 pub fn stuck_threads_are_met()
     ensures holds { AreStuckMet }
+{}
+
+/// A search that goes past local events is whole.
+pub fn searches_past_local_events_are_whole()
+    ensures holds { AreSearchesWhole }
 {}

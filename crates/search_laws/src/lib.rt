@@ -4,3 +4,4 @@
 
 pub mod alone;
 pub mod kept_states;
+pub mod preemptions;
