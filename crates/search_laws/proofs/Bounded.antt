@@ -302,5 +302,5 @@ bounded_searches_complete files trees accepted frames conflict told most kept x 
       reached = λ outcome has.
           let m = l.only outcome has in
           let r = x.reached m.0 m.1 m.2.0 in
-          (r.0, record { state = (m.1).state; reached = r.1; quiet = m.2.1.0; outcome_is = m.2.1.1 });
+          (r.0, (record { state = (m.1).state; reached = r.1.0; quiet = m.2.1.0; outcome_is = m.2.1.1 }, r.1.1));
     }

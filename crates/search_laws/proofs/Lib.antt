@@ -7,3 +7,14 @@ pub mod Events
 pub mod Ends
 pub mod Bounded
 pub mod OwnEvents
+pub mod Spares
+pub mod ClassesHeld
+pub mod ClassesKept
+pub mod Operands
+pub mod Plain
+pub mod Callees
+pub mod Waiting
+pub mod WaitsLast
+pub mod NeedsByWords
+pub mod Circles
+pub mod OwnSteps

@@ -4,3 +4,5 @@ pub mod Verdicts
 pub mod Ends
 pub mod Preemptions
 pub mod OwnEvents
+pub mod Waits
+pub mod OwnSteps

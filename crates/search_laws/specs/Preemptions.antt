@@ -6,12 +6,11 @@ use Rattle.model.specs.Accepted.{IsAccepted}
 use Rattle.model.specs.Classes.{Program}
 use Rattle.model.specs.Opening.{opening}
 use Rattle.model.specs.Operands.{values}
-use Rattle.model.specs.Run.{run_from, may_step, is_quiet}
+use Rattle.model.specs.Run.{run, run_from, may_step, is_quiet}
 use Rattle.model.specs.State.{State}
 use Rattle.model.specs.Step.{step}
 use Rattle.run_laws.specs.interleavings.Ends.{Has, Outcome, outcome_of, EndsWith}
 use Rattle.search_laws.specs.Alone.{Relation, passing, next_event, AreOfOthers, IsAlone, HaveSameWords, IsToldByWords}
-use Rattle.search_laws.specs.KeptStates.{IsReached}
 
 -- ---- preemptions
 
@@ -70,7 +69,8 @@ module _ (files : Program) (frames : ℕ) (Conflict : Relation) (Like : State �
       pub no_more : node.count ≤ count
 
     pub record IsExploredWithin : Type 0 where
-      pub reached : (number : ℕ) (node : Node) → kept number ≡ Some node → IsReached files frames node.state
+      pub reached : (number : ℕ) (node : Node) → kept number ≡ Some node
+          → (events : List Event) × ((run files frames events ≡ Some node.state) × (run_preemptions files frames events ≤ most))
       pub opened : IsFollowedBy (opening values files) 0 0
       -- each event that does not go past the bound is followed
       pub expanded : (number : ℕ) (node : Node) (event : Event) (next : State) → kept number ≡ Some node
@@ -87,11 +87,12 @@ pub record AreListedWithin (files : Program) (frames : ℕ) (kept : ℕ → Opti
   pub only : (outcome : Outcome) → Has outcomes outcome
       → (number : ℕ) × (node : Node) × ((kept number ≡ Some node) × (IsTrue (is_quiet files frames node.state) × (outcome_of files frames node.state ≡ outcome)))
 
--- the outcome of each run that ends with no more preemptions is listed, and each that is listed some run has
+-- the outcome of each run that ends with no more preemptions is listed, and each that is listed such a run has
 pub record AreOutcomesWithin (files : Program) (frames most : ℕ) (outcomes : List Outcome) : Type 0 where
   pub listed : (events : List Event) (outcome : Outcome) → EndsWith files frames events outcome → run_preemptions files frames events ≤ most
       → Has outcomes outcome
-  pub reached : (outcome : Outcome) → Has outcomes outcome → (events : List Event) × EndsWith files frames events outcome
+  pub reached : (outcome : Outcome) → Has outcomes outcome
+      → (events : List Event) × (EndsWith files frames events outcome × (run_preemptions files frames events ≤ most))
 
 abbrev pub AreBoundedSearchesComplete : Type 0
 AreBoundedSearchesComplete =

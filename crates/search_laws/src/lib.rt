@@ -1,5 +1,5 @@
-//! Theorems on searches over all schedules: which events may be done first, alone, and what the states that are kept
-//! tell of all runs.
+//! Theorems on searches over all schedules: which events may be done first, alone, and what the states that a search
+//! keeps tell of all runs.
 #![tactic(auto)]
 
 pub mod alone;
