@@ -87,7 +87,7 @@ module _ (files : Program) (frames t : ℕ) (world : World) where
 
       referent_same : site.instr ≡ instr.MonitorEnter → referent words ops 0 ≡ referent values (ops_of values v frame.place.slots) 0
       referent_same e =
-          let it = same_Some (monitor_enter_meaning values site) v (sym (enter_means files frames t t world site e) ∙ is) in
+          let it = same_Some (monitor_enter_meaning values site) v (sym (enter_means files site e) ∙ is) in
           subst (λ (z : MeaningOf Value). Kinded files (types_of world.heap) z.wants (ops_of values z frame.place.slots) → referent words (map word_of (ops_of values z frame.place.slots)) 0 ≡ referent values (ops_of values z frame.place.slots) 0) it enter q
         where
           enter : Kinded files (types_of world.heap) (monitor_enter_meaning values site).wants (ops_of values (monitor_enter_meaning values site) frame.place.slots)

@@ -62,6 +62,13 @@ and_false : (a b : Bool) → b ≡ false → (a && b) ≡ false
 and_false true b e = e
 and_false false b e = refl
 
+-- what monitorenter means where it stands
+pub enter_means : (files : Program) (site : Site) → site.instr ≡ instr.MonitorEnter
+    → meaning_of values files site ≡ Some (monitor_enter_meaning values site)
+enter_means files site e =
+    ap (λ i. local_or values files site (local_row (integers_of site.body.pool) site.body.code.code site.offset site.next i)) e
+    ∙ ap (other_meaning values files site) e
+
 module _ (files : Program) (frames t u : ℕ) (ne : t ≡ u → ⊥) (world : World) (need : Need) (held : IsHeldBy world u need) where
   -- ---- monitors
 
@@ -129,12 +136,6 @@ module _ (files : Program) (frames t u : ℕ) (ne : t ≡ u → ⊥) (world : Wo
 
   -- ---- an instruction
 
-  -- what monitorenter means where it stands
-  pub enter_means : (site : Site) → site.instr ≡ instr.MonitorEnter → meaning_of values files site ≡ Some (monitor_enter_meaning values site)
-  enter_means site e =
-      ap (λ i. local_or values files site (local_row (integers_of site.body.pool) site.body.code.code site.offset site.next i)) e
-      ∙ ap (other_meaning values files site) e
-
   module _ (pick : ℕ) (frame : Frame) (stack : StackOf Value) where
     abbrev event : Event
     event = record { thread = t; pick = pick }
@@ -182,7 +183,7 @@ module _ (files : Program) (frames t u : ℕ) (ne : t ≡ u → ⊥) (world : Wo
       by_instr : (i : Instr) → site.instr ≡ i → instruction_need values files frames t world whole i ops (does first) ≡ Some need
           → LeadsNowhere (enabled_if (m.may event world ops) (done values files frames event world frame stack m))
       by_instr instr.MonitorEnter q e =
-          let same = same_Some (monitor_enter_meaning values site) m (sym (enter_means site q) ∙ is) in
+          let same = same_Some (monitor_enter_meaning values site) m (sym (enter_means files site q) ∙ is) in
           not_enabled (m.may event world ops) (done values files frames event world frame stack m)
           (subst (λ (z : MeaningOf Value). option_map MonitorOf (referent values (ops_of values z frame.place.slots) 0) ≡ Some need → z.may event world (ops_of values z frame.place.slots) ≡ false) same cannot e)
         where
