@@ -18,3 +18,9 @@ pub mod WaitsLast
 pub mod NeedsByWords
 pub mod Circles
 pub mod OwnSteps
+pub mod Locks
+pub mod LockOutcomes
+pub mod LockEvents
+pub mod LockSteps
+pub mod Instructed
+pub mod OwnedMonitors

@@ -37,7 +37,7 @@ use Rattle.search_laws.proofs.Verdicts.{outcome_met}
 
 -- ---- a stack beside that of the thread that moves
 
-set_front : {A : Type 0} (xs ys : List A) (k : ℕ) (x y : A) → slice_get xs k ≡ Some x → slice_set (xs ++ ys) k y ≡ slice_set xs k y ++ ys
+pub set_front : {A : Type 0} (xs ys : List A) (k : ℕ) (x y : A) → slice_get xs k ≡ Some x → slice_set (xs ++ ys) k y ≡ slice_set xs k y ++ ys
 set_front [] ys k x y e = absurd cc
 set_front (z ∷ zs) ys zero x y e = refl
 set_front (z ∷ zs) ys (suc k) x y e = ap (λ l. z ∷ l) (set_front zs ys k x y e)
@@ -82,7 +82,7 @@ module _ (trees : Program) (frames : ℕ) (state : State) (t : ℕ) (old own : S
 -- ---- own events
 
 module _ (files : List (List ℕ)) (trees : Program) (accepted : IsAccepted files trees) (frames : ℕ) where
-  left_alone_self : (state : State) (t : ℕ) → StandsAs state t state
+  pub left_alone_self : (state : State) (t : ℕ) → StandsAs state t state
   left_alone_self state t =
       record { alone = record { stack = refl; status = refl; pending = refl }; types = record { keeps = λ r type e. e } }
 

@@ -6,3 +6,4 @@ pub mod Preemptions
 pub mod OwnEvents
 pub mod Waits
 pub mod OwnSteps
+pub mod OwnedMonitors

@@ -20,15 +20,18 @@
 //!   other thread whether it may step (`own_events_are_alone`). A local event is its thread's own
 //!   (`local_events_are_own`). So are the call of an instance method that is not synchronized, the return from a method
 //!   that is not, and a cast that passes (`own_steps_are_own`).
+//! - A monitorexit of a monitor that the thread owns, a monitorenter of one, and the return from a synchronized method
+//!   whose monitor it owns, but for its first method, are alone (`events_on_owned_monitors_are_alone`).
 //!
 //! # Not proved
 //!
-//! - Not said: which other events are alone, as calls of static methods, exits of monitors, or gets of fields that the
-//!   others can't put.
+//! - Not said: which other events are alone, as calls of static methods, exceptions that are caught, or gets of
+//!   fields that the others can't put.
 
 ghost use Rattle.search_laws.specs.Alone.{AreSameWordsBisimilar, DoesAloneStay};
 ghost use Rattle.search_laws.specs.OwnEvents.{AreLocalEventsOwn, AreOwnEventsAlone};
 ghost use Rattle.search_laws.specs.OwnSteps.{AreOwnStepsOwn};
+ghost use Rattle.search_laws.specs.OwnedMonitors.{AreOwnedMonitorsAlone};
 
 /// Well-typed states with the same words do the same.
 pub fn states_with_the_same_words_are_bisimilar()
@@ -54,4 +57,9 @@ pub fn local_events_are_own()
 /// thread's own.
 pub fn own_steps_are_own()
     ensures holds { AreOwnStepsOwn }
+{}
+
+/// An event by which a thread leaves a monitor that it owns, or enters it again, is alone.
+pub fn events_on_owned_monitors_are_alone()
+    ensures holds { AreOwnedMonitorsAlone }
 {}
