@@ -309,7 +309,8 @@ module _ (t r : ℕ) (change : Monitor → Monitor) (c : IsChange t change) wher
       same (CallSpecial call e m) =
           call_same (operation values files site (CallSpecial call e m)) (λ ops. invoke_may ops _) (λ slots ops rest. invoked_is slots ops rest _ _)
       same (CallStatic index i m) =
-          call_same (operation values files site (CallStatic index i m)) (λ ops. invoke_may ops _) (λ slots ops rest. invoked_is slots ops rest _ _)
+          call_same (operation values files site (CallStatic index i m)) (λ ops. invoke_may ops (Runs m.method))
+          (λ slots ops rest. invoked_is slots ops rest (class_reference files m.method.class) (Runs m.method))
       same (CallInterface call m) =
           call_same (operation values files site (CallInterface call m)) (λ ops. invoke_may ops _) (λ slots ops rest. invoked_is slots ops rest _ _)
       same (Return kind i) = return_same kind
