@@ -1,9 +1,9 @@
 -- Why a search within so many preemptions meets the outcome of each run that ends with no more: an event that is alone, and leaves
 -- enabled what is, can come first, and that makes no preemption more.
-use Rattle.std.proofs.Common.{◌≡◌, ℕ, zero, suc, ◌+◌, ◌<◌, ◌≤◌, List, [], ◌∷◌, length, Bool, true, false, not, ◌&&◌, ◌==◌, if◌then◌else◌, Option, Some, None, refl, sym, ap, ◌∙◌, subst, arith}
+use Rattle.std.proofs.Common.{◌≡◌, ℕ, zero, suc, ◌+◌, ◌<◌, ◌≤◌, List, [], ◌∷◌, length, Bool, true, false, not, ◌&&◌, ◌==◌, if◌then◌else◌, Option, Some, refl, sym, ap, ◌∙◌, subst, arith}
 use Rattle.std.specs.Prelude.{IsTrue}
 use Rattle.std.specs.Option.{option_map_or}
-use Rattle.std.proofs.lemmas.Bool.{false≢true, false_from_ne_true, eqb-true, eq-eqb}
+use Rattle.std.proofs.lemmas.Bool.{false≢true, eqb-true, eq-eqb}
 use Rattle.std.proofs.lemmas.Option.{same_Some}
 use Rattle.model.specs.declared.event.Event.{Event}
 use Rattle.model.specs.Accepted.{IsAccepted}
@@ -16,8 +16,9 @@ use Rattle.model.specs.Step.{is_enabled_by, stepped, step}
 use Rattle.model.specs.WellTyped.{IsWellTyped}
 use Rattle.run_laws.specs.interleavings.Ends.{Has, Outcome, outcome_of, EndsWith}
 use Rattle.run_laws.proofs.interleavings.Reduction.{opened, run_typed}
-use Rattle.search_laws.specs.Alone.{Relation, passing, IsBisimulation, next_event, AreOfOthers, IsAlone, HaveSameWords}
-use Rattle.search_laws.specs.Preemptions.{preemption_at, preemptions, run_preemptions, Node, LeavesEnabled, AreOwnAlone, IsFollowedBy, IsExploredWithin, AreListedWithin, AreOutcomesWithin, AreBoundedSearchesComplete}
+use Rattle.search_laws.specs.Alone.{Relation, passing, IsBisimulation, next_event, IsAlone, HaveSameWords}
+use Rattle.search_laws.specs.Preemptions.{preemption_at, preemptions, run_preemptions, Node, LeavesEnabled, AreOwnAlone, IsFollowedBy, IsExploredWithin, AreBoundedSearchesComplete}
+use Rattle.search_laws.proofs.Owners.{differs}
 use Rattle.search_laws.proofs.Runs.{first_of, begun, matched}
 use Rattle.search_laws.proofs.SameWords.{answer_of, typed, bisimilar}
 use Rattle.search_laws.proofs.Staying.{IsPassed, passed, itself}
@@ -46,9 +47,6 @@ module _ (files : List (List ℕ)) (trees : Program) (accepted : IsAccepted file
   run_types : (events : List Event) (state last : State) → IsWellTyped trees state → run_from trees frames state events ≡ Some last
       → IsWellTyped trees last
   run_types events state last h run = run_typed files trees accepted frames events state last h run
-
-  differs : (t u : ℕ) → (t ≡ u → ⊥) → (t == u) ≡ false
-  differs t u ne = false_from_ne_true (t == u) (λ q. ne (eqb-true t u q))
 
   abbrev one_if : Bool → ℕ
   one_if b = if b then 1 else 0

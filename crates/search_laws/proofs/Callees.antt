@@ -1,30 +1,25 @@
 -- Whose monitor a call enters: that depends on the type of the receiver alone.
-use Rattle.std.proofs.Common.{◌≡◌, ℕ, List, [], ◌∷◌, Bool, true, false, if◌then◌else◌, Option, Some, None, refl, sym, ap, ◌∙◌, subst}
-use Rattle.std.specs.Prelude.{unwrap_or, is_some, slice_get}
+use Rattle.std.proofs.Common.{◌≡◌, ℕ, List, Bool, true, false, if◌then◌else◌, Option, Some, None, refl, sym, ap, ◌∙◌}
+use Rattle.std.specs.Prelude.{unwrap_or}
 use Rattle.std.proofs.lemmas.Option.{same_Some, none-some}
 use Rattle.model.specs.declared.event.Event.{Event}
-use Rattle.model.specs.declared.instr.ArrayKind.{ArrayKind}
-use Rattle.model.specs.declared.instr.ArrayKind.TheVariants as array_kind
 use Rattle.model.specs.declared.instr.Returned.{Returned}
 use Rattle.model.specs.declared.instr.Returned.TheVariants as returned
 use Rattle.model.specs.declared.value.Value.{Value}
-use Rattle.model.specs.Arrays.{is_negative, made_array, in_range, at_index, element_at, load_of, stored, kept_by, may_stand_in, if_storable, store_of, store_reference_meaning}
-use Rattle.model.specs.BuiltInMethods.{BuiltInMethod, Construct, ConstructWithTarget, ObjectWait, ObjectNotify, ObjectNotifyAll, ThreadStart, ThreadInterrupt, ThreadIsInterrupted, ThreadInterrupted, ThreadYield, ThreadCurrentThread, ThreadJoin, ThreadIsAlive, PrintStreamPrintln, built_in_method, object_of, wait_by, notified, notified_all, if_owner, start_by, join_by, built_in_does}
+use Rattle.model.specs.Arrays.{is_negative}
+use Rattle.model.specs.BuiltInMethods.{built_in_method}
 use Rattle.model.specs.Calls.{Chosen, Fails, Runs, runs, invoked, of_receiver, parameter_count, return_of, selected, its_class, if_implements, special_class}
 use Rattle.model.specs.Classes.{Program, Body, body_of}
-use Rattle.model.specs.Frames.{entered_by, is_synchronized_one}
-use Rattle.model.specs.MonitorMeanings.{left, monitor_exit_meaning}
-use Rattle.model.specs.Meanings.{local_meaning, meaning_of}
+use Rattle.model.specs.Frames.{is_synchronized_one}
+use Rattle.model.specs.Meanings.{meaning_of}
 use Rattle.model.specs.Names.{Name, Member, java_lang_object}
-use Rattle.model.specs.Objects.{cast}
 use Rattle.model.specs.Opening.{class_reference}
 use Rattle.model.specs.Operands.{Slots, values}
 use Rattle.model.specs.Outcomes.{OutcomeOf, Goes, Raises, Throws, Interrupts, Calls, Returns, Waits}
 use Rattle.model.specs.ReferenceTypes.{ReferenceType, ClassType, PrimitiveArray, ReferenceArray, is_subtype}
-use Rattle.model.specs.Rows.{Row, after_row, row_target}
-use Rattle.model.specs.Sites.{MeaningOf, Site, operand, referent, int_operand, pushing}
+use Rattle.model.specs.Sites.{MeaningOf, Site, operand, referent, int_operand}
 use Rattle.model.specs.State.{ObjectOf, Instance, Primitives, References, type_of, World}
-use Rattle.model.specs.Worlds.{thread_at, is_owner, object_at, class_of_object, thread_of, is_alive}
+use Rattle.model.specs.Worlds.{is_owner, object_at, class_of_object}
 use Rattle.run_laws.proofs.laws.Operations.{Operation, OfRow, GetSystemOut, GetStatic, PutStatic, GetField, PutField, Println, CallVirtual, CallConstructor, CallSpecial, CallStatic, CallInterface, Return, LoadClass, LoadString, New, NewArray, NewReferenceArray, ArrayLength, LoadElement, StoreElement, CheckCast, InstanceOf, Throw, MonitorEnter, MonitorExit, operation, OfMeaning, each_meaning}
 use Rattle.search_laws.specs.Waits.{callee_entered}
 use Rattle.search_laws.proofs.Plain.{IsPlain, null_plain, left_plain, cast_plain, array_plain, built_in_plain, row_plain, load_plain, store_plain}

@@ -1,12 +1,11 @@
 -- Threads that wait in a circle are met.
-use Rattle.std.proofs.Common.{◌≡◌, ℕ, List, [], ◌∷◌, Some, sym, ap, ◌∙◌, subst}
+use Rattle.std.proofs.Common.{◌≡◌, ℕ, List, [], ◌∷◌, sym, ap, ◌∙◌}
 use Rattle.model.specs.Accepted.{IsAccepted}
 use Rattle.model.specs.Classes.{Program}
 use Rattle.model.specs.ClassInitialisation.{status_of}
 use Rattle.model.specs.Monitors.{owns, monitor_at}
 use Rattle.model.specs.Operands.{words, values}
-use Rattle.model.specs.State.{InProgress, State, StateOf}
-use Rattle.model.specs.Words.{words_of}
+use Rattle.model.specs.State.{State, StateOf}
 use Rattle.run_laws.proofs.laws.LinkedOf.{linked_of}
 use Rattle.search_laws.specs.Alone.{HaveSameWords, passing, next_event}
 use Rattle.search_laws.specs.Waits.{Need, MonitorOf, ClassOf, IsHeldBy, next_need, WaitsFor, WaitInTurn, IsCircle, AreCirclesMet}

@@ -2,29 +2,26 @@
 use Rattle.std.proofs.Common.{◌≡◌, ℕ, zero, suc, List, [], ◌∷◌, nat_lt, Bool, true, false, ◌==◌, if◌then◌else◌, Option, Some, None, refl, sym, ap, ◌∙◌, subst}
 use Rattle.std.specs.Prelude.{slice_get, length}
 use Rattle.std.specs.Option.{option_map_or, option_and_then}
-use Rattle.std.specs.List.{list_any}
-use Rattle.std.proofs.lemmas.Bool.{true≢false, false≢true, eqb-true, eq-eqb}
 use Rattle.model.specs.declared.event.Event.{Event}
 use Rattle.model.specs.declared.class_file.ExceptionEntry.{ExceptionEntry}
 use Rattle.model.specs.declared.value.Value.{Value}
-use Rattle.model.specs.Classes.{Program, Body, body_of, class_of, is_built_in}
-use Rattle.model.specs.ClassInitialisation.{status_in, status_of, with_status_in, with_class_status, with_class_begun, constant_value, with_constant, with_constants, Look, IsReady, IsNew, IsHeld, HasFailed, look_by}
+use Rattle.model.specs.Classes.{Program, Body, body_of, class_of}
+use Rattle.model.specs.ClassInitialisation.{status_of, with_status_in, with_class_status, with_class_begun, constant_value, with_constant, with_constants, Look, IsReady, IsNew, IsHeld, HasFailed, look_by}
 use Rattle.model.specs.Frames.{frame_with, entered_by, frame_count, at_call}
 use Rattle.model.specs.Lookup.{select, field_member}
 use Rattle.model.specs.Meanings.{meaning_of}
 use Rattle.model.specs.Monitors as monitors
-use Rattle.model.specs.Names.{Name, name_eq, Member, main_of, thread_run, initialiser_of, java_lang_error}
+use Rattle.model.specs.Names.{Name, Member, main_of, thread_run, initialiser_of, java_lang_error}
 use Rattle.model.specs.Opening.{arguments_reference, class_reference}
 use Rattle.model.specs.Operands.{values, under}
 use Rattle.model.specs.Outcomes.{MachineException, exception_class, OutcomeOf, Goes, Raises, Throws, Interrupts, Calls, Returns, Waits, NoClassDefFound, StackOverflow, IllegalMonitorState, InterruptedWait, AbstractMethod, ExceptionInInitializer}
 use Rattle.model.specs.ReferenceTypes.{ReferenceType, ClassType}
 use Rattle.model.specs.Sites.{MeaningOf, Site, site_at}
-use Rattle.model.specs.State.{Instance, types_of, ClassStatus, NotInitialised, InProgress, Initialised, Erroneous, WakeCause, Notified, Interrupted, ThreadStatus, Running, Waiting, Relock, Ended, Frame, Phase, Super, End, Invocation, Initialisation, StackOf, World, State}
-use Rattle.model.specs.Step.{SteppedOf, NotEnabled, WrongKind, Next, PartOf, part, on_to, enabled_if, unpicked, is_over, ended, with_end, end_of, raised, needing, needing_class, entering, pushed, leaving, returned, become, ops_of, done, bytecode_by, bytecode_in, initialiser_event, before, initialisation_event, initial_class, main_frame, run_frame, run_of, begin_event, handler_in, unwound, failed, pending_event, after_wait, relock_event, running_event, going_event, thread_event}
+use Rattle.model.specs.State.{Instance, types_of, ClassStatus, NotInitialised, InProgress, Initialised, Erroneous, WakeCause, Notified, Interrupted, ThreadStatus, Running, Waiting, Relock, Ended, Frame, Phase, Super, End, Invocation, Initialisation, StackOf, World}
+use Rattle.model.specs.Step.{SteppedOf, NotEnabled, WrongKind, Next, PartOf, part, on_to, enabled_if, unpicked, is_over, ended, with_end, end_of, raised, needing, needing_class, entering, pushed, leaving, returned, become, ops_of, bytecode_by, bytecode_in, initialiser_event, before, initialisation_event, initial_class, main_frame, run_frame, run_of, begin_event, handler_in, unwound, failed, pending_event, after_wait, relock_event, running_event, going_event, thread_event}
 use Rattle.model.specs.Tree.{Entry, FieldTree, FileTree}
 use Rattle.model.specs.Types.{is_object_of}
 use Rattle.model.specs.Worlds.{thread_at, with_thread, with_begun, with_pending, with_caught, with_status, with_interrupted, with_static, put_value, allocated, object_at, class_of_object, is_owner, may_enter, with_entry, entry_cost, with_exit, with_monitors, is_done}
-use Rattle.run_laws.proofs.laws.Classes.{names_same}
 use Rattle.run_laws.proofs.laws.Operations.{OfMeaning}
 use Rattle.search_laws.proofs.Spares.{SparesMonitors, Spares, itself, threads_aside, with_object_made, entry_spares, exit_spares, relock_spares, all_leave, OutcomeSpares, DoesSpare, meaning_spares}
 

@@ -1,9 +1,9 @@
 -- The classes on the stack of a thread are those that it initialises (JVMS 5.5): an invariant of all runs, and what it tells of an event.
-use Rattle.std.proofs.Common.{◌≡◌, ℕ, zero, suc, ◌-◌, List, [], ◌∷◌, ◌++◌, length, Bool, true, false, ◌==◌, if◌then◌else◌, Option, Some, None, inl, inr, refl, sym, ap, ◌∙◌, subst}
+use Rattle.std.proofs.Common.{◌≡◌, ℕ, zero, suc, ◌-◌, List, [], ◌∷◌, ◌++◌, length, Bool, true, false, ◌==◌, if◌then◌else◌, Some, inl, inr, refl, sym, ap, ◌∙◌, subst}
 use Rattle.std.specs.Prelude.{slice_get, slice_set, replicate, ◌⊎◌, ◌||◌}
 use Rattle.std.specs.List.{list_any}
 use Rattle.std.proofs.lemmas.Bool.{true≢false, false≢true, eqb-true, eq-eqb}
-use Rattle.std.proofs.lemmas.Option.{same_Some, none-some}
+use Rattle.std.proofs.lemmas.Option.{same_Some}
 use Rattle.model.specs.declared.event.Event.{Event}
 use Rattle.model.specs.declared.value.Value.{Value}
 use Rattle.model.specs.Classes.{Program, is_built_in}
@@ -12,17 +12,15 @@ use Rattle.model.specs.Names.{Name, name_eq}
 use Rattle.model.specs.Opening.{opening}
 use Rattle.model.specs.Operands.{values}
 use Rattle.model.specs.Run.{run_from}
-use Rattle.model.specs.State.{ClassStatus, NotInitialised, InProgress, Initialised, Erroneous, StackOf, World, State}
-use Rattle.model.specs.Step.{SteppedOf, Next, PartOf, part, end_of, step}
+use Rattle.model.specs.State.{ClassStatus, NotInitialised, InProgress, Initialised, StackOf, World, State}
+use Rattle.model.specs.Step.{PartOf, part, end_of, step}
 use Rattle.model.specs.Worlds.{thread_at}
 use Rattle.run_laws.proofs.laws.Classes.{names_same}
-use Rattle.run_laws.proofs.laws.Lists.{get_front}
 use Rattle.run_laws.proofs.typed_runs.Threads.{get_set_at, get_set_other}
 use Rattle.search_laws.specs.KeptStates.{IsReached}
 use Rattle.search_laws.proofs.ClassesHeld.{initialising, ClassChange, Kept, Begun, Left, IsEffect, OnEffect, event_effect, end_spares}
 use Rattle.search_laws.proofs.Events.{IsDone, done_of, state_with}
 use Rattle.search_laws.proofs.Runs.{first_of}
-use Rattle.search_laws.proofs.Spares.{SparesMonitors, Spares}
 
 -- ---- the list of statuses
 
@@ -102,8 +100,8 @@ abbrev Holds : Listing → ℕ → List Name → Type 0
 Holds cs t [] = Unit {0}
 Holds cs t (c ∷ ds) = HoldsClass cs t c × ((is_listed c cs ≡ true → NotAmong c ds) × Holds cs t ds)
 
-in_progress : (t u : ℕ) → InProgress t ≡ InProgress u → t ≡ u
-in_progress t u e = cc
+pub in_progress_inv : (t u : ℕ) → InProgress t ≡ InProgress u → t ≡ u
+in_progress_inv t u e = cc
 
 progress_new : (t : ℕ) → InProgress t ≡ NotInitialised → ⊥
 progress_new t e = absurd cc
@@ -159,7 +157,7 @@ module _ (v : ℕ) (world : World) (old : StackOf Value) (p : PartOf Value) wher
   listed_kept c (Left class status e q) = ap (is_listed c) e ∙ listed_same class status c world.classes
 
   stays_other : (t : ℕ) → (t ≡ v → ⊥) → Stays v (InProgress t)
-  stays_other t ne = record { known = progress_new t; others = λ e. ne (in_progress t v e) }
+  stays_other t ne = record { known = progress_new t; others = λ e. ne (in_progress_inv t v e) }
 
   others_hold : (t : ℕ) → (t ≡ v → ⊥) → Holds world.classes v (initialising old) → ClassChange v world old p → (cs : List Name)
       → Holds world.classes t cs → Holds p.world.classes t cs
@@ -177,11 +175,10 @@ module _ (v : ℕ) (world : World) (old : StackOf Value) (p : PartOf Value) wher
   holds_beside : (class : Name) (status : ClassStatus) → p.world.classes ≡ with_status_in class status world.classes → (cs : List Name)
       → (is_listed class world.classes ≡ true → NotAmong class cs) → Holds world.classes v cs → Holds p.world.classes v cs
   holds_beside class status e [] n x = tt
-  holds_beside class status e (c ∷ cs) n x =
-      (
-        by (is_listed class world.classes) refl x.0,
-        ((λ k. x.1.0 (sym (ap (is_listed c) e ∙ listed_same class status c world.classes) ∙ k)), holds_beside class status e cs (λ k. (n k).1) x.1.1),
-      )
+  holds_beside class status e (c ∷ cs) n x = (
+    by (is_listed class world.classes) refl x.0,
+    ((λ k. x.1.0 (sym (ap (is_listed c) e ∙ listed_same class status c world.classes) ∙ k)), holds_beside class status e cs (λ k. (n k).1) x.1.1),
+  )
     where
       by : (b : Bool) → is_listed class world.classes ≡ b → HoldsClass world.classes v c → HoldsClass p.world.classes v c
       by true k (inl q) = inl (after_other class status c e (n k).0 ∙ q)
@@ -207,8 +204,7 @@ module _ (v : ℕ) (world : World) (old : StackOf Value) (p : PartOf Value) wher
   own_holds h (Left class status e q) =
       let x = subst (Holds world.classes v) q h in holds_beside class status e (initialising p.stack) x.1.0 x.1.1
   own_holds h (Begun class new e q) =
-      subst (Holds p.world.classes v) (sym q)
-      (
+      subst (Holds p.world.classes v) (sym q) (
         by (is_listed class world.classes) refl,
         (
           (λ k. not_begun class new (sym (ap (is_listed class) e ∙ listed_same class (InProgress v) class world.classes) ∙ k) (initialising old) h),

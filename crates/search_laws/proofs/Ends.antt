@@ -1,9 +1,9 @@
 -- A thread that has ended by an exception stays so; and one that is stuck.
-use Rattle.std.proofs.Common.{◌≡◌, ℕ, zero, suc, ◌+◌, List, [], ◌∷◌, ◌++◌, Bool, true, false, ◌==◌, if◌then◌else◌, Option, Some, None, option_map, refl, sym, ap, ◌∙◌, subst, arith}
+use Rattle.std.proofs.Common.{◌≡◌, ℕ, zero, suc, ◌+◌, List, [], ◌∷◌, Bool, true, false, ◌==◌, if◌then◌else◌, Option, Some, None, option_map, refl, sym, ap, ◌∙◌, subst, arith}
 use Rattle.std.specs.Prelude.{slice_get, slice_index_or}
 use Rattle.std.specs.Option.{option_map_or}
-use Rattle.std.proofs.lemmas.Bool.{true≢false, false≢true, eqb-true, eq-eqb}
-use Rattle.std.proofs.lemmas.Option.{same_Some, none-some, get_or_from_slice_get, slice_get-map}
+use Rattle.std.proofs.lemmas.Bool.{false≢true, eqb-true}
+use Rattle.std.proofs.lemmas.Option.{same_Some, get_or_from_slice_get, slice_get-map}
 use Rattle.model.specs.declared.event.Event.{Event}
 use Rattle.model.specs.declared.instr.Instr.{Instr}
 use Rattle.model.specs.declared.instr.Instr.TheVariants as instr
@@ -11,7 +11,7 @@ use Rattle.model.specs.declared.value.Value.{Value}
 use Rattle.model.specs.Accepted.{IsAccepted}
 use Rattle.model.specs.Classes.{Program, Body, body_of}
 use Rattle.model.specs.ClassInitialisation.{look_at, is_held}
-use Rattle.model.specs.Meaning.{class_name_in, ended_by, waiting_at, instruction_end, site_end, frame_end, begin_class, held_end, thread_end, ends_from, thread_ends}
+use Rattle.model.specs.Meaning.{class_name_in, waiting_at, instruction_end, site_end, frame_end, begin_class, held_end, thread_end, ends_from}
 use Rattle.model.specs.Meanings.{MeaningOf, Site, site_at, meaning_of}
 use Rattle.model.specs.Names.{Name, java_lang_throwable}
 use Rattle.model.specs.Opening.{opening}
@@ -23,12 +23,11 @@ use Rattle.model.specs.Report as report
 use Rattle.model.specs.Run.{run_from, may_step}
 use Rattle.model.specs.State as state
 use Rattle.model.specs.State.{ObjectOf, Instance, Primitives, References, type_of, types_of, Frame, Invocation, Initialisation, StackOf, Thread, ThreadStatus, World, State, StateOf}
-use Rattle.model.specs.Step.{SteppedOf, NotEnabled, Next, PartOf, stepped, step, ops_of, thread_event}
+use Rattle.model.specs.Step.{NotEnabled, Next, PartOf, stepped, step, ops_of, thread_event}
 use Rattle.model.specs.Types.{is_object_below}
-use Rattle.model.specs.WellTyped.{is_object_in, IsWellTyped}
-use Rattle.model.specs.Words.{words_of}
+use Rattle.model.specs.WellTyped.{IsWellTyped}
 use Rattle.model.specs.Worlds.{thread_at, no_thread, has_ended}
-use Rattle.run_laws.specs.interleavings.Ends.{Outcome, outcome_of}
+use Rattle.run_laws.specs.interleavings.Ends.{Outcome}
 use Rattle.run_laws.proofs.interleavings.Reduction.{opened}
 use Rattle.run_laws.proofs.soundness.Sound.{links, instructs}
 use Rattle.run_laws.proofs.typed_runs.Changes.{Moved, Same, Wakes}
@@ -36,7 +35,7 @@ use Rattle.run_laws.proofs.typed_threads.Ends.{EndsBy, Ending, step_ends}
 use Rattle.search_laws.specs.Alone.{HaveSameWords, passing}
 use Rattle.search_laws.specs.Ends.{HasThrown, AreExceptionsMet, IsStuck, AreStuckMet}
 use Rattle.search_laws.specs.KeptStates.{IsReached}
-use Rattle.search_laws.proofs.Events.{IsDone, done_of, changed, still, differs}
+use Rattle.search_laws.proofs.Events.{done_of, changed, still}
 use Rattle.search_laws.proofs.Runs.{first_of, begun, matched}
 use Rattle.search_laws.proofs.SameWords.{answer_of, typed, bisimilar}
 use Rattle.search_laws.proofs.Verdicts.{reached_typed, alike, lasting_met}

@@ -1,7 +1,6 @@
 -- What an event of a well-typed state comes to: what its thread does, and what that changes.
-use Rattle.std.proofs.Common.{◌≡◌, ℕ, ◌-◌, List, [], ◌∷◌, ◌++◌, length, true, false, ◌==◌, Option, Some, None, refl, sym, ap, ◌∙◌, subst}
+use Rattle.std.proofs.Common.{◌≡◌, ℕ, ◌-◌, List, [], ◌++◌, length, Option, Some, None, refl, sym, ap, subst}
 use Rattle.std.specs.Prelude.{slice_get, slice_set, replicate}
-use Rattle.std.proofs.lemmas.Bool.{false_from_ne_true, eqb-true}
 use Rattle.std.proofs.lemmas.Option.{same_Some, none-some, get_or_from_slice_get}
 use Rattle.model.specs.declared.event.Event.{Event}
 use Rattle.model.specs.declared.value.Value.{Value}
@@ -10,7 +9,7 @@ use Rattle.model.specs.Classes.{Program}
 use Rattle.model.specs.Operands.{values}
 use Rattle.model.specs.Outcomes.{Cost}
 use Rattle.model.specs.State.{types_of, Thread, StackOf, World, State}
-use Rattle.model.specs.Step.{SteppedOf, NotEnabled, WrongKind, Next, PartOf, part, end_of, settled, thread_event, with_part, event_of, next_by, step}
+use Rattle.model.specs.Step.{SteppedOf, NotEnabled, WrongKind, Next, PartOf, end_of, settled, thread_event, with_part, event_of, next_by, step}
 use Rattle.model.specs.WellTyped.{IsStackTyped, IsWellTyped}
 use Rattle.model.specs.Worlds.{thread_at, no_thread}
 use Rattle.run_laws.proofs.soundness.Sound.{by_status, fits_of, instructs, links}
@@ -70,6 +69,3 @@ module _ (files : List (List ℕ)) (trees : Program) (accepted : IsAccepted file
   pub still : (t : ℕ) (thread : Thread) → slice_get state.world.threads t ≡ Some thread
       → Still event.thread next.world.threads t thread
   still t thread there = changed.go.still t thread there
-
-  pub differs : (t : ℕ) → (t ≡ event.thread → ⊥) → (t == event.thread) ≡ false
-  differs t ne = false_from_ne_true (t == event.thread) (λ q. ne (eqb-true t event.thread q))

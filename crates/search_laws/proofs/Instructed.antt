@@ -4,15 +4,15 @@ use Rattle.std.specs.Prelude.{slice_get, slice_set, replicate}
 use Rattle.std.specs.Option.{option_and_then}
 use Rattle.std.proofs.lemmas.Bool.{eqb-true}
 use Rattle.std.proofs.lemmas.List.{append-nil}
-use Rattle.std.proofs.lemmas.Option.{same_Some, none-some, get_or_from_slice_get}
+use Rattle.std.proofs.lemmas.Option.{none-some, get_or_from_slice_get}
 use Rattle.model.specs.declared.event.Event.{Event}
 use Rattle.model.specs.declared.value.Value.{Value}
-use Rattle.model.specs.Classes.{Program, Body}
+use Rattle.model.specs.Classes.{Program}
 use Rattle.model.specs.Meanings.{meaning_of}
-use Rattle.model.specs.Operands.{values, under}
+use Rattle.model.specs.Operands.{values}
 use Rattle.model.specs.Outcomes.{Cost}
 use Rattle.model.specs.State.{types_of, Running, StackEntryOf, Invocation, StackOf, Thread, World, State}
-use Rattle.model.specs.Step.{SteppedOf, NotEnabled, WrongKind, Next, PartOf, part, enabled_if, unpicked, settled, ops_of, done, needing_class, bytecode_by, bytecode_in, going_event, thread_event, with_part, event_of, next_by, step}
+use Rattle.model.specs.Step.{SteppedOf, WrongKind, Next, PartOf, part, enabled_if, unpicked, settled, ops_of, done, needing_class, bytecode_by, bytecode_in, going_event, thread_event, with_part, event_of, next_by, step}
 use Rattle.model.specs.WellTyped.{IsStackTyped, IsRunning, IsWellTyped}
 use Rattle.model.specs.Worlds.{thread_at, no_thread}
 use Rattle.model.specs.WrongKind.{finds_operands, finds_in}

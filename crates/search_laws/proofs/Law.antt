@@ -7,8 +7,8 @@ use Rattle.model.specs.Run.{run_from}
 use Rattle.model.specs.State.{State}
 use Rattle.model.specs.Step.{step}
 use Rattle.model.specs.WellTyped.{IsWellTyped}
-use Rattle.search_laws.specs.Alone.{Relation, IsBisimulation, AreAlone}
-use Rattle.search_laws.specs.KeptStates.{Graph, Keeps, Reaches, Here, Onward, IsFollowed, AreExpandedFrom}
+use Rattle.search_laws.specs.Alone.{Relation, IsBisimulation}
+use Rattle.search_laws.specs.KeptStates.{Graph, Keeps, Reaches, Onward, IsFollowed, AreExpandedFrom}
 use Rattle.search_laws.proofs.Runs.{first_of}
 use Rattle.search_laws.proofs.Staying.{chain_like, Advance, Among, Behind, advance, chains_joined}
 

@@ -18,12 +18,12 @@ use Rattle.model.specs.Outcomes.{Cost, Makes, Enters, MachineException, exceptio
 use Rattle.model.specs.ReferenceTypes.{ReferenceType, ClassType}
 use Rattle.model.specs.Sites.{MeaningOf, Site, site_at}
 use Rattle.model.specs.State.{Instance, types_of, InProgress, Initialised, Erroneous, Monitor, WakeCause, Notified, Interrupted, ThreadStatus, Running, Waiting, Relock, Ended, Frame, Phase, Super, End, Invocation, Initialisation, StackOf, World}
-use Rattle.model.specs.Step.{SteppedOf, NotEnabled, WrongKind, Next, PartOf, part, on_to, enabled_if, unpicked, is_over, ended, with_waiters_woken, with_end, end_of, raised, needing, needing_class, entering, pushed, leaving, returned, become, ops_of, done, bytecode_by, bytecode_in, initialiser_event, before, initialisation_event, initial_class, main_frame, run_frame, run_of, begin_event, handler_in, unwound, failed, pending_event, after_wait, relock_event, running_event, going_event, thread_event}
+use Rattle.model.specs.Step.{SteppedOf, NotEnabled, WrongKind, Next, PartOf, part, on_to, enabled_if, is_over, ended, with_end, end_of, raised, needing, needing_class, entering, pushed, leaving, returned, become, ops_of, done, bytecode_by, bytecode_in, initialiser_event, before, initialisation_event, initial_class, main_frame, run_frame, run_of, begin_event, handler_in, unwound, failed, pending_event, after_wait, relock_event, running_event, going_event, thread_event}
 use Rattle.model.specs.Tree.{Entry, FieldTree, FileTree}
 use Rattle.model.specs.Types.{is_object_of}
-use Rattle.model.specs.Worlds.{thread_at, with_thread, with_begun, with_pending, with_status, with_interrupted, with_static, put_value, allocated, object_at, class_of_object, is_owner, may_enter, with_entry, entry_cost, with_exit, with_monitors, is_done, all_woken, waiters_of}
+use Rattle.model.specs.Worlds.{thread_at, with_thread, with_begun, with_pending, with_status, with_interrupted, with_static, put_value, object_at, class_of_object, is_owner, may_enter, with_entry, entry_cost, with_exit, with_monitors, is_done, all_woken, waiters_of}
 use Rattle.run_laws.proofs.laws.Operations.{OfMeaning}
-use Rattle.search_laws.proofs.LockOutcomes.{outcome_in, IsSame, DoesSame, meaning_same}
+use Rattle.search_laws.proofs.LockOutcomes.{outcome_in, DoesSame, meaning_same}
 use Rattle.search_laws.proofs.Locks.{IsChange, with_change, Owned, owned_apart, entered_apart, relocked_apart, owner_same, waiters_same, count_same, answer_same, called_same, woken_all_same, allocated_same, woken_same}
 use Rattle.search_laws.proofs.Spares.{itself, relock_spares, OutcomeSpares, DoesSpare, meaning_spares}
 

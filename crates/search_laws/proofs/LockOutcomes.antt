@@ -1,8 +1,7 @@
 -- A monitor that a thread owns is changed by the thread: what instructions of the others do commutes with that.
-use Rattle.std.proofs.Common.{◌≡◌, ℕ, List, [], ◌∷◌, ◌++◌, Bool, true, false, ◌==◌, ◌&&◌, nat_lt, length, if◌then◌else◌, Option, Some, None, refl, sym, ap, ◌∙◌, subst}
-use Rattle.std.specs.Prelude.{replicate, unwrap_or, is_some, slice_get, slice_set}
-use Rattle.std.specs.List.{remove}
-use Rattle.std.proofs.lemmas.Bool.{true≢false, false≢true, and_parts, and_from}
+use Rattle.std.proofs.Common.{◌≡◌, ℕ, List, [], Bool, true, false, ◌==◌, ◌&&◌, nat_lt, length, if◌then◌else◌, Option, Some, None, refl, ap, ◌∙◌}
+use Rattle.std.specs.Prelude.{replicate, is_some, slice_get}
+use Rattle.std.proofs.lemmas.Bool.{and_parts, and_from}
 use Rattle.model.specs.declared.event.Event.{Event}
 use Rattle.model.specs.declared.instr.ArrayKind.{ArrayKind}
 use Rattle.model.specs.declared.instr.ArrayKind.TheVariants as array_kind
@@ -10,10 +9,10 @@ use Rattle.model.specs.declared.instr.Returned.{Returned}
 use Rattle.model.specs.declared.instr.Returned.TheVariants as returned
 use Rattle.model.specs.declared.value.Value.{Value}
 use Rattle.model.specs.Arrays.{is_negative, made_array, in_range, at_index, may_stand_in, if_storable, load_of, store_of}
-use Rattle.model.specs.BuiltInMethods.{BuiltInMethod, Construct, ConstructWithTarget, ObjectWait, ObjectNotify, ObjectNotifyAll, ThreadStart, ThreadInterrupt, ThreadIsInterrupted, ThreadInterrupted, ThreadYield, ThreadCurrentThread, ThreadJoin, ThreadIsAlive, PrintStreamPrintln, built_in_method, object_of, waiting, wait_by, notified_one, notified, notified_all, if_owner, start_by, interrupted_in, interrupted_on, join_by, built_in_may, built_in_does}
-use Rattle.model.specs.Calls.{Chosen, Fails, Runs, runs, invoked, may_run, may_invoke, of_receiver, parameter_count, return_of}
+use Rattle.model.specs.BuiltInMethods.{BuiltInMethod, Construct, ConstructWithTarget, ObjectWait, ObjectNotify, ObjectNotifyAll, ThreadStart, ThreadInterrupt, ThreadIsInterrupted, ThreadInterrupted, ThreadYield, ThreadCurrentThread, ThreadJoin, ThreadIsAlive, PrintStreamPrintln, built_in_method, object_of, wait_by, notified_one, notified, notified_all, if_owner, start_by, interrupted_in, interrupted_on, join_by, built_in_may, built_in_does}
+use Rattle.model.specs.Calls.{Chosen, Fails, Runs, runs, invoked, may_run, may_invoke, return_of}
 use Rattle.model.specs.Classes.{Program, Body, body_of}
-use Rattle.model.specs.MonitorMeanings.{left, may_enter_object, monitor_enter_meaning, monitor_exit_meaning}
+use Rattle.model.specs.MonitorMeanings.{left, may_enter_object}
 use Rattle.model.specs.Meanings.{meaning_of}
 use Rattle.model.specs.Monitors as monitors
 use Rattle.model.specs.Monitors.{monitor_at}
@@ -23,12 +22,11 @@ use Rattle.model.specs.DescribedTypes.{type_named}
 use Rattle.model.specs.Opening.{class_reference, new_instance}
 use Rattle.model.specs.Operands.{Slots, values}
 use Rattle.model.specs.Outcomes.{Cost, Free, Makes, Enters, Joins, OutcomeOf, Goes, Raises, Throws, Interrupts, Calls, Returns, Waits, not_null}
-use Rattle.model.specs.Rows.{Row}
 use Rattle.model.specs.Sites.{MeaningOf, Site, operand, referent, int_operand, pushing, pushing_at}
-use Rattle.model.specs.State.{ObjectOf, Primitives, References, Monitor, Waiter, WakeCause, Notified, Interrupted, ThreadStatus, Running, Waiting, Relock, Ended, World}
+use Rattle.model.specs.State.{ObjectOf, Primitives, References, Monitor, Waiter, Notified, Interrupted, ThreadStatus, Running, Waiting, Relock, Ended, World}
 use Rattle.model.specs.Worlds.{allocated, fields_of, thread_at, is_owner, is_done, object_at, with_status, with_interrupted, all_woken, with_monitors, with_entry, with_exit, entry_cost, may_enter, thread_of, is_alive, waiters_of}
 use Rattle.run_laws.proofs.laws.Operations.{Operation, OfRow, GetSystemOut, GetStatic, PutStatic, GetField, PutField, Println, CallVirtual, CallConstructor, CallSpecial, CallStatic, CallInterface, Return, LoadClass, LoadString, New, NewArray, NewReferenceArray, ArrayLength, LoadElement, StoreElement, CheckCast, InstanceOf, Throw, MonitorEnter, MonitorExit, operation, OfMeaning, each_meaning}
-use Rattle.search_laws.proofs.Locks.{IsChange, with_change, Owned, owned_apart, entered_apart, owner_same, waiters_same, count_same, answer_same, called_same, woken_all_same, interrupted_same, allocated_same, woken_same}
+use Rattle.search_laws.proofs.Locks.{IsChange, with_change, Owned, owned_apart, entered_apart, owner_same, waiters_same, count_same, answer_same, called_same, interrupted_same, allocated_same, woken_same}
 
 module _ (t r : ℕ) (change : Monitor → Monitor) (c : IsChange t change) where
   abbrev pub changed_in : World → World
@@ -317,7 +315,7 @@ module _ (t r : ℕ) (change : Monitor → Monitor) (c : IsChange t change) wher
       same (LoadClass constant file e) = call_same (operation values files site (LoadClass constant file e)) (λ ops. refl) (λ slots ops rest. refl)
       same (LoadString constant) = call_same (operation values files site (LoadString constant)) (λ ops. refl) (λ slots ops rest. refl)
       same (New class file e) =
-          call_same (operation values files site (New class file e)) (λ ops. refl) 
+          call_same (operation values files site (New class file e)) (λ ops. refl)
           (λ slots ops rest.
           let made = new_instance values files class.name in
           goes_is (Makes (length (fields_of made))) (Makes (length (fields_of made))) (allocated w made) (allocated (f w) made) _ site.next refl (allocated_same t r change c v ne w own made))

@@ -1,25 +1,23 @@
 -- Where a thread changes a monitor that it owns, and its stack, events of the others lead on as they did.
-use Rattle.std.proofs.Common.{◌≡◌, ℕ, zero, suc, ◌-◌, List, [], ◌∷◌, ◌++◌, length, Bool, true, false, ◌==◌, Option, Some, None, refl, sym, ap, ◌∙◌, subst}
+use Rattle.std.proofs.Common.{◌≡◌, ℕ, ◌-◌, List, [], ◌∷◌, ◌++◌, length, Bool, Some, refl, sym, ap, ◌∙◌, subst}
 use Rattle.std.specs.Prelude.{slice_get, slice_set, replicate}
 use Rattle.std.proofs.lemmas.List.{set_comm, length-set}
-use Rattle.std.proofs.lemmas.Option.{same_Some, none-some}
+use Rattle.std.proofs.lemmas.Option.{same_Some}
 use Rattle.model.specs.declared.event.Event.{Event}
 use Rattle.model.specs.declared.value.Value.{Value}
 use Rattle.model.specs.Accepted.{IsAccepted}
 use Rattle.model.specs.Classes.{Program}
-use Rattle.model.specs.Monitors.{monitor_at, owns}
 use Rattle.model.specs.Operands.{values}
 use Rattle.model.specs.Run.{run_from}
 use Rattle.model.specs.State.{Monitor, Running, StackOf, World, State}
-use Rattle.model.specs.Step.{SteppedOf, Next, PartOf, part, end_of, settled, with_part, event_of, next_by, step}
+use Rattle.model.specs.Step.{Next, part, end_of, settled, with_part, event_of, next_by, step}
 use Rattle.model.specs.WellTyped.{IsWellTyped}
-use Rattle.model.specs.Words.{words_of}
-use Rattle.model.specs.Worlds.{thread_at, is_owner}
+use Rattle.model.specs.Worlds.{thread_at}
 use Rattle.run_laws.proofs.typed_runs.Threads.{get_set_other}
 use Rattle.search_laws.specs.Alone.{passing, next_event, AreOfOthers, IsAlone, HaveSameWords}
 use Rattle.search_laws.specs.OwnEvents.{StandsAs, IsFreeOf}
 use Rattle.search_laws.proofs.ClassesHeld.{OnEffect, IsEffect, event_effect}
-use Rattle.search_laws.proofs.ClassesKept.{effect, left}
+use Rattle.search_laws.proofs.ClassesKept.{effect}
 use Rattle.search_laws.proofs.Events.{does, IsDone, done_of}
 use Rattle.search_laws.proofs.LockEvents.{f, event_follows, end_same}
 use Rattle.search_laws.proofs.Locks.{IsChange, Owned}

@@ -1,16 +1,15 @@
 -- A monitor that a thread owns is changed by the thread: what the others ask of monitors commutes with that.
-use Rattle.std.proofs.Common.{◌≡◌, ℕ, zero, suc, List, [], ◌∷◌, ◌++◌, Bool, true, false, ◌==◌, if◌then◌else◌, Option, Some, None, refl, sym, ap, ◌∙◌, subst}
-use Rattle.std.specs.Prelude.{◌+◌, slice_get, slice_set, slice_index_or}
-use Rattle.std.proofs.lemmas.Bool.{true≢false, false≢true, false_from_ne_true, eqb-true, eq-eqb}
+use Rattle.std.proofs.Common.{◌≡◌, ℕ, zero, suc, List, [], ◌∷◌, ◌++◌, Bool, true, false, ◌==◌, if◌then◌else◌, refl, sym, ap, ◌∙◌, subst}
+use Rattle.std.specs.Prelude.{◌+◌, slice_set}
+use Rattle.std.proofs.lemmas.Bool.{false≢true, eqb-true, eq-eqb}
 use Rattle.std.proofs.lemmas.List.{set_comm}
 use Rattle.model.specs.declared.value.Value.{Value}
-use Rattle.model.specs.declared.monitor_answer.MonitorAnswer.{MonitorAnswer}
 use Rattle.model.specs.declared.monitor_answer.MonitorAnswer.TheVariants.{Held}
 use Rattle.model.specs.Monitors as monitors
 use Rattle.model.specs.Monitors.{Answered, unlocked, owns, monitor_at, answers_done, as_entrant, owned, relock_from, at_object, without}
-use Rattle.model.specs.Outcomes.{Enters}
 use Rattle.model.specs.State.{ObjectOf, Monitor, Waiter, WakeCause, World}
-use Rattle.model.specs.Worlds.{is_done, is_owner, may_enter, with_monitors, with_entry, with_exit, entry_cost, allocated, all_woken, woken, waiters_of}
+use Rattle.model.specs.Worlds.{is_done, is_owner, may_enter, with_monitors, allocated, all_woken, woken, waiters_of}
+use Rattle.search_laws.proofs.Owners.{owner_is, differs, not_owner}
 
 -- what the thread makes of a monitor that it owns: the wait set stays, and no other thread comes to own it
 pub record IsChange (t : ℕ) (change : Monitor → Monitor) : Type 0 where
@@ -50,10 +49,6 @@ module _ (t : ℕ) where
   at_added (m ∷ ms) zero own = refl
   at_added (m ∷ ms) (suc r) own = at_added ms r own
 
-owner_is : (u : ℕ) (o : Option ℕ) → owns u o ≡ true → o ≡ Some u
-owner_is u None e = absurd (false≢true e)
-owner_is u (Some w) e = ap (λ x. Some x) (eqb-true w u e)
-
 by_cases : {X : Type 0} (b : Bool) (object r : ℕ) → (object == r) ≡ b → (object ≡ r → X) → ((object ≡ r → ⊥) → X) → X
 by_cases true object r q same other = same (eqb-true object r q)
 by_cases false object r q same other = other (λ e. false≢true (sym q ∙ eq-eqb object r e))
@@ -77,7 +72,7 @@ module _ (t r : ℕ) (change : Monitor → Monitor) (c : IsChange t change) wher
     old = monitor_at ms r
 
     not_owned : owns v old.owner ≡ false
-    not_owned = ap (owns v) (owner_is t old.owner own) ∙ false_from_ne_true (t == v) (λ q. ne (eqb-true t v q))
+    not_owned = not_owner t v old.owner ne own
 
     -- ---- which object it is not
 
@@ -93,7 +88,7 @@ module _ (t r : ℕ) (change : Monitor → Monitor) (c : IsChange t change) wher
         let again = answers_done (owned old v (old.count + 1)) in
         let held : Answered Monitor = record { answer = Held; after = old } in
         ap (λ o. is_done (as_entrant v o old free again).answer) (owner_is t old.owner own)
-        ∙ ap (λ (b : Bool). is_done (if b then again else held).answer) (false_from_ne_true (t == v) (λ q. ne (eqb-true t v q)))
+        ∙ ap (λ (b : Bool). is_done (if b then again else held).answer) (differs t v ne)
 
     pub entered_apart : (object : ℕ) → may_enter w v object ≡ true → object ≡ r → ⊥
     entered_apart object h e = false≢true (sym enter_held ∙ (sym (ap (λ k. is_done (monitors.monitor_enter v (monitor_at ms k)).answer) e) ∙ h))

@@ -1,24 +1,23 @@
 -- What the next event of a thread of a well-typed state needs, by its words.
-use Rattle.std.proofs.Common.{◌≡◌, ℕ, zero, suc, List, [], ◌∷◌, ◌++◌, map, take, drop, length, nat_lt, Bool, true, false, if◌then◌else◌, Option, Some, None, option_map, refl, sym, ap, ◌∙◌, subst}
-use Rattle.std.specs.Prelude.{slice_get, slice_index_or}
+use Rattle.std.proofs.Common.{◌≡◌, ℕ, zero, suc, List, [], ◌∷◌, map, nat_lt, true, if◌then◌else◌, Option, Some, None, option_map, refl, sym, ap, ◌∙◌, subst}
+use Rattle.std.specs.Prelude.{slice_get}
 use Rattle.std.specs.Option.{option_and_then}
 use Rattle.std.proofs.lemmas.Option.{same_Some, slice_get-map, get_or_from_slice_get}
 use Rattle.model.specs.declared.event.Event.{Event}
 use Rattle.model.specs.declared.instr.Instr.{Instr}
 use Rattle.model.specs.declared.instr.Instr.TheVariants as instr
 use Rattle.model.specs.declared.value.Value.{Value}
-use Rattle.model.specs.declared.value.Value.TheVariants as value
 use Rattle.model.specs.Classes.{Program, Body, body_of}
 use Rattle.model.specs.Frames.{entered_by, frame_count}
 use Rattle.model.specs.Lookup.{select}
 use Rattle.model.specs.Meanings.{meaning_of}
 use Rattle.model.specs.MonitorMeanings.{monitor_enter_meaning}
 use Rattle.model.specs.Names.{Member, thread_run}
-use Rattle.model.specs.Operands.{Slots, Wants, words, values, over_values, over_words, operands, under, is_ready, word_of}
+use Rattle.model.specs.Operands.{Slots, words, values, over_words, operands, under, word_of}
 use Rattle.model.specs.Outcomes.{OutcomeOf, Goes, Raises, Throws, Interrupts, Calls, Returns, Waits}
 use Rattle.model.specs.Sites.{MeaningOf, Site, site_at, referent}
 use Rattle.model.specs.State.{types_of, ThreadStatus, Running, Waiting, Relock, Ended, Frame, Super, End, Invocation, Initialisation, StackOf, Thread, World, State}
-use Rattle.model.specs.Step.{ops_of, before}
+use Rattle.model.specs.Step.{ops_of}
 use Rattle.model.specs.Objects.{any_object}
 use Rattle.model.specs.Types.{AReference}
 use Rattle.model.specs.WellTyped.{IsStackTyped, IsRunning, IsWellTyped}

@@ -12,15 +12,13 @@ use Rattle.model.specs.Classes.{Program}
 use Rattle.model.specs.Opening.{opening}
 use Rattle.model.specs.Operands.{values}
 use Rattle.model.specs.Run.{run, run_from, may_step}
-use Rattle.model.specs.State.{types_of, Running, StackOf, State}
-use Rattle.model.specs.Step.{SteppedOf, NotEnabled, WrongKind, Next, PartOf, end_of, settled, thread_event, with_part, event_of, is_enabled_by, next_by, stepped, step}
-use Rattle.model.specs.WellTyped.{Extends, IsWellTyped}
-use Rattle.model.specs.Words.{words_of}
+use Rattle.model.specs.State.{Running, StackOf, State}
+use Rattle.model.specs.Step.{SteppedOf, NotEnabled, WrongKind, Next, PartOf, end_of, settled, with_part, event_of, is_enabled_by, next_by, stepped, step}
+use Rattle.model.specs.WellTyped.{IsWellTyped}
 use Rattle.model.specs.Worlds.{thread_at}
-use Rattle.run_laws.specs.interleavings.Ends.{Has, Outcome}
+use Rattle.run_laws.specs.interleavings.Ends.{Outcome}
 use Rattle.run_laws.specs.interleavings.Local.{next_local, with_stack}
-use Rattle.run_laws.specs.interleavings.Statements.{IsLeftAlone}
-use Rattle.run_laws.specs.searches.Searches.{AreLocal, IsFollowed, IsMet, IsWhole}
+use Rattle.run_laws.specs.searches.Searches.{AreLocal, IsFollowed, IsWhole}
 use Rattle.run_laws.proofs.interleavings.Commuting.{local_is_own, left_alone}
 use Rattle.run_laws.proofs.interleavings.Own.{next_of, of_next, own_unpicked}
 use Rattle.run_laws.proofs.interleavings.Reduction.{opened, run_typed}
@@ -29,8 +27,8 @@ use Rattle.search_laws.specs.Alone.{passing, next_event, AreOfOthers, IsAlone, A
 use Rattle.search_laws.specs.KeptStates.{Graph, IsFollowed as IsKeptBehind}
 use Rattle.search_laws.specs.OwnEvents.{StandsAs, IsOwnEvent, IsFreeOf, AreOwnEventsAlone, AreLocalEventsOwn, no_conflict, graph_of, AreSearchesWhole}
 use Rattle.search_laws.specs.Preemptions.{LeavesEnabled}
-use Rattle.search_laws.specs.Verdicts.{IsSearch, IsWholeSearch, AreListed}
-use Rattle.search_laws.proofs.Events.{does, state_with, IsDone, done_of, changed}
+use Rattle.search_laws.specs.Verdicts.{IsWholeSearch, AreListed}
+use Rattle.search_laws.proofs.Events.{does, done_of, changed}
 use Rattle.search_laws.proofs.Runs.{made_of, first_of, begun}
 use Rattle.search_laws.proofs.SameWords.{answer_of, typed}
 use Rattle.search_laws.proofs.Verdicts.{outcome_met}
@@ -212,8 +210,7 @@ module _ (files : List (List ℕ)) (trees : Program) (accepted : IsAccepted file
     followed state h f =
         let c = local_chain f.threads state f.last h f.are_local in
         let m = f.is_met in
-        let met_typed = run_typed files trees accepted frames m.schedule (opening values trees) m.met (opened files trees accepted frames) m.leads in
-        (
+        let met_typed = run_typed files trees accepted frames m.schedule (opening values trees) m.met (opened files trees accepted frames) m.leads in (
           m.has.0,
           record {
             threads = f.threads;

@@ -1,10 +1,10 @@
 -- Calls, returns and casts that are a thread's own.
-use Rattle.std.proofs.Common.{◌≡◌, ℕ, zero, suc, ◌-◌, List, [], ◌∷◌, ◌++◌, map, length, reverse, nat_lt, Bool, true, false, ◌&&◌, ◌==◌, if◌then◌else◌, Option, Some, None, option_map, refl, sym, ap, ◌∙◌, subst, arith}
-use Rattle.std.specs.Prelude.{is_none, unwrap_or, slice_get, slice_set, slice_index_or, replicate}
+use Rattle.std.proofs.Common.{◌≡◌, ℕ, List, [], ◌∷◌, ◌++◌, map, reverse, nat_lt, Bool, true, false, ◌&&◌, ◌==◌, if◌then◌else◌, Option, Some, None, option_map, refl, sym, ap, ◌∙◌, subst}
+use Rattle.std.specs.Prelude.{is_none, unwrap_or, slice_get}
 use Rattle.std.specs.Option.{option_and_then}
-use Rattle.std.proofs.lemmas.Bool.{true≢false, false≢true, eqb-true}
-use Rattle.std.proofs.lemmas.List.{append-nil, length-map, length-reverse}
-use Rattle.std.proofs.lemmas.Option.{same_Some, none-some, get_or_from_slice_get, slice_get-map}
+use Rattle.std.proofs.lemmas.Bool.{false≢true}
+use Rattle.std.proofs.lemmas.List.{length-map, length-reverse}
+use Rattle.std.proofs.lemmas.Option.{same_Some, none-some, slice_get-map}
 use Rattle.model.specs.declared.event.Event.{Event}
 use Rattle.model.specs.declared.instr.Instr.{Instr}
 use Rattle.model.specs.declared.instr.Instr.TheVariants as instr
@@ -12,7 +12,6 @@ use Rattle.model.specs.declared.instr.Returned.{Returned}
 use Rattle.model.specs.declared.instr.Returned.TheVariants as returned
 use Rattle.model.specs.declared.value.Value.{Value}
 use Rattle.model.specs.declared.value.Value.TheVariants as value
-use Rattle.model.specs.Accepted.{IsAccepted}
 use Rattle.model.specs.Arrays.{is_negative}
 use Rattle.model.specs.BuiltInMethods.{built_in_method}
 use Rattle.model.specs.Calls.{Chosen, Fails, Runs, runs, invoked, may_run, may_invoke, of_receiver, of_class, parameter_count, return_of, selected, its_class, if_implements, special_class, argument_wants}
@@ -29,44 +28,34 @@ use Rattle.model.specs.Pool.{integers_of}
 use Rattle.model.specs.ReferenceTypes.{ReferenceType, ClassType, is_subtype}
 use Rattle.model.specs.Rows.{Row, local_row}
 use Rattle.model.specs.Sites.{MeaningOf, Site, site_at, operand, referent, int_operand}
-use Rattle.model.specs.State.{ObjectOf, type_of, types_of, ThreadStatus, Running, Waiting, Relock, Ended, Frame, StackEntryOf, Invocation, Initialisation, StackOf, Thread, World, State}
-use Rattle.model.specs.Step.{SteppedOf, NotEnabled, WrongKind, Next, PartOf, part, on_to, enabled_if, unpicked, settled, entering, raised, leaving, pushed, returned, become, ops_of, done, needing_class, bytecode_by, bytecode_in, running_event, going_event, thread_event, with_part, event_of, next_by, step}
-use Rattle.model.specs.Types.{Want, value_meets, is_object_of, is_object_below, is_value_below, is_value_of}
-use Rattle.model.specs.WellTyped.{Extends, IsStackTyped, IsRunning, IsWellTyped}
-use Rattle.model.specs.Worlds.{thread_at, no_thread, no_object, is_owner, object_at, class_of_object}
-use Rattle.model.specs.WrongKind.{finds_operands, finds_in}
+use Rattle.model.specs.State.{ObjectOf, type_of, types_of, ThreadStatus, Running, Waiting, Relock, Ended, Frame, Invocation, Initialisation, StackOf, World, State}
+use Rattle.model.specs.Step.{Next, part, enabled_if, entering, raised, leaving, returned, become, ops_of, step}
+use Rattle.model.specs.Types.{value_meets, is_object_of, is_object_below, is_value_below, is_value_of}
+use Rattle.model.specs.WellTyped.{Extends, IsWellTyped}
+use Rattle.model.specs.Worlds.{thread_at, is_owner, object_at}
 use Rattle.run_laws.specs.interleavings.Local.{is_going, with_stack}
 use Rattle.run_laws.specs.laws.Steps.{Rooted}
 use Rattle.run_laws.proofs.laws.LinkedOf.{linked_of}
 use Rattle.run_laws.proofs.laws.Lists.{Pairwise, get_last}
 use Rattle.run_laws.proofs.laws.Operations.{Operation, OfRow, GetSystemOut, GetStatic, PutStatic, GetField, PutField, Println, CallVirtual, CallConstructor, CallSpecial, CallStatic, CallInterface, Return, LoadClass, LoadString, New, NewArray, NewReferenceArray, ArrayLength, LoadElement, StoreElement, CheckCast, InstanceOf, Throw, MonitorEnter, MonitorExit, operation, OfMeaning, each_meaning}
-use Rattle.run_laws.proofs.laws.Progress.{ready_finds}
-use Rattle.run_laws.proofs.typed_runs.Settled.{lengths_same, thread_there}
 use Rattle.run_laws.proofs.word_runs.WordMeanings.{Kinded, wanted_at}
 use Rattle.search_laws.specs.Alone.{next_event}
 use Rattle.search_laws.specs.OwnEvents.{StandsAs, IsOwnEvent}
+use Rattle.search_laws.specs.OwnedMonitors.{IsAt}
 use Rattle.search_laws.specs.OwnSteps.{is_cast, if_left, own_outcome, own_meant, own_at, own_in, own_stack, next_own, AreOwnStepsOwn}
 use Rattle.search_laws.proofs.Callees.{same_class}
+use Rattle.search_laws.proofs.Instructed.{IsLeft, found, put, done_at, step_at, put_left, only_zero}
 use Rattle.search_laws.proofs.Operands.{kinded}
-use Rattle.search_laws.proofs.Plain.{IsPlain, null_plain, left_plain, cast_plain, array_plain, built_in_plain, row_plain, load_plain, store_plain}
+use Rattle.search_laws.proofs.Plain.{IsPlain, null_plain, left_plain, array_plain, built_in_plain, row_plain, load_plain, store_plain}
 use Rattle.search_laws.proofs.WaitsLast.{type_kept}
 
 not_some : {X : Type 0} (own : StackOf Value) → None ≡ Some own → X
 not_some own e = absurd (none-some own e)
 
--- a stack that is not empty
-record IsLeft (own : StackOf Value) : Type 0 where
-  entry : StackEntryOf Value
-  rest : StackOf Value
-  is : own ≡ entry ∷ rest
-
 left_of : (stack own : StackOf Value) → if_left stack ≡ Some own → (stack ≡ own) × IsLeft own
 left_of [] own e = not_some own e
 left_of (entry ∷ stack) own e =
     let same = same_Some (entry ∷ stack) own e in (same, record { entry = entry; rest = stack; is = sym same })
-
-stays : (t : ℕ) (world : World) (own : StackOf Value) → IsLeft own → settled t (Next Free (part world own)) ≡ Next Free (part world own)
-stays t world own l = subst (λ k. settled t (Next Free (part world k)) ≡ Next Free (part world k)) (sym l.is) refl
 
 instance_kept : (files : Program) (before after : List ReferenceType) → Extends before after → (type : ReferenceType) (v : Value)
     → is_value_of files before type v ≡ true → is_value_of files after type v ≡ true
@@ -306,20 +295,10 @@ module _ (files : Program) (frames t : ℕ) (frame : Frame) (stack own : StackOf
 -- ---- what is known of a thread whose next event is its own
 
 record IsNextOwn (files : Program) (frames : ℕ) (state : State) (t : ℕ) (own : StackOf Value) : Type 0 where
-  frame : Frame
-  stack : StackOf Value
-  status : (thread_at state.world t).status ≡ Running
-  pending : (thread_at state.world t).pending ≡ None
-  there : slice_get state.stacks t ≡ Some (Invocation frame ∷ stack)
-  body : Body
-  is_body : body_of files frame.method ≡ Some body
-  site : Site
-  is_site : site_at frame.method body frame.place.offset ≡ Some site
-  meaning : MeaningOf Value
-  means : meaning_of values files site ≡ Some meaning
-  looks : meaning.looks ≡ None
-  does : own_outcome files frames frame stack (is_cast site.instr)
-      (meaning.does (next_event t) state.world frame.place.slots (ops_of values meaning frame.place.slots) (under meaning.wants frame.place.slots))
+  at : IsAt files state t
+  looks : at.meaning.looks ≡ None
+  does : own_outcome files frames at.frame at.stack (is_cast at.site.instr)
+      (at.meaning.does (next_event t) state.world at.frame.place.slots (ops_of values at.meaning at.frame.place.slots) (under at.meaning.wants at.frame.place.slots))
       ≡ Some own
 
 none_of : {X : Type 0} (o : Option X) → is_none o ≡ true → o ≡ None
@@ -346,8 +325,21 @@ module _ (files : Program) (frames : ℕ) (state : State) (t : ℕ) (own : Stack
             → IsNextOwn files frames state t own
         by true q x =
             record {
-              frame = frame; stack = stack; status = status; pending = pending; there = there; body = body; is_body = b; site = site; is_site = s; meaning = meaning; means = m;
-              looks = none_of meaning.looks q; does = x;
+              at = record {
+                frame = frame;
+                stack = stack;
+                status = status;
+                pending = pending;
+                there = there;
+                body = body;
+                is_body = b;
+                site = site;
+                is_site = s;
+                meaning = meaning;
+                means = m;
+              };
+              looks = none_of meaning.looks q;
+              does = x;
             }
         by false q x = not_some own x
 
@@ -384,105 +376,39 @@ module _ (files : Program) (frames : ℕ) (state : State) (t : ℕ) (own : Stack
 
 module _ (files : Program) (rooted : Rooted files) (frames : ℕ) (state : State) (h : IsWellTyped files state) (t : ℕ) (own : StackOf Value)
     (n : IsNextOwn files frames state t own) where
-  abbrev whole_stack : StackOf Value
-  whole_stack = Invocation n.frame ∷ n.stack
+  abbrev at : IsAt files state t
+  at = n.at
 
-  abbrev n_ops : List Value
-  n_ops = ops_of values n.meaning n.frame.place.slots
+  abbrev ops_now : List Value
+  ops_now = ops_of values at.meaning at.frame.place.slots
 
-  abbrev n_rest : List Value
-  n_rest = under n.meaning.wants n.frame.place.slots
-
-  -- it finds its operands
-  found : (later : State) → IsWellTyped files later → slice_get later.stacks t ≡ Some whole_stack → (thread_at later.world t).status ≡ Running
-      → (thread_at later.world t).pending ≡ None
-      → values.finds files (types_of later.world.heap) n.meaning.wants n.body.code.max_stack n.frame.place.slots ≡ true
-  found later g q runs none =
-      let os = types_of later.world.heap in
-      let at = thread_there files os later.world.threads later.stacks t whole_stack g.threads q in
-      let is = get_or_from_slice_get later.world.threads t at.0 no_thread at.1.0 in
-      let status : at.0.status ≡ Running = sym (ap (λ (th : Thread). th.status) is) ∙ runs in
-      let pending : at.0.pending ≡ None = sym (ap (λ (th : Thread). th.pending) is) ∙ none in
-      let running : IsRunning files os None whole_stack = subst (λ p. IsRunning files os p whole_stack) pending (subst (λ s. IsStackTyped files os at.0.pending whole_stack s) status at.1.1.stack_typed) in
-      let all = ready_finds files rooted os n.frame running.0 in
-      subst (λ o. finds_operands files os n.body.code.max_stack n.frame o ≡ true) n.means
-      (subst (λ o. finds_operands files os n.body.code.max_stack n.frame (option_and_then (meaning_of values files) o) ≡ true) n.is_site
-      (subst (λ o. finds_in files os n.frame o ≡ true) n.is_body all))
+  abbrev rest_now : List Value
+  rest_now = under at.meaning.wants at.frame.place.slots
 
   steady_at : (later : State) → (s : StandsAs state t later)
-      → IsSteady files frames t n.frame n.stack own n.site state.world later.world s.types n_ops n_rest n.meaning
+      → IsSteady files frames t at.frame at.stack own at.site state.world later.world s.types ops_now rest_now at.meaning
   steady_at later s =
-      let table = subst (OfMeaning (Steady files frames t n.frame n.stack own n.site state.world later.world s.types n_ops n_rest)) n.means
-      (meaning_steady files frames t n.frame n.stack own n.site state.world later.world s.types n_ops n_rest) in
-      table (kinded files (types_of state.world.heap) n.meaning.wants n.body.code.max_stack n.frame.place.slots (found state h n.there n.status n.pending)) n.does
+      let table = subst (OfMeaning (Steady files frames t at.frame at.stack own at.site state.world later.world s.types ops_now rest_now)) at.means
+      (meaning_steady files frames t at.frame at.stack own at.site state.world later.world s.types ops_now rest_now) in
+      table (kinded files (types_of state.world.heap) at.meaning.wants at.body.code.max_stack at.frame.place.slots (found files rooted frames state t at state h at.there at.status at.pending)) n.does
 
-  module _ (later : State) (g : IsWellTyped files later) (s : StandsAs state t later) where
-    abbrev put : SteppedOf (PartOf Value) → Option State
-    put x = next_by (with_part later t (settled t x))
-
-    abbrev event_at : ℕ → Event
-    event_at pick = record { thread = t; pick = pick }
-
-    there_now : slice_get later.stacks t ≡ Some whole_stack
-    there_now = s.alone.stack ∙ n.there
-
-    runs_now : (thread_at later.world t).status ≡ Running
-    runs_now = s.alone.status ∙ n.status
-
-    none_now : (thread_at later.world t).pending ≡ None
-    none_now = s.alone.pending ∙ n.pending
-
-    abbrev done_at : ℕ → SteppedOf (PartOf Value)
-    done_at pick = done values files frames (event_at pick) later.world n.frame n.stack n.meaning
-
-    abbrev may_at : ℕ → Bool
-    may_at pick = n.meaning.may (event_at pick) later.world n_ops
-
-    step_at : (pick : ℕ) → step files frames later (event_at pick) ≡ put (enabled_if (may_at pick) (done_at pick))
-    step_at pick =
-        ap (λ o. next_by (event_of values files frames later (event_at pick) o)) there_now
-        ∙ (ap (λ z. put (thread_event values files frames (event_at pick) later.world whole_stack z)) runs_now
-        ∙ (ap (λ o. put (going_event values files frames (event_at pick) later.world whole_stack o)) none_now
-        ∙ (ap (λ o. put (bytecode_in values files frames (event_at pick) later.world n.frame n.stack o)) n.is_body
-        ∙ (ap (λ o. put (bytecode_by values files frames (event_at pick) later.world n.frame n.stack n.body.code.max_stack (option_and_then (meaning_of values files) o))) n.is_site
-        ∙ (ap (λ o. put (bytecode_by values files frames (event_at pick) later.world n.frame n.stack n.body.code.max_stack o)) n.means
-        ∙ (ap (λ (b : Bool). put (if b then enabled_if (may_at pick) (needing_class values files t n.meaning.looks later.world whole_stack (done_at pick)) else unpicked (event_at pick) WrongKind)) (found later g there_now runs_now none_now)
-        ∙ ap (λ o. put (enabled_if (may_at pick) (needing_class values files t o later.world whole_stack (done_at pick)))) n.looks))))))
-
-    abbrev steady_now : IsSteady files frames t n.frame n.stack own n.site state.world later.world s.types n_ops n_rest n.meaning
-    steady_now = steady_at later s
-
-    put_own : put (Next Free (part later.world own)) ≡ Some (with_stack later t own)
-    put_own =
-        let e = lengths_same files (types_of later.world.heap) later.world.threads later.stacks g.threads in
-        let none : length later.world.threads - length later.stacks ≡ 0 = omega (arith, e) in
-        let ss = slice_set later.stacks t own in
-        ap (λ x. next_by (with_part later t x)) (stays t later.world own steady_now.becomes.left)
-        ∙ (ap (λ k. Some (let z : State = record { world = later.world; stacks = ss ++ replicate k [] } in z)) none
-        ∙ ap (λ k. Some (let z : State = record { world = later.world; stacks = k } in z)) (append-nil ss))
-
-    goes_now : step files frames later (next_event t) ≡ Some (with_stack later t own)
-    goes_now =
-        step_at 0
-        ∙ (ap (λ b. put (enabled_if b (done_at 0))) (steady_now.may 0)
-        ∙ (ap put steady_now.becomes.becomes ∙ put_own))
-
-    only_now : (next : State) (pick : ℕ) → step files frames later (event_at pick) ≡ Some next → pick ≡ 0
-    only_now next pick e = by (pick == 0) refl
-      where
-        by : (b : Bool) → (pick == 0) ≡ b → pick ≡ 0
-        by true q = eqb-true pick 0 q
-        by false q =
-            absurd (none-some next (sym (step_at pick ∙ ap (λ b. put (enabled_if b (done_at pick))) (steady_now.may pick ∙ q)) ∙ e))
+  goes_now : (later : State) → IsWellTyped files later → StandsAs state t later → step files frames later (next_event t) ≡ Some (with_stack later t own)
+  goes_now later g s =
+      let x = steady_at later s in
+      step_at files rooted frames state t at later g s n.looks 0
+      ∙ (ap (λ b. put files rooted frames state t at later g s (enabled_if b (done_at files rooted frames state t at later g s 0))) (x.may 0)
+      ∙ (ap (put files rooted frames state t at later g s) x.becomes.becomes
+      ∙ put_left files rooted frames state t at later g s Free later.world own refl x.becomes.left))
 
   own_event : IsOwnEvent files frames state t own
   own_event =
       record {
-        stack = whole_stack;
-        there = n.there;
-        runs = n.status;
-        goes = λ later g s. goes_now later g s;
-        only = λ later next pick g s e. only_now later g s next pick e;
+        stack = Invocation at.frame ∷ at.stack;
+        there = at.there;
+        runs = at.status;
+        goes = goes_now;
+        only = λ later next pick g s e.
+            only_zero files rooted frames state t at later g s n.looks (λ p q. (steady_at later s).may p ∙ q) next pick e;
       }
 
 pub own_steps_own : AreOwnStepsOwn

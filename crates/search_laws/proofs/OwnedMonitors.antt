@@ -1,10 +1,8 @@
 -- Events on a monitor that the thread owns are alone.
 use Rattle.std.proofs.Common.{◌≡◌, ℕ, ◌-◌, List, [], ◌∷◌, Bool, true, false, ◌==◌, ◌&&◌, if◌then◌else◌, Option, Some, None, refl, sym, ap, ◌∙◌, subst}
-use Rattle.std.specs.Prelude.{◌+◌, slice_get, slice_set, IsTrue}
-use Rattle.std.proofs.lemmas.Bool.{true≢false, false≢true, false_from_ne_true, eqb-true, eq-eqb}
-use Rattle.std.proofs.lemmas.Option.{same_Some, none-some}
-use Rattle.model.specs.declared.event.Event.{Event}
-use Rattle.model.specs.declared.instr.Instr.{Instr}
+use Rattle.std.specs.Prelude.{◌+◌}
+use Rattle.std.proofs.lemmas.Bool.{eq-eqb}
+use Rattle.std.proofs.lemmas.Option.{same_Some}
 use Rattle.model.specs.declared.instr.Instr.TheVariants as instr
 use Rattle.model.specs.declared.instr.Returned.{Returned}
 use Rattle.model.specs.declared.instr.Returned.TheVariants as returned
@@ -19,29 +17,26 @@ use Rattle.model.specs.MonitorMeanings.{left, may_enter_object, monitor_enter_me
 use Rattle.model.specs.Monitors as monitors
 use Rattle.model.specs.Monitors.{Answered, owns, monitor_at, answers_done, as_owner, as_entrant, owned, released}
 use Rattle.model.specs.Operands.{values, under}
-use Rattle.model.specs.Outcomes.{Cost, Free, OutcomeOf, Goes, not_null}
+use Rattle.model.specs.Outcomes.{Free, not_null}
 use Rattle.model.specs.Outcomes.{Returns as ReturnsTo}
 use Rattle.model.specs.Pool.{integers_of}
 use Rattle.model.specs.Rows.{local_row}
 use Rattle.model.specs.Sites.{MeaningOf, Site, referent, operand, pushing_at}
-use Rattle.model.specs.State.{Monitor, Waiter, StackEntryOf, Invocation, Initialisation, StackOf, World, State}
+use Rattle.model.specs.State.{Monitor, Waiter, StackEntryOf, Invocation, Initialisation, StackOf, State}
 use Rattle.model.specs.Step.{SteppedOf, Next, PartOf, part, on_to, enabled_if, raised, returned as returned_to, leaving, become, ops_of, step}
 use Rattle.model.specs.Outcomes.{IllegalMonitorState}
 use Rattle.model.specs.WellTyped.{IsWellTyped}
-use Rattle.model.specs.Worlds.{is_owner, is_done, may_enter, with_entry, with_exit, entry_cost}
+use Rattle.model.specs.Worlds.{is_owner, is_done, with_entry, with_exit, entry_cost}
 use Rattle.run_laws.specs.laws.Steps.{Rooted}
 use Rattle.run_laws.proofs.laws.LinkedOf.{linked_of}
 use Rattle.search_laws.specs.Alone.{passing, next_event, IsAlone, HaveSameWords}
-use Rattle.search_laws.specs.OwnEvents.{StandsAs, IsFreeOf}
+use Rattle.search_laws.specs.OwnEvents.{IsFreeOf}
 use Rattle.search_laws.specs.OwnedMonitors.{IsAt, IsToUse, Exits, Enters, Returns, AreOwnedMonitorsAlone}
-use Rattle.search_laws.proofs.Instructed.{IsLeft, whole, operands_at, put, done_at, may_at, step_at, put_left, only_zero}
-use Rattle.search_laws.proofs.Locks.{IsChange, Owned}
+use Rattle.search_laws.proofs.Instructed.{IsLeft, operands_at, put, done_at, step_at, put_left, only_zero}
+use Rattle.search_laws.proofs.Locks.{IsChange}
 use Rattle.search_laws.proofs.LockSteps.{moved, IsMoving, moving_alone}
+use Rattle.search_laws.proofs.Owners.{owner_is, differs, not_owner}
 use Rattle.search_laws.proofs.Waiting.{enter_means}
-
-owner_is : (u : ℕ) (o : Option ℕ) → owns u o ≡ true → o ≡ Some u
-owner_is u None e = absurd (false≢true e)
-owner_is u (Some w) e = ap (λ x. Some x) (eqb-true w u e)
 
 module _ (t : ℕ) where
   -- ---- what leaving and entering again make of a monitor
@@ -78,9 +73,6 @@ module _ (t : ℕ) where
       by true = refl
       by false = h
 
-  not_other : (m : Monitor) (v : ℕ) → (t ≡ v → ⊥) → owns t m.owner ≡ true → owns v m.owner ≡ false
-  not_other m v ne own = ap (owns v) (owner_is t m.owner own) ∙ false_from_ne_true (t == v) (λ q. ne (eqb-true t v q))
-
   abbrev exit_by : Bool → Monitor → Monitor
   exit_by b m =
       (let a : Answered Monitor = if b then answers_done (released m (m.count - 1)) else record { answer = NotOwner; after = m } in a).after
@@ -90,7 +82,7 @@ module _ (t : ℕ) where
       record {
         waiters = λ m. waiters m (owns t m.owner);
         commutes = λ m ws. commutes m ws (owns t m.owner);
-        others = λ m v ne own. ap (λ b. owns v (exit_by b m).owner) own ∙ released_owner m (m.count - 1) v (not_other m v ne own);
+        others = λ m v ne own. ap (λ b. owns v (exit_by b m).owner) own ∙ released_owner m (m.count - 1) v (not_owner t v m.owner ne own);
       }
     where
       waiters : (m : Monitor) (b : Bool) → (exit_by b m).waiters ≡ m.waiters
@@ -114,7 +106,7 @@ module _ (t : ℕ) where
         commutes = λ m ws. commutes m ws m.owner;
         others = λ m v ne own.
             ap (λ o. owns v (enter_by o m).owner) (owner_is t m.owner own)
-            ∙ (ap (λ b. owns v (again_by b m).owner) (eq-eqb t t refl) ∙ false_from_ne_true (t == v) (λ q. ne (eqb-true t v q)));
+            ∙ (ap (λ b. owns v (again_by b m).owner) (eq-eqb t t refl) ∙ differs t v ne);
       }
     where
       again_waiters : (m : Monitor) (b : Bool) → (again_by b m).waiters ≡ m.waiters

@@ -7,7 +7,6 @@ use Rattle.model.specs.Classes.{Program}
 use Rattle.model.specs.Meaning.{thread_ends}
 use Rattle.model.specs.Operands.{words, values}
 use Rattle.model.specs.Outcomes.{Cost}
-use Rattle.model.specs.Run.{is_quiet}
 use Rattle.model.specs.State.{State, StateOf}
 use Rattle.model.specs.Step.{SteppedOf, NotEnabled, WrongKind, Next, next_by, stepped, step}
 use Rattle.model.specs.WellTyped.{IsWellTyped}
@@ -65,8 +64,7 @@ module _ (files : List (List ℕ)) (trees : Program) (accepted : IsAccepted file
         sym (carries frames other event l.other_typed)
         ∙ (ap (λ (w : StateOf ℕ). stepped words trees frames w event) l.same ∙ (carries frames one event l.one_typed ∙ ap (map_stepped words_of) x.1))
         in
-        let y = next_with (stepped values trees frames other event) x.0 (words_of next) by_words in
-        (
+        let y = next_with (stepped values trees frames other event) x.0 (words_of next) by_words in (
           y.0,
           (
             y.1.0,

@@ -1,8 +1,8 @@
 -- What an instruction of a thread leaves to the others: the monitors that they own, and the initialisation of classes.
-use Rattle.std.proofs.Common.{◌≡◌, ℕ, zero, suc, List, [], ◌∷◌, Bool, true, false, ◌==◌, if◌then◌else◌, Option, Some, None, refl, sym, ap, ◌∙◌, subst}
+use Rattle.std.proofs.Common.{◌≡◌, ℕ, zero, suc, List, [], ◌∷◌, Bool, true, false, if◌then◌else◌, Option, Some, None, refl, sym, ap, ◌∙◌, subst}
 use Rattle.std.specs.List.{remove}
-use Rattle.std.specs.Prelude.{◌+◌, ◌-◌, ◌++◌, slice_get, slice_set, slice_index_or, unwrap_or, is_some}
-use Rattle.std.proofs.lemmas.Bool.{false≢true, false_from_ne_true, eqb-true, eq-eqb}
+use Rattle.std.specs.Prelude.{◌+◌, ◌-◌, ◌++◌, slice_get, slice_set, unwrap_or, is_some}
+use Rattle.std.proofs.lemmas.Bool.{false≢true}
 use Rattle.model.specs.declared.event.Event.{Event}
 use Rattle.model.specs.declared.instr.ArrayKind.{ArrayKind}
 use Rattle.model.specs.declared.instr.ArrayKind.TheVariants as array_kind
@@ -10,14 +10,14 @@ use Rattle.model.specs.declared.instr.Returned.{Returned}
 use Rattle.model.specs.declared.instr.Returned.TheVariants as returned
 use Rattle.model.specs.declared.value.Value.{Value}
 use Rattle.model.specs.Arrays.{is_negative, made_array, in_range, at_index, element_at, load_of, stored, kept_by, may_stand_in, if_storable, store_of, store_reference_meaning}
-use Rattle.model.specs.BuiltInMethods.{BuiltInMethod, Construct, ConstructWithTarget, ObjectWait, ObjectNotify, ObjectNotifyAll, ThreadStart, ThreadInterrupt, ThreadIsInterrupted, ThreadInterrupted, ThreadYield, ThreadCurrentThread, ThreadJoin, ThreadIsAlive, PrintStreamPrintln, built_in_method, object_of, waiting, wait_by, notified_one, notified, notified_all, if_owner, start_by, interrupted_in, interrupted_on, join_by, built_in_does}
+use Rattle.model.specs.BuiltInMethods.{BuiltInMethod, Construct, ConstructWithTarget, ObjectWait, ObjectNotify, ObjectNotifyAll, ThreadStart, ThreadInterrupt, ThreadIsInterrupted, ThreadInterrupted, ThreadYield, ThreadCurrentThread, ThreadJoin, ThreadIsAlive, PrintStreamPrintln, built_in_method, object_of, wait_by, notified_one, notified, notified_all, if_owner, start_by, interrupted_in, interrupted_on, join_by, built_in_does}
 use Rattle.model.specs.Calls.{Chosen, Fails, Runs, runs, invoked, of_receiver, parameter_count, return_of}
 use Rattle.model.specs.Classes.{Program, Body, body_of}
 use Rattle.model.specs.MonitorMeanings.{left, monitor_exit_meaning}
 use Rattle.model.specs.Meanings.{local_meaning, meaning_of}
 use Rattle.model.specs.Monitors as monitors
 use Rattle.model.specs.Monitors.{Answered, unlocked, owns, monitor_at, as_owner, as_entrant, owned, answers_done, at_object, released, relock_from}
-use Rattle.model.specs.Names.{Name, Member}
+use Rattle.model.specs.Names.{Member}
 use Rattle.model.specs.Objects.{cast}
 use Rattle.model.specs.Opening.{class_reference}
 use Rattle.model.specs.Operands.{Slots, values}
@@ -26,8 +26,9 @@ use Rattle.model.specs.Rows.{Row, after_row, row_target}
 use Rattle.model.specs.Sites.{MeaningOf, Site, operand, referent, int_operand, pushing}
 use Rattle.model.specs.State.{ObjectOf, Monitor, Waiter, WakeCause, Notified, ThreadStatus, Running, Waiting, Relock, Ended, Thread, World}
 use Rattle.model.specs.declared.monitor_answer.MonitorAnswer.TheVariants.{Held, NotOwner}
-use Rattle.model.specs.Worlds.{thread_at, with_status, with_monitors, with_entry, with_exit, is_owner, object_at, all_woken, woken, waiters_of, thread_of, is_alive, allocated}
+use Rattle.model.specs.Worlds.{thread_at, with_monitors, with_entry, with_exit, is_owner, object_at, all_woken, woken, waiters_of, thread_of, is_alive, allocated}
 use Rattle.run_laws.proofs.laws.Operations.{Operation, OfRow, GetSystemOut, GetStatic, PutStatic, GetField, PutField, Println, CallVirtual, CallConstructor, CallSpecial, CallStatic, CallInterface, Return, LoadClass, LoadString, New, NewArray, NewReferenceArray, ArrayLength, LoadElement, StoreElement, CheckCast, InstanceOf, Throw, MonitorEnter, MonitorExit, operation, OfMeaning, each_meaning}
+use Rattle.search_laws.proofs.Owners.{owner_is, differs}
 
 -- whoever else owns a monitor owns it still
 abbrev pub SparesMonitors : ℕ → List Monitor → List Monitor → Type 0
@@ -45,13 +46,6 @@ module _ (v : ℕ) where
   abbrev Leaves : (Monitor → Answered Monitor) → Type 0
   Leaves call = (m : Monitor) (u : ℕ) → (u ≡ v → ⊥) → owns u m.owner ≡ true → owns u (call m).after.owner ≡ true
 
-  owner_is : (u : ℕ) (o : Option ℕ) → owns u o ≡ true → o ≡ Some u
-  owner_is u None e = absurd (false≢true e)
-  owner_is u (Some w) e = ap (λ x. Some x) (eqb-true w u e)
-
-  another : (u : ℕ) → (u ≡ v → ⊥) → (u == v) ≡ false
-  another u ne = false_from_ne_true (u == v) (λ q. ne (eqb-true u v q))
-
   enter_leaves : Leaves (monitors.monitor_enter v)
   enter_leaves m u ne own =
       let free = answers_done (owned m v 1) in
@@ -59,7 +53,7 @@ module _ (v : ℕ) where
       let held : Answered Monitor = record { answer = Held; after = m } in
       let is : (monitors.monitor_enter v m).after.owner ≡ m.owner =
       ap (λ o. (as_entrant v o m free again).after.owner) (owner_is u m.owner own)
-      ∙ ap (λ (b : Bool). (if b then again else held).after.owner) (another u ne)
+      ∙ ap (λ (b : Bool). (if b then again else held).after.owner) (differs u v ne)
       in
       ap (owns u) is ∙ own
 
@@ -68,7 +62,7 @@ module _ (v : ℕ) where
       let none : Answered Monitor = record { answer = NotOwner; after = m } in
       let is : (as_owner v m (after m)).after.owner ≡ m.owner =
       ap (λ o. (if owns v o then answers_done (after m) else none).after.owner) (owner_is u m.owner own)
-      ∙ ap (λ (b : Bool). (if b then answers_done (after m) else none).after.owner) (another u ne)
+      ∙ ap (λ (b : Bool). (if b then answers_done (after m) else none).after.owner) (differs u v ne)
       in
       ap (owns u) is ∙ own
 

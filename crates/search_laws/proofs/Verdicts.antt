@@ -11,18 +11,18 @@ use Rattle.model.specs.Classes.{Program}
 use Rattle.model.specs.Opening.{opening}
 use Rattle.model.specs.Operands.{values}
 use Rattle.model.specs.Rows.{counting}
-use Rattle.model.specs.Run.{run, run_from, may_step, is_quiet}
+use Rattle.model.specs.Run.{run_from, may_step, is_quiet}
 use Rattle.model.specs.State.{types_of, StackOf, State}
-use Rattle.model.specs.Step.{SteppedOf, stepped, event_of, next_by, is_enabled_by, step}
+use Rattle.model.specs.Step.{stepped, event_of, next_by, is_enabled_by, step}
 use Rattle.model.specs.WellTyped.{IsWellTyped}
 use Rattle.run_laws.specs.interleavings.Ends.{Has, Outcome, outcome_of, EndsWith, AreAllOutcomes}
 use Rattle.run_laws.proofs.interleavings.Reduction.{opened, run_typed}
 use Rattle.run_laws.proofs.typed_runs.Settled.{lengths_same}
 use Rattle.search_laws.specs.Alone.{Relation, passing, IsBisimulation, HaveSameWords, next_event, AreAlone}
-use Rattle.search_laws.specs.KeptStates.{Graph, Keeps, Reaches, Here, Onward, IsReached, IsFollowed, IsExpanded, AreExpandedFrom, IsEdge, AreEdges, IsExplored, IsEndless, IsTrapped}
-use Rattle.search_laws.specs.Verdicts.{IsSearch, IsWholeSearch, IsMet as IsMetBy, AreRunsFollowed, AreAllFollowed, AreListed, AreOutcomesMet, IsLasting, IsLastingMet, AreTrapsEndless, AreEndlessTrapped, IsLastingConflict, AreConflictsMet}
-use Rattle.search_laws.proofs.Law.{kept_followed, IsMet, run_met}
-use Rattle.search_laws.proofs.Runs.{first_of, begun, joined, matched}
+use Rattle.search_laws.specs.KeptStates.{Graph, Keeps, Reaches, Here, Onward, IsReached, IsFollowed, IsExpanded, AreExpandedFrom, AreEdges, IsExplored, IsEndless, IsTrapped}
+use Rattle.search_laws.specs.Verdicts.{IsSearch, IsWholeSearch, IsMet as IsMetBy, AreRunsFollowed, AreAllFollowed, AreListed, AreOutcomesMet, IsLastingMet, AreTrapsEndless, AreEndlessTrapped, IsLastingConflict, AreConflictsMet}
+use Rattle.search_laws.proofs.Law.{kept_followed, run_met}
+use Rattle.search_laws.proofs.Runs.{begun, joined, matched}
 use Rattle.search_laws.proofs.SameWords.{answer_of, bisimilar_with, typed}
 
 -- ---- lists of numbers
@@ -181,8 +181,7 @@ module _ (files : List (List ℕ)) (trees : Program) (accepted : IsAccepted file
               → (node : ℕ) × (kept : State) × (Keeps graph node kept × IsTrapped trees frames graph node)
           endless_trapped edges state r endless =
               let f = all_followed state r in
-              let g = f.1 in
-              (
+              let g = f.1 in (
                 f.0,
                 g.kept,
                 (

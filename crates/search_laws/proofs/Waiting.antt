@@ -1,15 +1,13 @@
 -- A thread that waits for another one has no event, and waits for it still behind each event of a third one.
-use Rattle.std.proofs.Common.{◌≡◌, ℕ, zero, suc, ◌<◌, List, [], ◌∷◌, length, nat_lt, Bool, true, false, ◌==◌, ◌&&◌, if◌then◌else◌, Option, Some, None, option_map, refl, sym, ap, ◌∙◌, subst}
-use Rattle.std.specs.Prelude.{◌+◌, slice_get, slice_index_or}
+use Rattle.std.proofs.Common.{◌≡◌, ℕ, zero, suc, List, [], ◌∷◌, nat_lt, Bool, true, false, ◌==◌, ◌&&◌, if◌then◌else◌, Option, Some, None, option_map, refl, sym, ap, ◌∙◌, subst}
+use Rattle.std.specs.Prelude.{◌+◌}
 use Rattle.std.specs.Option.{option_and_then}
-use Rattle.std.proofs.lemmas.Bool.{false≢true, false_from_ne_true, eqb-true, eq-eqb}
-use Rattle.std.proofs.lemmas.Option.{same_Some, none-some, get_or_from_slice_get, slice_get-map}
+use Rattle.std.proofs.lemmas.Option.{same_Some, none-some}
 use Rattle.model.specs.declared.event.Event.{Event}
 use Rattle.model.specs.declared.instr.Instr.{Instr}
 use Rattle.model.specs.declared.instr.Instr.TheVariants as instr
 use Rattle.model.specs.declared.monitor_answer.MonitorAnswer.TheVariants.{Held}
 use Rattle.model.specs.declared.value.Value.{Value}
-use Rattle.model.specs.Accepted.{IsAccepted}
 use Rattle.model.specs.Classes.{Program, Body, body_of}
 use Rattle.model.specs.ClassInitialisation.{status_of, Look, IsReady, IsNew, IsHeld, HasFailed, look_by}
 use Rattle.model.specs.Frames.{frame_with, entered_by, frame_count, at_call}
@@ -25,13 +23,13 @@ use Rattle.model.specs.Outcomes.{OutcomeOf, Goes, Raises, Throws, Interrupts, Ca
 use Rattle.model.specs.Pool.{integers_of}
 use Rattle.model.specs.Rows.{local_row}
 use Rattle.model.specs.Sites.{MeaningOf, Site, site_at, referent}
-use Rattle.model.specs.State.{ClassStatus, NotInitialised, InProgress, Initialised, Erroneous, Monitor, type_of, types_of, ThreadStatus, Running, Waiting, Relock, Ended, Frame, Super, End, Invocation, Initialisation, StackOf, Thread, World, State}
-use Rattle.model.specs.Step.{SteppedOf, NotEnabled, WrongKind, Next, PartOf, part, on_to, enabled_if, unpicked, needing, needing_class, entering, pushed, raised, become, ops_of, done, bytecode_by, bytecode_in, before, initialiser_event, initialisation_event, initial_class, main_frame, run_frame, run_of, begin_event, running_event, going_event, relock_event, after_wait, thread_event, step}
-use Rattle.model.specs.WellTyped.{IsWellTyped}
-use Rattle.model.specs.Worlds.{thread_at, no_thread, object_at, class_of_object, no_object, is_owner, is_done, may_enter, with_begun, with_monitors, with_entry, with_status, entry_cost}
-use Rattle.search_laws.specs.Waits.{Need, MonitorOf, ClassOf, IsHeldBy, look_need, callee_entered, class_need, frame_need, instruction_need, meant_need, site_need, body_need, begin_need, stack_need, going_need, status_need, next_need}
+use Rattle.model.specs.State.{Monitor, types_of, ThreadStatus, Running, Waiting, Relock, Ended, Frame, Super, End, Invocation, Initialisation, StackOf, World}
+use Rattle.model.specs.Step.{SteppedOf, NotEnabled, WrongKind, Next, PartOf, part, enabled_if, unpicked, needing, needing_class, entering, pushed, raised, become, ops_of, done, bytecode_by, bytecode_in, before, initialiser_event, initialisation_event, initial_class, main_frame, run_frame, run_of, begin_event, running_event, going_event, relock_event, after_wait, thread_event}
+use Rattle.model.specs.Worlds.{thread_at, object_at, class_of_object, is_owner, is_done, may_enter, with_begun, with_monitors, with_entry, with_status, entry_cost}
+use Rattle.search_laws.specs.Waits.{Need, MonitorOf, IsHeldBy, look_need, callee_entered, class_need, frame_need, instruction_need, meant_need, site_need, body_need, begin_need, stack_need, going_need, status_need}
 use Rattle.run_laws.proofs.laws.Operations.{OfMeaning}
 use Rattle.search_laws.proofs.Callees.{Once, entered_again}
+use Rattle.search_laws.proofs.Owners.{owner_is, differs}
 
 -- ---- answers that lead nowhere
 
@@ -72,10 +70,6 @@ enter_means files site e =
 module _ (files : Program) (frames t u : ℕ) (ne : t ≡ u → ⊥) (world : World) (need : Need) (held : IsHeldBy world u need) where
   -- ---- monitors
 
-  owner_is : (o : Option ℕ) → owns u o ≡ true → o ≡ Some u
-  owner_is None e = absurd (false≢true e)
-  owner_is (Some w) e = ap (λ x. Some x) (eqb-true w u e)
-
   -- the monitor that it owns is entered by no other thread
   cannot_enter : (after : World) (object : ℕ) → after.monitors ≡ world.monitors → need ≡ MonitorOf object → may_enter after t object ≡ false
   cannot_enter after object same is =
@@ -84,16 +78,16 @@ module _ (files : Program) (frames t u : ℕ) (ne : t ≡ u → ⊥) (world : Wo
       let free = answers_done (owned m t 1) in
       let again = answers_done (owned m t (m.count + 1)) in
       let blocked : Answered Monitor = record { answer = Held; after = m } in
-      let other : (u == t) ≡ false = false_from_ne_true (u == t) (λ q. ne (sym (eqb-true u t q))) in
+      let other = differs u t (λ q. ne (sym q)) in
       ap (λ ms. is_done (monitors.enter object t ms).answer) same
-      ∙ (ap (λ o. is_done (as_entrant t o m free again).answer) (owner_is m.owner own)
+      ∙ (ap (λ o. is_done (as_entrant t o m free again).answer) (owner_is u m.owner own)
       ∙ ap (λ (b : Bool). is_done (if b then again else blocked).answer) other)
 
   cannot_relock : (object count : ℕ) → need ≡ MonitorOf object → is_done (monitors.relock object t count world.monitors).answer ≡ false
   cannot_relock object count is =
       let own : is_owner world u object ≡ true = subst (IsHeldBy world u) is held in
       let m = monitor_at world.monitors object in
-      ap (λ o. is_done (relock_from o m (answers_done (owned m t count))).answer) (owner_is m.owner own)
+      ap (λ o. is_done (relock_from o m (answers_done (owned m t count))).answer) (owner_is u m.owner own)
 
   -- ---- calls
 

@@ -1,8 +1,8 @@
 -- A thread that waits for another one waits for it still behind each event of a third one, and has no event meanwhile.
 use Rattle.std.proofs.Common.{◌≡◌, ℕ, zero, suc, List, [], ◌∷◌, length, nat_lt, Bool, true, false, ◌==◌, if◌then◌else◌, Option, Some, None, option_map, refl, sym, ap, ◌∙◌, subst}
-use Rattle.std.specs.Prelude.{◌-◌, slice_get, slice_set, slice_index_or, replicate}
+use Rattle.std.specs.Prelude.{◌-◌, slice_get, slice_set, replicate}
 use Rattle.std.specs.Option.{option_and_then}
-use Rattle.std.proofs.lemmas.Bool.{false≢true, false_from_ne_true, eqb-true, eq-eqb}
+use Rattle.std.proofs.lemmas.Bool.{false≢true, eqb-true}
 use Rattle.std.proofs.lemmas.Option.{same_Some, none-some, get_or_from_slice_get, slice_get-map}
 use Rattle.model.specs.declared.event.Event.{Event}
 use Rattle.model.specs.declared.instr.Instr.{Instr}
@@ -10,7 +10,7 @@ use Rattle.model.specs.declared.instr.Instr.TheVariants as instr
 use Rattle.model.specs.declared.value.Value.{Value}
 use Rattle.model.specs.Accepted.{IsAccepted}
 use Rattle.model.specs.Classes.{Program, Body, body_of}
-use Rattle.model.specs.ClassInitialisation.{status_of, Look, IsReady, IsHeld, look_by}
+use Rattle.model.specs.ClassInitialisation.{status_of, IsReady, IsHeld, look_by}
 use Rattle.model.specs.Frames.{entered_by, frame_count, is_synchronized_one}
 use Rattle.model.specs.Lookup.{select}
 use Rattle.model.specs.Meanings.{meaning_of}
@@ -18,11 +18,9 @@ use Rattle.model.specs.Monitors.{owns, monitor_at}
 use Rattle.model.specs.Names.{Name, Member, thread_run}
 use Rattle.model.specs.Operands.{values, under}
 use Rattle.model.specs.Outcomes.{OutcomeOf}
-use Rattle.model.specs.ReferenceTypes.{ReferenceType}
 use Rattle.model.specs.Sites.{MeaningOf, Site, site_at}
-use Rattle.model.specs.State as state
 use Rattle.model.specs.State.{ObjectOf, ClassStatus, NotInitialised, InProgress, Initialised, Erroneous, Monitor, type_of, types_of, ThreadStatus, Running, Waiting, Relock, Ended, Frame, Super, End, Invocation, Initialisation, StackOf, Thread, World, State}
-use Rattle.model.specs.Step.{before, ops_of, stepped, step}
+use Rattle.model.specs.Step.{before, ops_of, step}
 use Rattle.model.specs.WellTyped.{Extends, IsThreadTyped, IsWellTyped}
 use Rattle.model.specs.Worlds.{thread_at, no_thread, object_at, class_of_object, no_object, is_owner}
 use Rattle.run_laws.proofs.laws.Lists.{get_front}
@@ -33,9 +31,9 @@ use Rattle.run_laws.proofs.typed_runs.Threads.{get_set_other}
 use Rattle.search_laws.specs.KeptStates.{IsReached}
 use Rattle.search_laws.specs.Waits.{Need, MonitorOf, ClassOf, IsHeldBy, look_need, callee_entered, class_need, frame_need, instruction_need, meant_need, site_need, body_need, begin_need, stack_need, going_need, status_need, next_need, WaitsFor, WaitInTurn, IsCircle}
 use Rattle.search_laws.proofs.Callees.{Once, entered_again, same_class}
-use Rattle.search_laws.proofs.ClassesKept.{Stays, AreClassesHeld, class_stays, effect, d, left, reached_held}
-use Rattle.search_laws.proofs.Events.{changed, still, IsDone, done_of}
-use Rattle.search_laws.proofs.SameWords.{answer_of}
+use Rattle.search_laws.proofs.ClassesKept.{in_progress_inv, Stays, class_stays, effect, d, left, reached_held}
+use Rattle.search_laws.proofs.Events.{changed, still, done_of}
+use Rattle.search_laws.proofs.Owners.{differs}
 use Rattle.search_laws.proofs.Verdicts.{reached_typed}
 use Rattle.search_laws.proofs.Waiting.{LeadsNowhere, no_need, mapped, status_nowhere}
 
@@ -59,12 +57,6 @@ type_kept before after object o x there =
         → type_of (object_at after object) ≡ type_of o
     by None q e = absurd (none-some (type_of o) e)
     by (Some z) q e = ap type_of (get_or_from_slice_get after.heap object z no_object q) ∙ same_Some (type_of z) (type_of o) e
-
-progress_inv : (t u : ℕ) → InProgress t ≡ InProgress u → t ≡ u
-progress_inv t u e = cc
-
-class_inv : (a b : Name) → ClassOf a ≡ ClassOf b → a ≡ b
-class_inv a b e = cc
 
 module _ (files : List (List ℕ)) (trees : Program) (accepted : IsAccepted files trees) (frames : ℕ) (s next : State) (event : Event)
     (r : IsReached trees frames s) (e : step trees frames s event ≡ Some next) where
@@ -93,7 +85,7 @@ module _ (files : List (List ℕ)) (trees : Program) (accepted : IsAccepted file
     status_kept c k x q = class_stays trees frames s next event e (reached_held trees frames s r) c k x q
 
     progress_stays : (by : ℕ) → (by ≡ v → ⊥) → Stays v (InProgress by)
-    progress_stays by n = record { known = λ q. absurd cc; others = λ q. n (progress_inv by v q) }
+    progress_stays by n = record { known = λ q. absurd cc; others = λ q. n (in_progress_inv by v q) }
 
     held_by : (n : Need) → IsHeldBy s.world u n → IsHeldBy next.world u n
     held_by (MonitorOf object) own =
@@ -122,7 +114,7 @@ module _ (files : List (List ℕ)) (trees : Program) (accepted : IsAccepted file
         in_progress by is false k x =
             let n : ClassOf class ≡ need = same_Some (ClassOf class) need x in
             let held : status_of s.world class ≡ InProgress u = subst (IsHeldBy s.world u) (sym n) w.held in
-            let same = progress_inv by u (sym is ∙ held) in
+            let same = in_progress_inv by u (sym is ∙ held) in
             at_status (InProgress by) (status_kept class (InProgress by) (progress_stays by (λ q. u_not (sym same ∙ q))) is)
             (ap (λ (b : Bool). look_need (if b then IsReady else IsHeld) class after) k ∙ x)
 
@@ -263,7 +255,7 @@ module _ (files : List (List ℕ)) (trees : Program) (accepted : IsAccepted file
       is_at = get_or_from_slice_get next.world.threads t now.thread no_thread now.there
 
       other : (t == v) ≡ false
-      other = false_from_ne_true (t == v) (λ q. t_not (eqb-true t v q))
+      other = differs t v t_not
 
       moved : Moved (thread_at s.world t).status (thread_at next.world t).status
       moved = subst (λ (z : Thread). Moved z.status (thread_at next.world t).status) (sym was_at)
@@ -307,15 +299,15 @@ module _ (files : List (List ℕ)) (trees : Program) (accepted : IsAccepted file
 
   -- ---- circles
 
-  not_moving : (first t : ℕ) (threads : List ℕ) → WaitInTurn trees frames first t threads s → t ≡ v → ⊥
-  not_moving first t [] w q = waits_nowhere first (subst (λ z. WaitsFor trees frames z first s) q w)
-  not_moving first t (u ∷ threads) w q = waits_nowhere u (subst (λ z. WaitsFor trees frames z u s) q w.0)
+  not_moving : (start t : ℕ) (threads : List ℕ) → WaitInTurn trees frames start t threads s → t ≡ v → ⊥
+  not_moving start t [] w q = waits_nowhere start (subst (λ z. WaitsFor trees frames z start s) q w)
+  not_moving start t (u ∷ threads) w q = waits_nowhere u (subst (λ z. WaitsFor trees frames z u s) q w.0)
 
-  turn_next : (first t : ℕ) (threads : List ℕ) → (first ≡ v → ⊥) → WaitInTurn trees frames first t threads s
-      → WaitInTurn trees frames first t threads next
-  turn_next first t [] n w = waits_next t first (not_moving first t [] w) n w
-  turn_next first t (u ∷ threads) n w =
-      (waits_next t u (not_moving first t (u ∷ threads) w) (not_moving first u threads w.1) w.0, turn_next first u threads n w.1)
+  turn_next : (start t : ℕ) (threads : List ℕ) → (start ≡ v → ⊥) → WaitInTurn trees frames start t threads s
+      → WaitInTurn trees frames start t threads next
+  turn_next start t [] n w = waits_next t start (not_moving start t [] w) n w
+  turn_next start t (u ∷ threads) n w =
+      (waits_next t u (not_moving start t (u ∷ threads) w) (not_moving start u threads w.1) w.0, turn_next start u threads n w.1)
 
   pub circle_next : (t : ℕ) (threads : List ℕ) → IsCircle trees frames t threads s → IsCircle trees frames t threads next
   circle_next t threads w = turn_next t t threads (not_moving t t threads w) w

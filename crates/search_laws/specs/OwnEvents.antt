@@ -1,5 +1,5 @@
 -- Events that are a thread's own: functions of its stack, which change its stack alone.
-use Rattle.std.specs.Prelude.{◌≡◌, ℕ, List, Option, Some, Bool, false, true, slice_get, IsTrue}
+use Rattle.std.specs.Prelude.{◌≡◌, ℕ, List, Some, Bool, false, true, slice_get, IsTrue}
 use Rattle.std.specs.Option.{option_and_then}
 use Rattle.model.specs.declared.event.Event.{Event}
 use Rattle.model.specs.declared.value.Value.{Value}

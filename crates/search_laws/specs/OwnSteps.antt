@@ -1,7 +1,6 @@
 -- Calls, returns and casts that are a thread's own (JVMS 6.5): they throw nothing, begin no class, and enter and leave no monitor.
 use Rattle.std.specs.Prelude.{◌≡◌, ℕ, nat_lt, List, [], ◌∷◌, Option, Some, None, Bool, true, false, ◌&&◌, if◌then◌else◌, is_none, slice_get}
 use Rattle.std.specs.Option.{option_and_then}
-use Rattle.model.specs.declared.event.Event.{Event}
 use Rattle.model.specs.declared.instr.Instr.{Instr}
 use Rattle.model.specs.declared.instr.Instr.TheVariants as instr
 use Rattle.model.specs.declared.value.Value.{Value}

@@ -1,7 +1,5 @@
 -- Events of a thread on a monitor that it owns (JLS 17.1): it leaves it, or enters it again.
-use Rattle.std.specs.Prelude.{◌≡◌, ℕ, List, [], ◌∷◌, Option, Some, None, Bool, slice_get, IsTrue}
-use Rattle.model.specs.declared.event.Event.{Event}
-use Rattle.model.specs.declared.instr.Instr.{Instr}
+use Rattle.std.specs.Prelude.{◌≡◌, ℕ, List, ◌∷◌, Some, None, Bool, slice_get, IsTrue}
 use Rattle.model.specs.declared.instr.Instr.TheVariants as instr
 use Rattle.model.specs.declared.instr.Returned.{Returned}
 use Rattle.model.specs.declared.value.Value.{Value}

@@ -1,11 +1,8 @@
 -- What the states that a search keeps tell of all runs of accepted files.
-use Rattle.std.specs.Prelude.{◌≡◌, ℕ, List, Some, Bool, slice_get, IsTrue}
+use Rattle.std.specs.Prelude.{◌≡◌, ℕ, List, Some, Bool, IsTrue}
 use Rattle.model.specs.declared.event.Event.{Event}
 use Rattle.model.specs.Accepted.{IsAccepted}
 use Rattle.model.specs.Classes.{Program}
-use Rattle.model.specs.Meaning.{thread_ends}
-use Rattle.model.specs.Names.{Name}
-use Rattle.model.specs.Report.{Threw}
 use Rattle.model.specs.Run.{run_from, is_quiet}
 use Rattle.model.specs.State.{State}
 use Rattle.model.specs.Step.{step}

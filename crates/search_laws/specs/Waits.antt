@@ -2,7 +2,6 @@
 -- initialises (JVMS 5.5).
 use Rattle.std.specs.Prelude.{◌≡◌, ℕ, zero, suc, nat_lt, List, [], ◌∷◌, Option, Some, None, if◌then◌else◌, slice_get, IsTrue}
 use Rattle.std.specs.Option.{option_map, option_and_then}
-use Rattle.model.specs.declared.event.Event.{Event}
 use Rattle.model.specs.declared.instr.Instr.{Instr}
 use Rattle.model.specs.declared.instr.Instr.TheVariants as instr
 use Rattle.model.specs.Classes.{Program, Body, body_of}
