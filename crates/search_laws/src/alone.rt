@@ -14,10 +14,10 @@
 //!
 //! - Well-typed states with the same words are bisimilar: an event leads from both to such states, with the same
 //!   threads that may step and the same outcome so far (`states_with_the_same_words_are_bisimilar`). What is alone in a
-//!   well-typed state is alone behind each event of another thread (`what_is_alone_stays`).
+//!   state is alone behind each event of another thread (`what_is_alone_stays`).
 //! - An event is its thread's own (`IsOwnEvent`) where it changes the thread's stack alone, to the same one wherever the
-//!   thread stands as here. An own event, of a thread that is then in no conflict, is alone, and leaves it to each
-//!   other thread whether it may step (`own_events_are_alone`). A local event is its thread's own
+//!   thread stands as here. An own event, of a thread that is in no conflict where it stands so, is alone, and leaves it
+//!   to each other thread whether it may step (`own_events_are_alone`). A local event is its thread's own
 //!   (`local_events_are_own`). So are the call of an instance method that is not synchronized, the return from a method
 //!   that is not, and a cast that passes (`own_steps_are_own`).
 //! - A monitorexit of a monitor that the thread owns, a monitorenter of one, and the return from a synchronized method
