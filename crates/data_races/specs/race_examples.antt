@@ -1,0 +1,2 @@
+pub mod Raced
+pub mod LostUpdate
