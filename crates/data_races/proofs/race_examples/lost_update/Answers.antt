@@ -1,8 +1,8 @@
 use Rattle.std.proofs.Common.{refl}
-use Rattle.model.specs.BuiltIn.{built_in_classes}
-use Rattle.model.specs.Opening.{opening_heap}
 use Rattle.model.specs.OpcodeTable.{low_form, high_form}
 use Rattle.model.specs.DescriptorScan.{element_at, field_at, field_type, parameters_at, method_type}
+use Rattle.model.specs.BuiltIn.{built_in_classes}
+use Rattle.model.specs.Opening.{opening_heap}
 use Rattle.data_races.proofs.race_examples.lost_update.Goals as goal
 
 pub returns : goal.returns
