@@ -1,0 +1,4 @@
+pub mod Known
+pub mod Clocks
+pub mod Kept
+pub mod Told

@@ -1,0 +1,97 @@
+//! The last accesses of a variable by each thread that accessed it.
+
+ghost use Rattle.std.specs.Prelude.{◌≡◌, ℕ, List, [], MatchOption, slice_get};
+ghost use Rattle.race_detection.specs.last_accesses.Accesses.{AccessesOf, IsFirstUnknown, IsKeptOr, IsOfThread, no_accesses};
+
+use std::alloc::{AllocError, Global};
+use std::marker::Model;
+
+use crate::vector_clocks::Clock;
+
+/// An access: its thread, its position in the run, and its event.
+#[derive(Clone, Copy, PartialEq, Eq)]
+pub struct Access {
+    pub thread: usize,
+    pub position: u64,
+    pub event: u64,
+}
+
+/// The last reads of a variable and its last writes, at most one of each thread.
+#[derive(Drop)]
+pub struct Accesses {
+    pub reads: Vec<Access>,
+    pub writes: Vec<Access>,
+}
+
+impl Model for Accesses {
+    ghost Value = { AccessesOf };
+
+    ghost view = { λ a. record { reads = a.reads.items; writes = a.writes.items } };
+}
+
+impl Accesses {
+    pub fn new(alloc: Global) -> Accesses
+        ensures none { result ≡ no_accesses }
+    {
+        Accesses {
+            reads: Vec::new(alloc),
+            writes: Vec::new(alloc),
+        }
+    }
+
+    /// Keeps a read. Where memory is missing, nothing changes.
+    pub fn keep_read(&mut self, access: Access) -> Result<(), AllocError>
+        ensures reads { IsKeptOr result self.old.reads self.new.reads access }
+        ensures writes { self.new.writes ≡ self.old.writes }
+    {
+        keep(&mut self.reads, access)
+    }
+
+    /// Keeps a write. Where memory is missing, nothing changes.
+    pub fn keep_write(&mut self, access: Access) -> Result<(), AllocError>
+        ensures writes { IsKeptOr result self.old.writes self.new.writes access }
+        ensures reads { self.new.reads ≡ self.old.reads }
+    {
+        keep(&mut self.writes, access)
+    }
+}
+
+/// An access of another thread that did not happen before: the clock of this thread does not know its time.
+pub fn first_unknown(accesses: &[Access], thread: usize, clock: &Clock) -> Option<Access>
+    ensures { IsFirstUnknown accesses.now thread clock.now result }
+{
+    'accesses: for access in accesses {
+        if access.thread != thread && clock.time(access.thread) <= access.position {
+            return Some(*access);
+        }
+    }
+    None
+}
+
+/// The place of the access of a thread.
+pub fn place_of(accesses: &[Access], thread: usize) -> Option<usize>
+    ensures { MatchOption result (Unit {0}) (λ k. IsOfThread accesses.now k thread) }
+{
+    'accesses: for (k, access) in accesses.iter().enumerate() {
+        if access.thread == thread {
+            return Some(k);
+        }
+    }
+    None
+}
+
+/// Keeps an access in place of the one before of its thread. Where memory is missing, nothing changes.
+pub fn keep(accesses: &mut Vec<Access>, access: Access) -> Result<(), AllocError>
+    ensures { IsKeptOr result accesses.old.items accesses.new.items access }
+{
+    match place_of(accesses, access.thread) {
+        Some(k) => {
+            accesses[k] = access;
+            Ok(())
+        }
+        None => {
+            accesses.push(access)?;
+            Ok(())
+        }
+    }
+}
