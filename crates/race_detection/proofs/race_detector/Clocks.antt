@@ -2,7 +2,7 @@
 use Rattle.std.proofs.Common.{◌≡◌, refl, sym, ◌∙◌, ap, subst, ℕ, suc, ◌+◌, ◌<◌, ◌≤◌, ◌⊎◌, inl, inr, List, [], ◌∷◌, ◌++◌, length, max, arith, length-append}
 use Rattle.std.specs.Prelude.{Option, Some, None, slice_get, Bool, true, false, ◌==◌, ◌↔◌, IsTrue, IsFalse}
 use Rattle.std.proofs.lemmas.Option.{slice_get_within}
-use Rattle.std.proofs.lemmas.Bool.Decides.{eqb_tells}
+use Rattle.std.proofs.lemmas.Bool.Decides.{eqb_tells, leb_tells}
 use Rattle.data_races.proofs.Order.{at_next, with_next}
 use Rattle.race_detection.specs.declared.run_steps.Action.{Action}
 use Rattle.race_detection.specs.declared.run_steps.Step.{Step}
@@ -13,6 +13,9 @@ use Rattle.race_detection.proofs.race_detector.Known.{IsFoundBy, known_below, le
 
 pub length_next : (run : List Step) (s : Step) → length (with_next run s) ≡ length run + 1
 length_next run s = length-append run (s ∷ [])
+
+pub lt_or_le : (a b : ℕ) → (a < b) ⊎ (b ≤ a)
+lt_or_le a b = elim (leb_tells b a) [ inl p ↦ inr p.1 | inr p ↦ inl p.1 ]
 
 -- what the clocks of threads show
 abbrev pub ShowKnown : List Step → List (List ℕ) → Type 0
@@ -48,11 +51,11 @@ module _ (run : List Step) (s : Step) where
     own_shown : (i : ℕ) (step : Step) → slice_get run i ≡ Some step → (step.thread ≡ s.thread → ⊥) → i < time_in new s.thread step.thread
         → IsKnownTo (with_next run s) s.thread i
     own_shown i step at other l =
-        elim (ltb_tells i (time_in old s.thread step.thread)) [
-          inl p ↦ known_longer run s s.thread i ((shown s.thread i step at other).0 p.1)
+        elim (lt_or_le i (time_in old s.thread step.thread)) [
+          inl p ↦ known_longer run s s.thread i ((shown s.thread i step at other).0 p)
           | inr p ↦
               let e = raised.raised step.thread in
-              let m : time_in old s.thread step.thread ≤ i = p.1 in
+              let m : time_in old s.thread step.thread ≤ i = p in
               found_known run s i ((found i step at).0 (omega arith))
         ]
 
@@ -141,10 +144,10 @@ module _ (run : List Step) (s : Step) where
                 | inr q ↦
                     let e = stamped.rest step.thread q.1 in
                     let f = raised.raised step.thread in
-                    elim (ltb_tells i (time_in old place step.thread)) [
-                      inl o ↦ let h = (shown place i step p.1).0 o.1 in left_stays run s place i h.0 h.1
+                    elim (lt_or_le i (time_in old place step.thread)) [
+                      inl o ↦ let h = (shown place i step p.1).0 o in left_stays run s place i h.0 h.1
                       | inr o ↦
-                          let m : time_in old place step.thread ≤ i = o.1 in
+                          let m : time_in old place step.thread ≤ i = o in
                           left_new run s place i leaves (known_longer run s s.thread i ((known s.thread i step p.1 q.1).0 (omega arith)))
                     ]
               ]
