@@ -2,3 +2,5 @@ pub mod Known
 pub mod Clocks
 pub mod Kept
 pub mod Told
+pub mod Watching
+pub mod Steps

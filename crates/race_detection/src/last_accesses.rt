@@ -1,12 +1,12 @@
 //! The last accesses of a variable by each thread that accessed it.
 
-ghost use Rattle.std.specs.Prelude.{◌≡◌, ℕ, List, [], MatchOption, slice_get};
-ghost use Rattle.race_detection.specs.last_accesses.Accesses.{AccessesOf, IsFirstUnknown, IsKeptOr, IsOfThread, no_accesses};
+ghost use Rattle.std.specs.Prelude.{◌≡◌, ℕ, ◌<◌, List, [], MatchOption, OnOk, length, slice_get, slice_index_or};
+ghost use Rattle.race_detection.specs.last_accesses.Accesses.{AccessesOf, AreSameAccesses, IsFirstUnknown, IsKeptOr, IsOfThread, IsReadKeptOr, IsWriteKeptOr, accesses_at, no_accesses};
 
 use std::alloc::{AllocError, Global};
 use std::marker::Model;
 
-use crate::vector_clocks::Clock;
+use crate::vector_clocks::{Clock, time_of};
 
 /// An access: its thread, its position in the run, and its event.
 #[derive(Clone, Copy, PartialEq, Eq)]
@@ -57,15 +57,39 @@ impl Accesses {
 }
 
 /// An access of another thread that did not happen before: the clock of this thread does not know its time.
-pub fn first_unknown(accesses: &[Access], thread: usize, clock: &Clock) -> Option<Access>
-    ensures { IsFirstUnknown accesses.now thread clock.now result }
+pub fn first_unknown(accesses: &[Access], threads: &[Clock], thread: usize) -> Option<Access>
+    ensures { IsFirstUnknown accesses.now thread (slice_index_or threads.now thread []) result }
 {
     'accesses: for access in accesses {
-        if access.thread != thread && clock.time(access.thread) <= access.position {
+        if access.thread != thread && time_of(threads, thread, access.thread) <= access.position {
             return Some(*access);
         }
     }
     None
+}
+
+/// The same among the reads of a variable.
+pub fn unknown_read(variables: &[Accesses], variable: usize, threads: &[Clock], thread: usize) -> Option<Access>
+    ensures { IsFirstUnknown (accesses_at variables.now variable).reads thread (slice_index_or threads.now thread []) result }
+{
+    if variable < variables.len() {
+        let accesses = &variables[variable];
+        first_unknown(&accesses.reads, threads, thread)
+    } else {
+        None
+    }
+}
+
+/// The same among its writes.
+pub fn unknown_write(variables: &[Accesses], variable: usize, threads: &[Clock], thread: usize) -> Option<Access>
+    ensures { IsFirstUnknown (accesses_at variables.now variable).writes thread (slice_index_or threads.now thread []) result }
+{
+    if variable < variables.len() {
+        let accesses = &variables[variable];
+        first_unknown(&accesses.writes, threads, thread)
+    } else {
+        None
+    }
 }
 
 /// The place of the access of a thread.
@@ -94,4 +118,41 @@ pub fn keep(accesses: &mut Vec<Access>, access: Access) -> Result<(), AllocError
             Ok(())
         }
     }
+}
+
+/// Makes the accesses of variables up to this one.
+fn make_accesses(alloc: Global, variables: &mut Vec<Accesses>, variable: usize) -> Result<(), AllocError>
+    ensures same { AreSameAccesses variables.old.items variables.new.items }
+    ensures room { OnOk result (variable < length variables.new.items) }
+{
+    'made: while variables.len() <= variable {
+        variables.push(Accesses::new(alloc))?;
+    }
+    Ok(())
+}
+
+/// Keeps a read of a variable. Where memory is missing, nothing changes.
+pub fn keep_read(
+    alloc: Global,
+    variables: &mut Vec<Accesses>,
+    variable: usize,
+    access: Access,
+) -> Result<(), AllocError>
+    ensures { IsReadKeptOr result variables.old.items variables.new.items variable access }
+{
+    make_accesses(alloc, variables, variable)?;
+    variables[variable].keep_read(access)
+}
+
+/// Keeps a write of a variable. Where memory is missing, nothing changes.
+pub fn keep_write(
+    alloc: Global,
+    variables: &mut Vec<Accesses>,
+    variable: usize,
+    access: Access,
+) -> Result<(), AllocError>
+    ensures { IsWriteKeptOr result variables.old.items variables.new.items variable access }
+{
+    make_accesses(alloc, variables, variable)?;
+    variables[variable].keep_write(access)
 }

@@ -1,16 +1,15 @@
 //! A detector of data races: it is told of the steps of a run, one after another, and tells which of them race.
 
-ghost use Rattle.std.specs.Prelude.{◌≡◌, ℕ, ◌+◌, ◌<◌, ◌≤◌, ◌^◌, List, [], ◌∷◌, ◌++◌, OnOk, length, slice_index_or};
-ghost use Rattle.race_detection.specs.last_accesses.Accesses.{no_accesses};
+ghost use Rattle.std.specs.Prelude.{◌≡◌, ◌+◌, ◌<◌, ◌^◌, []};
 ghost use Rattle.race_detection.specs.race_detector.Watched.{DetectorOf, IsWatching, Watches, step_with};
 ghost use Rattle.std.specs.Option.{option_map, option_or};
 
 use std::alloc::{AllocError, Global};
 use std::marker::Model;
 
-use crate::last_accesses::{Access, Accesses, first_unknown};
+use crate::last_accesses::{Access, Accesses, keep_read, keep_write, unknown_read, unknown_write};
 use crate::run_steps::{Action, Step};
-use crate::vector_clocks::{Clock, join_clock, make_clock, make_join, make_room, reset_clock, stamp_clock};
+use crate::vector_clocks::{Clock, join_clock, make_join, make_release, reset_clock, stamp_clock};
 
 /// Knows of the steps of a run so far what it takes to tell the races of the next one: a clock for each thread and for
 /// each place, and the last reads and writes of each variable.
@@ -65,12 +64,10 @@ impl Detector {
         requires room { self.old.position + 1 < 2 ^ 64 }
         ensures watched { IsWatching result step self.old self.new }
     {
-        make_accesses(self.alloc, &mut self.variables, variable)?;
-        make_clock(self.alloc, &mut self.threads, step.thread)?;
-        let unknown = first_unknown(&self.variables[variable].writes, step.thread, &self.threads[step.thread]);
-        self.variables[variable].keep_read(access_of(step, self.position))?;
+        let written = unknown_write(&self.variables, variable, &self.threads, step.thread);
+        keep_read(self.alloc, &mut self.variables, variable, access_of(step, self.position))?;
         self.position += 1;
-        Ok(told_of(unknown, Action::Write(variable)))
+        Ok(told_of(written, Action::Write(variable)))
     }
 
     fn write(&mut self, step: Step, variable: usize) -> Result<Option<Step>, AllocError>
@@ -78,11 +75,9 @@ impl Detector {
         requires room { self.old.position + 1 < 2 ^ 64 }
         ensures watched { IsWatching result step self.old self.new }
     {
-        make_accesses(self.alloc, &mut self.variables, variable)?;
-        make_clock(self.alloc, &mut self.threads, step.thread)?;
-        let written = first_unknown(&self.variables[variable].writes, step.thread, &self.threads[step.thread]);
-        let read = first_unknown(&self.variables[variable].reads, step.thread, &self.threads[step.thread]);
-        self.variables[variable].keep_write(access_of(step, self.position))?;
+        let written = unknown_write(&self.variables, variable, &self.threads, step.thread);
+        let read = unknown_read(&self.variables, variable, &self.threads, step.thread);
+        keep_write(self.alloc, &mut self.variables, variable, access_of(step, self.position))?;
         self.position += 1;
         Ok(told_first(told_of(written, Action::Write(variable)), told_of(read, Action::Read(variable))))
     }
@@ -103,8 +98,7 @@ impl Detector {
         requires room { self.old.position + 1 < 2 ^ 64 }
         ensures watched { IsWatching result step self.old self.new }
     {
-        make_room(self.alloc, &mut self.places, place, step.thread)?;
-        make_join(self.alloc, &mut self.places, place, &self.threads, step.thread)?;
+        make_release(self.alloc, &mut self.places, place, &self.threads, step.thread)?;
         join_clock(&mut self.places, place, &self.threads, step.thread);
         self.position += 1;
         stamp_clock(&mut self.places, place, step.thread, self.position);
@@ -116,8 +110,7 @@ impl Detector {
         requires room { self.old.position + 1 < 2 ^ 64 }
         ensures watched { IsWatching result step self.old self.new }
     {
-        make_room(self.alloc, &mut self.places, left, step.thread)?;
-        make_join(self.alloc, &mut self.places, left, &self.threads, step.thread)?;
+        make_release(self.alloc, &mut self.places, left, &self.threads, step.thread)?;
         reset_clock(&mut self.places, taken);
         join_clock(&mut self.places, left, &self.threads, step.thread);
         self.position += 1;
@@ -156,15 +149,4 @@ fn told_first(first: Option<Step>, second: Option<Step>) -> Option<Step>
         Some(step) => Some(step),
         None => second,
     }
-}
-
-/// Makes the accesses of variables up to this one.
-fn make_accesses(alloc: Global, variables: &mut Vec<Accesses>, variable: usize) -> Result<(), AllocError>
-    ensures same { (v : ℕ) → slice_index_or variables.new.items v no_accesses ≡ slice_index_or variables.old.items v no_accesses }
-    ensures room { OnOk result (variable < length variables.new.items) }
-{
-    'made: while variables.len() <= variable {
-        variables.push(Accesses::new(alloc))?;
-    }
-    Ok(())
 }

@@ -55,6 +55,7 @@ impl Clock {
     pub fn reach(&mut self, thread: usize) -> Result<(), AllocError>
         ensures same { (t : ℕ) → slice_index self.new t ≡ slice_index self.old t }
         ensures room { OnOk result (thread < length self.new) }
+        ensures longer { length self.old ≤ length self.new }
     {
         'room: while self.times.len() <= thread {
             self.times.push(0)?;
@@ -94,6 +95,13 @@ impl Clock {
     }
 }
 
+/// The time of a thread in the clock of this number.
+pub fn time_of(clocks: &[Clock], index: usize, thread: usize) -> u64
+    ensures { result ≡ time_in clocks.now index thread }
+{
+    if index < clocks.len() { clocks[index].time(thread) } else { 0 }
+}
+
 /// Makes clocks up to this number, with no time set.
 pub fn make_clock(alloc: Global, clocks: &mut Vec<Clock>, index: usize) -> Result<(), AllocError>
     ensures same { AreSameTimes clocks.old.items clocks.new.items }
@@ -104,16 +112,6 @@ pub fn make_clock(alloc: Global, clocks: &mut Vec<Clock>, index: usize) -> Resul
         clocks.push(Clock::new(alloc))?;
     }
     Ok(())
-}
-
-/// Makes the clock of this number, with room for a thread.
-pub fn make_room(alloc: Global, clocks: &mut Vec<Clock>, index: usize, thread: usize) -> Result<(), AllocError>
-    ensures same { AreSameTimes clocks.old.items clocks.new.items }
-    ensures made { OnOk result (index < length clocks.new.items) }
-    ensures room { OnOk result (thread < length (slice_index_or clocks.new.items index [])) }
-{
-    make_clock(alloc, clocks, index)?;
-    clocks[index].reach(thread)
 }
 
 /// Makes the clock of this number, with room for the times of a clock of another list.
@@ -127,13 +125,29 @@ pub fn make_join(
     ensures same { AreSameTimes clocks.old.items clocks.new.items }
     ensures made { OnOk result (index < length clocks.new.items) }
     ensures room { OnOk result (HasRoom clocks.new.items index (slice_index_or others.now other [])) }
-    ensures longer { length (slice_index_or clocks.old.items index []) ≤ length (slice_index_or clocks.new.items index []) }
 {
     make_clock(alloc, clocks, index)?;
     if other < others.len() {
         clocks[index].grow(others[other].len())?;
     }
     Ok(())
+}
+
+/// Makes the clock of this number, with room for the times of a clock of another list and for a thread.
+pub fn make_release(
+    alloc: Global,
+    clocks: &mut Vec<Clock>,
+    index: usize,
+    others: &[Clock],
+    thread: usize,
+) -> Result<(), AllocError>
+    ensures same { AreSameTimes clocks.old.items clocks.new.items }
+    ensures made { OnOk result (index < length clocks.new.items) }
+    ensures room { OnOk result (HasRoom clocks.new.items index (slice_index_or others.now thread [])) }
+    ensures thread { OnOk result (thread < length (slice_index_or clocks.new.items index [])) }
+{
+    make_join(alloc, clocks, index, others, thread)?;
+    clocks[index].reach(thread)
 }
 
 /// Joins a clock of another list to one of these.

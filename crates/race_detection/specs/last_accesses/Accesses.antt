@@ -1,5 +1,5 @@
 -- The last accesses of a variable by each thread that accessed it.
-use Rattle.std.specs.Prelude.{◌≡◌, ℕ, ◌<◌, ◌≤◌, ◌⊎◌, List, [], Option, Some, None, Result, Ok, Err, slice_get, slice_index}
+use Rattle.std.specs.Prelude.{◌≡◌, ℕ, ◌<◌, ◌≤◌, ◌⊎◌, List, [], Option, Some, None, Result, Ok, Err, slice_get, slice_index, slice_index_or}
 use Rattle.race_detection.specs.declared.last_accesses.Access.{Access}
 
 -- x stands in the list
@@ -39,3 +39,31 @@ pub record IsOfThread (accesses : List Access) (k thread : ℕ) : Type 0 where
   pub access : Access
   pub at : slice_get accesses k ≡ Some access
   pub is_of : access.thread ≡ thread
+
+-- ---- of all variables
+
+abbrev pub accesses_at : List AccessesOf → ℕ → AccessesOf
+accesses_at variables variable = slice_index_or variables variable no_accesses
+
+abbrev pub AreSameAccesses : List AccessesOf → List AccessesOf → Type 0
+AreSameAccesses old new = (variable : ℕ) → accesses_at new variable ≡ accesses_at old variable
+
+-- a read of a variable is kept, and the rest stays
+pub record IsReadKept (old new : List AccessesOf) (variable : ℕ) (access : Access) : Type 0 where
+  pub reads : IsKept (accesses_at old variable).reads (accesses_at new variable).reads access
+  pub writes : (accesses_at new variable).writes ≡ (accesses_at old variable).writes
+  pub others : (v : ℕ) → (v ≡ variable → ⊥) → accesses_at new v ≡ accesses_at old v
+
+abbrev pub IsReadKeptOr : {E : Type 0} → Result (Unit {0}) E → List AccessesOf → List AccessesOf → ℕ → Access → Type 0
+IsReadKeptOr (Ok done) old new variable access = IsReadKept old new variable access
+IsReadKeptOr (Err e) old new variable access = AreSameAccesses old new
+
+-- a write of it is kept, and the rest stays
+pub record IsWriteKept (old new : List AccessesOf) (variable : ℕ) (access : Access) : Type 0 where
+  pub writes : IsKept (accesses_at old variable).writes (accesses_at new variable).writes access
+  pub reads : (accesses_at new variable).reads ≡ (accesses_at old variable).reads
+  pub others : (v : ℕ) → (v ≡ variable → ⊥) → accesses_at new v ≡ accesses_at old v
+
+abbrev pub IsWriteKeptOr : {E : Type 0} → Result (Unit {0}) E → List AccessesOf → List AccessesOf → ℕ → Access → Type 0
+IsWriteKeptOr (Ok done) old new variable access = IsWriteKept old new variable access
+IsWriteKeptOr (Err e) old new variable access = AreSameAccesses old new

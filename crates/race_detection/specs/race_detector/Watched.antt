@@ -1,5 +1,5 @@
 -- What a detector has to keep of a run, and what it tells of its next step.
-use Rattle.std.specs.Prelude.{◌≡◌, ℕ, ◌<◌, ◌≤◌, ◌⊎◌, ◌↔◌, List, [], ◌∷◌, ◌++◌, Option, Some, None, Result, Ok, Err, length, slice_get, slice_index_or, IsFalse}
+use Rattle.std.specs.Prelude.{◌≡◌, ℕ, ◌<◌, ◌≤◌, ◌⊎◌, ◌↔◌, List, [], ◌∷◌, ◌++◌, Option, Some, None, Result, Ok, Err, length, slice_get, IsFalse}
 use Rattle.race_detection.specs.declared.run_steps.Action.{Action}
 use Rattle.race_detection.specs.declared.run_steps.Action.TheVariants.{Read, Write}
 use Rattle.race_detection.specs.declared.run_steps.Step.{Step}
@@ -7,7 +7,7 @@ use Rattle.race_detection.specs.declared.last_accesses.Access.{Access}
 use Rattle.data_races.specs.HappensBefore.{HappensBefore, IsRace}
 use Rattle.race_detection.specs.run_steps.Synchronization.{left_by, takes, step_order}
 use Rattle.race_detection.specs.vector_clocks.Times.{time_in}
-use Rattle.race_detection.specs.last_accesses.Accesses.{Has, AccessesOf, no_accesses}
+use Rattle.race_detection.specs.last_accesses.Accesses.{Has, AccessesOf, accesses_at}
 
 -- what a detector has: of how many steps it was told, clocks of threads and of places, and the last accesses of variables
 pub record DetectorOf : Type 0 where
@@ -17,7 +17,7 @@ pub record DetectorOf : Type 0 where
   pub variables : List AccessesOf
 
 abbrev pub accesses_of : DetectorOf → ℕ → AccessesOf
-accesses_of d variable = slice_index_or d.variables variable no_accesses
+accesses_of d variable = accesses_at d.variables variable
 
 -- ---- what threads know, and what is left at places
 
