@@ -2,3 +2,4 @@
 #![tactic(auto)]
 
 pub mod race_examples;
+pub mod racy_states;

@@ -11,11 +11,11 @@
 --             new Lazy().start(); System.out.println(only().v);
 --         }
 --     }
-use Rattle.std.specs.Prelude.{◌≡◌, ℕ, List, [], ◌∷◌, ◌++◌}
+use Rattle.std.specs.Prelude.{ℕ, List, [], ◌∷◌, ◌++◌}
 use Rattle.model.specs.Tree.{FileTree}
 use Rattle.run_laws.specs.examples.ClassFiles.{field}
 use Rattle.data_races.specs.race_examples.Programs.{lazy}
-use Rattle.data_races.specs.race_examples.Raced.{times, racing_events}
+use Rattle.data_races.specs.race_examples.Raced.{times, AreRacing}
 
 -- with `static volatile Lazy only`
 abbrev pub volatile_lazy : FileTree
@@ -23,5 +23,5 @@ volatile_lazy = record lazy { fields = field 0x0048 11 12 [] ∷ field 0x0000 16
 
 pub record DoubleChecked : Type 0 where
   -- thread 1 makes the object: it writes v in event 31 and `only` in 33; main reads `only` in 44 and 46, and v in 48
-  pub plain : racing_events (lazy ∷ []) (times 11 0 ++ times 31 1 ++ times 7 0) ≡ (31, 48) ∷ (33, 44) ∷ (33, 46) ∷ []
-  pub volatile : racing_events (volatile_lazy ∷ []) (times 11 0 ++ times 31 1 ++ times 7 0) ≡ []
+  pub plain : AreRacing (lazy ∷ []) (times 11 0 ++ times 31 1 ++ times 7 0) ((31, 48) ∷ (33, 44) ∷ (33, 46) ∷ [])
+  pub volatile : AreRacing (volatile_lazy ∷ []) (times 11 0 ++ times 31 1 ++ times 7 0) []

@@ -9,12 +9,12 @@
 --             System.out.println(x);
 --         }
 --     }
-use Rattle.std.specs.Prelude.{◌≡◌, ℕ, List, [], ◌∷◌, ◌++◌}
+use Rattle.std.specs.Prelude.{ℕ, List, [], ◌∷◌, ◌++◌}
 use Rattle.model.specs.declared.event.Event.{Event}
 use Rattle.model.specs.Tree.{FileTree}
 use Rattle.run_laws.specs.examples.ClassFiles.{field}
 use Rattle.data_races.specs.race_examples.Programs.{flag}
-use Rattle.data_races.specs.race_examples.Raced.{times, racing_events}
+use Rattle.data_races.specs.race_examples.Raced.{times, AreRacing}
 
 -- with `static volatile boolean ready`
 abbrev pub volatile_flag : FileTree
@@ -25,5 +25,5 @@ abbrev pub events : List Event
 events = times 12 0 ++ times 6 1 ++ times 7 0
 
 pub record Flags : Type 0 where
-  pub plain : racing_events (flag ∷ []) events ≡ (11, 16) ∷ (14, 24) ∷ (16, 21) ∷ []
-  pub volatile : racing_events (volatile_flag ∷ []) events ≡ []
+  pub plain : AreRacing (flag ∷ []) events ((11, 16) ∷ (14, 24) ∷ (16, 21) ∷ [])
+  pub volatile : AreRacing (volatile_flag ∷ []) events []

@@ -8,10 +8,10 @@
 --             System.out.println(g); System.out.println(C.f); System.out.println(g);
 --         }
 --     }
-use Rattle.std.specs.Prelude.{◌≡◌, ℕ, List, [], ◌∷◌, ◌++◌}
+use Rattle.std.specs.Prelude.{ℕ, List, [], ◌∷◌, ◌++◌}
 use Rattle.data_races.specs.race_examples.Programs.{needs, needed}
-use Rattle.data_races.specs.race_examples.Raced.{times, racing_events}
+use Rattle.data_races.specs.race_examples.Raced.{times, AreRacing}
 
 pub record Initialised : Type 0 where
   -- Thread 1 initialises C, which writes C.f in event 24 and g in 26. Main reads g in 12, before it needs C, then C.f in 35 and g in 38.
-  pub who_needs_it : racing_events (needs ∷ needed ∷ []) (times 15 0 ++ times 20 1 ++ times 4 0) ≡ (12, 26) ∷ []
+  pub who_needs_it : AreRacing (needs ∷ needed ∷ []) (times 15 0 ++ times 20 1 ++ times 4 0) ((12, 26) ∷ [])

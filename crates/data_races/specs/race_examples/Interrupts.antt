@@ -29,16 +29,16 @@
 --             f = 1; u.start();
 --         }
 --     }
-use Rattle.std.specs.Prelude.{◌≡◌, ℕ, List, [], ◌∷◌, ◌++◌}
+use Rattle.std.specs.Prelude.{ℕ, List, [], ◌∷◌, ◌++◌}
 use Rattle.data_races.specs.race_examples.Programs.{interrupted, cleared, started}
-use Rattle.data_races.specs.race_examples.Raced.{times, racing_events}
+use Rattle.data_races.specs.race_examples.Raced.{times, AreRacing}
 
 pub record Interrupts : Type 0 where
   -- main writes f in event 18 and interrupts thread 1 in 20, which reads f behind its InterruptedException
-  pub found : racing_events (interrupted ∷ []) (times 13 0 ++ times 3 1 ++ times 6 0 ++ times 6 1) ≡ []
+  pub found : AreRacing (interrupted ∷ []) (times 13 0 ++ times 3 1 ++ times 6 0 ++ times 6 1) []
   -- thread 1 writes f in event 18 and clears its status in 19; main finds it clear in 23 and reads f in 27
-  pub found_cleared : racing_events (cleared ∷ []) (times 15 0 ++ times 7 1 ++ times 6 0) ≡ []
+  pub found_cleared : AreRacing (cleared ∷ []) (times 15 0 ++ times 7 1 ++ times 6 0) []
   -- main writes f in event 24 and starts thread 2; thread 1 interrupts that, finds it interrupted, and reads f in 38
-  pub found_started : racing_events (started ∷ []) (times 28 0 ++ times 11 1) ≡ []
+  pub found_started : AreRacing (started ∷ []) (times 28 0 ++ times 11 1) []
   -- thread 2 writes f in event 44
-  pub written_behind : racing_events (started ∷ []) (times 28 0 ++ times 11 1 ++ times 6 2) ≡ (38, 44) ∷ []
+  pub written_behind : AreRacing (started ∷ []) (times 28 0 ++ times 11 1 ++ times 6 2) ((38, 44) ∷ [])

@@ -1,11 +1,12 @@
 use Rattle.std.proofs.Common.{◌≡◌, refl, sym, ◌∙◌, subst, ap, ℕ, List}
 use Rattle.std.specs.Prelude.{Option}
-use Rattle.std.specs.Option.{option_or}
+use Rattle.std.specs.Option.{option_map, option_or}
 use Rattle.std.proofs.lemmas.Result.{err_from_is_err_and}
 use Rattle.race_detection.specs.declared.run_steps.Step.{Step}
 use Rattle.race_detection.specs.declared.last_accesses.Access.{Access}
 use Rattle.race_detection.specs.last_accesses.Accesses.{IsWriteKept}
-use Rattle.race_detection.specs.race_detector.Watched.{DetectorOf, Watches}
+use Rattle.race_detection.specs.declared.run_steps.Action.TheVariants.{Write}
+use Rattle.race_detection.specs.race_detector.Watched.{DetectorOf, Watches, step_with}
 use Rattle.race_detection.proofs.race_detector.Watching.{not_told}
 use Rattle.race_detection.proofs.race_detector.Steps.{write_told}
 use Rattle.race_detection.proofs.race_detector.Detector.write.Goals as goal
@@ -31,5 +32,5 @@ returns c =
           c.deref-2.ensures.value c.deref-4.ensures.value c.unknown_write-written.result c.unknown_read-read.result c.unknown_write-written.ensures c.unknown_read-read.ensures
           c.told_first.result
           (c.told_first.ensures ∙ ap (λ (o : Option Step). option_or o c.told_of-2.result) c.told_of.ensures
-          ∙ ap (λ (o : Option Step). option_or _ o) c.told_of-2.ensures);
+          ∙ ap (λ (o : Option Step). option_or (option_map (step_with (Write c.args.variable)) c.unknown_write-written.result) o) c.told_of-2.ensures);
     }
