@@ -2,4 +2,3 @@
 #![tactic(auto)]
 
 pub mod race_examples;
-pub mod racy_states;

@@ -1,3 +1,0 @@
-pub mod Unordered
-pub mod Shapes
-pub mod Accessing
