@@ -4,6 +4,7 @@ use Rattle.std.specs.Prelude.{Option, Some, None, slice_get, Bool, true, false, 
 use Rattle.std.specs.List.{list_any}
 use Rattle.std.proofs.lemmas.Option.{slice_get_within}
 use Rattle.std.proofs.lemmas.Bool.Decides.{eqb_tells}
+use Rattle.run_laws.specs.interleavings.Ends.{Has}
 use Rattle.data_races.specs.HappensBefore.{Relations, Pair, IsProgramOrdered, SynchronizesWith, HappensBefore, InProgramOrder, Synchronized, Through, IsRace}
 use Rattle.data_races.specs.RaceTest.{Marked, marked, stays, precedes, follows, pair_if, races_with, races_if, races_from, races_of}
 use Rattle.data_races.proofs.Order.{onwards, at_once, Precedes}
@@ -92,6 +93,15 @@ in_map f x (y ∷ xs) h = elim h [ inl e ↦ inl (ap f e) | inr t ↦ inr (in_ma
 pub from_map : {X Y : Type 0} (f : X → Y) (y : Y) (xs : List X) → In y (map f xs) → (x : X) × In x xs × (f x ≡ y)
 from_map f y [] h = absurd h
 from_map f y (x ∷ xs) h = elim h [ inl e ↦ (x, inl refl, sym e) | inr t ↦ let g = from_map f y xs t in (g.0, inr g.1, g.2) ]
+
+pub has_from_in : {A : Type 0} (x : A) (xs : List A) → In x xs → Has xs x
+has_from_in x [] h = absurd h
+has_from_in x (y ∷ ys) h = elim h [ inl e ↦ (0, let g : Some y ≡ Some x = λ i. Some (sym e i) in g) | inr t ↦ let p = has_from_in x ys t in (suc p.0, p.1) ]
+
+pub in_from_at : {A : Type 0} (x : A) (xs : List A) (k : ℕ) → slice_get xs k ≡ Some x → In x xs
+in_from_at x [] k h = absurd (cc)
+in_from_at x (y ∷ ys) zero h = let e : x ≡ y = cc in inl e
+in_from_at x (y ∷ ys) (suc k) h = inr (in_from_at x ys k h)
 
 pair_true : (t : Bool) (i j : ℕ) (x : ℕ × ℕ) → In x (pair_if t i j) → IsTrue t × (x ≡ (i, j))
 pair_true true i j x h = elim h [ inl e ↦ (refl, e) | inr t ↦ absurd t ]

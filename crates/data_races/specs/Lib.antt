@@ -5,3 +5,4 @@ pub mod EventActions
 pub mod Races
 pub mod RaceTest
 pub mod race_examples
+pub mod race_tests

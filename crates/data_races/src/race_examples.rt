@@ -1,4 +1,18 @@
 //! Which events of a run race, on programs written out: each function here is a theorem, and does nothing.
+//!
+//! # Proved
+//!
+//! Theorems by computation: for a program and a schedule, which pairs of events race, and that no others do.
+//!
+//! - Locks, and none: `lost_update`, which also has a state that is racy and one that isn't; `locked`, with wait and
+//!   notify, a thread found alive or ended, and a wait that a thread's end ends.
+//! - Volatile variables, and the same programs without: `flags`, `double_checked`.
+//! - Elements of arrays: `elements`. Interrupts, found, cleared, or of a thread just started: `interrupts`.
+//! - What a class's initialiser wrote, read by who needs the class before and by who doesn't: `initialised`.
+//!
+//! # Not proved
+//!
+//! - Nothing of other schedules of these programs.
 
 ghost use Rattle.data_races.specs.race_examples.DoubleChecked.{DoubleChecked};
 ghost use Rattle.data_races.specs.race_examples.Elements.{Elements};

@@ -1,4 +1,15 @@
 //! The last accesses of a variable by each thread that accessed it.
+//!
+//! # Proved
+//!
+//! - `first_unknown`, `unknown_read` and `unknown_write` answer an access of another thread whose position the clock of
+//!   a thread does not know, and none exactly where there is none.
+//! - `keep_read` and `keep_write` keep an access in place of the one before of its thread, and all others; where memory
+//!   is missing they change nothing.
+//!
+//! # Not proved
+//!
+//! - That a list has at most one access of each thread.
 
 ghost use Rattle.std.specs.Prelude.{◌≡◌, ℕ, ◌<◌, List, [], MatchOption, OnOk, length, slice_get, slice_index_or};
 ghost use Rattle.race_detection.specs.last_accesses.Accesses.{AccessesOf, AreSameAccesses, IsFirstUnknown, IsKeptOr, IsOfThread, IsReadKeptOr, IsWriteKeptOr, accesses_at, no_accesses};

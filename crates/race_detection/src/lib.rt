@@ -1,4 +1,5 @@
-//! The data races of a run, found in one pass by vector clocks. Variables, threads and what synchronizes are numbers here.
+//! The data races of a run, found in one pass by vector clocks. Variables, threads and what synchronizes are numbers
+//! here.
 #![tactic(auto)]
 
 pub mod last_accesses;

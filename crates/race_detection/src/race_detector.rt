@@ -1,4 +1,18 @@
-//! A detector of data races: it is told of the steps of a run, one after another, and tells which of them race.
+//! A detector of data races (JLS 17.4.5): it is told of the steps of a run, one after another, and tells which of them
+//! race.
+//!
+//! # Proved
+//!
+//! - Of whatever run the detector was told (`Watches`): to the next step it answers an earlier one that races with it,
+//!   as that step was told, if there is one; it answers none exactly where no earlier step races with it (`watch`). So
+//!   the second step of each race has one told, and so has each variable that has a race.
+//! - Where memory is missing, or 2^64 - 1 steps were told, it answers that, and still knows the same run.
+//!
+//! # Not proved
+//!
+//! - Which step is told where several race: it is the last write of some thread, or its last read.
+//! - How much memory it takes: a clock for each thread and each place, with a time for each thread; of each variable one
+//!   read and one write of each thread at most. What the numbers stand for.
 
 ghost use Rattle.std.specs.Prelude.{◌≡◌, ◌+◌, ◌<◌, ◌^◌, []};
 ghost use Rattle.race_detection.specs.race_detector.Watched.{DetectorOf, IsWatching, Watches, step_with};

@@ -1,4 +1,5 @@
-//! The steps of a run, by numbers: which thread did which action, in which event.
+//! The steps of a run, by numbers: which thread did which action, in which event. What orders them and which of them
+//! conflict is said in `specs/run_steps` (JLS 17.4).
 
 /// An action of a thread (JLS 17.4.2). A place is a number for what synchronizes: a monitor, a volatile variable, the
 /// start of a thread, its end, its interrupts, .. (17.4.4).

@@ -1,4 +1,12 @@
 //! Vector clocks (Fidge 1988, Mattern 1988): for each thread a time, 0 where none is set.
+//!
+//! # Proved
+//!
+//! - Of one clock: `time` is what was set; `grow` and `reach` change no time and make the room that they are asked for;
+//!   `set` sets one time; `join` makes each time the later one of both; after `reset` each is 0.
+//! - Of a list of clocks: `make_clock`, `make_join` and `make_release` change no time, and make the clock and the room
+//!   that they are asked for. `join_clock`, `stamp_clock` and `reset_clock` do to one clock of it what they say, and
+//!   leave the others.
 
 ghost use Rattle.std.specs.Prelude.{◌≡◌, ℕ, ◌<◌, ◌≤◌, List, [], OnOk, length, max, slice_index, slice_index_or, slice_set};
 ghost use Rattle.race_detection.specs.vector_clocks.Times.{AreAsLong, AreSameTimes, HasRoom, IsRaised, IsReset, IsStamped, time_in};

@@ -5,17 +5,8 @@ use Rattle.model.specs.declared.event.Event.{Event}
 use Rattle.model.specs.Classes.{Program}
 use Rattle.data_races.specs.Races.{actions_of_run, memory_order}
 use Rattle.data_races.specs.RaceTest.{races_of}
-use Rattle.data_races.specs.race_examples.Raced.{frames, events_at, Has, AreRacing, racing_events}
-use Rattle.data_races.proofs.Decided.{In, in_map, from_map, races_only, races_each}
-
-has_from_in : {A : Type 0} (x : A) (xs : List A) → In x xs → Has xs x
-has_from_in x [] h = absurd h
-has_from_in x (y ∷ ys) h = elim h [ inl e ↦ (0, let g : Some y ≡ Some x = λ i. Some (sym e i) in g) | inr t ↦ let p = has_from_in x ys t in (suc p.0, p.1) ]
-
-in_from_at : {A : Type 0} (x : A) (xs : List A) (k : ℕ) → slice_get xs k ≡ Some x → In x xs
-in_from_at x [] k h = absurd (cc)
-in_from_at x (y ∷ ys) zero h = let e : x ≡ y = cc in inl e
-in_from_at x (y ∷ ys) (suc k) h = inr (in_from_at x ys k h)
+use Rattle.data_races.specs.race_examples.Raced.{frames, events_at, AreRacing, racing_events}
+use Rattle.data_races.proofs.Decided.{In, in_map, from_map, has_from_in, in_from_at, races_only, races_each}
 
 pub raced : (files : Program) (events : List Event) (pairs : List (ℕ × ℕ)) → racing_events files events ≡ pairs → AreRacing files events pairs
 raced files events pairs is =

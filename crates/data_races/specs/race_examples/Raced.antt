@@ -4,6 +4,7 @@ use Rattle.std.specs.Option.{option_map_or}
 use Rattle.model.specs.declared.event.Event.{Event}
 use Rattle.model.specs.Classes.{Program}
 use Rattle.model.specs.Run.{run}
+use Rattle.run_laws.specs.interleavings.Ends.{Has}
 use Rattle.data_races.specs.Actions.{Action, Begin}
 use Rattle.data_races.specs.HappensBefore.{IsRace}
 use Rattle.data_races.specs.Races.{ActionOfRun, actions_of_run, memory_order, is_racy}
@@ -23,10 +24,6 @@ event_at run i = (slice_index_or run i (record { thread = 0; event = 0; action =
 -- the events of two actions, by their places in the run
 abbrev pub events_at : List ActionOfRun → ℕ × ℕ → ℕ × ℕ
 events_at run places = (event_at run places.0, event_at run places.1)
-
--- x stands in the list
-abbrev pub Has : {A : Type 0} → List A → A → Type 0
-Has xs x = (k : ℕ) × (slice_get xs k ≡ Some x)
 
 -- the pairs of events of the run that race are these; the earlier one comes first
 pub record AreRacing (files : Program) (events : List Event) (pairs : List (ℕ × ℕ)) : Type 0 where
