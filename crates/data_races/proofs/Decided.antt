@@ -1,11 +1,11 @@
 -- The test for races finds the races of a run, and no others.
 use Rattle.std.proofs.Common.{◌≡◌, refl, sym, ◌∙◌, ap, subst, ℕ, zero, suc, ◌+◌, ◌-◌, ◌<◌, ◌≤◌, ◌⊎◌, inl, inr, List, [], ◌∷◌, ◌++◌, length, map, arith}
-use Rattle.std.specs.Prelude.{Option, Some, None, slice_get, Bool, true, false, not, ◌&&◌, ◌||◌, ◌↔◌, IsTrue, IsFalse}
+use Rattle.std.specs.Prelude.{Some, None, slice_get, Bool, true, false, not, ◌&&◌, ◌||◌, ◌↔◌, IsTrue, IsFalse}
 use Rattle.std.specs.List.{list_any}
 use Rattle.std.proofs.lemmas.Option.{slice_get_within}
 use Rattle.std.proofs.lemmas.Bool.Decides.{eqb_tells}
 use Rattle.run_laws.specs.interleavings.Ends.{Has}
-use Rattle.data_races.specs.HappensBefore.{Relations, Pair, IsProgramOrdered, SynchronizesWith, HappensBefore, InProgramOrder, Synchronized, Through, IsRace}
+use Rattle.data_races.specs.HappensBefore.{Relations, Pair, HappensBefore, InProgramOrder, Synchronized, Through, IsRace}
 use Rattle.data_races.specs.RaceTest.{Marked, marked, stays, precedes, follows, pair_if, races_with, races_if, races_from, races_of}
 use Rattle.data_races.proofs.Order.{onwards, at_once, Precedes}
 
@@ -54,12 +54,12 @@ any_none test [] none m x at = absurd (cc)
 any_none test (y ∷ ys) none zero x at =
     let e : y ≡ x = cc in
     elim (is_or_not (test y)) [
-      inl t ↦ absurd (let g : true ≡ false = sym (or_left (test y) (list_any test ys) t) ∙ none in cc)
+      | inl t ↦ absurd (let g : true ≡ false = sym (or_left (test y) (list_any test ys) t) ∙ none in cc)
       | inr f ↦ subst (λ z. test z ≡ false) e f
     ]
 any_none test (y ∷ ys) none (suc m) x at =
     elim (is_or_not (list_any test ys)) [
-      inl t ↦ absurd (let g : true ≡ false = sym (or_right (test y) (list_any test ys) t) ∙ none in cc)
+      | inl t ↦ absurd (let g : true ≡ false = sym (or_right (test y) (list_any test ys) t) ∙ none in cc)
       | inr f ↦ any_none test ys f m x at
     ]
 
@@ -171,7 +171,7 @@ module _ {A : Type 0} (R : Relations A) (run : List A) where
   precedes_true a b between k j at_a at_b c h =
       let pair : Pair run k j = record { first = a; second = b; earlier = let e = c.ends in omega arith; at_first = at_a; at_second = at_b } in
       elim (one_of (R.is_of_one_thread a b) (stays R a between (R.synchronizes a b)) h) [
-        inl t ↦ inl (record { pair = pair; same = t })
+        | inl t ↦ inl (record { pair = pair; same = t })
         | inr t ↦
             let s = stays_true a between (R.synchronizes a b) t in
             inr (record {
@@ -189,7 +189,7 @@ module _ {A : Type 0} (R : Relations A) (run : List A) where
       → Precedes R run k j → IsTrue (precedes R a between b)
   precedes_from a b between k j at_a at_b c p =
       elim p [
-        inl h ↦
+        | inl h ↦
             or_left (R.is_of_one_thread a b) (stays R a between (R.synchronizes a b))
             (subst (λ y. IsTrue (R.is_of_one_thread a y)) (same_at j h.pair.second b h.pair.at_second at_b)
             (subst (λ x. IsTrue (R.is_of_one_thread x h.pair.second)) (same_at k h.pair.first a h.pair.at_first at_a) h.same))
@@ -218,11 +218,11 @@ module _ {A : Type 0} (R : Relations A) (run : List A) where
   follows_true i j b at (m ∷ earlier) k between w c h =
       let c' : Covers between (suc w.0) j = subst (λ n. Covers between n j) w.1 c in
       elim (one_of (m.is_behind && precedes R m.action between b) (follows R (m.action ∷ between) b earlier) h) [
-        inl t ↦
+        | inl t ↦
             let p = both m.is_behind (precedes R m.action between b) t in
             let edge = at_once R run w.0 j (precedes_true m.action b between w.0 j w.2 at c' p.1) in
             elim (w.3.0 p.0) [
-              inl e ↦ subst (λ n. HappensBefore R run n j) (sym e) edge
+              | inl e ↦ subst (λ n. HappensBefore R run n j) (sym e) edge
               | inr g ↦ Through i w.0 j g edge
             ]
         | inr t ↦ follows_true i j b at earlier w.0 (m.action ∷ between) w.4 (covers_more between m.action w.0 j w.2 c') t
@@ -235,7 +235,7 @@ module _ {A : Type 0} (R : Relations A) (run : List A) where
       let c' : Covers between (suc w.0) j = subst (λ n. Covers between n j) w.1 c in
       let k_is : k ≡ suc w.0 = w.1 in
       elim (eqb_tells p w.0) [
-        inl q ↦
+        | inl q ↦
             or_left (m.is_behind && precedes R m.action between b) (follows R (m.action ∷ between) b earlier)
             (and_true m.is_behind (precedes R m.action between b) (w.3.1 (subst (λ n. UpTo i n) q.1 up))
             (precedes_from m.action b between w.0 j w.2 at c' (subst (λ n. Precedes R run n j) q.1 edge)))
@@ -292,7 +292,7 @@ module _ {A : Type 0} (R : Relations A) (run : List A) where
       (subst (λ y. IsTrue (R.conflict a y)) (same_at j race.pair.second b race.pair.at_second at_b)
       (subst (λ x. IsTrue (R.conflict x race.pair.second)) (same_at i race.pair.first a race.pair.at_first at_a) race.conflict))
       (elim (is_or_not (follows R [] b earlier)) [
-        inl t ↦ absurd (race.unordered ((follows_is i j b earlier at_b w).0 t))
+        | inl t ↦ absurd (race.unordered ((follows_is i j b earlier at_b w).0 t))
         | inr f ↦ not_false (follows R [] b earlier) f
       ])
 
@@ -302,7 +302,7 @@ module _ {A : Type 0} (R : Relations A) (run : List A) where
   with_only i a at (b ∷ rest) j earlier l w r x h =
       let at_b = rest_first j b rest r in
       elim (in_cases x (pair_if (R.conflict a b && not (follows R [] b earlier)) i j) (races_with R a i (marked b (follows R [] b earlier) ∷ earlier) (suc j) rest) h) [
-        inl g ↦
+        | inl g ↦
             let p = pair_true (R.conflict a b && not (follows R [] b earlier)) i j x g in
             subst (λ (y : ℕ × ℕ). IsRace R run y.0 y.1) (sym p.1) (race_of i j a b earlier l at at_b w p.0)
         | inr g ↦
@@ -319,7 +319,7 @@ module _ {A : Type 0} (R : Relations A) (run : List A) where
       let first = pair_if (R.conflict a b && not (follows R [] b earlier)) i j in
       let others = races_with R a i (marked b (follows R [] b earlier) ∷ earlier) (suc j) rest in
       elim (eqb_tells p j) [
-        inl q ↦
+        | inl q ↦
             in_left (i, p) first others
             (subst (λ n. In (i, n) first) (sym q.1)
             (pair_in (R.conflict a b && not (follows R [] b earlier)) i j (test_of i j a b earlier at at_b w (subst (λ n. IsRace R run i n) q.1 race))))
@@ -353,7 +353,7 @@ module _ {A : Type 0} (R : Relations A) (run : List A) where
   from_only [] i r x h = absurd h
   from_only (a ∷ rest) i r x h =
       elim (in_cases x (races_if R (list_any (R.conflict a) rest) a i rest) (races_from R (suc i) rest) h) [
-        inl g ↦ if_only i a (list_any (R.conflict a) rest) (rest_first i a rest r) rest (rest_next i a rest r) x g
+        | inl g ↦ if_only i a (list_any (R.conflict a) rest) (rest_first i a rest r) rest (rest_next i a rest r) x g
         | inr g ↦ from_only rest (suc i) (rest_next i a rest r) x g
       ]
 
@@ -365,7 +365,7 @@ module _ {A : Type 0} (R : Relations A) (run : List A) where
       let first = races_if R (list_any (R.conflict a) rest) a i rest in
       let others = races_from R (suc i) rest in
       elim (eqb_tells q i) [
-        inl g ↦
+        | inl g ↦
             in_left (q, p) first others
             (subst (λ n. In (n, p) first) (sym g.1)
             (if_each i a rest (list_any (R.conflict a) rest) refl (rest_first i a rest r) (rest_next i a rest r) p (subst (λ n. IsRace R run n p) g.1 race)))

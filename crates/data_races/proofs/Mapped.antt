@@ -1,6 +1,6 @@
 -- Races of a run whose actions are renamed, as variables and threads are by numbers.
-use Rattle.std.proofs.Common.{◌≡◌, refl, sym, ◌∙◌, ap, subst, ℕ, zero, suc, ◌<◌, List, [], ◌∷◌, map}
-use Rattle.std.specs.Prelude.{Some, None, slice_get, IsTrue, IsFalse}
+use Rattle.std.proofs.Common.{◌≡◌, refl, sym, ◌∙◌, ap, subst, ℕ, zero, suc, List, [], ◌∷◌, map}
+use Rattle.std.specs.Prelude.{Some, slice_get, IsTrue, IsFalse}
 use Rattle.data_races.specs.HappensBefore.{Relations, Pair, IsProgramOrdered, SynchronizesWith, HappensBefore, InProgramOrder, Synchronized, Through, IsRace}
 
 -- an action of the run

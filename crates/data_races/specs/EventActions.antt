@@ -11,7 +11,7 @@ use Rattle.model.specs.declared.instr.FieldAccess.{FieldAccess}
 use Rattle.model.specs.declared.instr.FieldAccess.TheVariants as access
 use Rattle.model.specs.declared.instr.Invocation.{Invocation}
 use Rattle.model.specs.declared.instr.Invocation.TheVariants as invocation
-use Rattle.model.specs.Names.{Name, name_eq, Member, constructor_name}
+use Rattle.model.specs.Names.{Name, Member}
 use Rattle.model.specs.Pool.{field_at, method_at, interface_method_at}
 use Rattle.model.specs.Classes.{Program, Body, body_of}
 use Rattle.model.specs.ReferenceTypes.{ClassType, is_subtype}
@@ -20,12 +20,12 @@ use Rattle.model.specs.Operands.{values, under, Slots}
 use Rattle.model.specs.Rows.{counting}
 use Rattle.model.specs.State as state
 use Rattle.model.specs.State.{type_of, ClassStatus, NotInitialised, InProgress, Initialised, Erroneous, Monitor, WakeCause, Notified, Interrupted, ThreadStatus, Running, Waiting, Relock, Ended, Thread, Phase, Super, End, Frame, Initialisation, StackOf, World, State}
-use Rattle.model.specs.Outcomes.{OutcomeOf, Goes, Raises, Throws, Interrupts, Calls, Returns, Waits}
+use Rattle.model.specs.Outcomes.{OutcomeOf, Goes}
 use Rattle.model.specs.Monitors.{owns}
 use Rattle.model.specs.Worlds.{thread_at, thread_of, has_ended, is_owner, object_at}
 use Rattle.model.specs.ClassInitialisation.{status_of, Look, IsReady, IsNew, IsHeld, HasFailed, look_at}
-use Rattle.model.specs.Sites.{MeaningOf, Site, site_at, operand, referent, int_operand}
-use Rattle.model.specs.BuiltInMethods.{BuiltInMethod, Construct, ConstructWithTarget, ObjectWait, ObjectNotify, ObjectNotifyAll, ThreadStart, ThreadInterrupt, ThreadIsInterrupted, ThreadInterrupted, ThreadYield, ThreadCurrentThread, ThreadJoin, ThreadIsAlive, PrintStreamPrintln, built_in_method, object_of}
+use Rattle.model.specs.Sites.{MeaningOf, Site, site_at, referent, int_operand}
+use Rattle.model.specs.BuiltInMethods.{BuiltInMethod, ObjectWait, ThreadStart, ThreadInterrupt, ThreadIsInterrupted, ThreadInterrupted, ThreadJoin, ThreadIsAlive, built_in_method, object_of}
 use Rattle.model.specs.Calls.{Chosen, Fails, Runs, parameter_count, selected, its_class, of_receiver, if_implements, special_class}
 use Rattle.model.specs.Meanings.{meaning_of}
 use Rattle.model.specs.Step.{ops_of, before, initial_class, step}

@@ -1,5 +1,5 @@
 -- Data races of runs and of states (JLS 17.4.5), and programs that are correctly synchronized.
-use Rattle.std.specs.Prelude.{ℕ, zero, suc, List, [], ◌∷◌, ◌++◌, Option, Some, Bool, not, ◌&&◌, ◌==◌, length, map, IsTrue}
+use Rattle.std.specs.Prelude.{ℕ, suc, List, [], ◌∷◌, ◌++◌, Bool, not, ◌&&◌, ◌==◌, length, map, IsTrue}
 use Rattle.std.specs.Option.{option_map_or}
 use Rattle.std.specs.List.{list_any}
 use Rattle.model.specs.declared.event.Event.{Event}
@@ -9,7 +9,6 @@ use Rattle.model.specs.Rows.{counting}
 use Rattle.model.specs.State.{State}
 use Rattle.model.specs.Opening.{opening}
 use Rattle.model.specs.Step.{step}
-use Rattle.model.specs.Run.{run}
 use Rattle.data_races.specs.Actions.{Action, synchronizes, takes_away, conflicts}
 use Rattle.data_races.specs.EventActions.{actions_of}
 use Rattle.data_races.specs.HappensBefore.{Relations, IsRace}

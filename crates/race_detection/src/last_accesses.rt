@@ -14,10 +14,9 @@
 ghost use Rattle.std.specs.Prelude.{◌≡◌, ℕ, ◌<◌, List, [], MatchOption, OnOk, length, slice_get, slice_index_or};
 ghost use Rattle.race_detection.specs.last_accesses.Accesses.{AccessesOf, AreSameAccesses, IsFirstUnknown, IsKeptOr, IsOfThread, IsReadKeptOr, IsWriteKeptOr, accesses_at, no_accesses};
 
+use crate::vector_clocks::{Clock, time_of};
 use std::alloc::{AllocError, Global};
 use std::marker::Model;
-
-use crate::vector_clocks::{Clock, time_of};
 
 /// An access: its thread, its position in the run, and its event.
 #[derive(Clone, Copy, PartialEq, Eq)]
@@ -80,7 +79,12 @@ pub fn first_unknown(accesses: &[Access], threads: &[Clock], thread: usize) -> O
 }
 
 /// The same among the reads of a variable.
-pub fn unknown_read(variables: &[Accesses], variable: usize, threads: &[Clock], thread: usize) -> Option<Access>
+pub fn unknown_read(
+    variables: &[Accesses],
+    variable: usize,
+    threads: &[Clock],
+    thread: usize,
+) -> Option<Access>
     ensures { IsFirstUnknown (accesses_at variables.now variable).reads thread (slice_index_or threads.now thread []) result }
 {
     if variable < variables.len() {
@@ -92,7 +96,12 @@ pub fn unknown_read(variables: &[Accesses], variable: usize, threads: &[Clock], 
 }
 
 /// The same among its writes.
-pub fn unknown_write(variables: &[Accesses], variable: usize, threads: &[Clock], thread: usize) -> Option<Access>
+pub fn unknown_write(
+    variables: &[Accesses],
+    variable: usize,
+    threads: &[Clock],
+    thread: usize,
+) -> Option<Access>
     ensures { IsFirstUnknown (accesses_at variables.now variable).writes thread (slice_index_or threads.now thread []) result }
 {
     if variable < variables.len() {
@@ -132,7 +141,11 @@ pub fn keep(accesses: &mut Vec<Access>, access: Access) -> Result<(), AllocError
 }
 
 /// Makes the accesses of variables up to this one.
-fn make_accesses(alloc: Global, variables: &mut Vec<Accesses>, variable: usize) -> Result<(), AllocError>
+fn make_accesses(
+    alloc: Global,
+    variables: &mut Vec<Accesses>,
+    variable: usize,
+) -> Result<(), AllocError>
     ensures same { AreSameAccesses variables.old.items variables.new.items }
     ensures room { OnOk result (variable < length variables.new.items) }
 {

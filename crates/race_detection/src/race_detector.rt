@@ -18,12 +18,11 @@ ghost use Rattle.std.specs.Prelude.{◌≡◌, ◌+◌, ◌<◌, ◌^◌, []};
 ghost use Rattle.race_detection.specs.race_detector.Watched.{DetectorOf, IsWatching, Watches, step_with};
 ghost use Rattle.std.specs.Option.{option_map, option_or};
 
-use std::alloc::{AllocError, Global};
-use std::marker::Model;
-
 use crate::last_accesses::{Access, Accesses, keep_read, keep_write, unknown_read, unknown_write};
 use crate::run_steps::{Action, Step};
 use crate::vector_clocks::{Clock, join_clock, make_join, make_release, reset_clock, stamp_clock};
+use std::alloc::{AllocError, Global};
+use std::marker::Model;
 
 /// Knows of the steps of a run so far what it takes to tell the races of the next one: a clock for each thread and for
 /// each place, and the last reads and writes of each variable.
@@ -79,7 +78,12 @@ impl Detector {
         ensures watched { IsWatching result step self.old self.new }
     {
         let written = unknown_write(&self.variables, variable, &self.threads, step.thread);
-        keep_read(self.alloc, &mut self.variables, variable, access_of(step, self.position))?;
+        keep_read(
+            self.alloc,
+            &mut self.variables,
+            variable,
+            access_of(step, self.position),
+        )?;
         self.position += 1;
         Ok(told_of(written, Action::Write(variable)))
     }
@@ -91,9 +95,17 @@ impl Detector {
     {
         let written = unknown_write(&self.variables, variable, &self.threads, step.thread);
         let read = unknown_read(&self.variables, variable, &self.threads, step.thread);
-        keep_write(self.alloc, &mut self.variables, variable, access_of(step, self.position))?;
+        keep_write(
+            self.alloc,
+            &mut self.variables,
+            variable,
+            access_of(step, self.position),
+        )?;
         self.position += 1;
-        Ok(told_first(told_of(written, Action::Write(variable)), told_of(read, Action::Read(variable))))
+        Ok(told_first(
+            told_of(written, Action::Write(variable)),
+            told_of(read, Action::Read(variable)),
+        ))
     }
 
     fn acquire(&mut self, step: Step, place: usize) -> Result<Option<Step>, AllocError>
@@ -101,7 +113,13 @@ impl Detector {
         requires room { self.old.position + 1 < 2 ^ 64 }
         ensures watched { IsWatching result step self.old self.new }
     {
-        make_join(self.alloc, &mut self.threads, step.thread, &self.places, place)?;
+        make_join(
+            self.alloc,
+            &mut self.threads,
+            step.thread,
+            &self.places,
+            place,
+        )?;
         join_clock(&mut self.threads, step.thread, &self.places, place);
         self.position += 1;
         Ok(None)
@@ -112,7 +130,13 @@ impl Detector {
         requires room { self.old.position + 1 < 2 ^ 64 }
         ensures watched { IsWatching result step self.old self.new }
     {
-        make_release(self.alloc, &mut self.places, place, &self.threads, step.thread)?;
+        make_release(
+            self.alloc,
+            &mut self.places,
+            place,
+            &self.threads,
+            step.thread,
+        )?;
         join_clock(&mut self.places, place, &self.threads, step.thread);
         self.position += 1;
         stamp_clock(&mut self.places, place, step.thread, self.position);
@@ -124,7 +148,13 @@ impl Detector {
         requires room { self.old.position + 1 < 2 ^ 64 }
         ensures watched { IsWatching result step self.old self.new }
     {
-        make_release(self.alloc, &mut self.places, left, &self.threads, step.thread)?;
+        make_release(
+            self.alloc,
+            &mut self.places,
+            left,
+            &self.threads,
+            step.thread,
+        )?;
         reset_clock(&mut self.places, taken);
         join_clock(&mut self.places, left, &self.threads, step.thread);
         self.position += 1;

@@ -15,10 +15,7 @@ pub enum Action {
     Release(usize),
     /// Is a release of the place `left`, and takes away what releases left at the place `taken` before: a thread's
     /// status that was interrupted is cleared.
-    Clear {
-        taken: usize,
-        left: usize,
-    },
+    Clear { taken: usize, left: usize },
 }
 
 /// A step of a run: its thread, the event of which its action is one, and the action.

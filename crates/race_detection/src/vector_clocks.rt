@@ -30,7 +30,9 @@ impl Clock {
     pub fn new(alloc: Global) -> Clock
         ensures none { result ≡ [] }
     {
-        Clock { times: Vec::new(alloc) }
+        Clock {
+            times: Vec::new(alloc),
+        }
     }
 
     /// For how many threads there is room.
@@ -44,7 +46,11 @@ impl Clock {
     pub fn time(&self, thread: usize) -> u64
         ensures { result ≡ slice_index self.now thread }
     {
-        if thread < self.times.len() { self.times[thread] } else { 0 }
+        if thread < self.times.len() {
+            self.times[thread]
+        } else {
+            0
+        }
     }
 
     /// Makes room for so many threads.
@@ -107,7 +113,11 @@ impl Clock {
 pub fn time_of(clocks: &[Clock], index: usize, thread: usize) -> u64
     ensures { result ≡ time_in clocks.now index thread }
 {
-    if index < clocks.len() { clocks[index].time(thread) } else { 0 }
+    if index < clocks.len() {
+        clocks[index].time(thread)
+    } else {
+        0
+    }
 }
 
 /// Makes clocks up to this number, with no time set.

@@ -1,6 +1,5 @@
 -- The races that are computed are those of the run.
-use Rattle.std.proofs.Common.{◌≡◌, refl, sym, subst, ℕ, zero, suc, inl, inr, List, [], ◌∷◌}
-use Rattle.std.specs.Prelude.{Some, slice_get}
+use Rattle.std.proofs.Common.{◌≡◌, sym, subst, ℕ, List}
 use Rattle.model.specs.declared.event.Event.{Event}
 use Rattle.model.specs.Classes.{Program}
 use Rattle.data_races.specs.Races.{actions_of_run, memory_order}

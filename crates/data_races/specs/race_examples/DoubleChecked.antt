@@ -11,7 +11,7 @@
 --             new Lazy().start(); System.out.println(only().v);
 --         }
 --     }
-use Rattle.std.specs.Prelude.{ℕ, List, [], ◌∷◌, ◌++◌}
+use Rattle.std.specs.Prelude.{[], ◌∷◌, ◌++◌}
 use Rattle.model.specs.Tree.{FileTree}
 use Rattle.run_laws.specs.examples.ClassFiles.{field}
 use Rattle.data_races.specs.race_examples.Programs.{lazy}

@@ -9,7 +9,7 @@
 --             v.i = 1; t.start(); u.start(); v.start();
 --         }
 --     }
-use Rattle.std.specs.Prelude.{ℕ, List, [], ◌∷◌, ◌++◌}
+use Rattle.std.specs.Prelude.{[], ◌∷◌, ◌++◌}
 use Rattle.model.specs.Tree.{FileTree}
 use Rattle.run_laws.specs.examples.ClassFiles.{field}
 use Rattle.data_races.specs.race_examples.Programs.{elements}

@@ -9,7 +9,7 @@
 --             System.out.println(x);
 --         }
 --     }
-use Rattle.std.specs.Prelude.{ℕ, List, [], ◌∷◌, ◌++◌}
+use Rattle.std.specs.Prelude.{List, [], ◌∷◌, ◌++◌}
 use Rattle.model.specs.declared.event.Event.{Event}
 use Rattle.model.specs.Tree.{FileTree}
 use Rattle.run_laws.specs.examples.ClassFiles.{field}

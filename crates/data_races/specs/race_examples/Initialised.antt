@@ -8,7 +8,7 @@
 --             System.out.println(g); System.out.println(C.f); System.out.println(g);
 --         }
 --     }
-use Rattle.std.specs.Prelude.{ℕ, List, [], ◌∷◌, ◌++◌}
+use Rattle.std.specs.Prelude.{[], ◌∷◌, ◌++◌}
 use Rattle.data_races.specs.race_examples.Programs.{needs, needed}
 use Rattle.data_races.specs.race_examples.Raced.{times, AreRacing}
 

@@ -29,7 +29,7 @@
 --             f = 1; u.start();
 --         }
 --     }
-use Rattle.std.specs.Prelude.{ℕ, List, [], ◌∷◌, ◌++◌}
+use Rattle.std.specs.Prelude.{[], ◌∷◌, ◌++◌}
 use Rattle.data_races.specs.race_examples.Programs.{interrupted, cleared, started}
 use Rattle.data_races.specs.race_examples.Raced.{times, AreRacing}
 

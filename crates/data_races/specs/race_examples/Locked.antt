@@ -24,7 +24,7 @@
 --             System.out.println(u.r);
 --         }
 --     }
-use Rattle.std.specs.Prelude.{ℕ, List, [], ◌∷◌, ◌++◌}
+use Rattle.std.specs.Prelude.{[], ◌∷◌, ◌++◌}
 use Rattle.run_laws.specs.examples.CounterUnderLock as counter
 use Rattle.data_races.specs.race_examples.Programs.{notified, alive, ended}
 use Rattle.data_races.specs.race_examples.Raced.{times, AreRacing}

@@ -1,5 +1,5 @@
 -- Two threads that add 1 to a static field with no monitor.
-use Rattle.std.specs.Prelude.{◌≡◌, ℕ, List, [], ◌∷◌, ◌++◌, true, false}
+use Rattle.std.specs.Prelude.{◌≡◌, [], ◌∷◌, ◌++◌, true, false}
 use Rattle.run_laws.specs.examples.LostUpdate.{files}
 use Rattle.data_races.specs.race_examples.Raced.{times, AreRacing, is_racy_after}
 

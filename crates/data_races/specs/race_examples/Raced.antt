@@ -1,11 +1,11 @@
 -- What the examples say of the races of a run.
-use Rattle.std.specs.Prelude.{◌≡◌, ℕ, List, [], ◌∷◌, ◌++◌, Option, Some, None, Bool, false, map, slice_get, slice_index_or, replicate}
+use Rattle.std.specs.Prelude.{◌≡◌, ℕ, List, Bool, false, map, slice_index_or, replicate}
 use Rattle.std.specs.Option.{option_map_or}
 use Rattle.model.specs.declared.event.Event.{Event}
 use Rattle.model.specs.Classes.{Program}
 use Rattle.model.specs.Run.{run}
 use Rattle.run_laws.specs.interleavings.Ends.{Has}
-use Rattle.data_races.specs.Actions.{Action, Begin}
+use Rattle.data_races.specs.Actions.{Begin}
 use Rattle.data_races.specs.HappensBefore.{IsRace}
 use Rattle.data_races.specs.Races.{ActionOfRun, actions_of_run, memory_order, is_racy}
 use Rattle.data_races.specs.RaceTest.{races_of}

@@ -35,7 +35,7 @@ same_raised old new k same = record { raised = λ t. let e = same k t in omega a
 pub raised_bounded : (old new : List (List ℕ)) (k : ℕ) (by : ℕ → ℕ) (n : ℕ) → IsRaised old new k by → AreBounded old n → ((t : ℕ) → by t ≤ n) → AreBounded new n
 raised_bounded old new k by n r b l j t =
     elim (eqb_tells j k) [
-      inl p ↦ subst (λ m. time_in new m t ≤ n) (sym p.1) (let e = r.raised t in let u = b k t in let v = l t in omega arith)
+      | inl p ↦ subst (λ m. time_in new m t ≤ n) (sym p.1) (let e = r.raised t in let u = b k t in let v = l t in omega arith)
       | inr p ↦ let e = r.others j t p.1 in let u = b j t in omega arith
     ]
 
@@ -52,7 +52,7 @@ module _ (run : List Step) (s : Step) where
         → IsKnownTo (with_next run s) s.thread i
     own_shown i step at other l =
         elim (lt_or_le i (time_in old s.thread step.thread)) [
-          inl p ↦ known_longer run s s.thread i ((shown s.thread i step at other).0 p)
+          | inl p ↦ known_longer run s s.thread i ((shown s.thread i step at other).0 p)
           | inr p ↦
               let e = raised.raised step.thread in
               let m : time_in old s.thread step.thread ≤ i = p in
@@ -64,9 +64,9 @@ module _ (run : List Step) (s : Step) where
     own_known i step at other h =
         let e = raised.raised step.thread in
         elim (known_cases run s i h) [
-          inl is ↦ absurd (let l : i < length run = slice_get_within run i step at in omega arith)
+          | inl is ↦ absurd (let l : i < length run = slice_get_within run i step at in omega arith)
           | inr o ↦ elim o [
-            inl k ↦ let l : i < time_in old s.thread step.thread = (shown s.thread i step at other).1 k in omega arith
+            | inl k ↦ let l : i < time_in old s.thread step.thread = (shown s.thread i step at other).1 k in omega arith
             | inr f ↦ let l : i < by step.thread = (found i step at).1 f in omega arith
           ]
         ]
@@ -75,7 +75,7 @@ module _ (run : List Step) (s : Step) where
         → (i < time_in new thread step.thread) ↔ IsKnownTo (with_next run s) thread i
     before_last thread i step at other =
         elim (eqb_tells thread s.thread) [
-          inl q ↦
+          | inl q ↦
               let ne : step.thread ≡ s.thread → ⊥ = λ g. other (g ∙ sym q.1) in
               subst (λ t. (i < time_in new t step.thread) ↔ IsKnownTo (with_next run s) t i) (sym q.1) (own_shown i step at ne, own_known i step at ne)
           | inr q ↦
@@ -98,7 +98,7 @@ module _ (run : List Step) (s : Step) where
     pub threads_next : ShowKnown (with_next run s) new
     threads_next thread i step at other =
         elim (at_next run s i step at) [
-          inl p ↦ before_last thread i step p.1 other
+          | inl p ↦ before_last thread i step p.1 other
           | inr p ↦ at_last thread i step p.0 (λ g. other (ap (λ (x : Step). x.thread) p.1 ∙ g))
         ]
 
@@ -114,7 +114,7 @@ module _ (run : List Step) (s : Step) where
   pub places_untaken : (places : List (List ℕ)) → ShowUntaken places → AreBounded places (length run) → left_by s.action ≡ None → ShowLeft (with_next run s) places
   places_untaken places shown bounded nothing place i step at =
       elim (at_next run s i step at) [
-        inl p ↦
+        | inl p ↦
             let f = shown place i step p.1 in (
               λ l. let h = f.0 l in left_stays run s place i h.0 h.1,
               λ h. elim (left_cases run s place i h) [ inl k ↦ f.1 k | inr k ↦ absurd (let e : None ≡ Some place = sym nothing ∙ k.0 in cc) ],
@@ -124,7 +124,7 @@ module _ (run : List Step) (s : Step) where
             let is : i ≡ length run = p.0 in (
               λ l. absurd (omega arith),
               λ h. elim (left_cases run s place i h) [
-                inl k ↦ absurd (let l : i < length run = left_below run place i k.0 in omega arith)
+                | inl k ↦ absurd (let l : i < length run = left_below run place i k.0 in omega arith)
                 | inr k ↦ absurd (let e : None ≡ Some place = sym nothing ∙ k.0 in cc)
               ],
             )
@@ -138,14 +138,14 @@ module _ (run : List Step) (s : Step) where
     left_here : (i : ℕ) (step : Step) → slice_get (with_next run s) i ≡ Some step → i < time_in new place step.thread → IsLeftAt (with_next run s) place i
     left_here i step at l =
         elim (at_next run s i step at) [
-          inl p ↦
+          | inl p ↦
               elim (eqb_tells step.thread s.thread) [
-                inl q ↦ left_new run s place i leaves (known_own run s i step p.1 q.1)
+                | inl q ↦ left_new run s place i leaves (known_own run s i step p.1 q.1)
                 | inr q ↦
                     let e = stamped.rest step.thread q.1 in
                     let f = raised.raised step.thread in
                     elim (lt_or_le i (time_in old place step.thread)) [
-                      inl o ↦ let h = (shown place i step p.1).0 o in left_stays run s place i h.0 h.1
+                      | inl o ↦ let h = (shown place i step p.1).0 o in left_stays run s place i h.0 h.1
                       | inr o ↦
                           let m : time_in old place step.thread ≤ i = o in
                           left_new run s place i leaves (known_longer run s s.thread i ((known s.thread i step p.1 q.1).0 (omega arith)))
@@ -158,16 +158,16 @@ module _ (run : List Step) (s : Step) where
     known_here i step at h =
         let at_most : i < length run + 1 = let l : i < length (with_next run s) = known_below (with_next run s) s.thread i h in let e = length_next run s in omega arith in
         elim (eqb_tells step.thread s.thread) [
-          inl q ↦ subst (λ t. i < time_in new place t) (sym q.1) (let e = stamped.stamped in omega arith)
+          | inl q ↦ subst (λ t. i < time_in new place t) (sym q.1) (let e = stamped.stamped in omega arith)
           | inr q ↦
               let e = stamped.rest step.thread q.1 in
               let f = raised.raised step.thread in
               elim (at_next run s i step at) [
-                inl p ↦
+                | inl p ↦
                     elim (known_cases run s i h) [
-                      inl is ↦ absurd (let l : i < length run = p.0 in omega arith)
+                      | inl is ↦ absurd (let l : i < length run = p.0 in omega arith)
                       | inr o ↦ elim o [
-                        inl k ↦ let l : i < time_in threads s.thread step.thread = (known s.thread i step p.1 q.1).1 k in omega arith
+                        | inl k ↦ let l : i < time_in threads s.thread step.thread = (known s.thread i step p.1 q.1).1 k in omega arith
                         | inr k ↦ absurd (nothing i k)
                       ]
                     ]
@@ -180,12 +180,12 @@ module _ (run : List Step) (s : Step) where
     kept_here i step at h free =
         let below : i < length run = left_below run place i h in
         elim (eqb_tells step.thread s.thread) [
-          inl q ↦ subst (λ t. i < time_in new place t) (sym q.1) (let e = stamped.stamped in omega arith)
+          | inl q ↦ subst (λ t. i < time_in new place t) (sym q.1) (let e = stamped.stamped in omega arith)
           | inr q ↦
               let e = stamped.rest step.thread q.1 in
               let f = raised.raised step.thread in
               elim (at_next run s i step at) [
-                inl p ↦ let l : i < time_in old place step.thread = (shown place i step p.1).1 (h, free) in omega arith
+                | inl p ↦ let l : i < time_in old place step.thread = (shown place i step p.1).1 (h, free) in omega arith
                 | inr p ↦ absurd (let is : i ≡ length run = p.0 in omega arith)
               ]
         ]
@@ -202,7 +202,7 @@ module _ (run : List Step) (s : Step) where
         let same : left_by s.action ≡ Some other → ⊥ = λ g. ne (let e : Some other ≡ Some place = sym g ∙ leaves in cc) in
         let e : time_in new other step.thread ≡ time_in old other step.thread = stamped.others other step.thread ne ∙ raised.others other step.thread ne in
         elim (at_next run s i step at) [
-          inl p ↦
+          | inl p ↦
               let f = shown other i step p.1 in (
                 λ l. let h = f.0 (subst (λ t. i < t) e l) in left_stays run s other i h.0 h.1,
                 λ h. elim (left_cases run s other i h) [ inl k ↦ subst (λ t. i < t) (sym e) (f.1 k) | inr k ↦ absurd (same k.0) ],
@@ -212,7 +212,7 @@ module _ (run : List Step) (s : Step) where
               let is : i ≡ length run = p.0 in (
                 λ l. absurd (let m : i < time_in old other step.thread = subst (λ t. i < t) e l in omega arith),
                 λ h. elim (left_cases run s other i h) [
-                  inl k ↦ absurd (let l : i < length run = left_below run other i k.0 in omega arith)
+                  | inl k ↦ absurd (let l : i < length run = left_below run other i k.0 in omega arith)
                   | inr k ↦ absurd (same k.0)
                 ],
               )
@@ -221,7 +221,7 @@ module _ (run : List Step) (s : Step) where
     pub places_left : ShowLeft (with_next run s) new
     places_left other i step at =
         elim (eqb_tells other place) [
-          inl q ↦ subst (λ p. (i < time_in new p step.thread) ↔ IsLeftAt (with_next run s) p i) (sym q.1) (here i step at)
+          | inl q ↦ subst (λ p. (i < time_in new p step.thread) ↔ IsLeftAt (with_next run s) p i) (sym q.1) (here i step at)
           | inr q ↦ elsewhere other i step at q.1
         ]
 
@@ -229,10 +229,10 @@ module _ (run : List Step) (s : Step) where
     places_left_bounded k t =
         let b = raised_bounded old mid place (time_in threads s.thread) (length run) raised bounded (threads_bounded s.thread) in
         elim (eqb_tells k place) [
-          inl q ↦
+          | inl q ↦
               subst (λ p. time_in new p t ≤ length run + 1) (sym q.1)
               (elim (eqb_tells t s.thread) [
-                inl o ↦ subst (λ u. time_in new place u ≤ length run + 1) (sym o.1) (let e = stamped.stamped in omega arith)
+                | inl o ↦ subst (λ u. time_in new place u ≤ length run + 1) (sym o.1) (let e = stamped.stamped in omega arith)
                 | inr o ↦ let e = stamped.rest t o.1 in let m = b place t in omega arith
               ])
           | inr q ↦ let e = stamped.others k t q.1 in let m = b k t in omega arith

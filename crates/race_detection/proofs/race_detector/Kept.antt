@@ -22,7 +22,7 @@ module _ (run : List Step) (s : Step) (action : Action) where
         stand = λ access has. stands_longer access (h.stand access has);
         last = λ i step at is.
             elim (at_next run s i step at) [
-              inl p ↦ h.last i step p.1 is
+              | inl p ↦ h.last i step p.1 is
               | inr p ↦ absurd (other (ap (λ (x : Step). x.action) (sym p.1) ∙ is))
             ];
       }
@@ -36,17 +36,17 @@ module _ (run : List Step) (s : Step) (action : Action) where
       record {
         stand = λ access has.
             elim (kept.only access has) [
-              inl o ↦ stands_longer access (h.stand access o)
+              | inl o ↦ stands_longer access (h.stand access o)
               | inr e ↦
                   let here : slice_get (with_next run s) (length run) ≡ Some (step_with action this) = get_seam run s ∙ ap (λ (a : Action). Some (record s { action = a })) is in
                   subst (λ (a : Access). slice_get (with_next run s) a.position ≡ Some (step_with action a)) (sym e) here
             ];
         last = λ i step at does.
             elim (at_next run s i step at) [
-              inl p ↦
+              | inl p ↦
                   let q = h.last i step p.1 does in
                   elim (kept.stays q.0 q.1) [
-                    inl has ↦ (q.0, has, q.2, q.3)
+                    | inl has ↦ (q.0, has, q.2, q.3)
                     | inr e ↦ (this, kept.has, sym e ∙ q.2, let l : i < length run = p.0 in omega arith)
                   ]
               | inr p ↦ (this, kept.has, ap (λ (x : Step). x.thread) (sym p.1), let e : i ≡ length run = p.0 in omega arith)

@@ -55,7 +55,7 @@ module _ (run : List Step) (s : Step) where
   pub known_else : (thread i : ℕ) → (s.thread ≡ thread → ⊥) → IsKnownTo (with_next run s) thread i → IsKnownTo run thread i
   known_else thread i other h =
       elim (at_next run s h.by h.step h.at) [
-        inl p ↦ record { by = h.by; step = h.step; at = p.1; of_thread = h.of_thread; up_to = up_to_within i h.by p.0 h.up_to }
+        | inl p ↦ record { by = h.by; step = h.step; at = p.1; of_thread = h.of_thread; up_to = up_to_within i h.by p.0 h.up_to }
         | inr p ↦ absurd (other (ap (λ (x : Step). x.thread) (sym p.1) ∙ h.of_thread))
       ]
 
@@ -109,7 +109,7 @@ module _ (run : List Step) (s : Step) where
       let p = to_last step_order run s i (length run) h refl in
       let second : (x : Step) → slice_get (with_next run s) (length run) ≡ Some x → x ≡ s = λ x at. let e : Some x ≡ Some s = sym at ∙ get_seam run s in cc in
       elim p.2 [
-        inl q ↦
+        | inl q ↦
             let l : p.0 < length run = q.pair.earlier in
             inl (record {
               by = p.0;
@@ -142,7 +142,7 @@ module _ (run : List Step) (s : Step) where
   pub known_cases : (i : ℕ) → IsKnownTo (with_next run s) s.thread i → (i ≡ length run) ⊎ (IsKnownTo run s.thread i ⊎ IsFoundBy run s i)
   known_cases i h =
       elim (at_next run s h.by h.step h.at) [
-        inl p ↦ inr (inl (record { by = h.by; step = h.step; at = p.1; of_thread = h.of_thread; up_to = up_to_within i h.by p.0 h.up_to }))
+        | inl p ↦ inr (inl (record { by = h.by; step = h.step; at = p.1; of_thread = h.of_thread; up_to = up_to_within i h.by p.0 h.up_to }))
         | inr p ↦ elim h.up_to [ inl e ↦ inl (e ∙ p.0) | inr b ↦ inr (before_cases i (subst (λ k. HappensBefore step_order (with_next run s) i k) p.0 b)) ]
       ]
 
@@ -153,7 +153,7 @@ module _ (run : List Step) (s : Step) where
       → (IsLeftAt run place i × IsFalse (takes place s.action)) ⊎ ((left_by s.action ≡ Some place) × IsKnownTo (with_next run s) s.thread i)
   left_cases place i h =
       elim (at_next run s h.by h.step h.at) [
-        inl p ↦
+        | inl p ↦
             inl (
               record {
                 by = h.by;
@@ -181,7 +181,7 @@ module _ (run : List Step) (s : Step) where
         left = h.left;
         stays = λ k between a at.
             elim (at_next run s k between at) [
-              inl p ↦ h.stays k between a p.1
+              | inl p ↦ h.stays k between a p.1
               | inr p ↦ subst (λ (x : Step). IsFalse (takes place x.action)) (sym p.1) not_taken
             ];
         up_to = up_to_longer i h.by h.up_to;
@@ -201,7 +201,7 @@ module _ (run : List Step) (s : Step) where
         left = e;
         stays = λ k between a at.
             elim (at_next run s k between at) [
-              inl p ↦ absurd (let l : k < length run = p.0 in omega arith)
+              | inl p ↦ absurd (let l : k < length run = p.0 in omega arith)
               | inr p ↦ absurd (let l : k ≡ length run = p.0 in omega arith)
             ];
         up_to = known_up_to i h;

@@ -31,7 +31,7 @@ same_bounded a b n same bounded k t = subst (λ u. u ≤ n) (sym (same k t)) (bo
 reset_bounded : (a b : List (List ℕ)) (taken n : ℕ) → IsReset a b taken → AreBounded a n → AreBounded b n
 reset_bounded a b taken n r bounded k t =
     elim (eqb_tells k taken) [
-      inl q ↦ subst (λ p. time_in b p t ≤ n) (sym q.1) (let e = r.reset t in omega arith)
+      | inl q ↦ subst (λ p. time_in b p t ≤ n) (sym q.1) (let e = r.reset t in omega arith)
       | inr q ↦ subst (λ u. u ≤ n) (sym (r.others k t q.1)) (bounded k t)
     ]
 
@@ -44,9 +44,8 @@ module _ (run : List Step) (s : Step) (old : DetectorOf) (w : Watches run old) w
       → ShowUntaken run s reset
   untaken_reset made reset taken left same r is place i step at =
       elim (eqb_tells place taken) [
-        inl q ↦
-            subst (λ p. (i < time_in reset p step.thread) ↔ (IsLeftAt run p i × IsFalse (takes p s.action))) (sym q.1)
-            (
+        | inl q ↦
+            subst (λ p. (i < time_in reset p step.thread) ↔ (IsLeftAt run p i × IsFalse (takes p s.action))) (sym q.1) (
               λ l. absurd (let e = r.reset step.thread in omega arith),
               λ h. absurd (let e : true ≡ false = sym (eq-eqb taken taken refl) ∙ subst (λ (a : Action). takes taken a ≡ false) is h.1 in cc),
             )
@@ -76,8 +75,8 @@ module _ (run : List Step) (s : Step) (old new : DetectorOf) (w : Watches run ol
         → AreSameTimes old.threads new.threads → Watches (with_next run s) new × Tells run s None
     released place made mid is places raised stamped threads = (
       leave_watches run s old new w one_more same place (ap left_by is) (λ p. ap (finds p) is)
-      (λ v e. let g : Release place ≡ Read v = sym is ∙ e in cc) (λ v e. let g : Release place ≡ Write v = sym is ∙ e in cc) made mid
-      (untaken_same run s old w made places (λ p. ap (takes p) is)) (same_bounded old.places made (length run) places w.places_bounded) raised stamped threads,
+          (λ v e. let g : Release place ≡ Read v = sym is ∙ e in cc) (λ v e. let g : Release place ≡ Write v = sym is ∙ e in cc) made mid
+          (untaken_same run s old w made places (λ p. ap (takes p) is)) (same_bounded old.places made (length run) places w.places_bounded) raised stamped threads,
       tells_nothing run s (alone (Release place) is (release_alone place)),
     )
 
@@ -86,9 +85,9 @@ module _ (run : List Step) (s : Step) (old new : DetectorOf) (w : Watches run ol
         → AreSameTimes old.threads new.threads → Watches (with_next run s) new × Tells run s None
     cleared taken left made reset mid is places r raised stamped threads = (
       leave_watches run s old new w one_more same left (ap left_by is) (λ p. ap (finds p) is)
-      (λ v e. let g : Clear taken left ≡ Read v = sym is ∙ e in cc) (λ v e. let g : Clear taken left ≡ Write v = sym is ∙ e in cc) reset mid
-      (untaken_reset run s old w made reset taken left places r is)
-      (reset_bounded made reset taken (length run) r (same_bounded old.places made (length run) places w.places_bounded)) raised stamped threads,
+          (λ v e. let g : Clear taken left ≡ Read v = sym is ∙ e in cc) (λ v e. let g : Clear taken left ≡ Write v = sym is ∙ e in cc) reset mid
+          (untaken_reset run s old w made reset taken left places r is)
+          (reset_bounded made reset taken (length run) r (same_bounded old.places made (length run) places w.places_bounded)) raised stamped threads,
       tells_nothing run s (alone (Clear taken left) is (clear_alone taken left)),
     )
 
@@ -104,11 +103,11 @@ module _ (run : List Step) (s : Step) (old new : DetectorOf) (w : Watches run ol
         → (told : Option Step) → told ≡ option_map (step_with (Write variable)) o → Watches (with_next run s) new × Tells run s told
     read_told variable is kept variables clocks vs cs o first told told_is =
         let f : IsFirstUnknown (accesses_at old.variables variable).writes s.thread (slice_index_or old.threads s.thread []) o =
-            subst (λ (c : List (List ℕ)). IsFirstUnknown (accesses_at old.variables variable).writes s.thread (slice_index_or c s.thread []) o) cs
-            (subst (λ (v : List AccessesOf). IsFirstUnknown (accesses_at v variable).writes s.thread (slice_index_or clocks s.thread []) o) vs first) in (
+        subst (λ (c : List (List ℕ)). IsFirstUnknown (accesses_at old.variables variable).writes s.thread (slice_index_or c s.thread []) o) cs
+        (subst (λ (v : List AccessesOf). IsFirstUnknown (accesses_at v variable).writes s.thread (slice_index_or clocks s.thread []) o) vs first) in (
           read_watches run s old new w one_more threads places variable is kept,
           subst (λ (t : Option Step). Tells run s t) (sym told_is)
-          (told_read run s old.threads w.threads (nothing_found (Read variable) is (λ p. refl)) variable is (accesses_at old.variables variable).writes (w.writes variable) o f),
+              (told_read run s old.threads w.threads (nothing_found (Read variable) is (λ p. refl)) variable is (accesses_at old.variables variable).writes (w.writes variable) o f),
         )
 
     pub write_told : (variable : ℕ) → s.action ≡ Write variable
@@ -120,13 +119,13 @@ module _ (run : List Step) (s : Step) (old new : DetectorOf) (w : Watches run ol
         → Watches (with_next run s) new × Tells run s told
     write_told variable is kept variables others clocks more vs os cs ms o p first second told told_is =
         let f : IsFirstUnknown (accesses_at old.variables variable).writes s.thread (slice_index_or old.threads s.thread []) o =
-            subst (λ (c : List (List ℕ)). IsFirstUnknown (accesses_at old.variables variable).writes s.thread (slice_index_or c s.thread []) o) cs
-            (subst (λ (v : List AccessesOf). IsFirstUnknown (accesses_at v variable).writes s.thread (slice_index_or clocks s.thread []) o) vs first) in
+        subst (λ (c : List (List ℕ)). IsFirstUnknown (accesses_at old.variables variable).writes s.thread (slice_index_or c s.thread []) o) cs
+        (subst (λ (v : List AccessesOf). IsFirstUnknown (accesses_at v variable).writes s.thread (slice_index_or clocks s.thread []) o) vs first) in
         let g : IsFirstUnknown (accesses_at old.variables variable).reads s.thread (slice_index_or old.threads s.thread []) p =
-            subst (λ (c : List (List ℕ)). IsFirstUnknown (accesses_at old.variables variable).reads s.thread (slice_index_or c s.thread []) p) ms
-            (subst (λ (v : List AccessesOf). IsFirstUnknown (accesses_at v variable).reads s.thread (slice_index_or more s.thread []) p) os second) in (
+        subst (λ (c : List (List ℕ)). IsFirstUnknown (accesses_at old.variables variable).reads s.thread (slice_index_or c s.thread []) p) ms
+        (subst (λ (v : List AccessesOf). IsFirstUnknown (accesses_at v variable).reads s.thread (slice_index_or more s.thread []) p) os second) in (
           write_watches run s old new w one_more threads places variable is kept,
           subst (λ (t : Option Step). Tells run s t) (sym told_is)
-          (told_write run s old.threads w.threads (nothing_found (Write variable) is (λ p. refl)) variable is (accesses_at old.variables variable).reads
-          (accesses_at old.variables variable).writes (w.reads variable) (w.writes variable) o p f g),
+              (told_write run s old.threads w.threads (nothing_found (Write variable) is (λ p. refl)) variable is (accesses_at old.variables variable).reads
+              (accesses_at old.variables variable).writes (w.reads variable) (w.writes variable) o p f g),
         )

@@ -120,15 +120,15 @@ module _ (run : List Step) (s : Step) where
         let at = last.stand access has in
         let l : access.position < length run = slice_get_within run access.position (step_with action access) at in
         let pair : Pair (with_next run s) access.position (length run) =
-            record {
-              first = step_with action access;
-              second = s;
-              earlier = l;
-              at_first = get_left run (s ∷ []) access.position l ∙ at;
-              at_second = get_seam run s;
-            } in
+        record {
+          first = step_with action access;
+          second = s;
+          earlier = l;
+          at_first = get_left run (s ∷ []) access.position l ∙ at;
+          at_second = get_seam run s;
+        } in
         let apart : IsTrue (not (access.thread == s.thread)) =
-            elim (eqb_tells access.thread s.thread) [ inl p ↦ absurd (other p.1) | inr p ↦ not_false (access.thread == s.thread) p.0 ] in (
+        elim (eqb_tells access.thread s.thread) [ inl p ↦ absurd (other p.1) | inr p ↦ not_false (access.thread == s.thread) p.0 ] in (
           access.position,
           at,
           record {
@@ -136,7 +136,7 @@ module _ (run : List Step) (s : Step) where
             conflict = and_true (not (access.thread == s.thread)) (conflicts action s.action) apart conflict;
             unordered = λ h.
                 elim (before_cases run s access.position h) [
-                  inl k ↦ absurd (let b : access.position < time_in threads s.thread access.thread = (shown s.thread access.position (step_with action access) at other).1 k in omega arith)
+                  | inl k ↦ absurd (let b : access.position < time_in threads s.thread access.thread = (shown s.thread access.position (step_with action access) at other).1 k in omega arith)
                   | inr f ↦ nothing access.position f
                 ];
           },
@@ -165,10 +165,10 @@ module _ (run : List Step) (s : Step) where
         let l : i < length run = race.pair.earlier in
         let at : slice_get run i ≡ Some race.pair.first = sym (get_left run (s ∷ []) i l) ∙ race.pair.at_first in
         let other : race.pair.first.thread ≡ s.thread → ⊥ = λ e.
-            let f : (race.pair.first.thread == race.pair.second.thread) ≡ false = not_true _ c.0 in
-            let t : (race.pair.first.thread == race.pair.second.thread) ≡ true =
-                eq-eqb race.pair.first.thread race.pair.second.thread (e ∙ ap (λ (x : Step). x.thread) (sym is)) in
-            let g : true ≡ false = sym t ∙ f in cc in
+        let f : (race.pair.first.thread == race.pair.second.thread) ≡ false = not_true _ c.0 in
+        let t : (race.pair.first.thread == race.pair.second.thread) ≡ true =
+        eq-eqb race.pair.first.thread race.pair.second.thread (e ∙ ap (λ (x : Step). x.thread) (sym is)) in
+        let g : true ≡ false = sym t ∙ f in cc in
         race.unordered (ordered i race.pair.first at other (subst (λ (x : Step). IsTrue (conflicts race.pair.first.action x.action)) is c.1))
 
     abbrev clock : List ℕ
@@ -178,7 +178,7 @@ module _ (run : List Step) (s : Step) where
         → (access.thread ≡ s.thread → ⊥) → access.position < time_in threads s.thread access.thread
     known_all accesses none access has other =
         elim (lt_or_le access.position (time_in threads s.thread access.thread)) [
-          inl l ↦ l
+          | inl l ↦ l
           | inr l ↦ absurd (none access has (record { other = other; unknown = l }))
         ]
 
@@ -197,7 +197,7 @@ module _ (run : List Step) (s : Step) where
     told_write variable is reads writes last_reads last_writes None None none_o none_p =
         none_races (λ i step at other c.
         elim (with_write step.action variable (subst (λ (a : Action). IsTrue (conflicts step.action a)) is c)) [
-          inl w ↦ known_ordered writes (Write variable) last_writes (known_all writes none_o) i step at other w
+          | inl w ↦ known_ordered writes (Write variable) last_writes (known_all writes none_o) i step at other w
           | inr r ↦ known_ordered reads (Read variable) last_reads (known_all reads none_p) i step at other r
         ])
     told_write variable is reads writes last_reads last_writes None (Some access) none_o u =

@@ -91,7 +91,7 @@ module _ (run : List Step) (s : Step) (old new : DetectorOf) (w : Watches run ol
     read_watches variable is kept =
         let nothing : (i : ℕ) → IsFoundBy run s i → ⊥ = λ i f. let e : false ≡ true = subst (λ (a : Action). finds f.place a ≡ true) is f.finds in cc in
         let kept_at : IsKept (accesses_of old variable).reads (accesses_of new variable).reads (this (length run)) =
-            subst (λ p. IsKept (accesses_of old variable).reads (accesses_of new variable).reads (this p)) w.position kept.reads in
+        subst (λ p. IsKept (accesses_of old variable).reads (accesses_of new variable).reads (this p)) w.position kept.reads in
         record {
           position = position_next;
           threads = threads_same threads nothing;
@@ -100,7 +100,7 @@ module _ (run : List Step) (s : Step) (old new : DetectorOf) (w : Watches run ol
           places_bounded = next_bounded new.places (same_bounded old.places new.places places w.places_bounded);
           reads = λ v.
               elim (eqb_tells v variable) [
-                inl q ↦
+                | inl q ↦
                     subst (λ u. AreLast (with_next run s) (Read u) (accesses_of new u).reads) (sym q.1)
                     (last_kept run s (Read variable) (accesses_of old variable).reads (accesses_of new variable).reads (w.reads variable) is kept_at)
                 | inr q ↦ reads_same v (kept.others v q.1) (λ e. q.1 (let g : Read v ≡ Read variable = sym e ∙ is in cc))
@@ -108,7 +108,7 @@ module _ (run : List Step) (s : Step) (old new : DetectorOf) (w : Watches run ol
           writes = λ v.
               let other : s.action ≡ Write v → ⊥ = λ e. let g : Read variable ≡ Write v = sym is ∙ e in cc in
               elim (eqb_tells v variable) [
-                inl q ↦
+                | inl q ↦
                     subst (λ u. AreLast (with_next run s) (Write u) (accesses_of new u).writes) (sym q.1)
                     (subst (λ (a : List Access). AreLast (with_next run s) (Write variable) a) (sym kept.writes)
                     (last_stays run s (Write variable) (accesses_of old variable).writes (w.writes variable) (λ e. let g : Read variable ≡ Write variable = sym is ∙ e in cc)))
@@ -120,7 +120,7 @@ module _ (run : List Step) (s : Step) (old new : DetectorOf) (w : Watches run ol
     write_watches variable is kept =
         let nothing : (i : ℕ) → IsFoundBy run s i → ⊥ = λ i f. let e : false ≡ true = subst (λ (a : Action). finds f.place a ≡ true) is f.finds in cc in
         let kept_at : IsKept (accesses_of old variable).writes (accesses_of new variable).writes (this (length run)) =
-            subst (λ p. IsKept (accesses_of old variable).writes (accesses_of new variable).writes (this p)) w.position kept.writes in
+        subst (λ p. IsKept (accesses_of old variable).writes (accesses_of new variable).writes (this p)) w.position kept.writes in
         record {
           position = position_next;
           threads = threads_same threads nothing;
@@ -129,7 +129,7 @@ module _ (run : List Step) (s : Step) (old new : DetectorOf) (w : Watches run ol
           places_bounded = next_bounded new.places (same_bounded old.places new.places places w.places_bounded);
           writes = λ v.
               elim (eqb_tells v variable) [
-                inl q ↦
+                | inl q ↦
                     subst (λ u. AreLast (with_next run s) (Write u) (accesses_of new u).writes) (sym q.1)
                     (last_kept run s (Write variable) (accesses_of old variable).writes (accesses_of new variable).writes (w.writes variable) is kept_at)
                 | inr q ↦ writes_same v (kept.others v q.1) (λ e. q.1 (let g : Write v ≡ Write variable = sym e ∙ is in cc))
@@ -137,7 +137,7 @@ module _ (run : List Step) (s : Step) (old new : DetectorOf) (w : Watches run ol
           reads = λ v.
               let other : s.action ≡ Read v → ⊥ = λ e. let g : Write variable ≡ Read v = sym is ∙ e in cc in
               elim (eqb_tells v variable) [
-                inl q ↦
+                | inl q ↦
                     subst (λ u. AreLast (with_next run s) (Read u) (accesses_of new u).reads) (sym q.1)
                     (subst (λ (a : List Access). AreLast (with_next run s) (Read variable) a) (sym kept.reads)
                     (last_stays run s (Read variable) (accesses_of old variable).reads (w.reads variable) (λ e. let g : Write variable ≡ Read variable = sym is ∙ e in cc)))
@@ -152,14 +152,14 @@ module _ (run : List Step) (s : Step) (old new : DetectorOf) (w : Watches run ol
         → AreSameTimes old.places new.places → Watches (with_next run s) new
     acquire_watches place is raised places =
         let found : (i : ℕ) (step : Step) → slice_get run i ≡ Some step → (i < time_in old.places place step.thread) ↔ IsFoundBy run s i = λ i step at.
-            let f = w.places place i step at in (
-              λ l. record {
-                place = place;
-                finds = subst (λ (a : Action). IsTrue (finds place a)) (sym is) (eq_itself place);
-                left = f.0 l;
-              },
-              λ h. f.1 (subst (λ p. IsLeftAt run p i) (eqb-true h.place place (subst (λ (a : Action). IsTrue (finds h.place a)) is h.finds)) h.left),
-            ) in
+        let f = w.places place i step at in (
+          λ l. record {
+            place = place;
+            finds = subst (λ (a : Action). IsTrue (finds place a)) (sym is) (eq_itself place);
+            left = f.0 l;
+          },
+          λ h. f.1 (subst (λ p. IsLeftAt run p i) (eqb-true h.place place (subst (λ (a : Action). IsTrue (finds h.place a)) is h.finds)) h.left),
+        ) in
         record {
           position = position_next;
           threads = threads_next run s old.threads new.threads (time_in old.places place) w.threads w.threads_bounded raised (w.places_bounded place) found;
