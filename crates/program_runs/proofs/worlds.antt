@@ -1,6 +1,6 @@
 mod Finding
 mod FindingDownwards
-mod Repeating
+pub mod Repeating
 mod Shared
 mod Copying
 mod Committing

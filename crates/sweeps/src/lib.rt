@@ -9,15 +9,17 @@
 //!   *Found*: the last run shows it, and none before it. *GaveUp* comes only where the watch may stop a sweep, behind a
 //!   run, and none shows what is wanted (`EndsSo`).
 //! - `PolicyRuns`: a run is the record of one of these class files, under these limits and with this budget, and it
-//!   hasn't ended for want of memory (`IsRunWith`).
+//!   hasn't ended for want of memory. By `mixed` its events are those of the seed (`IsRunWith`, with `events_by` of
+//!   `policies`).
 //! - `Ran::of` tells what a run shows: its outcome, where no thread may go on; else that it has no end, or that a limit
 //!   has refused an event (`shown_at`). `Shown::is_same` and `Shown::is_wanted` compare it.
 //! - `sweep_text`: the text is, byte by byte, that of the definition of the same name.
 //!
 //! # Not proved
 //!
-//! - Said by the documents, and by no clause: that the run with a seed is the one that `jvm run --seed` does with it,
-//!   as `policies` of `program_runs` tells. `oracle/sweeps.py` makes the texts of the sweeps of lessons once more.
+//! - Said by the documents, and by no clause: that by `random` the run with a seed is the one that `jvm run --seed` does
+//!   with it, as `policies` of `program_runs` tells. `oracle/sweeps.py` makes the texts of the sweeps of lessons once
+//!   more.
 //! - That no more of further runs show another outcome than the text says: that is measured, and not proved.
 //!
 //! # Wrong bodies

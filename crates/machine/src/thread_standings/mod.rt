@@ -8,7 +8,6 @@
 //!   event that is enabled (`MaySo`).
 
 mod begins;
-mod callees;
 mod classes;
 mod monitors;
 mod running;

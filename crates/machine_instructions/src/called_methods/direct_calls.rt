@@ -16,14 +16,14 @@ use machine_state::{Effect, EventRefusal, MachineException, Shared};
 use model::built_in::FIRST_CLASS_OBJECT;
 
 /// The Class object of a class.
-fn class_object_of(class: u16) -> u32
+pub fn class_object_of(class: u16) -> u32
     ensures { result ≡ first_class_reference + class }
 {
     FIRST_CLASS_OBJECT + u32::from(class)
 }
 
 /// The Class object of the class that declares a method.
-fn class_object(program: &LinkedProgram, method: u32) -> u32
+pub fn class_object(program: &LinkedProgram, method: u32) -> u32
     ensures { IsClassObject program.now method result }
 {
     methods_are_read();

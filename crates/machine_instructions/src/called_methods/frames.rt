@@ -8,7 +8,7 @@ use machine_state::{Effect, MachineException};
 
 /// The object of the reference under so many parameters, if it is not null.
 #[inline]
-pub(crate) fn receiver(stack: &ThreadStack, parameters: u8) -> Option<u32>
+pub fn receiver(stack: &ThreadStack, parameters: u8) -> Option<u32>
     ensures { result ≡ object_under parameters stack.now }
 {
     match stack.frame() {

@@ -23,7 +23,7 @@ pub(crate) struct Call {
 
 /// The object whose monitor an invocation enters, where its method is synchronized (JVMS 2.11.10).
 #[inline]
-fn entered(is_synchronized: bool, object: u32) -> Option<u32>
+pub fn entered(is_synchronized: bool, object: u32) -> Option<u32>
     ensures { result ≡ (if is_synchronized then Some object else None) }
 {
     if is_synchronized { Some(object) } else { None }

@@ -8,7 +8,7 @@ use linked_code::{LinkedProgram, MethodBody};
 use machine_state::method_selection::{method_at, methods_are_read};
 
 /// The method of a number as its call needs it, if it has code; a synchronized one enters the monitor of this object.
-pub(crate) fn callee_at(program: &LinkedProgram, method: u32, object: u32) -> Option<Callee>
+pub fn callee_at(program: &LinkedProgram, method: u32, object: u32) -> Option<Callee>
     ensures callee { IsCalleeAt program.now method object result }
     ensures entered { IfSome result (λ callee. MayEnter object callee.entered) }
 {

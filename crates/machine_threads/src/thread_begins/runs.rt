@@ -24,7 +24,7 @@ fn selected_run(program: &LinkedProgram, heap: &Heap, object: u32) -> Option<u32
 }
 
 /// The method `run` of a Thread object as its call needs it, if it has code.
-fn run_of(program: &LinkedProgram, heap: &Heap, object: u32) -> Option<Callee>
+pub fn run_of(program: &LinkedProgram, heap: &Heap, object: u32) -> Option<Callee>
     ensures run { FindsRun program.now heap.now.objects object result }
     ensures entered { IfSome result (λ callee. MayEnter object callee.entered) }
 {

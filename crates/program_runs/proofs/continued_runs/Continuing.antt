@@ -7,7 +7,6 @@ use Rattle.model.specs.declared.limits.Limits.{Limits}
 use Rattle.model.specs.declared.report.Report.{Report}
 use Rattle.model.specs.Classes.{Program}
 use Rattle.model.specs.LimitStands.{bounds_of}
-use Rattle.model.specs.Run.{run}
 use Rattle.model.specs.Schedule.{events_of}
 use Rattle.model.specs.State.{StateOf}
 use Rattle.run_laws.specs.soundness.Runs.{IsNoEventWrong}

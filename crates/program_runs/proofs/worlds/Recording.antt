@@ -1,16 +1,14 @@
 -- What is told of a world that has ended.
-use Rattle.std.proofs.Common.{◌≡◌, ℕ, List, [], ◌∷◌, ◌++◌, Some, Result, Ok, Err, length, refl, sym, ap, subst, ◌∙◌}
+use Rattle.std.proofs.Common.{◌≡◌, ℕ, [], ◌∷◌, ◌++◌, Some, Result, Ok, Err, length, refl, sym, ap, subst, ◌∙◌}
 use Rattle.std.specs.Prelude.{IfOk}
 use Rattle.std.specs.Arc.{arc_value}
 use Rattle.model.specs.declared.end.End.{End}
-use Rattle.model.specs.declared.end.End.TheVariants as ends
-use Rattle.model.specs.declared.event.Event.{Event}
 use Rattle.model.specs.declared.report.Report.{Report}
 use Rattle.model.specs.Classes.{Program}
-use Rattle.model.specs.LimitStands.{Bounds, bounds_of}
+use Rattle.model.specs.LimitStands.{bounds_of}
 use Rattle.model.specs.Operands.{words}
 use Rattle.model.specs.Schedule.{events_of}
-use Rattle.model.specs.State.{State, StateOf}
+use Rattle.model.specs.State.{StateOf}
 use Rattle.run_laws.specs.soundness.Runs.{IsNoEventWrong}
 use Rattle.run_laws.specs.word_reports.Reports.{IsReportedAs, AreReportsOfWords}
 use Rattle.linked_code.specs.declared.program.LinkedProgram.{LinkedProgram}

@@ -1,6 +1,6 @@
 -- Words of seeds, and the events of runs by policies, over two classes that javac wrote, whose main starts a thread: as docs/REFERENCE.md
 -- has the words, and as oracle/seeds.py makes the events by what stands there.
-use Rattle.std.specs.Prelude.{◌≡◌, ℕ, List, [], ◌∷◌, ◌++◌, take, replicate}
+use Rattle.std.specs.Prelude.{◌≡◌, ℕ, List, [], ◌∷◌, ◌++◌, take}
 use Rattle.rand_core.specs.Stream.{Stream, next_u64}
 use Rattle.model.specs.declared.event.Event.{Event}
 use Rattle.run_laws.specs.examples.AcceptedThreads.{files}

@@ -1,7 +1,6 @@
 -- The events of a run by a policy (own; docs/REFERENCE.md, "The schedule of a seed"): one worker does them, turn by turn.
-use Rattle.std.specs.Prelude.{ℕ, zero, suc, ◌+◌, ◌-◌, List, [], ◌∷◌, ◌++◌, Option, Some, None, Bool, true, false, ◌&&◌, ◌==◌, if◌then◌else◌, nat_lt, length, is_some, reverse, slice_index}
+use Rattle.std.specs.Prelude.{ℕ, zero, suc, ◌+◌, ◌-◌, List, [], ◌∷◌, ◌++◌, Option, Some, None, Bool, true, false, ◌&&◌, ◌==◌, if◌then◌else◌, nat_lt, length, min, is_some, slice_index}
 use Rattle.std.specs.List.{count_by, filter, find}
-use Rattle.std.specs.Option.{option_and_then}
 use Rattle.rand_core.specs.Steps.{stream_of, steps_u64_high}
 use Rattle.rand_core.specs.Stream.{Stream}
 use Rattle.rand_xoshiro.specs.SplitMix64.{splitmix_seed}
@@ -16,6 +15,7 @@ use Rattle.model.specs.Step.{is_enabled}
 use Rattle.machine.specs.Tops.{plain}
 use Rattle.program_runs.specs.declared.policies.policy.Policy.{Policy}
 use Rattle.program_runs.specs.declared.policies.policy.Policy.TheVariants as policy
+use Rattle.program_runs.specs.continued_runs.Turns.{behind}
 use Rattle.program_runs.specs.policies.Draws.{below, counted_length}
 
 -- ---- events and turns
@@ -25,25 +25,31 @@ abbrev pub can_do : Program → Bounds → (budget : ℕ) → (done : List Event
 can_do trees bounds budget done event =
     nat_lt (length done) budget && is_some (run trees bounds.frames (done ++ event ∷ [])) && within_limits trees bounds (done ++ event ∷ [])
 
--- the events with one more behind them, if it can be done
-abbrev pub with_event : Program → Bounds → (budget : ℕ) → Event → (done : List Event) → List Event
-with_event trees bounds budget event done = if can_do trees bounds budget done event then done ++ event ∷ [] else done
-
 -- the events with a turn of a thread behind them: events with pick 0, so many at most, one after another as long as they can be done
 abbrev pub with_turn : Program → Bounds → (budget : ℕ) → (most t : ℕ) → (done : List Event) → List Event
 with_turn trees bounds budget zero t done = done
 with_turn trees bounds budget (suc most) t done =
     if can_do trees bounds budget done (plain t) then with_turn trees bounds budget most t (done ++ plain t ∷ []) else done
 
+-- where a pick is drawn, the event of the thread with that pick is all of the turn, if it can be done
+abbrev pub with_picked : Program → Bounds → (budget pick most t : ℕ) → (done : List Event) → List Event
+with_picked trees bounds budget pick most t done =
+    let event : Event = record { thread = t; pick = pick } in
+    if nat_lt 0 pick && can_do trees bounds budget done event then done ++ event ∷ [] else with_turn trees bounds budget most t done
+
 -- ---- whose turn it is
 
--- the numbers behind one, upwards and from 0 on again, of so many
-abbrev pub upwards : (last threads : ℕ) → List ℕ
-upwards last threads = counting (last + 1) (threads - (last + 1)) ++ counting 0 (last + 1)
+-- the numbers below one, downwards
+abbrev pub counting_down : ℕ → List ℕ
+counting_down zero = []
+counting_down (suc n) = n ∷ counting_down n
 
--- downwards, and from the highest one on again
-abbrev pub downwards : (last threads : ℕ) → List ℕ
-downwards last threads = reverse (counting 0 last) ++ reverse (counting last (threads - last))
+-- In rotation the first turn is for the threads from 0 on. Each further one is for those behind the thread of the turn before, and then for
+-- those from 0 on; downwards for those below it, and then for those from the highest one down.
+abbrev pub in_rotation : (down : Bool) → (last : Option ℕ) → (threads : ℕ) → List ℕ
+in_rotation down None threads = counting 0 threads
+in_rotation false (Some t) threads = counting (behind t) (threads - behind t) ++ counting 0 threads
+in_rotation true (Some t) threads = counting_down (min t threads) ++ counting_down threads
 
 -- the first of the threads that may go on
 abbrev pub first_of : Program → (frames : ℕ) → State → List ℕ → Option ℕ
@@ -82,16 +88,13 @@ turned_if (Some x) next kept done = next x
 
 -- ---- rotation
 
--- the threads in the order in which they are asked: from 0 on, and else those behind the thread of the last turn
-abbrev pub in_order : (last : Option ℕ) → (threads : ℕ) → List ℕ
-in_order None threads = counting 0 threads
-in_order (Some t) threads = upwards t threads
-
--- the turn of the first one that may go on; it keeps the thread
+-- it keeps the thread of the last turn
 abbrev pub rotation_turn : Program → Bounds → (budget quantum : ℕ) → (last : Option ℕ) → (done : List Event) → Turned (Option ℕ)
 rotation_turn trees bounds budget quantum last done =
-    turned_if (option_and_then (λ state. first_of trees bounds.frames state (in_order last (thread_count state))) (run trees bounds.frames done))
-    (λ t. record { kept = Some t; events = with_turn trees bounds budget quantum t done }) last done
+    turned_if (run trees bounds.frames done)
+    (λ state. turned_if (first_of trees bounds.frames state (in_rotation false last (thread_count state)))
+    (λ t. record { kept = Some t; events = with_turn trees bounds budget quantum t done }) last done)
+    last done
 
 -- ---- random
 
@@ -106,7 +109,7 @@ random_event trees bounds budget words done state =
     let place = below (length able) words in
     let t = slice_index able place.0 in
     let pick = pick_of (pick_count trees bounds.frames state t) place.1 in
-    record { kept = pick.1; events = with_event trees bounds budget (record { thread = t; pick = pick.0 }) done }
+    record { kept = pick.1; events = with_picked trees bounds budget pick.0 1 t done }
 
 abbrev pub random_turn : Program → Bounds → (budget : ℕ) → Stream → (done : List Event) → Turned Stream
 random_turn trees bounds budget words done = turned_if (run trees bounds.frames done) (random_event trees bounds budget words done) words done
@@ -133,11 +136,6 @@ mixed_of seed =
     let unused = below 8 first.1 in
     record { words = unused.1; exponent = exponent.0; down = down.0 == 1; main_first = first.0 == 0; same = 0; another = 0; last = None }
 
-abbrev pub mixed_order : (down : Bool) → (last : Option ℕ) → (threads : ℕ) → List ℕ
-mixed_order false last threads = in_order last threads
-mixed_order true None threads = counting 0 threads
-mixed_order true (Some t) threads = downwards t threads
-
 -- how many events a turn has at most that is of the thread of the turn before
 abbrev pub length_of_same : Mixed → ℕ × Mixed
 length_of_same m =
@@ -161,28 +159,28 @@ waits Running = false
 waits (Relock object count cause) = false
 waits (Ended exception) = false
 
--- Where several threads wait, one is drawn; if that isn't the first one, and the event of the thread can wake it, the event is all of the turn.
+-- how many of the threads are in a wait set
+abbrev pub waiting_in : List Thread → ℕ
+waiting_in threads = count_by (λ (thread : Thread). waits thread.status) threads
+
+-- where several threads wait, one of them is drawn
 abbrev pub mixed_turn_of : Program → Bounds → (budget : ℕ) → Mixed → (done : List Event) → State → (t : ℕ) → Turned Mixed
 mixed_turn_of trees bounds budget m done state t =
     let drawn = length_of m.last t m in
-    let pick = pick_of (count_by (λ (thread : Thread). waits thread.status) state.world.threads) drawn.1.words in
-    let event : Event = record { thread = t; pick = pick.0 } in
-    record {
-      kept = record drawn.1 { words = pick.1; last = Some t };
-      events = if nat_lt 0 pick.0 && can_do trees bounds budget done event then done ++ event ∷ [] else with_turn trees bounds budget drawn.0 t done;
-    }
+    let pick = pick_of (waiting_in state.world.threads) drawn.1.words in
+    record { kept = record drawn.1 { words = pick.1; last = Some t }; events = with_picked trees bounds budget pick.0 drawn.0 t done }
 
 -- the turn of the first thread in rotation that may go on
 abbrev pub mixed_turn : Program → Bounds → (budget : ℕ) → Mixed → (done : List Event) → Turned Mixed
 mixed_turn trees bounds budget m done =
     turned_if (run trees bounds.frames done)
-    (λ state. turned_if (first_of trees bounds.frames state (mixed_order m.down m.last (thread_count state))) (mixed_turn_of trees bounds budget m done state) m done)
+    (λ state. turned_if (first_of trees bounds.frames state (in_rotation m.down m.last (thread_count state))) (mixed_turn_of trees bounds budget m done state) m done)
     m done
 
 -- ---- the run
 
--- the events of the run by a policy, memory aside
+-- The events of the run by a policy, memory aside. Each turn does one at least, so there are no more turns than the budget has events.
 abbrev pub events_by : Policy → Program → Bounds → (budget : ℕ) → List Event
-events_by (policy.Mixed seed) trees bounds budget = turns (mixed_turn trees bounds budget) budget (mixed_of seed) []
-events_by (policy.Random seed) trees bounds budget = turns (random_turn trees bounds budget) budget (words_of seed) []
-events_by (policy.Rotation quantum) trees bounds budget = turns (rotation_turn trees bounds budget quantum) budget None []
+events_by (policy.Mixed seed) trees bounds budget = turns (mixed_turn trees bounds budget) (budget + 1) (mixed_of seed) []
+events_by (policy.Random seed) trees bounds budget = turns (random_turn trees bounds budget) (budget + 1) (words_of seed) []
+events_by (policy.Rotation quantum) trees bounds budget = turns (rotation_turn trees bounds budget quantum) (budget + 1) None []

@@ -26,6 +26,10 @@ pub record IsNext (trees : Program) (frames : ℕ) (state : State) (from t : ℕ
 abbrev pub MayStep : MachineOf → ℕ → Bool → Type 0
 MayStep m t = MaySo m.program m.shared t m.limits.frames
 
+-- there is the thread, and it has one
+abbrev pub MayGo : MachineOf → ℕ → Type 0
+MayGo m t = (t < length m.shared.threads.threads) × MayStep m t true
+
 -- none of the threads from a number up to another has one
 abbrev pub MayNone : MachineOf → (from to : ℕ) → Type 0
 MayNone m from to = (u : ℕ) → from ≤ u → u < to → MayStep m u false
@@ -48,12 +52,12 @@ abbrev pub IsLast : MachineOf → (from to : ℕ) → Option ℕ → Type 0
 IsLast m from to (Some t) = (from ≤ t) × (t < to) × MayStep m t true × MayNone m (t + 1) to
 IsLast m from to None = MayNone m from to
 
--- The first in rotation downwards: there is none above it up to the number at which the rotation begins, or, where it lies above that number,
--- none from there down and none above it.
-abbrev pub IsFoundDownwards : MachineOf → (from : ℕ) → Option ℕ → Type 0
-IsFoundDownwards m from (Some t) =
+-- The first in rotation downwards: there is none between it and the number below which the rotation begins, or, where it doesn't lie below that
+-- number, none below that and none above it.
+abbrev pub IsFoundDownwards : MachineOf → (number : ℕ) → Option ℕ → Type 0
+IsFoundDownwards m number (Some t) =
     (t < length m.shared.threads.threads)
     × MayStep m t true
-    × (((t ≤ from) × MayNone m (t + 1) (min (from + 1) (length m.shared.threads.threads)))
-    ⊎ ((from < t) × MayNone m 0 (from + 1) × MayNone m (t + 1) (length m.shared.threads.threads)))
-IsFoundDownwards m from None = MayNone m 0 (length m.shared.threads.threads)
+    × (((t < number) × MayNone m (t + 1) (min number (length m.shared.threads.threads)))
+    ⊎ ((number ≤ t) × MayNone m 0 number × MayNone m (t + 1) (length m.shared.threads.threads)))
+IsFoundDownwards m number None = MayNone m 0 (length m.shared.threads.threads)

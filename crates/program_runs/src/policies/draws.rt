@@ -2,6 +2,7 @@
 
 ghost use Rattle.std.specs.Prelude.{◌≡◌, ◌≤◌, ◌<◌, ◌^◌};
 ghost use Rattle.program_runs.specs.policies.Draws.{below as drawn_below, short_length as drawn_short, long_length as drawn_long};
+ghost use Rattle.program_runs.specs.policies.Runs.{pick_of};
 
 use rand_core::Rng;
 
@@ -14,6 +15,16 @@ pub(crate) fn below<R: Rng>(random: &mut R, bound: u32) -> u32
 {
     let product = u64::from(random.next_u32()) * u64::from(bound);
     (product >> 32) as u32
+}
+
+/// A number below a count, where that is 2 at least; else 0, and nothing is drawn.
+pub(crate) fn pick_below<R: Rng>(random: &mut R, count: u16) -> u16
+    ensures { (result, R.stream random.new) ≡ pick_of count (R.stream random.old) }
+{
+    if count < 2 {
+        return 0;
+    }
+    below(random, u32::from(count)) as u16
 }
 
 /// How many events a short turn has, which are 1 to 2^(n+1): one more than the product of the two halves of a word of

@@ -1,25 +1,26 @@
 //! `mixed`: turns in rotation, whose lengths are drawn.
 
-ghost use Rattle.std.specs.Prelude.{◌≡◌, ◌≤◌, IfOk, OnOk};
-ghost use Rattle.program_runs.specs.worlds.Worlds.{IsOfSame};
+ghost use Rattle.std.specs.Prelude.{◌≡◌, ◌≤◌, [], None, OnOk};
+ghost use Rattle.model.specs.LimitStands.{bounds_of};
+ghost use Rattle.program_runs.specs.declared.policies.policy.Policy.TheVariants.{Mixed as by_seed};
+ghost use Rattle.program_runs.specs.policies.Keeping.{drawn_pick, kept_by, turn_for};
+ghost use Rattle.program_runs.specs.policies.PolicyTurns.{DoesTurn, HasRunThrough};
+ghost use Rattle.program_runs.specs.policies.Runs.{events_by, length_of, mixed_of, mixed_turn};
+ghost use Rattle.program_runs.specs.worlds.Worlds.{IsOfLess};
 
-use crate::policies::draws::below;
+use crate::policies::draws::{below, pick_below};
+use crate::policies::picked_turns::give_turn;
+use crate::policies::stopping::behind_turn;
 use crate::policies::turn_lengths::{Turn, TurnLengths};
+use crate::policies::turn_order::{Direction, next_thread};
 use crate::policies::waiters::waiting;
 use crate::workers::Gate;
-use crate::worlds::{World, first_enabled, first_enabled_downwards};
+use crate::worlds::World;
 use machine::Machine;
-use model::Event;
 use rand_core::SeedableRng;
 use rand_xoshiro::Xoshiro256PlusPlus;
+use run_laws::word_reports::reports_of_words;
 use std::alloc::AllocError;
-
-/// Which way a rotation goes, by the threads' numbers.
-#[derive(Clone, Copy)]
-enum Direction {
-    Upwards,
-    Downwards,
-}
 
 /// What the seed says, and where the turns are.
 #[derive(Drop)]
@@ -33,7 +34,9 @@ struct Mixed {
 
 impl Mixed {
     /// Before the first turn. Four numbers are drawn, and nothing comes of the last.
-    fn from_seed(seed: u64) -> Mixed {
+    fn from_seed(seed: u64) -> Mixed
+        ensures { kept_by result ≡ mixed_of seed }
+    {
         let mut random = Xoshiro256PlusPlus::seed_from_u64(seed);
         let n = below(&mut random, 7);
         let direction = if below(&mut random, 2) == 1 {
@@ -51,20 +54,10 @@ impl Mixed {
         }
     }
 
-    /// The thread that has the next turn: the first one behind that of the last, in rotation, that has an event which
-    /// is enabled.
-    fn next_thread(&self, machine: &Machine) -> Option<u16> {
-        match (self.last, self.direction) {
-            (None, _) => first_enabled(machine, 0),
-            (Some(last), Direction::Upwards) => first_enabled(machine, last.wrapping_add(1)),
-            (Some(last), Direction::Downwards) => {
-                first_enabled_downwards(machine, last.wrapping_sub(1))
-            }
-        }
-    }
-
     /// Whose turn it is, where it is this thread's.
-    fn turn_of(&self, thread: u16) -> Turn {
+    fn turn_of(&self, thread: u16) -> Turn
+        ensures { result ≡ turn_for self.now.last thread }
+    {
         match self.last {
             None => Turn::First,
             Some(last) if last == thread => Turn::Same,
@@ -72,53 +65,61 @@ impl Mixed {
         }
     }
 
-    /// Where several threads wait, draws which waiter the next event of a thread is to wake, and does the event if
-    /// that isn't the first one and the event is enabled. Returns whether it was done. The only error is a want of
-    /// memory.
-    fn picks(&mut self, world: &mut World, thread: u16) -> Result<bool, AllocError>
-        ensures { OnOk result (IsOfSame world.old world.new) }
+    /// How many events the next turn has at most, which is this thread's.
+    fn next_length(&mut self, thread: u16) -> u32
+        ensures drawn { (result, kept_by self.new) ≡ length_of self.old.last thread (kept_by self.old) }
+        ensures some { 1 ≤ result }
     {
-        let waiting = waiting(&world.machine().shared().threads);
-        if waiting < 2 {
-            return Ok(false);
-        }
-        let pick = below(&mut self.random, u32::from(waiting)) as u16;
-        if pick == 0 {
-            return Ok(false);
-        }
-        let (done, _why) = world.repeat(Event { thread, pick }, 1)?;
-        Ok(done > 0)
+        let turn = self.turn_of(thread);
+        self.lengths.next(&mut self.random, turn)
+    }
+
+    /// Where several threads wait, the number of one of them, which is drawn; else 0.
+    fn next_pick(&mut self, machine: &Machine) -> u16
+        ensures { (result, kept_by self.new) ≡ drawn_pick machine.now (kept_by self.old) }
+    {
+        pick_below(&mut self.random, waiting(&machine.shared().threads))
     }
 
     /// A turn, or the end. The only error is a want of memory.
     fn take_turn(&mut self, world: &mut World) -> Result<(), AllocError>
-        ensures { OnOk result (IsOfSame world.old world.new) }
+        requires { world.old.end ≡ None }
+        ensures does { OnOk result (DoesTurn (mixed_turn world.old.trees (bounds_of world.old.machine.limits)
+            world.old.budget (kept_by self.old) world.old.events).events world.old world.new) }
+        ensures kept { OnOk result (kept_by self.new ≡ (mixed_turn world.old.trees
+            (bounds_of world.old.machine.limits) world.old.budget (kept_by self.old) world.old.events).kept) }
     {
-        let Some(thread) = self.next_thread(world.machine()) else {
-            world.shared_steps(0, 1);
+        reports_of_words();
+        // what is known of the world
+        let _ = world.end();
+        let Some(thread) = next_thread(world.machine(), self.last, self.direction) else {
+            world.end_quietly();
             return Ok(());
         };
-        let turn = self.turn_of(thread);
-        let most = self.lengths.next(&mut self.random, turn);
+        let most = self.next_length(thread);
+        let pick = self.next_pick(world.machine());
         self.last = Some(thread);
-        if !self.picks(world, thread)? {
-            world.shared_steps(thread, most);
-        }
-        Ok(())
+        give_turn(world, thread, pick, most)
     }
 }
 
-/// Does turns until there is an end. The gate is told how many events are done. The only error is a want of memory.
+/// Does turns until there is an end. The gate is told how many events are done, and may stop the run behind a turn. The
+/// only error is a want of memory.
 pub(crate) fn run_mixed<G: Gate>(world: &mut World, seed: u64, gate: &G) -> Result<(), AllocError>
-    ensures { OnOk result (IsOfSame world.old world.new) }
+    requires on { world.old.end ≡ None }
+    requires none { world.old.events ≡ [] }
+    ensures same { OnOk result (IsOfLess (G.may_stop gate.now) world.old world.new) }
+    ensures through { OnOk result (HasRunThrough (G.may_stop gate.now) (events_by (by_seed seed) world.old.trees
+        (bounds_of world.old.machine.limits) world.old.budget) world.new) }
 {
     let mut mixed = Mixed::from_seed(seed);
     'turns: for _ in 0..=world.budget() {
         if world.end().is_some() {
-            break;
+            return Ok(());
         }
         mixed.take_turn(world)?;
-        gate.turn_ends(world.count());
+        behind_turn(world, gate);
     }
+    let _ = world.end();
     Ok(())
 }

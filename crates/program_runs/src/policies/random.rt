@@ -1,20 +1,25 @@
 //! `random`: each event is of a thread that is drawn.
 
-ghost use Rattle.std.specs.Prelude.{◌≡◌, ◌≤◌, OnOk};
-ghost use Rattle.program_runs.specs.worlds.Worlds.{IsOfSame};
+ghost use Rattle.std.specs.Prelude.{◌≡◌, ◌≤◌, None, IfSome, OnOk};
+ghost use Rattle.program_runs.specs.worlds.Turns.{MayGo};
+ghost use Rattle.program_runs.specs.worlds.Worlds.{IsOfLess, IsOfSame};
 
-use crate::policies::draws::below;
+use crate::policies::draws::{below, pick_below};
+use crate::policies::picked_turns::give_turn;
+use crate::policies::stopping::behind_turn;
 use crate::policies::waiters::waiters_to_pick;
 use crate::workers::Gate;
 use crate::worlds::{World, enabled_at, enabled_count};
 use machine::Machine;
-use model::Event;
 use rand_core::SeedableRng;
 use rand_xoshiro::Xoshiro256PlusPlus;
+use run_laws::word_reports::reports_of_words;
 use std::alloc::AllocError;
 
 /// One of the threads that have an event which is enabled, if there is one.
-fn drawn_thread(random: &mut Xoshiro256PlusPlus, machine: &Machine) -> Option<u16> {
+fn drawn_thread(random: &mut Xoshiro256PlusPlus, machine: &Machine) -> Option<u16>
+    ensures { IfSome result (MayGo machine.now) }
+{
     let count = enabled_count(machine);
     if count == 0 {
         return None;
@@ -22,37 +27,24 @@ fn drawn_thread(random: &mut Xoshiro256PlusPlus, machine: &Machine) -> Option<u1
     enabled_at(machine, below(random, u32::from(count)) as u16)
 }
 
-/// Which waiter the next event of a thread is to wake, where it may pick one of several.
-fn drawn_pick(random: &mut Xoshiro256PlusPlus, machine: &Machine, thread: u16) -> u16 {
-    let waiters = waiters_to_pick(machine, thread);
-    if waiters < 2 {
-        return 0;
-    }
-    below(random, u32::from(waiters)) as u16
-}
-
 /// An event, or the end. The only error is a want of memory.
 fn take_turn(world: &mut World, random: &mut Xoshiro256PlusPlus) -> Result<(), AllocError>
+    requires { world.old.end ≡ None }
     ensures { OnOk result (IsOfSame world.old world.new) }
 {
+    reports_of_words();
     let Some(thread) = drawn_thread(random, world.machine()) else {
         world.shared_steps(0, 1);
         return Ok(());
     };
-    let pick = drawn_pick(random, world.machine(), thread);
-    if pick > 0 {
-        let (done, _why) = world.repeat(Event { thread, pick }, 1)?;
-        if done > 0 {
-            return Ok(());
-        }
-    }
-    world.shared_steps(thread, 1);
-    Ok(())
+    let pick = pick_below(random, waiters_to_pick(world.machine(), thread));
+    give_turn(world, thread, pick, 1)
 }
 
-/// Does events until there is an end. The gate is told how many are done. The only error is a want of memory.
+/// Does events until there is an end. The gate is told how many are done, and may stop the run behind each. The only
+/// error is a want of memory.
 pub(crate) fn run_random<G: Gate>(world: &mut World, seed: u64, gate: &G) -> Result<(), AllocError>
-    ensures { OnOk result (IsOfSame world.old world.new) }
+    ensures { OnOk result (IsOfLess (G.may_stop gate.now) world.old world.new) }
 {
     let mut random = Xoshiro256PlusPlus::seed_from_u64(seed);
     'turns: for _ in 0..=world.budget() {
@@ -60,7 +52,7 @@ pub(crate) fn run_random<G: Gate>(world: &mut World, seed: u64, gate: &G) -> Res
             break;
         }
         take_turn(world, &mut random)?;
-        gate.turn_ends(world.count());
+        behind_turn(world, gate);
     }
     Ok(())
 }

@@ -1,5 +1,9 @@
 //! Threads that wait (JLS 17.2).
 
+ghost use Rattle.std.specs.Prelude.{◌≡◌};
+ghost use Rattle.heap.specs.java_threads.Statuses.{status_of};
+ghost use Rattle.program_runs.specs.policies.Runs.{waiting_in, waits};
+
 use heap::Heap;
 use heap::java_threads::{ThreadStatus, Threads};
 use linked_code::thread_stacks::Frame;
@@ -9,13 +13,23 @@ use machine::top_frames::goes_on;
 use machine_state::linked_frames::instruction_at;
 use machine_state::method_selection::{class_of_kind, method_at, select_interface, select_virtual};
 
+/// Whether a thread of a status is in a wait set.
+fn is_waiting(status: ThreadStatus) -> bool
+    ensures { result ≡ waits (status_of status) }
+{
+    matches!(status, ThreadStatus::Waiting { .. })
+}
+
 /// How many threads are in a wait set.
-pub(crate) fn waiting(threads: &Threads) -> u16 {
+pub(crate) fn waiting(threads: &Threads) -> u16
+    ensures { result ≡ waiting_in threads.now.threads }
+{
     let mut count = 0u16;
     'threads: for thread in 0..threads.len() as u16 {
-        if matches!(threads.status(thread), ThreadStatus::Waiting { .. }) {
-            count += 1;
+        if !is_waiting(threads.status(thread)) {
+            continue;
         }
+        count += 1;
     }
     count
 }

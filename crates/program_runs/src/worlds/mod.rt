@@ -18,6 +18,10 @@
 //!   one in rotation from a number that has an event which is enabled (`IsNext`), and at least one event of it is done,
 //!   of as many as were asked for, by `repeat`'s rules. Or nothing is done, and an end is set. Files, limits and budget
 //!   stay.
+//! - `turn` (`DoesTurn`) does the events of a turn of a thread as the definition has them (`with_turn`), and `event` one
+//!   event where it can be done (`can_do`). Where none can be done an end is set; and where memory is wanted.
+//! - `stop` (`Stops`): where there is no end, and some thread has an event that is enabled, the budget is used up by the
+//!   events that were done, and the end says so. Else nothing changes.
 //! - `check_out` (`ChecksOut`), memory aside: nothing changes, and it gives a burst of no step of the first thread in
 //!   rotation that runs with no exception pending and has a frame of a method on top, with that frame; none only where
 //!   no thread is so.
@@ -52,10 +56,13 @@
 mod commits;
 mod records;
 mod sharing;
+mod stopping;
+mod thread_turns;
 mod turns;
 mod world;
 
 pub use commits::{Commit, ThreadBurst};
 pub use records::Recorded;
-pub(crate) use turns::{enabled_at, enabled_count, first_enabled, first_enabled_downwards};
+pub(crate) use thread_turns::unless_memory;
+pub(crate) use turns::{enabled_at, enabled_count, first_enabled, first_enabled_below};
 pub use world::World;

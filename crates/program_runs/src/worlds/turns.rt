@@ -1,7 +1,7 @@
 //! Whose turn it is.
 
-ghost use Rattle.std.specs.Prelude.{true, IfSome};
-ghost use Rattle.program_runs.specs.worlds.Turns.{IsFirst, IsFound, IsFoundDownwards, IsLast, MayStep};
+ghost use Rattle.std.specs.Prelude.{IfSome};
+ghost use Rattle.program_runs.specs.worlds.Turns.{IsFirst, IsFound, IsFoundDownwards, IsLast, MayGo, MayStep};
 
 use machine::Machine;
 use machine::thread_standings::may_step;
@@ -49,16 +49,16 @@ fn last_between(machine: &Machine, from: u16, to: u16) -> Option<u16>
     None
 }
 
-/// The first thread that has an event which is enabled, in rotation downwards: from a number down, and then from the
-/// last thread.
-pub(crate) fn first_enabled_downwards(machine: &Machine, from: u16) -> Option<u16>
-    ensures { IsFoundDownwards machine.now from result }
+/// The first thread that has an event which is enabled, in rotation downwards: below a number, and then from the last
+/// thread down.
+pub(crate) fn first_enabled_below(machine: &Machine, number: u16) -> Option<u16>
+    ensures { IsFoundDownwards machine.now number result }
 {
     let count = machine.shared().threads.len() as u16;
-    let behind = from.saturating_add(1).min(count);
-    match last_between(machine, 0, behind) {
+    let seam = number.min(count);
+    match last_between(machine, 0, seam) {
         Some(thread) => Some(thread),
-        None => last_between(machine, behind, count),
+        None => last_between(machine, seam, count),
     }
 }
 
@@ -75,7 +75,7 @@ pub(crate) fn enabled_count(machine: &Machine) -> u16 {
 
 /// The thread that has an event which is enabled, behind so many others that have one.
 pub(crate) fn enabled_at(machine: &Machine, place: u16) -> Option<u16>
-    ensures { IfSome result (λ thread. MayStep machine.now thread true) }
+    ensures { IfSome result (MayGo machine.now) }
 {
     let mut left = place;
     'threads: for thread in 0..machine.shared().threads.len() as u16 {

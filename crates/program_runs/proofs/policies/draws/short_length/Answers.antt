@@ -1,4 +1,4 @@
-use Rattle.std.proofs.Common.{◌≡◌, ◌<◌, ◌≤◌, ◌^◌, ◌+◌, ◌-◌, ◌*◌, ◌/◌, ◌%◌, ℕ, Fits, w32, bit_and, arith, rules}
+use Rattle.std.proofs.Common.{◌<◌, ◌≤◌, ◌^◌, ◌-◌, ◌*◌, ◌/◌, ℕ, bit_and, arith, rules}
 use Rattle.std.proofs.Math.Pow.{pow_mono}
 use Rattle.std.proofs.lemmas.Nat.{div_below, mul-lt, and_mask}
 use Rattle.program_runs.proofs.policies.draws.short_length.Goals as goal
