@@ -20,7 +20,7 @@
 //!   thread stands as here. An own event, of a thread that is in no conflict where it stands so, is alone, and leaves it
 //!   to each other thread whether it may step (`own_events_are_alone`). A local event is its thread's own
 //!   (`local_events_are_own`). So are the call of an instance method that is not synchronized, the return from a method
-//!   that is not, and a cast that passes (`own_steps_are_own`).
+//!   that is not, a cast that passes, a test of a type, and the length of an array (`own_steps_are_own`).
 //! - A monitorexit of a monitor that the thread owns, a monitorenter of one, and the return from a synchronized method
 //!   whose monitor it owns, but for its first method, are alone (`events_on_owned_monitors_are_alone`).
 //!
@@ -60,8 +60,8 @@ pub fn local_events_are_own()
     ensures holds { AreLocalEventsOwn }
 {}
 
-/// The call of an instance method, the return from a method, neither synchronized, and a cast that passes, are their
-/// thread's own.
+/// The call of an instance method, the return from a method, neither synchronized, a cast that passes, a test of a
+/// type, and the length of an array are their thread's own.
 pub fn own_steps_are_own()
     ensures holds { AreOwnStepsOwn }
 {}
