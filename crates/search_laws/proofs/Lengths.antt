@@ -1,9 +1,9 @@
 -- What keeps the lengths of arrays.
-use Rattle.std.proofs.Common.{◌≡◌, ℕ, zero, suc, List, [], ◌∷◌, ◌++◌, length, Bool, true, false, ◌==◌, Some, refl, sym, ap, ◌∙◌, subst}
+use Rattle.std.proofs.Common.{◌≡◌, ℕ, List, [], ◌∷◌, ◌++◌, length, Bool, true, false, ◌==◌, Some, refl, sym, ap, ◌∙◌, subst}
 use Rattle.std.specs.Prelude.{slice_get, slice_set, slice_index_or}
 use Rattle.std.proofs.lemmas.Bool.{false≢true, eqb-true, eq-eqb}
 use Rattle.std.proofs.lemmas.List.{length-set}
-use Rattle.std.proofs.lemmas.Option.{same_Some, get_or_from_slice_get}
+use Rattle.std.proofs.lemmas.Option.{get_or_from_slice_get}
 use Rattle.model.specs.declared.value.Value.{Value}
 use Rattle.model.specs.Names.{Member}
 use Rattle.model.specs.State.{ObjectOf, Instance, Primitives, References}
@@ -34,8 +34,7 @@ lengths_set heap k new same r old e = by (k == r) refl
     by true q =
         let is = eqb-true k r q in
         let there = subst (λ j. slice_get heap j ≡ Some old) (sym is) e in
-        let at = get_or_from_slice_get heap k old no_object there in
-        (
+        let at = get_or_from_slice_get heap k old no_object there in (
           new,
           (
             ap (slice_get (slice_set heap k new)) (sym is) ∙ get_set_at heap k old new there,
