@@ -1,5 +1,5 @@
 -- Instructions that access a variable: what they leave of the world, and that they do it again in a world of the same shape.
-use Rattle.std.proofs.Common.{◌≡◌, refl, sym, ◌∙◌, ap, subst, ℕ, List, [], ◌∷◌, length}
+use Rattle.std.proofs.Common.{◌≡◌, refl, ◌∙◌, ap, subst, ℕ, List}
 use Rattle.std.specs.Prelude.{Option, Some, None, Bool, true, false, ◌==◌, nat_lt, IsTrue}
 use Rattle.model.specs.declared.event.Event.{Event}
 use Rattle.model.specs.declared.value.Value.{Value}
@@ -9,10 +9,10 @@ use Rattle.model.specs.Types.{VerificationType, Want}
 use Rattle.model.specs.Operands.{Slots, values}
 use Rattle.model.specs.State.{ObjectOf, Instance, Primitives, References, type_of, types_of, World}
 use Rattle.model.specs.Outcomes.{MachineException, Cost, OutcomeOf, Goes, Raises, NullPointer, ArrayIndexOutOfBounds, ArrayStore, not_null}
-use Rattle.model.specs.Worlds.{object_at, elements_of}
+use Rattle.model.specs.Worlds.{object_at}
 use Rattle.model.specs.Sites.{MeaningOf, Site, referent, operand, int_operand}
 use Rattle.model.specs.Meanings.{get_static_of, put_static_of, system_out_meaning, get_field_of, put_field_of}
-use Rattle.model.specs.Arrays.{at_index, in_range, load_meaning, store_int_meaning, store_reference_meaning, may_stand_in, if_storable, kept_by}
+use Rattle.model.specs.Arrays.{at_index, in_range, load_meaning, store_int_meaning, store_reference_meaning, may_stand_in, if_storable}
 use Rattle.data_races.specs.EventActions.{goes_on}
 use Rattle.race_laws.proofs.racy_states.Shapes.{IsSameShape, shape_itself, shape_of_static, shape_of_field, shape_of_element}
 

@@ -1,10 +1,10 @@
 -- A racy state that is reached gives a run with a race: both accesses, one behind the other.
-use Rattle.std.proofs.Common.{◌≡◌, refl, sym, ◌∙◌, ap, subst, ℕ, zero, suc, ◌+◌, ◌-◌, ◌<◌, ◌≤◌, ◌⊎◌, inl, inr, List, [], ◌∷◌, ◌++◌, length, map, append_assoc, length-append, arith}
-use Rattle.std.specs.Prelude.{Option, Some, None, Bool, true, false, not, ◌&&◌, ◌==◌, ◌||◌, slice_get, slice_set, IsTrue, IsFalse}
+use Rattle.std.proofs.Common.{◌≡◌, refl, sym, ◌∙◌, ap, subst, ℕ, zero, suc, ◌+◌, ◌<◌, ◌≤◌, ◌⊎◌, inl, inr, List, [], ◌∷◌, ◌++◌, length, map, append_assoc, arith}
+use Rattle.std.specs.Prelude.{Option, Some, None, Bool, true, false, not, ◌&&◌, ◌==◌, ◌||◌, slice_get, slice_set, IsTrue}
 use Rattle.std.specs.Option.{option_and_then, option_map_or}
 use Rattle.std.specs.List.{list_any}
 use Rattle.std.proofs.lemmas.Option.{slice_get_within}
-use Rattle.std.proofs.lemmas.Bool.{eqb-true, eq-eqb}
+use Rattle.std.proofs.lemmas.Bool.{eq-eqb}
 use Rattle.std.proofs.lemmas.Bool.Decides.{eqb_tells}
 use Rattle.model.specs.declared.event.Event.{Event}
 use Rattle.model.specs.declared.value.Value.{Value}
@@ -12,7 +12,7 @@ use Rattle.model.specs.Names.{Name}
 use Rattle.model.specs.Classes.{Program}
 use Rattle.model.specs.Operands.{Slots, values, under}
 use Rattle.model.specs.Rows.{counting}
-use Rattle.model.specs.State.{ClassStatus, types_of, Thread, StackOf, World, State}
+use Rattle.model.specs.State.{ClassStatus, Thread, StackOf, World, State}
 use Rattle.model.specs.Opening.{opening}
 use Rattle.model.specs.Outcomes.{Cost, OutcomeOf, Goes}
 use Rattle.model.specs.Worlds.{thread_at}
@@ -22,8 +22,8 @@ use Rattle.model.specs.Run.{run, run_from}
 use Rattle.data_races.specs.Variables.{Variable, is_volatile}
 use Rattle.data_races.specs.Actions.{Action, Read, Write, conflicts, synchronizes, is_read, is_write}
 use Rattle.data_races.specs.EventActions.{only_if, Instruction, Rule, Begins, Does, Initialises, Relocks, Other, access_by, operands_of, is_done, is_ready, goes_on, outcome_at, accesses_of, actions_to, actions_of, rule_of}
-use Rattle.data_races.specs.HappensBefore.{Relations, Pair, HappensBefore, IsRace}
-use Rattle.data_races.specs.Races.{ActionOfRun, in_event, actions_from, actions_of_run, memory_order, HasRace, next_actions, have_conflict, is_racy, IsRacy}
+use Rattle.data_races.specs.HappensBefore.{HappensBefore, IsRace}
+use Rattle.data_races.specs.Races.{ActionOfRun, in_event, actions_from, actions_of_run, memory_order, HasRace, next_actions, IsRacy}
 use Rattle.data_races.proofs.Order.{get_left}
 use Rattle.data_races.proofs.Decided.{In, in_map, from_map}
 use Rattle.race_laws.proofs.racy_states.Unordered.{stays_within}

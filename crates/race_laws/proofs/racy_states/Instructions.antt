@@ -1,5 +1,5 @@
 -- Which instructions access a variable.
-use Rattle.std.proofs.Common.{◌≡◌, refl, sym, ◌∙◌, ap, subst, ℕ, List, [], ◌∷◌}
+use Rattle.std.proofs.Common.{◌≡◌, refl, sym, ◌∙◌, subst, List}
 use Rattle.std.specs.Prelude.{Option, Some, None, Bool, true, false, if◌then◌else◌}
 use Rattle.std.specs.Option.{option_and_then}
 use Rattle.model.specs.declared.value.Value.{Value}
@@ -13,13 +13,13 @@ use Rattle.model.specs.Names.{Member, member_eq, system_out}
 use Rattle.model.specs.Tree.{FieldTree}
 use Rattle.model.specs.Pool.{integers_of, field_at}
 use Rattle.model.specs.Classes.{Program}
-use Rattle.model.specs.Lookup.{find_field, field_of, is_static_field, is_instance_field}
+use Rattle.model.specs.Lookup.{find_field, is_static_field, is_instance_field}
 use Rattle.model.specs.Operands.{values}
 use Rattle.model.specs.Rows.{Row, local_row}
 use Rattle.model.specs.State.{World}
 use Rattle.model.specs.Sites.{MeaningOf, Site}
 use Rattle.model.specs.Arrays.{load_of, store_of, an_int, its_component}
-use Rattle.model.specs.Meanings.{meaning_of, local_or, local_meaning, other_meaning, field_meaning, if_field, get_static_meaning, get_static_of, put_static_of, get_field_of, put_field_of, system_out_meaning}
+use Rattle.model.specs.Meanings.{meaning_of, local_or, local_meaning, other_meaning, field_meaning, if_field, get_static_of, put_static_of, get_field_of, put_field_of, system_out_meaning}
 use Rattle.data_races.specs.Actions.{Action}
 use Rattle.data_races.specs.EventActions.{access_by, method_run}
 use Rattle.data_races.proofs.Decided.{In}

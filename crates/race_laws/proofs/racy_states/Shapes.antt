@@ -1,5 +1,5 @@
 -- Worlds that differ in the values of variables alone.
-use Rattle.std.proofs.Common.{◌≡◌, refl, sym, ◌∙◌, ap, subst, ℕ, zero, suc, List, [], ◌∷◌, length, map, length-set}
+use Rattle.std.proofs.Common.{◌≡◌, refl, ap, ℕ, zero, suc, List, [], ◌∷◌, length, map, length-set}
 use Rattle.std.specs.Prelude.{slice_index_or, slice_set}
 use Rattle.model.specs.declared.value.Value.{Value}
 use Rattle.model.specs.Names.{Member}

@@ -1,6 +1,6 @@
 -- An event that accesses a variable that is not volatile leaves nothing that a later one could find.
-use Rattle.std.proofs.Common.{◌≡◌, refl, sym, ◌∙◌, ap, subst, ℕ, zero, suc, ◌-◌, ◌⊎◌, inl, inr, List, [], ◌∷◌, ◌++◌, length, map, arith}
-use Rattle.std.specs.Prelude.{Option, Some, None, Bool, true, false, cond, not, ◌&&◌, ◌||◌, ◌==◌, IsTrue, IsFalse}
+use Rattle.std.proofs.Common.{◌≡◌, refl, sym, ◌∙◌, ap, subst, ℕ, ◌-◌, ◌⊎◌, inl, inr, List, [], ◌∷◌, ◌++◌, length, map, arith}
+use Rattle.std.specs.Prelude.{Option, Some, None, Bool, true, false, cond, not, ◌&&◌, ◌||◌, ◌==◌, IsTrue}
 use Rattle.std.specs.Option.{option_and_then, option_map_or}
 use Rattle.std.specs.List.{filter, list_any}
 use Rattle.std.proofs.lemmas.Bool.{eq-eqb}
@@ -12,18 +12,17 @@ use Rattle.model.specs.declared.instr.FieldAccess.{FieldAccess}
 use Rattle.model.specs.declared.instr.FieldAccess.TheVariants as access
 use Rattle.model.specs.Names.{Name, Member}
 use Rattle.model.specs.Pool.{field_at}
-use Rattle.model.specs.Classes.{Program, Body, body_of}
+use Rattle.model.specs.Classes.{Program, body_of}
 use Rattle.model.specs.Lookup.{find_field}
 use Rattle.model.specs.Operands.{values}
 use Rattle.model.specs.Rows.{counting}
 use Rattle.model.specs.State.{ClassStatus, Monitor, Thread, ThreadStatus, Running, World}
 use Rattle.model.specs.Worlds.{thread_at, has_ended}
 use Rattle.model.specs.ClassInitialisation.{status_of}
-use Rattle.model.specs.Sites.{Site, referent}
-use Rattle.model.specs.BuiltInMethods.{BuiltInMethod}
+use Rattle.model.specs.Sites.{referent}
 use Rattle.data_races.specs.Actions.{Action, Read, Write, Lock, Unlock, Start, Wake, Finish, ClearInterrupt, FinishInitialisation, FindInitialised, synchronizes, conflicts, is_read, is_write}
 use Rattle.data_races.specs.Variables.{is_volatile}
-use Rattle.data_races.specs.EventActions.{Instruction, Rule, Does, only_if, found_class, is_finished, needed_class, without_code, built_in_run, built_in_at, operands_of, receiver_of, found_on, interrupts_on, is_done, finds_of, accesses_of, goes_on, outcome_at, interrupts_of, access_by, at_reference, field_access, owned, owned_from, besides, started, clear_actions, finished_classes, end_actions, waiting, is_over, actions_to, method_run}
+use Rattle.data_races.specs.EventActions.{Instruction, Rule, Does, only_if, found_class, is_finished, needed_class, without_code, built_in_at, operands_of, receiver_of, found_on, interrupts_on, is_done, finds_of, accesses_of, goes_on, outcome_at, interrupts_of, access_by, at_reference, field_access, owned, owned_from, besides, started, clear_actions, finished_classes, end_actions, waiting, is_over, actions_to}
 use Rattle.data_races.proofs.Decided.{In, from_map}
 use Rattle.race_laws.proofs.racy_states.Upto.{to_finds, to_locks, to_accesses, to_unlocks, to_starts, to_interrupts, to_clears, to_finished}
 use Rattle.race_laws.proofs.racy_states.Shapes.{IsSameShape}

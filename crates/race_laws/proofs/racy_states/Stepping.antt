@@ -1,5 +1,5 @@
 -- A thread at an instruction, and its step.
-use Rattle.std.proofs.Common.{◌≡◌, refl, sym, ◌∙◌, ap, subst, ℕ, ◌-◌, List, [], ◌∷◌, ◌++◌, length}
+use Rattle.std.proofs.Common.{◌≡◌, refl, sym, ◌∙◌, ap, subst, ℕ, ◌-◌, [], ◌∷◌, ◌++◌, length}
 use Rattle.std.specs.Prelude.{Option, Some, None, Bool, true, false, if◌then◌else◌, slice_get, slice_set, replicate, IsTrue}
 use Rattle.std.specs.Option.{option_and_then, option_map, option_map_or}
 use Rattle.model.specs.declared.event.Event.{Event}
@@ -9,14 +9,14 @@ use Rattle.model.specs.Classes.{Program, Body, body_of}
 use Rattle.model.specs.Operands.{Slots, values, under}
 use Rattle.model.specs.State as state
 use Rattle.model.specs.State.{types_of, Thread, ThreadStatus, Running, Waiting, Relock, Ended, Frame, Initialisation, StackOf, World, State}
-use Rattle.model.specs.Outcomes.{Cost, OutcomeOf, Goes}
+use Rattle.model.specs.Outcomes.{Cost, Goes}
 use Rattle.model.specs.Worlds.{thread_at}
 use Rattle.model.specs.Frames.{at_offset}
 use Rattle.model.specs.ClassInitialisation.{Look, IsReady, IsNew, IsHeld, HasFailed, look_by, look_at, status_of}
 use Rattle.model.specs.Sites.{MeaningOf, Site, site_at}
 use Rattle.model.specs.Meanings.{meaning_of}
-use Rattle.model.specs.Step.{SteppedOf, NotEnabled, WrongKind, Next, PartOf, part, enabled_if, unpicked, settled, needing_class, needing, done, become, bytecode_by, bytecode_in, bytecode_event, going_event, running_event, thread_event, with_part, event_of, stepped, next_by, step, ops_of}
-use Rattle.data_races.specs.EventActions.{Instruction, Rule, Begins, Does, Initialises, Relocks, Other, instruction_in, frame_rule, running_rule, rule_by, rule_of, is_ready}
+use Rattle.model.specs.Step.{SteppedOf, WrongKind, PartOf, enabled_if, unpicked, settled, needing_class, needing, done, become, bytecode_by, bytecode_in, going_event, thread_event, with_part, event_of, stepped, next_by, step, ops_of}
+use Rattle.data_races.specs.EventActions.{Instruction, Does, Other, instruction_in, running_rule, rule_by, rule_of, is_ready}
 
 abbrev pub event_of_thread : ℕ → Event
 event_of_thread t = record { thread = t; pick = 0 }

@@ -1,5 +1,5 @@
 -- What comes out of one event into a next one: where none of its actions leaves anything, it happens before no action of another thread.
-use Rattle.std.proofs.Common.{◌≡◌, refl, sym, ◌∙◌, ℕ, ◌<◌, ◌≤◌, ◌⊎◌, inl, inr, List, arith}
+use Rattle.std.proofs.Common.{◌≡◌, sym, ◌∙◌, ℕ, ◌<◌, ◌≤◌, inl, inr, List, arith}
 use Rattle.std.specs.Prelude.{Some, true, false, slice_get, IsFalse}
 use Rattle.std.proofs.lemmas.Bool.Decides.{leb_tells}
 use Rattle.data_races.specs.HappensBefore.{Relations, HappensBefore, InProgramOrder, Synchronized, Through}
