@@ -19,9 +19,10 @@ use Rattle.run_laws.proofs.laws.Classes.{names_same}
 use Rattle.run_laws.proofs.typed_runs.Threads.{get_set_at, get_set_other}
 use Rattle.search_laws.specs.KeptStates.{IsReached}
 use Rattle.search_laws.specs.Lengths.{KeepsLengths, AreLengthsKept}
+use Rattle.search_laws.specs.Writes.{Variables, WritesAtMost, KeepsVariables, AreVariablesKept}
 use Rattle.search_laws.proofs.ClassesHeld.{initialising, ClassChange, Kept, Begun, Left, IsEffect, OnEffect, event_effect, end_spares}
 use Rattle.search_laws.proofs.Events.{IsDone, done_of, state_with}
-use Rattle.search_laws.proofs.Lengths.{lengths_on}
+use Rattle.search_laws.proofs.Variables.{keeps_on, lengths_of}
 use Rattle.search_laws.proofs.Runs.{first_of}
 
 -- ---- the list of statuses
@@ -238,6 +239,10 @@ front_or_empty (x ∷ xs) k (suc t) stack e = front_or_empty xs k t stack e
 abbrev pub AreClassesHeld : State → Type 0
 AreClassesHeld state = (t : ℕ) (stack : StackOf Value) → slice_get state.stacks t ≡ Some stack → Holds state.world.classes t (initialising stack)
 
+-- an event that may write all
+abbrev pub all : Variables → Bool
+all variables = true
+
 module _ (trees : Program) (frames : ℕ) (state next : State) (event : Event) (e : step trees frames state event ≡ Some next) where
   abbrev pub u : ℕ
   u = event.thread
@@ -249,27 +254,37 @@ module _ (trees : Program) (frames : ℕ) (state next : State) (event : Event) (
   abbrev pub left : PartOf Value
   left = part (end_of u d.left.world d.left.stack) d.left.stack
 
-  before_end : IsEffect u state.world d.stack d.left
-  before_end = subst (OnEffect u state.world d.stack) d.did (event_effect trees frames event state.world d.stack (thread_at state.world u).status)
+  module _ (writes : Variables → Bool) (at_most : WritesAtMost trees writes (thread_at state.world u) d.stack) where
+    before_end : IsEffect writes u state.world d.stack d.left
+    before_end =
+        subst (OnEffect writes u state.world d.stack) d.did
+        (event_effect writes trees frames event state.world d.stack (thread_at state.world u).status at_most)
 
-  pub effect : IsEffect u state.world d.stack left
-  effect =
-      let s = end_spares u d.left.world d.left.stack in
-      record {
-        monitors = λ t object ne own. s.monitors t object ne (before_end.monitors t object ne own);
-        lengths = lengths_on state.world.heap d.left.world.heap (end_of u d.left.world d.left.stack).heap before_end.lengths s.lengths;
-        change = by before_end.change s.classes;
-      }
-    where
-      by : ClassChange u state.world d.stack d.left → (end_of u d.left.world d.left.stack).classes ≡ d.left.world.classes
-          → ClassChange u state.world d.stack (part (end_of u d.left.world d.left.stack) d.left.stack)
-      by (Kept c q) s = Kept (s ∙ c) q
-      by (Begun class new c q) s = Begun class new (s ∙ c) q
-      by (Left class status c q) s = Left class status (s ∙ c) q
+    effect_of : IsEffect writes u state.world d.stack left
+    effect_of =
+        let s = end_spares writes u d.left.world d.left.stack in
+        record {
+          monitors = λ t object ne own. s.monitors t object ne (before_end.monitors t object ne own);
+          variables = keeps_on writes state.world.heap d.left.world.heap (end_of u d.left.world d.left.stack).heap before_end.variables s.variables;
+          change = by before_end.change s.classes;
+        }
+      where
+        by : ClassChange u state.world d.stack d.left → (end_of u d.left.world d.left.stack).classes ≡ d.left.world.classes
+            → ClassChange u state.world d.stack (part (end_of u d.left.world d.left.stack) d.left.stack)
+        by (Kept c q) s = Kept (s ∙ c) q
+        by (Begun class new c q) s = Begun class new (s ∙ c) q
+        by (Left class status c q) s = Left class status (s ∙ c) q
+
+    -- what the thread may not write is kept
+    pub variables_next : KeepsVariables writes state.world.heap next.world.heap
+    variables_next = subst (λ (z : State). KeepsVariables writes state.world.heap z.world.heap) d.is_next effect_of.variables
+
+  pub effect : IsEffect all u state.world d.stack left
+  effect = effect_of all (λ going variables q. refl)
 
   -- arrays keep their lengths
   pub lengths_next : KeepsLengths state.world.heap next.world.heap
-  lengths_next = subst (λ (z : State). KeepsLengths state.world.heap z.world.heap) d.is_next effect.lengths
+  lengths_next = lengths_of all state.world.heap next.world.heap (variables_next all (λ going variables q. refl))
 
   module _ (h : AreClassesHeld state) where
     own : Holds state.world.classes u (initialising d.stack)
@@ -319,3 +334,9 @@ module _ (trees : Program) (frames : ℕ) where
 
 pub lengths_kept : AreLengthsKept
 lengths_kept files frames state next event e = lengths_next files frames state next event e
+
+pub variables_kept : AreVariablesKept
+variables_kept files frames writes state next event stack there at_most e =
+    let x = d files frames state next event e in
+    let same = same_Some stack x.stack (sym there ∙ x.there) in
+    variables_next files frames state next event e writes (subst (WritesAtMost files writes (thread_at state.world event.thread)) same at_most)

@@ -17,6 +17,7 @@ use Rattle.run_laws.proofs.typed_runs.Threads.{get_set_other}
 use Rattle.search_laws.specs.Alone.{passing, next_event, AreOfOthers, IsAlone, HaveSameWords}
 use Rattle.search_laws.specs.OwnEvents.{StandsAs, IsFreeOf}
 use Rattle.search_laws.proofs.ClassesHeld.{OnEffect, IsEffect, event_effect}
+use Rattle.search_laws.proofs.ClassesKept.{all}
 use Rattle.search_laws.proofs.ClassesKept.{effect}
 use Rattle.search_laws.proofs.Events.{does, IsDone, done_of}
 use Rattle.search_laws.proofs.LockEvents.{f, event_follows, end_same}
@@ -37,8 +38,8 @@ module _ (t r : ℕ) (change : Monitor → Monitor) (c : IsChange t change) (own
     abbrev d : IsDone trees frames s event next
     d = done_of trees frames s event next e
 
-    before_end : IsEffect u s.world d.stack d.left
-    before_end = subst (OnEffect u s.world d.stack) d.did (event_effect trees frames event s.world d.stack (thread_at s.world u).status)
+    before_end : IsEffect all u s.world d.stack d.left
+    before_end = subst (OnEffect all u s.world d.stack) d.did (event_effect all trees frames event s.world d.stack (thread_at s.world u).status (λ going variables q. refl))
 
     owned_left : Owned t r change c d.left.world
     owned_left = before_end.monitors t r ne owned

@@ -1,0 +1,83 @@
+-- What others can still write (JLS 17.4.1), and gets of fields and loads of elements that no other thread can still write.
+use Rattle.std.specs.Prelude.{◌≡◌, ℕ, List, ◌∷◌, Option, Some, None, Bool, length, slice_get, IsTrue, IsFalse}
+use Rattle.std.specs.Option.{option_and_then}
+use Rattle.model.specs.declared.event.Event.{Event}
+use Rattle.model.specs.declared.instr.FieldAccess.{FieldAccess}
+use Rattle.model.specs.declared.instr.FieldAccess.TheVariants as access
+use Rattle.model.specs.declared.instr.Instr.{Instr}
+use Rattle.model.specs.declared.instr.Instr.TheVariants as instr
+use Rattle.model.specs.declared.value.Value.{Value}
+use Rattle.model.specs.Classes.{Program, Body, body_of}
+use Rattle.model.specs.Lookup.{find_field}
+use Rattle.model.specs.Names.{Member, member_eq, thread_target}
+use Rattle.model.specs.Pool.{field_at}
+use Rattle.model.specs.Run.{run_from}
+use Rattle.model.specs.Sites.{Site, site_at}
+use Rattle.model.specs.State.{ObjectOf, Frame, Invocation, StackOf, Thread, State}
+use Rattle.model.specs.Step.{step}
+use Rattle.model.specs.Worlds.{thread_at, elements_of, fields_of, value_in}
+use Rattle.run_laws.specs.interleavings.Local.{is_going}
+use Rattle.search_laws.specs.Alone.{AreOfOthers}
+
+-- the variables of objects, by what an instruction names: a field of any object, or the elements of any array
+pub data Variables : Type 0 where
+  Fields : (field : Member) → Variables
+  Elements : Variables
+
+-- ---- what the next event of a thread writes
+
+abbrev pub put_by : FieldAccess → Member → Option Variables
+put_by access.PutField field = Some (Fields field)
+put_by other field = None
+
+abbrev pub written_by : Program → Site → Instr → Option Variables
+written_by files site (instr.Field how index) = option_and_then (put_by how) (option_and_then (find_field files) (field_at site.body.pool index))
+written_by files site (instr.StoreElement kind) = Some Elements
+written_by files site other = None
+
+abbrev pub site_written : Program → Site → Option Variables
+site_written files site = written_by files site site.instr
+
+abbrev pub body_written : Program → Frame → Body → Option Variables
+body_written files frame body = option_and_then (site_written files) (site_at frame.method body frame.place.offset)
+
+abbrev pub stack_written : Program → StackOf Value → Option Variables
+stack_written files (Invocation frame ∷ stack) = option_and_then (body_written files frame) (body_of files frame.method)
+stack_written files other = None
+
+-- the instruction that the thread is to do writes these at most
+abbrev pub WritesAtMost : Program → (Variables → Bool) → Thread → StackOf Value → Type 0
+WritesAtMost files writes thread stack =
+    IsTrue (is_going thread.status thread.pending) → (variables : Variables) → stack_written files stack ≡ Some variables → IsTrue (writes variables)
+
+-- ---- what others can still write
+
+-- Behind each run of other threads' events, each event of another thread writes these at most.
+abbrev pub AreWritesOfOthers : Program → ℕ → (Variables → Bool) → State → ℕ → Type 0
+AreWritesOfOthers files frames writes state t =
+    (others : List Event) (later : State) → AreOfOthers t others → run_from files frames state others ≡ Some later
+    → (event : Event) (next : State) → (t ≡ event.thread → ⊥) → step files frames later event ≡ Some next
+    → (stack : StackOf Value) → slice_get later.stacks event.thread ≡ Some stack
+    → WritesAtMost files writes (thread_at later.world event.thread) stack
+
+-- ---- what stays where these at most are written
+
+-- The field `target` of Thread is left out, which a constructor of the machine puts.
+pub record IsUnchanged (writes : Variables → Bool) (old new : ObjectOf Value) : Type 0 where
+  pub lengths : length (elements_of new) ≡ length (elements_of old)
+  pub fields : (field : Member) (first : Value) → IsFalse (writes (Fields field)) → IsFalse (member_eq thread_target field)
+      → value_in first field (fields_of new) ≡ value_in first field (fields_of old)
+  pub elements : IsFalse (writes Elements) → elements_of new ≡ elements_of old
+
+-- each object is there, with what it had
+abbrev pub KeepsVariables : (Variables → Bool) → List (ObjectOf Value) → List (ObjectOf Value) → Type 0
+KeepsVariables writes before after =
+    (r : ℕ) (old : ObjectOf Value) → slice_get before r ≡ Some old
+    → (new : ObjectOf Value) × ((slice_get after r ≡ Some new) × IsUnchanged writes old new)
+
+-- so behind each event of a thread that writes these at most
+abbrev pub AreVariablesKept : Type 0
+AreVariablesKept =
+    (files : Program) (frames : ℕ) (writes : Variables → Bool) (state next : State) (event : Event) (stack : StackOf Value)
+    → slice_get state.stacks event.thread ≡ Some stack → WritesAtMost files writes (thread_at state.world event.thread) stack
+    → step files frames state event ≡ Some next → KeepsVariables writes state.world.heap next.world.heap
