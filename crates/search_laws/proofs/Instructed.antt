@@ -16,10 +16,10 @@ use Rattle.model.specs.Step.{SteppedOf, WrongKind, Next, PartOf, part, enabled_i
 use Rattle.model.specs.WellTyped.{IsStackTyped, IsRunning, IsWellTyped}
 use Rattle.model.specs.Worlds.{thread_at, no_thread}
 use Rattle.model.specs.WrongKind.{finds_operands, finds_in}
+use Rattle.run_laws.specs.interleavings.Statements.{IsLeftAlone}
 use Rattle.run_laws.specs.laws.Steps.{Rooted}
 use Rattle.run_laws.proofs.laws.Progress.{ready_finds}
 use Rattle.run_laws.proofs.typed_runs.Settled.{lengths_same, thread_there}
-use Rattle.search_laws.specs.OwnEvents.{StandsAs}
 use Rattle.search_laws.specs.OwnedMonitors.{IsAt}
 
 -- a stack that is not empty
@@ -55,7 +55,7 @@ module _ (files : Program) (rooted : Rooted files) (frames : ℕ) (state : State
       (subst (λ o. finds_operands files os at.body.code.max_stack at.frame (option_and_then (meaning_of values files) o) ≡ true) at.is_site
       (subst (λ o. finds_in files os at.frame o ≡ true) at.is_body all))
 
-  module _ (later : State) (g : IsWellTyped files later) (s : StandsAs state t later) where
+  module _ (later : State) (g : IsWellTyped files later) (s : IsLeftAlone state later t) where
     abbrev pub put : SteppedOf (PartOf Value) → Option State
     put x = next_by (with_part later t (settled t x))
 
@@ -63,13 +63,13 @@ module _ (files : Program) (rooted : Rooted files) (frames : ℕ) (state : State
     event_at pick = record { thread = t; pick = pick }
 
     there_now : slice_get later.stacks t ≡ Some whole
-    there_now = s.alone.stack ∙ at.there
+    there_now = s.stack ∙ at.there
 
     runs_now : (thread_at later.world t).status ≡ Running
-    runs_now = s.alone.status ∙ at.status
+    runs_now = s.status ∙ at.status
 
     none_now : (thread_at later.world t).pending ≡ None
-    none_now = s.alone.pending ∙ at.pending
+    none_now = s.pending ∙ at.pending
 
     abbrev pub done_at : ℕ → SteppedOf (PartOf Value)
     done_at pick = done values files frames (event_at pick) later.world at.frame at.stack at.meaning

@@ -1,49 +1,53 @@
 -- Calls, returns, and questions of an object that are a thread's own.
-use Rattle.std.proofs.Common.{◌≡◌, ℕ, List, [], ◌∷◌, ◌++◌, map, length, reverse, nat_lt, Bool, true, false, ◌&&◌, ◌==◌, if◌then◌else◌, Option, Some, None, option_map, refl, sym, ap, ◌∙◌, subst}
-use Rattle.std.specs.Prelude.{is_none, unwrap_or, slice_get}
+use Rattle.std.proofs.Common.{◌≡◌, ℕ, List, [], ◌∷◌, ◌++◌, map, length, reverse, nat_lt, Bool, true, false, ◌&&◌, ◌==◌, if◌then◌else◌, Option, Some, None, option_map, refl, sym, ap, ◌∙◌, subst, not}
+use Rattle.std.specs.Prelude.{is_none, unwrap_or, slice_get, slice_index_or}
 use Rattle.std.specs.Option.{option_map_or, option_and_then}
 use Rattle.std.proofs.lemmas.Bool.{false≢true}
 use Rattle.std.proofs.lemmas.List.{length-map, length-reverse}
 use Rattle.std.proofs.lemmas.Option.{same_Some, none-some, get_or_from_slice_get, slice_get-map}
 use Rattle.model.specs.declared.event.Event.{Event}
+use Rattle.model.specs.declared.instr.ArrayKind.{ArrayKind}
+use Rattle.model.specs.declared.instr.ArrayKind.TheVariants as array_kind
+use Rattle.model.specs.declared.instr.FieldAccess.TheVariants as access
 use Rattle.model.specs.declared.instr.Instr.{Instr}
 use Rattle.model.specs.declared.instr.Instr.TheVariants as instr
 use Rattle.model.specs.declared.instr.Returned.{Returned}
 use Rattle.model.specs.declared.instr.Returned.TheVariants as returned
 use Rattle.model.specs.declared.value.Value.{Value}
 use Rattle.model.specs.declared.value.Value.TheVariants as value
-use Rattle.model.specs.Arrays.{is_negative}
+use Rattle.model.specs.Arrays.{is_negative, at_index, in_range, element_at, load_of}
 use Rattle.model.specs.BuiltInMethods.{built_in_method}
 use Rattle.model.specs.Calls.{Chosen, Fails, Runs, runs, invoked, may_run, may_invoke, of_receiver, of_class, parameter_count, return_of, selected, its_class, if_implements, special_class, argument_wants}
 use Rattle.model.specs.Classes.{Program, Body, body_of}
 use Rattle.model.specs.DescribedTypes.{declared_want, made_type, parameters_declared, type_named}
 use Rattle.model.specs.Frames.{frame_count, frame_with, entered_by, at_offset, at_call}
+use Rattle.model.specs.Lookup.{find_field, is_instance_field}
 use Rattle.model.specs.Meanings.{meaning_of}
-use Rattle.model.specs.Names.{Name, Member}
+use Rattle.model.specs.Names.{Name, Member, member_eq, thread_target}
 use Rattle.model.specs.Objects.{any_object, cast, instance_bit}
-use Rattle.model.specs.Opening.{class_reference}
+use Rattle.model.specs.Opening.{class_reference, first_of}
 use Rattle.model.specs.Operands.{Slots, values, under}
 use Rattle.model.specs.Outcomes.{OutcomeOf, Goes, Raises, Throws, Interrupts, Calls, Returns, Waits, Free, StackOverflow, not_null}
 use Rattle.model.specs.Pool.{integers_of}
-use Rattle.model.specs.ReferenceTypes.{ReferenceType, ClassType, is_subtype}
+use Rattle.model.specs.ReferenceTypes.{ReferenceType, ClassType, is_subtype, Char, Short, Int, PrimitiveArray, ReferenceArray}
 use Rattle.model.specs.Rows.{Row, local_row}
 use Rattle.model.specs.Sites.{MeaningOf, Site, site_at, operand, referent, int_operand, pushing}
 use Rattle.model.specs.State.{ObjectOf, type_of, types_of, ThreadStatus, Running, Waiting, Relock, Ended, Frame, Invocation, Initialisation, StackOf, World, State}
 use Rattle.model.specs.Step.{Next, part, enabled_if, entering, raised, leaving, returned, become, ops_of, step}
-use Rattle.model.specs.Types.{AReference, AnArray, is_array_type, value_meets, is_object_of, is_object_below, is_value_below, is_value_of}
+use Rattle.model.specs.Types.{AReference, AnArray, is_array_type, value_meets, is_object_of, is_object_below, is_value_below, is_value_of, Want, AnInt, AByteArray, is_byte_array_type}
 use Rattle.model.specs.WellTyped.{Extends, IsWellTyped}
-use Rattle.model.specs.Worlds.{elements_of, no_object, thread_at, is_owner, object_at}
+use Rattle.model.specs.Worlds.{elements_of, no_object, thread_at, is_owner, object_at, fields_of, value_in}
 use Rattle.run_laws.specs.interleavings.Local.{is_going, with_stack}
 use Rattle.run_laws.specs.laws.Steps.{Rooted}
 use Rattle.run_laws.proofs.laws.LinkedOf.{linked_of}
 use Rattle.run_laws.proofs.laws.Lists.{Pairwise, get_last}
-use Rattle.run_laws.proofs.laws.Operations.{Operation, OfRow, GetSystemOut, GetStatic, PutStatic, GetField, PutField, Println, CallVirtual, CallConstructor, CallSpecial, CallStatic, CallInterface, Return, LoadClass, LoadString, New, NewArray, NewReferenceArray, ArrayLength, LoadElement, StoreElement, CheckCast, InstanceOf, Throw, MonitorEnter, MonitorExit, operation, OfMeaning, each_meaning}
+use Rattle.run_laws.proofs.laws.Operations.{NamedField, Operation, OfRow, GetSystemOut, GetStatic, PutStatic, GetField, PutField, Println, CallVirtual, CallConstructor, CallSpecial, CallStatic, CallInterface, Return, LoadClass, LoadString, New, NewArray, NewReferenceArray, ArrayLength, LoadElement, StoreElement, CheckCast, InstanceOf, Throw, MonitorEnter, MonitorExit, operation, OfMeaning, each_meaning}
 use Rattle.run_laws.proofs.word_runs.WordMeanings.{Kinded, wanted_at}
 use Rattle.search_laws.specs.Alone.{next_event}
-use Rattle.search_laws.specs.Lengths.{KeepsLengths}
 use Rattle.search_laws.specs.OwnEvents.{StandsAs, IsOwnEvent}
 use Rattle.search_laws.specs.OwnedMonitors.{IsAt}
-use Rattle.search_laws.specs.OwnSteps.{is_query, if_left, own_outcome, own_meant, own_at, own_in, own_stack, next_own, AreOwnStepsOwn}
+use Rattle.search_laws.specs.OwnSteps.{asks_by, asks, if_left, own_outcome, own_meant, own_at, own_in, own_stack, next_own, AreOwnStepsOwn}
+use Rattle.search_laws.specs.Writes.{Variables, Fields, Elements, does_stay, IsUnchanged, KeepsVariables}
 use Rattle.search_laws.proofs.Callees.{same_class}
 use Rattle.search_laws.proofs.Instructed.{IsLeft, found, put, done_at, step_at, put_left, only_zero}
 use Rattle.search_laws.proofs.Operands.{kinded}
@@ -71,12 +75,22 @@ instance_same files before after x type want (value.Reference r) h = by (slice_g
     by None q k = absurd (false≢true k)
     by (Some t) q k = ap (is_object_of files type) (x.keeps r t q ∙ sym q)
 
-row_no_query : (integers : List (Option ℕ)) (code : List ℕ) (at next : ℕ) (i : Instr) (row : Row) → local_row integers code at next i ≡ Some row
-    → is_query i ≡ false
-row_no_query integers code at next (instr.CheckCast index) row e = absurd (none-some row e)
-row_no_query integers code at next (instr.InstanceOf index) row e = absurd (none-some row e)
-row_no_query integers code at next instr.ArrayLength row e = absurd (none-some row e)
-row_no_query integers code at next other row e = refl
+row_no_query : (writes : Variables → Bool) (files : Program) (site : Site) (integers : List (Option ℕ)) (code : List ℕ) (at next : ℕ) (i : Instr) (row : Row)
+    → local_row integers code at next i ≡ Some row → asks_by writes files site i ≡ false
+row_no_query writes files site integers code at next (instr.CheckCast index) row e = absurd (none-some row e)
+row_no_query writes files site integers code at next (instr.InstanceOf index) row e = absurd (none-some row e)
+row_no_query writes files site integers code at next (instr.Field how index) row e = absurd (none-some row e)
+row_no_query writes files site integers code at next (instr.LoadElement kind) row e = absurd (none-some row e)
+row_no_query writes files site integers code at next instr.ArrayLength row e = absurd (none-some row e)
+row_no_query writes files site integers code at next other row e = refl
+
+not_true : (b : Bool) → not b ≡ true → b ≡ false
+not_true true e = absurd (false≢true e)
+not_true false e = refl
+
+both : (a b : Bool) → (a && b) ≡ true → (a ≡ true) × (b ≡ true)
+both true b e = (refl, e)
+both false b e = absurd (false≢true e)
 
 module _ (files : Program) (frames t : ℕ) (frame : Frame) (stack own : StackOf Value) where
   abbrev whole : StackOf Value
@@ -121,12 +135,13 @@ module _ (files : Program) (frames t : ℕ) (frame : Frame) (stack own : StackOf
       by None e = let x = left_of (returned files results stack) own e in (ap (λ k. Next Free (part world k)) x.0, x.1)
       by (Some object) e = not_some own e
 
-  module _ (site : Site) (before after : World) (extends : Extends (types_of before.heap) (types_of after.heap)) (lengths : KeepsLengths before.heap after.heap) (ops rest : List Value) where
+  module _ (writes : Variables → Bool) (site : Site) (before after : World) (extends : Extends (types_of before.heap) (types_of after.heap))
+      (kept : KeepsVariables writes before.heap after.heap) (ops rest : List Value) where
     abbrev slots : Slots Value
     slots = frame.place.slots
 
     abbrev is : Bool
-    is = is_query site.instr
+    is = asks writes files site
 
     abbrev first : Event
     first = next_event t
@@ -139,8 +154,8 @@ module _ (files : Program) (frames t : ℕ) (frame : Frame) (stack own : StackOf
     abbrev Steady : MeaningOf Value → Type 0
     Steady m = Kinded files (types_of before.heap) m.wants ops → Own is (m.does first before slots ops rest) → IsSteady m
 
-    no_query : (i : Instr) → site.instr ≡ i → is_query i ≡ false → is ≡ false
-    no_query i e n = ap is_query e ∙ n
+    no_query : (i : Instr) → site.instr ≡ i → asks_by writes files site i ≡ false → is ≡ false
+    no_query i e n = ap (asks_by writes files site) e ∙ n
 
     plain_steady : (m : MeaningOf Value) → is ≡ false → IsPlain (m.does first before slots ops rest) → Steady m
     plain_steady m n h q e = plain_own is (m.does first before slots ops rest) h n e
@@ -182,20 +197,94 @@ module _ (files : Program) (frames t : ℕ) (frame : Frame) (stack own : StackOf
     array_there (value.Reference x) h r e =
         let same = same_Some x r e in subst (λ k. (o : ObjectOf Value) × (slice_get before.heap k ≡ Some o)) same (there_of is_array_type x h)
 
-    length_same : (r : ℕ) (o : ObjectOf Value) → slice_get before.heap r ≡ Some o
-        → length (elements_of (object_at after r)) ≡ length (elements_of (object_at before r))
-    length_same r o e =
-        let x = lengths r o e in
-        ap (λ (z : ObjectOf Value). length (elements_of z)) (get_or_from_slice_get after.heap r x.0 no_object x.1.0)
-        ∙ (x.1.1 ∙ sym (ap (λ (z : ObjectOf Value). length (elements_of z)) (get_or_from_slice_get before.heap r o no_object e)))
+    object_there : (v : Value) (type : ReferenceType) → is_value_below files (types_of before.heap) type v ≡ true → (r : ℕ) → values.referent v ≡ Some r
+        → (o : ObjectOf Value) × (slice_get before.heap r ≡ Some o)
+    object_there value.Unset type h r e = absurd (none-some r e)
+    object_there (value.Int bits) type h r e = absurd (none-some r e)
+    object_there value.Null type h r e = absurd (none-some r e)
+    object_there (value.Reference x) type h r e =
+        let same = same_Some x r e in
+        subst (λ k. (o : ObjectOf Value) × (slice_get before.heap k ≡ Some o)) same
+        (by (slice_get before.heap x) refl (sym (ap (is_object_below files type) (slice_get-map type_of before.heap x)) ∙ h))
+      where
+        by : (o : Option (ObjectOf Value)) → slice_get before.heap x ≡ o → is_object_below files type (option_map type_of (slice_get before.heap x)) ≡ true
+            → (o : ObjectOf Value) × (slice_get before.heap x ≡ Some o)
+        by None k z = absurd (false≢true (sym (ap (λ o. is_object_below files type (option_map type_of o)) k) ∙ z))
+        by (Some object) k z = (object, k)
 
-    length_becomes : (o : Option ℕ) → is ≡ true → ((r : ℕ) → o ≡ Some r → (object : ObjectOf Value) × (slice_get before.heap r ≡ Some object))
-        → Own is (not_null o (λ r. pushing site.next (values.int (length (elements_of (object_at before r))) ∷ []) before slots rest))
-        → Becomes after (not_null o (λ r. pushing site.next (values.int (length (elements_of (object_at after r))) ∷ []) after slots rest))
-    length_becomes None c there e = not_some own e
-    length_becomes (Some r) c there e =
+    -- what is asked of it stays
+    module _ {A : Type 0} (ask : ObjectOf Value → A) (same : (old new : ObjectOf Value) → IsUnchanged writes old new → ask new ≡ ask old) where
+      asked_same : (r : ℕ) (o : ObjectOf Value) → slice_get before.heap r ≡ Some o → ask (object_at after r) ≡ ask (object_at before r)
+      asked_same r o e =
+          let x = kept r o e in
+          ap ask (get_or_from_slice_get after.heap r x.0 no_object x.1.0)
+          ∙ (same o x.0 x.1.1 ∙ sym (ap ask (get_or_from_slice_get before.heap r o no_object e)))
+
+    abbrev There : Option ℕ → Type 0
+    There o = (r : ℕ) → o ≡ Some r → (object : ObjectOf Value) × (slice_get before.heap r ≡ Some object)
+
+    module _ (ask : ObjectOf Value → Value) (same : (old new : ObjectOf Value) → IsUnchanged writes old new → ask new ≡ ask old) (c : is ≡ true) where
+      asked_becomes : (o : Option ℕ) → There o
+          → Own is (not_null o (λ r. pushing site.next (ask (object_at before r) ∷ []) before slots rest))
+          → Becomes after (not_null o (λ r. pushing site.next (ask (object_at after r) ∷ []) after slots rest))
+      asked_becomes None there e = not_some own e
+      asked_becomes (Some r) there e =
+          let x = there r refl in
+          answer_becomes site.next (ask (object_at before r)) (ask (object_at after r)) c (asked_same ask same r x.0 x.1) e
+
+    -- ---- loads
+
+    index_becomes : (b after_b : Bool) (x y : Value) → after_b ≡ b → is ≡ true → y ≡ x
+        → Own is (at_index b (pushing site.next (x ∷ []) before slots rest))
+        → Becomes after (at_index after_b (pushing site.next (y ∷ []) after slots rest))
+    index_becomes true after_b x y k c q e =
+        subst (λ b. Becomes after (at_index b (pushing site.next (y ∷ []) after slots rest))) (sym k) (answer_becomes site.next x y c q e)
+    index_becomes false after_b x y k c q e = not_some own e
+
+    loaded_becomes : (default : Value) (index : ℕ) (o : Option ℕ) → There o → is ≡ true → writes Elements ≡ false
+        → Own is (not_null o (λ r. at_index (in_range before r index) (pushing site.next (element_at default before r index ∷ []) before slots rest)))
+        → Becomes after (not_null o (λ r. at_index (in_range after r index) (pushing site.next (element_at default after r index ∷ []) after slots rest)))
+    loaded_becomes default index None there c n e = not_some own e
+    loaded_becomes default index (Some r) there c n e =
         let x = there r refl in
-        answer_becomes site.next (values.int (length (elements_of (object_at before r)))) (values.int (length (elements_of (object_at after r)))) c (ap values.int (length_same r x.0 x.1)) e
+        let same = asked_same elements_of (λ old new u. u.elements n) r x.0 x.1 in
+        index_becomes (in_range before r index) (in_range after r index) (element_at default before r index) (element_at default after r index)
+        (ap (λ (l : List Value). nat_lt index (length l)) same) c (ap (λ (l : List Value). slice_index_or l index default) same) e
+
+    meets_second : (want : Want) → Pairwise (value_meets files (types_of before.heap)) (AnInt ∷ want ∷ []) ops
+        → value_meets files (types_of before.heap) want (operand values ops 1) ≡ true
+    meets_second want q = wanted_at (value_meets files (types_of before.heap)) (AnInt ∷ want ∷ []) ops 1 want value.Unset q refl
+
+    bytes_there : (v : Value) → value_meets files (types_of before.heap) AByteArray v ≡ true → (r : ℕ) → values.referent v ≡ Some r
+        → (o : ObjectOf Value) × (slice_get before.heap r ≡ Some o)
+    bytes_there value.Unset h r e = absurd (none-some r e)
+    bytes_there (value.Int bits) h r e = absurd (none-some r e)
+    bytes_there value.Null h r e = absurd (none-some r e)
+    bytes_there (value.Reference x) h r e =
+        let same = same_Some x r e in subst (λ k. (o : ObjectOf Value) × (slice_get before.heap k ≡ Some o)) same (there_of is_byte_array_type x h)
+
+    module _ (c : is ≡ true) (n : writes Elements ≡ false) where
+      load_steady : (kind : ArrayKind) → Steady (load_of values files site kind)
+      load_steady array_kind.Int q e = record {
+        becomes = loaded_becomes (values.int 0) (int_operand values ops 0) (referent values ops 1) (object_there (operand values ops 1) (PrimitiveArray Int) (meets_second (AReference (PrimitiveArray Int)) q)) c n e;
+        may = λ pick. refl;
+      }
+      load_steady array_kind.Reference q e = record {
+        becomes = loaded_becomes values.over.null (int_operand values ops 0) (referent values ops 1) (object_there (operand values ops 1) (ReferenceArray any_object) (meets_second (AReference (ReferenceArray any_object)) q)) c n e;
+        may = λ pick. refl;
+      }
+      load_steady array_kind.ByteOrBoolean q e = record {
+        becomes = loaded_becomes (values.int 0) (int_operand values ops 0) (referent values ops 1) (bytes_there (operand values ops 1) (meets_second AByteArray q)) c n e;
+        may = λ pick. refl;
+      }
+      load_steady array_kind.Char q e = record {
+        becomes = loaded_becomes (values.int 0) (int_operand values ops 0) (referent values ops 1) (object_there (operand values ops 1) (PrimitiveArray Char) (meets_second (AReference (PrimitiveArray Char)) q)) c n e;
+        may = λ pick. refl;
+      }
+      load_steady array_kind.Short q e = record {
+        becomes = loaded_becomes (values.int 0) (int_operand values ops 0) (referent values ops 1) (object_there (operand values ops 1) (PrimitiveArray Short) (meets_second (AReference (PrimitiveArray Short)) q)) c n e;
+        may = λ pick. refl;
+      }
 
     -- ---- calls
 
@@ -246,21 +335,6 @@ module _ (files : Program) (frames t : ℕ) (frame : Frame) (stack own : StackOf
       meets =
           wanted_at (value_meets files (types_of before.heap)) (argument_wants files method (of_class files named ∷ [])) ops (parameter_count method) (of_class files named) value.Unset q place_of
 
-      object_there : (v : Value) (type : ReferenceType) → is_value_below files (types_of before.heap) type v ≡ true → (r : ℕ) → values.referent v ≡ Some r
-          → (o : ObjectOf Value) × (slice_get before.heap r ≡ Some o)
-      object_there value.Unset type h r e = absurd (none-some r e)
-      object_there (value.Int bits) type h r e = absurd (none-some r e)
-      object_there value.Null type h r e = absurd (none-some r e)
-      object_there (value.Reference x) type h r e =
-          let same = same_Some x r e in
-          subst (λ k. (o : ObjectOf Value) × (slice_get before.heap k ≡ Some o)) same
-          (by (slice_get before.heap x) refl (sym (ap (is_object_below files type) (slice_get-map type_of before.heap x)) ∙ h))
-        where
-          by : (o : Option (ObjectOf Value)) → slice_get before.heap x ≡ o → is_object_below files type (option_map type_of (slice_get before.heap x)) ≡ true
-              → (o : ObjectOf Value) × (slice_get before.heap x ≡ Some o)
-          by None k z = absurd (false≢true (sym (ap (λ o. is_object_below files type (option_map type_of o)) k) ∙ z))
-          by (Some object) k z = (object, k)
-
       type_same : (r : ℕ) → values.referent receiver ≡ Some r → type_of (object_at after r) ≡ type_of (object_at before r)
       type_same r e = let o = object_there receiver (made_type files (ClassType named)) meets r e in type_kept before after r o.0 extends o.1
 
@@ -281,13 +355,35 @@ module _ (files : Program) (frames t : ℕ) (frame : Frame) (stack own : StackOf
         → Steady (operation values files site o)
     plain_at o n h = plain_steady (operation values files site o) n h
 
+    get_steady : (f : NamedField files site access.GetField is_instance_field) (b : Bool) → is ≡ b → Steady (operation values files site (GetField f))
+    get_steady f false c = plain_at (GetField f) c (null_plain (referent values ops 0) _ (λ r. tt))
+    get_steady f true c = λ q own.
+        let reads =
+        ap (asks_by writes files site) f.instruction
+        ∙ (ap (λ o. option_map_or (does_stay writes) (option_map (λ field. Fields field) (option_and_then (find_field files) o)) false) f.names
+        ∙ ap (λ o. option_map_or (does_stay writes) (option_map (λ field. Fields field) o) false) f.found)
+        in
+        let n = both (not (writes (Fields f.field))) (not (member_eq thread_target f.field)) (sym reads ∙ c) in
+        let want = of_class files f.named.class in
+        let meets = wanted_at (value_meets files (types_of before.heap)) (want ∷ []) ops 0 want value.Unset q refl in
+        record {
+          becomes = asked_becomes (λ o. value_in (first_of values f.field) f.field (fields_of o))
+              (λ old new u. u.fields f.field (first_of values f.field) (not_true (writes (Fields f.field)) n.0) (not_true (member_eq thread_target f.field) n.1)) c (referent values ops 0)
+              (object_there (operand values ops 0) (made_type files (ClassType f.named.class)) meets) own;
+          may = λ pick. refl;
+        }
+
+    load_at : (kind : ArrayKind) (i : site.instr ≡ instr.LoadElement kind) (b : Bool) → is ≡ b → Steady (load_of values files site kind)
+    load_at kind i false c = plain_at (LoadElement kind i) c (load_plain files site first before slots ops rest kind)
+    load_at kind i true c = load_steady c (not_true (writes Elements) (sym (ap (asks_by writes files site) i) ∙ c)) kind
+
     steady : (o : Operation files site) → Steady (operation values files site o)
     steady (OfRow row e) =
-        plain_at (OfRow row e) (row_no_query (integers_of site.body.pool) site.body.code.code site.offset site.next site.instr row e) (row_plain files site first before slots ops rest row)
+        plain_at (OfRow row e) (row_no_query writes files site (integers_of site.body.pool) site.body.code.code site.offset site.next site.instr row e) (row_plain files site first before slots ops rest row)
     steady (GetSystemOut index i) = plain_at (GetSystemOut index i) (no_query _ i refl) tt
     steady (GetStatic f) = plain_at (GetStatic f) (no_query _ f.instruction refl) tt
     steady (PutStatic f) = plain_at (PutStatic f) (no_query _ f.instruction refl) tt
-    steady (GetField f) = plain_at (GetField f) (no_query _ f.instruction refl) (null_plain (referent values ops 0) _ (λ r. tt))
+    steady (GetField f) = get_steady f is refl
     steady (PutField f) = plain_at (PutField f) (no_query _ f.instruction refl) (null_plain (referent values ops 1) _ (λ r. tt))
     steady (Println call e) = plain_at (Println call e) (no_query _ call.instruction refl) (null_plain (referent values ops 1) _ (λ r. tt))
     steady (CallVirtual call e m) = λ q own.
@@ -319,15 +415,15 @@ module _ (files : Program) (frames t : ℕ) (frame : Frame) (stack own : StackOf
     steady (ArrayLength i) = λ q own.
         let v = operand values ops 0 in
         let meets = wanted_at (value_meets files (types_of before.heap)) (AnArray ∷ []) ops 0 AnArray value.Unset q refl in
-        record { becomes = length_becomes (referent values ops 0) (ap is_query i) (array_there v meets) own; may = λ pick. refl }
-    steady (LoadElement kind i) = plain_at (LoadElement kind i) (no_query _ i refl) (load_plain files site first before slots ops rest kind)
+        record { becomes = asked_becomes (λ o. values.int (length (elements_of o))) (λ old new u. ap values.int u.lengths) (ap (asks_by writes files site) i) (referent values ops 0) (array_there v meets) own; may = λ pick. refl }
+    steady (LoadElement kind i) = load_at kind i is refl
     steady (StoreElement kind i) = plain_at (StoreElement kind i) (no_query _ i refl) (store_plain files site first before slots ops rest kind)
     steady (CheckCast class) = λ q own.
         let type = type_named class.name in
         let v = operand values ops 0 in
         let meets = wanted_at (value_meets files (types_of before.heap)) (AReference any_object ∷ []) ops 0 (AReference any_object) value.Unset q refl in
         record {
-          becomes = cast_becomes (values.is_instance files (types_of before.heap) type v) (values.is_instance files (types_of after.heap) type v) site.next v (ap is_query class.instruction)
+          becomes = cast_becomes (values.is_instance files (types_of before.heap) type v) (values.is_instance files (types_of after.heap) type v) site.next v (ap (asks_by writes files site) class.instruction)
               (instance_same files (types_of before.heap) (types_of after.heap) extends type any_object v meets) own;
           may = λ pick. refl;
         }
@@ -338,7 +434,7 @@ module _ (files : Program) (frames t : ℕ) (frame : Frame) (stack own : StackOf
         let same = instance_same files (types_of before.heap) (types_of after.heap) extends type any_object v meets in
         let answer : Bool → Value = λ b. values.int (instance_bit (referent values ops 0) b) in
         record {
-          becomes = answer_becomes site.next (answer (values.is_instance files (types_of before.heap) type v)) (answer (values.is_instance files (types_of after.heap) type v)) (ap is_query class.instruction) (ap answer same) own;
+          becomes = answer_becomes site.next (answer (values.is_instance files (types_of before.heap) type v)) (answer (values.is_instance files (types_of after.heap) type v)) (ap (asks_by writes files site) class.instruction) (ap answer same) own;
           may = λ pick. refl;
         }
     steady (Throw i) = plain_at (Throw i) (no_query _ i refl) (null_plain (referent values ops 0) (λ r. Throws r) (λ r. tt))
@@ -351,10 +447,10 @@ module _ (files : Program) (frames t : ℕ) (frame : Frame) (stack own : StackOf
 
 -- ---- what is known of a thread whose next event is its own
 
-record IsNextOwn (files : Program) (frames : ℕ) (state : State) (t : ℕ) (own : StackOf Value) : Type 0 where
+record IsNextOwn (writes : Variables → Bool) (files : Program) (frames : ℕ) (state : State) (t : ℕ) (own : StackOf Value) : Type 0 where
   at : IsAt files state t
   looks : at.meaning.looks ≡ None
-  does : own_outcome files frames at.frame at.stack (is_query at.site.instr)
+  does : own_outcome files frames at.frame at.stack (asks writes files at.site)
       (at.meaning.does (next_event t) state.world at.frame.place.slots (ops_of values at.meaning at.frame.place.slots) (under at.meaning.wants at.frame.place.slots))
       ≡ Some own
 
@@ -368,18 +464,18 @@ going (Waiting object count) p h = absurd (false≢true h)
 going (Relock object count cause) p h = absurd (false≢true h)
 going (Ended exception) p h = absurd (false≢true h)
 
-module _ (files : Program) (frames : ℕ) (state : State) (t : ℕ) (own : StackOf Value) where
+module _ (writes : Variables → Bool) (files : Program) (frames : ℕ) (state : State) (t : ℕ) (own : StackOf Value) where
   module _ (status : (thread_at state.world t).status ≡ Running) (pending : (thread_at state.world t).pending ≡ None) where
     by_meaning : (frame : Frame) (stack : StackOf Value) → slice_get state.stacks t ≡ Some (Invocation frame ∷ stack) → (body : Body)
         → body_of files frame.method ≡ Some body → (site : Site) → site_at frame.method body frame.place.offset ≡ Some site
         → (o : Option (MeaningOf Value)) → meaning_of values files site ≡ o
-        → option_and_then (own_meant files frames t state.world frame stack site) o ≡ Some own → IsNextOwn files frames state t own
+        → option_and_then (own_meant writes files frames t state.world frame stack site) o ≡ Some own → IsNextOwn writes files frames state t own
     by_meaning frame stack there body b site s None m e = not_some own e
     by_meaning frame stack there body b site s (Some meaning) m e = by (is_none meaning.looks) refl e
       where
         by : (k : Bool) → is_none meaning.looks ≡ k
-            → (if k then own_outcome files frames frame stack (is_query site.instr) (meaning.does (next_event t) state.world frame.place.slots (ops_of values meaning frame.place.slots) (under meaning.wants frame.place.slots)) else None) ≡ Some own
-            → IsNextOwn files frames state t own
+            → (if k then own_outcome files frames frame stack (asks writes files site) (meaning.does (next_event t) state.world frame.place.slots (ops_of values meaning frame.place.slots) (under meaning.wants frame.place.slots)) else None) ≡ Some own
+            → IsNextOwn writes files frames state t own
         by true q x =
             record {
               at = record {
@@ -402,37 +498,37 @@ module _ (files : Program) (frames : ℕ) (state : State) (t : ℕ) (own : Stack
 
     by_site : (frame : Frame) (stack : StackOf Value) → slice_get state.stacks t ≡ Some (Invocation frame ∷ stack) → (body : Body)
         → body_of files frame.method ≡ Some body → (o : Option Site) → site_at frame.method body frame.place.offset ≡ o
-        → option_and_then (own_at files frames t state.world frame stack) o ≡ Some own → IsNextOwn files frames state t own
+        → option_and_then (own_at writes files frames t state.world frame stack) o ≡ Some own → IsNextOwn writes files frames state t own
     by_site frame stack there body b None s e = not_some own e
     by_site frame stack there body b (Some site) s e = by_meaning frame stack there body b site s (meaning_of values files site) refl e
 
     by_body : (frame : Frame) (stack : StackOf Value) → slice_get state.stacks t ≡ Some (Invocation frame ∷ stack) → (o : Option Body)
-        → body_of files frame.method ≡ o → option_and_then (own_in files frames t state.world frame stack) o ≡ Some own
-        → IsNextOwn files frames state t own
+        → body_of files frame.method ≡ o → option_and_then (own_in writes files frames t state.world frame stack) o ≡ Some own
+        → IsNextOwn writes files frames state t own
     by_body frame stack there None b e = not_some own e
     by_body frame stack there (Some body) b e = by_site frame stack there body b (site_at frame.method body frame.place.offset) refl e
 
-    by_stack : (o : Option (StackOf Value)) → slice_get state.stacks t ≡ o → option_and_then (own_stack files frames t state.world) o ≡ Some own
-        → IsNextOwn files frames state t own
+    by_stack : (o : Option (StackOf Value)) → slice_get state.stacks t ≡ o → option_and_then (own_stack writes files frames t state.world) o ≡ Some own
+        → IsNextOwn writes files frames state t own
     by_stack None q e = not_some own e
     by_stack (Some []) q e = not_some own e
     by_stack (Some (Invocation frame ∷ stack)) q e = by_body frame stack q (body_of files frame.method) refl e
     by_stack (Some (Initialisation class phase ∷ stack)) q e = not_some own e
 
-  next_own_of : next_own files frames state t ≡ Some own → IsNextOwn files frames state t own
+  next_own_of : next_own writes files frames state t ≡ Some own → IsNextOwn writes files frames state t own
   next_own_of e = by (is_going (thread_at state.world t).status (thread_at state.world t).pending) refl e
     where
       by : (b : Bool) → is_going (thread_at state.world t).status (thread_at state.world t).pending ≡ b
-          → (if b then option_and_then (own_stack files frames t state.world) (slice_get state.stacks t) else None) ≡ Some own
-          → IsNextOwn files frames state t own
+          → (if b then option_and_then (own_stack writes files frames t state.world) (slice_get state.stacks t) else None) ≡ Some own
+          → IsNextOwn writes files frames state t own
       by true g x =
           let k = going (thread_at state.world t).status (thread_at state.world t).pending g in by_stack k.0 k.1 (slice_get state.stacks t) refl x
       by false g x = not_some own x
 
 -- ---- its event, wherever it stands so
 
-module _ (files : Program) (rooted : Rooted files) (frames : ℕ) (state : State) (h : IsWellTyped files state) (t : ℕ) (own : StackOf Value)
-    (n : IsNextOwn files frames state t own) where
+module _ (writes : Variables → Bool) (files : Program) (rooted : Rooted files) (frames : ℕ) (state : State) (h : IsWellTyped files state) (t : ℕ) (own : StackOf Value)
+    (n : IsNextOwn writes files frames state t own) where
   abbrev at : IsAt files state t
   at = n.at
 
@@ -442,22 +538,22 @@ module _ (files : Program) (rooted : Rooted files) (frames : ℕ) (state : State
   abbrev rest_now : List Value
   rest_now = under at.meaning.wants at.frame.place.slots
 
-  steady_at : (later : State) → (s : StandsAs state t later)
-      → IsSteady files frames t at.frame at.stack own at.site state.world later.world s.types s.lengths ops_now rest_now at.meaning
+  steady_at : (later : State) → (s : StandsAs writes state t later)
+      → IsSteady files frames t at.frame at.stack own writes at.site state.world later.world s.types s.variables ops_now rest_now at.meaning
   steady_at later s =
-      let table = subst (OfMeaning (Steady files frames t at.frame at.stack own at.site state.world later.world s.types s.lengths ops_now rest_now)) at.means
-      (meaning_steady files frames t at.frame at.stack own at.site state.world later.world s.types s.lengths ops_now rest_now) in
+      let table = subst (OfMeaning (Steady files frames t at.frame at.stack own writes at.site state.world later.world s.types s.variables ops_now rest_now)) at.means
+      (meaning_steady files frames t at.frame at.stack own writes at.site state.world later.world s.types s.variables ops_now rest_now) in
       table (kinded files (types_of state.world.heap) at.meaning.wants at.body.code.max_stack at.frame.place.slots (found files rooted frames state t at state h at.there at.status at.pending)) n.does
 
-  goes_now : (later : State) → IsWellTyped files later → StandsAs state t later → step files frames later (next_event t) ≡ Some (with_stack later t own)
+  goes_now : (later : State) → IsWellTyped files later → StandsAs writes state t later → step files frames later (next_event t) ≡ Some (with_stack later t own)
   goes_now later g s =
       let x = steady_at later s in
-      step_at files rooted frames state t at later g s n.looks 0
-      ∙ (ap (λ b. put files rooted frames state t at later g s (enabled_if b (done_at files rooted frames state t at later g s 0))) (x.may 0)
-      ∙ (ap (put files rooted frames state t at later g s) x.becomes.becomes
-      ∙ put_left files rooted frames state t at later g s Free later.world own refl x.becomes.left))
+      step_at files rooted frames state t at later g s.alone n.looks 0
+      ∙ (ap (λ b. put files rooted frames state t at later g s.alone (enabled_if b (done_at files rooted frames state t at later g s.alone 0))) (x.may 0)
+      ∙ (ap (put files rooted frames state t at later g s.alone) x.becomes.becomes
+      ∙ put_left files rooted frames state t at later g s.alone Free later.world own refl x.becomes.left))
 
-  own_event : IsOwnEvent files frames state t own
+  own_event : IsOwnEvent files frames writes state t own
   own_event =
       record {
         stack = Invocation at.frame ∷ at.stack;
@@ -465,10 +561,10 @@ module _ (files : Program) (rooted : Rooted files) (frames : ℕ) (state : State
         runs = at.status;
         goes = goes_now;
         only = λ later next pick g s e.
-            only_zero files rooted frames state t at later g s n.looks (λ p q. (steady_at later s).may p ∙ q) next pick e;
+            only_zero files rooted frames state t at later g s.alone n.looks (λ p q. (steady_at later s).may p ∙ q) next pick e;
       }
 
 pub own_steps_own : AreOwnStepsOwn
-own_steps_own files trees accepted frames state h t own e =
+own_steps_own files trees accepted frames state h t own writes e =
     let rooted = (linked_of files trees accepted.linkable.spelled accepted.linkable.no_refusal).rooted in
-    own_event trees rooted frames state h t own (next_own_of trees frames state t own e)
+    own_event writes trees rooted frames state h t own (next_own_of writes trees frames state t own e)

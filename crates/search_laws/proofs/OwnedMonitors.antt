@@ -173,12 +173,12 @@ module _ (files : Program) (rooted : Rooted files) (frames : ℕ) (state : State
             there = at.there;
             runs = at.status;
             goes = λ later g s owned.
-                step_at files rooted frames state t at later g s (ap (λ (m : MeaningOf Value). m.looks) is) 0
-                ∙ (ap (λ b. put files rooted frames state t at later g s (enabled_if b (done_at files rooted frames state t at later g s 0))) (may_zero later 0)
-                ∙ (ap (put files rooted frames state t at later g s) (does later owned)
-                ∙ put_left files rooted frames state t at later g s Free (with_exit later.world t r) own refl own_left));
+                step_at files rooted frames state t at later g s.alone (ap (λ (m : MeaningOf Value). m.looks) is) 0
+                ∙ (ap (λ b. put files rooted frames state t at later g s.alone (enabled_if b (done_at files rooted frames state t at later g s.alone 0))) (may_zero later 0)
+                ∙ (ap (put files rooted frames state t at later g s.alone) (does later owned)
+                ∙ put_left files rooted frames state t at later g s.alone Free (with_exit later.world t r) own refl own_left));
             only = λ later next pick g s owned e.
-                only_zero files rooted frames state t at later g s (ap (λ (m : MeaningOf Value). m.looks) is) (λ p q. may_zero later p ∙ q) next pick e;
+                only_zero files rooted frames state t at later g s.alone (ap (λ (m : MeaningOf Value). m.looks) is) (λ p q. may_zero later p ∙ q) next pick e;
           }
         where
           may_zero : (later : State) (pick : ℕ) → at.meaning.may (record { thread = t; pick = pick }) later.world (ops_of values at.meaning at.frame.place.slots) ≡ (pick == 0)
@@ -202,12 +202,12 @@ module _ (files : Program) (rooted : Rooted files) (frames : ℕ) (state : State
             there = at.there;
             runs = at.status;
             goes = λ later g s owned.
-                step_at files rooted frames state t at later g s (ap (λ (m : MeaningOf Value). m.looks) is) 0
-                ∙ (ap (λ b. put files rooted frames state t at later g s (enabled_if b (done_at files rooted frames state t at later g s 0))) (may_zero later owned)
-                ∙ (ap (put files rooted frames state t at later g s) (does later)
-                ∙ put_left files rooted frames state t at later g s (entry_cost later.world r) (with_entry later.world t r) own refl own_left));
+                step_at files rooted frames state t at later g s.alone (ap (λ (m : MeaningOf Value). m.looks) is) 0
+                ∙ (ap (λ b. put files rooted frames state t at later g s.alone (enabled_if b (done_at files rooted frames state t at later g s.alone 0))) (may_zero later owned)
+                ∙ (ap (put files rooted frames state t at later g s.alone) (does later)
+                ∙ put_left files rooted frames state t at later g s.alone (entry_cost later.world r) (with_entry later.world t r) own refl own_left));
             only = λ later next pick g s owned e.
-                only_zero files rooted frames state t at later g s (ap (λ (m : MeaningOf Value). m.looks) is) (λ p q. may_picked later p ∙ ap (λ b. b && may_enter_object later.world t (referent values (ops_of values at.meaning at.frame.place.slots) 0)) q) next pick e;
+                only_zero files rooted frames state t at later g s.alone (ap (λ (m : MeaningOf Value). m.looks) is) (λ p q. may_picked later p ∙ ap (λ b. b && may_enter_object later.world t (referent values (ops_of values at.meaning at.frame.place.slots) 0)) q) next pick e;
           }
         where
           may_picked : (later : State) (pick : ℕ)
@@ -248,12 +248,12 @@ module _ (files : Program) (rooted : Rooted files) (frames : ℕ) (state : State
             there = at.there;
             runs = at.status;
             goes = λ later g s owned.
-                step_at files rooted frames state t at later g s (looks kind is) 0
-                ∙ (ap (λ b. put files rooted frames state t at later g s (enabled_if b (done_at files rooted frames state t at later g s 0))) (may_zero kind is later 0)
-                ∙ (ap (put files rooted frames state t at later g s) (does kind is later owned)
-                ∙ put_left files rooted frames state t at later g s Free (with_exit later.world t r) behind refl behind_left));
+                step_at files rooted frames state t at later g s.alone (looks kind is) 0
+                ∙ (ap (λ b. put files rooted frames state t at later g s.alone (enabled_if b (done_at files rooted frames state t at later g s.alone 0))) (may_zero kind is later 0)
+                ∙ (ap (put files rooted frames state t at later g s.alone) (does kind is later owned)
+                ∙ put_left files rooted frames state t at later g s.alone Free (with_exit later.world t r) behind refl behind_left));
             only = λ later next pick g s owned e.
-                only_zero files rooted frames state t at later g s (looks kind is) (λ p q. may_zero kind is later p ∙ q) next pick e;
+                only_zero files rooted frames state t at later g s.alone (looks kind is) (λ p q. may_zero kind is later p ∙ q) next pick e;
           }
         where
           looks : (k : Returned) → at.meaning ≡ return_of values files at.site.method.descriptor k → at.meaning.looks ≡ None
@@ -286,7 +286,7 @@ module _ (files : Program) (rooted : Rooted files) (frames : ℕ) (state : State
               ∙ ap (λ b. if b then on_to (with_exit later.world t r) gone else x) owned)
 
 module _ (files : List (List ℕ)) (trees : Program) (accepted : IsAccepted files trees) (frames : ℕ) (conflict : State → ℕ → ℕ → Bool)
-    (state next : State) (h : IsWellTyped trees state) (t r : ℕ) (owned : is_owner state.world t r ≡ true) (free : IsFreeOf conflict state t)
+    (state next : State) (h : IsWellTyped trees state) (t r : ℕ) (owned : is_owner state.world t r ≡ true) (free : IsFreeOf trees frames conflict state t)
     (e : step trees frames state (next_event t) ≡ Some next) where
   rooted : Rooted trees
   rooted = (linked_of files trees accepted.linkable.spelled accepted.linkable.no_refusal).rooted

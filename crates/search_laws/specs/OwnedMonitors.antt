@@ -42,6 +42,6 @@ pub data IsToUse (files : Program) (state : State) (t r : ℕ) : Type 0 where
 abbrev pub AreOwnedMonitorsAlone : Type 0
 AreOwnedMonitorsAlone =
     (files : List (List ℕ)) (trees : Program) → IsAccepted files trees → (frames : ℕ) (conflict : State → ℕ → ℕ → Bool) (state next : State)
-    → IsWellTyped trees state → (t r : ℕ) → IsTrue (is_owner state.world t r) → IsToUse trees state t r → IsFreeOf conflict state t
+    → IsWellTyped trees state → (t r : ℕ) → IsTrue (is_owner state.world t r) → IsToUse trees state t r → IsFreeOf trees frames conflict state t
     → step trees frames state (next_event t) ≡ Some next
     → IsAlone trees frames (passing conflict) (HaveSameWords trees) state t next

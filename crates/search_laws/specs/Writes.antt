@@ -1,6 +1,6 @@
 -- What others can still write (JLS 17.4.1), and gets of fields and loads of elements that no other thread can still write.
-use Rattle.std.specs.Prelude.{◌≡◌, ℕ, List, ◌∷◌, Option, Some, None, Bool, length, slice_get, IsTrue, IsFalse}
-use Rattle.std.specs.Option.{option_and_then}
+use Rattle.std.specs.Prelude.{◌≡◌, ℕ, List, ◌∷◌, Option, Some, None, Bool, length, slice_get, IsTrue, IsFalse, not, ◌&&◌}
+use Rattle.std.specs.Option.{option_map, option_and_then}
 use Rattle.model.specs.declared.event.Event.{Event}
 use Rattle.model.specs.declared.instr.FieldAccess.{FieldAccess}
 use Rattle.model.specs.declared.instr.FieldAccess.TheVariants as access
@@ -44,6 +44,18 @@ body_written files frame body = option_and_then (site_written files) (site_at fr
 abbrev pub stack_written : Program → StackOf Value → Option Variables
 stack_written files (Invocation frame ∷ stack) = option_and_then (body_written files frame) (body_of files frame.method)
 stack_written files other = None
+
+-- ---- what an instruction reads
+
+abbrev pub read_by : Program → Site → Instr → Option Variables
+read_by files site (instr.Field access.GetField index) = option_map (λ field. Fields field) (option_and_then (find_field files) (field_at site.body.pool index))
+read_by files site (instr.LoadElement kind) = Some Elements
+read_by files site other = None
+
+-- these stay where no more is written
+abbrev pub does_stay : (Variables → Bool) → Variables → Bool
+does_stay writes (Fields field) = not (writes (Fields field)) && not (member_eq thread_target field)
+does_stay writes Elements = not (writes Elements)
 
 -- the instruction that the thread is to do writes these at most
 abbrev pub WritesAtMost : Program → (Variables → Bool) → Thread → StackOf Value → Type 0

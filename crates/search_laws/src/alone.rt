@@ -16,24 +16,31 @@
 //!   threads that may step and the same outcome so far (`states_with_the_same_words_are_bisimilar`). What is alone in a
 //!   state is alone behind each event of another thread (`what_is_alone_stays`).
 //! - Each event leaves each object there, and each array as many elements as it had (`arrays_keep_their_lengths`).
+//!   Fields that the instruction of the thread doesn't put keep their values, and elements do where it stores none. The
+//!   field `target` of `Thread` is left out, which a constructor of the machine puts
+//!   (`variables_that_are_not_written_are_kept`).
 //! - An event is its thread's own (`IsOwnEvent`) where it changes the thread's stack alone, to the same one wherever the
-//!   thread stands as here. An own event, of a thread that is in no conflict where it stands so, is alone, and leaves it
-//!   to each other thread whether it may step (`own_events_are_alone`). A local event is its thread's own
-//!   (`local_events_are_own`). So are the call of an instance method that is not synchronized, the return from a method
-//!   that is not, a cast that passes, a test of a type, and the length of an array (`own_steps_are_own`).
+//!   thread stands as here and variables of the kinds that nothing may write are as here. Where each event of others,
+//!   behind each run of theirs, writes what may be written at most, an own event that is in no conflict is alone, and
+//!   leaves it to each other thread whether it may step (`own_events_are_alone`).
+//! - A local event is its thread's own (`local_events_are_own`). So are the call of an instance method that is not
+//!   synchronized, the return from a method that is not, a cast that passes, a test of a type, and the length of an
+//!   array. So are the get of a field that nothing may put, and the load of an element where nothing may store one
+//!   (`own_steps_are_own`).
 //! - A monitorexit of a monitor that the thread owns, a monitorenter of one, and the return from a synchronized method
 //!   whose monitor it owns, but for its first method, are alone (`events_on_owned_monitors_are_alone`).
 //!
 //! # Not proved
 //!
-//! - Not said: which other events are alone, as calls of static methods, exceptions that are caught, or gets of
-//!   fields that the others can't put.
+//! - Not said: which other events are alone, as calls of static methods, gets of static fields, exceptions that are
+//!   caught, or puts of fields that the others can neither get nor put; what of the program the others can still reach.
 
 ghost use Rattle.search_laws.specs.Alone.{AreSameWordsBisimilar, DoesAloneStay};
 ghost use Rattle.search_laws.specs.Lengths.{AreLengthsKept};
 ghost use Rattle.search_laws.specs.OwnEvents.{AreLocalEventsOwn, AreOwnEventsAlone};
 ghost use Rattle.search_laws.specs.OwnSteps.{AreOwnStepsOwn};
 ghost use Rattle.search_laws.specs.OwnedMonitors.{AreOwnedMonitorsAlone};
+ghost use Rattle.search_laws.specs.Writes.{AreVariablesKept};
 
 /// Well-typed states with the same words do the same.
 pub fn states_with_the_same_words_are_bisimilar()
@@ -50,7 +57,13 @@ pub fn arrays_keep_their_lengths()
     ensures holds { AreLengthsKept }
 {}
 
-/// A thread's own event is alone, and leaves it to the other threads whether they may step.
+/// Each event leaves the fields that its instruction doesn't put, and the elements where it stores none.
+pub fn variables_that_are_not_written_are_kept()
+    ensures holds { AreVariablesKept }
+{}
+
+/// Where the others write no more than may be written, a thread's own event is alone, and leaves it to them whether
+/// they may step.
 pub fn own_events_are_alone()
     ensures holds { AreOwnEventsAlone }
 {}
@@ -61,7 +74,7 @@ pub fn local_events_are_own()
 {}
 
 /// The call of an instance method, the return from a method, neither synchronized, a cast that passes, a test of a
-/// type, and the length of an array are their thread's own.
+/// type, the length of an array, and the gets and loads of what nothing may write are their thread's own.
 pub fn own_steps_are_own()
     ensures holds { AreOwnStepsOwn }
 {}
