@@ -1,5 +1,5 @@
 -- The classes on the stack of a thread are those that it initialises (JVMS 5.5): an invariant of all runs, and what it tells of an event.
-use Rattle.std.proofs.Common.{◌≡◌, ℕ, zero, suc, ◌-◌, List, [], ◌∷◌, ◌++◌, length, Bool, true, false, ◌==◌, if◌then◌else◌, Some, inl, inr, refl, sym, ap, ◌∙◌, subst}
+use Rattle.std.proofs.Common.{◌≡◌, ℕ, zero, suc, ◌-◌, List, [], ◌∷◌, ◌++◌, length, Bool, true, false, ◌==◌, if◌then◌else◌, Option, Some, None, inl, inr, refl, sym, ap, ◌∙◌, subst}
 use Rattle.std.specs.Prelude.{slice_get, slice_set, replicate, ◌⊎◌, ◌||◌}
 use Rattle.std.specs.List.{list_any}
 use Rattle.std.proofs.lemmas.Bool.{true≢false, false≢true, eqb-true, eq-eqb}
@@ -7,12 +7,12 @@ use Rattle.std.proofs.lemmas.Option.{same_Some}
 use Rattle.model.specs.declared.event.Event.{Event}
 use Rattle.model.specs.declared.value.Value.{Value}
 use Rattle.model.specs.Classes.{Program, is_built_in}
-use Rattle.model.specs.ClassInitialisation.{status_in, status_of, with_status_in}
+use Rattle.model.specs.ClassInitialisation.{status_in, status_of, with_status_in, IsReady, IsHeld, look_by, look_at}
 use Rattle.model.specs.Names.{Name, name_eq}
 use Rattle.model.specs.Opening.{opening}
 use Rattle.model.specs.Operands.{values}
 use Rattle.model.specs.Run.{run_from}
-use Rattle.model.specs.State.{ClassStatus, NotInitialised, InProgress, Initialised, StackOf, World, State}
+use Rattle.model.specs.State.{ClassStatus, NotInitialised, InProgress, Initialised, Erroneous, StackOf, World, State}
 use Rattle.model.specs.Step.{PartOf, part, end_of, step}
 use Rattle.model.specs.Worlds.{thread_at}
 use Rattle.run_laws.proofs.laws.Classes.{names_same}
@@ -295,6 +295,26 @@ module _ (trees : Program) (frames : ℕ) (state next : State) (event : Event) (
     class_stays c s k is =
         subst (λ (z : State). status_of z.world c ≡ s) d.is_next (status_stays u state.world d.stack left c s k own effect.change is)
 
+    -- what another thread may use, it may use still
+    module _ (t : ℕ) (ne : t ≡ u → ⊥) where
+      ready_by : (class : Name) (s : ClassStatus) → status_of state.world class ≡ s → look_by t s ≡ IsReady
+          → look_by t (status_of next.world class) ≡ IsReady
+      ready_by class NotInitialised q k = absurd cc
+      ready_by class (InProgress by) q k = owned (by == t) refl k
+        where
+          owned : (b : Bool) → (by == t) ≡ b → (if b then IsReady else IsHeld) ≡ IsReady → look_by t (status_of next.world class) ≡ IsReady
+          owned true z x =
+              let stays : Stays u (InProgress by) = record { known = progress_new by; others = λ e. ne (sym (eqb-true by t z) ∙ in_progress_inv by u e) } in
+              ap (look_by t) (class_stays class (InProgress by) stays q) ∙ ap (λ (b : Bool). if b then IsReady else IsHeld) z
+          owned false z x = absurd cc
+      ready_by class Initialised q k =
+          ap (look_by t) (class_stays class Initialised (record { known = λ e. absurd cc; others = λ e. absurd cc }) q)
+      ready_by class Erroneous q k = absurd cc
+
+      pub ready_next : (class : Option Name) → look_at t state.world class ≡ IsReady → look_at t next.world class ≡ IsReady
+      ready_next None k = refl
+      ready_next (Some class) k = ready_by class (status_of state.world class) refl k
+
     held_left : AreClassesHeld (state_with trees frames state event left.world left.stack)
     held_left t stack there = by (t == u) refl (front_or_empty (slice_set state.stacks u left.stack) (length left.world.threads - length state.stacks) t stack there)
       where
@@ -315,7 +335,7 @@ module _ (trees : Program) (frames : ℕ) (state next : State) (event : Event) (
     pub held_next : AreClassesHeld next
     held_next = subst AreClassesHeld d.is_next held_left
 
-opened_held : (trees : Program) → AreClassesHeld (opening values trees)
+pub opened_held : (trees : Program) → AreClassesHeld (opening values trees)
 opened_held trees zero stack there =
     subst (λ k. Holds (opening values trees).world.classes 0 (initialising k)) (same_Some [] stack there) tt
 opened_held trees (suc t) stack there = absurd cc

@@ -18,6 +18,7 @@ use Rattle.model.specs.declared.value.Value.TheVariants as value
 use Rattle.model.specs.Arrays.{is_negative, at_index, in_range, element_at, load_of}
 use Rattle.model.specs.BuiltInMethods.{built_in_method}
 use Rattle.model.specs.Calls.{Chosen, Fails, Runs, runs, invoked, may_run, may_invoke, of_receiver, of_class, parameter_count, return_of, selected, its_class, if_implements, special_class, argument_wants}
+use Rattle.model.specs.ClassInitialisation.{Look, IsReady, IsNew, IsHeld, HasFailed, look_at}
 use Rattle.model.specs.Classes.{Program, Body, body_of}
 use Rattle.model.specs.DescribedTypes.{declared_want, made_type, parameters_declared, type_named}
 use Rattle.model.specs.Frames.{frame_count, frame_with, entered_by, at_offset, at_call}
@@ -46,7 +47,7 @@ use Rattle.run_laws.proofs.word_runs.WordMeanings.{Kinded, wanted_at}
 use Rattle.search_laws.specs.Alone.{next_event}
 use Rattle.search_laws.specs.OwnEvents.{StandsAs, IsOwnEvent}
 use Rattle.search_laws.specs.OwnedMonitors.{IsAt}
-use Rattle.search_laws.specs.OwnSteps.{asks_by, asks, if_left, own_outcome, own_meant, own_at, own_in, own_stack, next_own, AreOwnStepsOwn}
+use Rattle.search_laws.specs.OwnSteps.{asks_by, asks, is_ready, if_left, own_outcome, own_meant, own_at, own_in, own_stack, next_own, AreOwnStepsOwn}
 use Rattle.search_laws.specs.Writes.{Variables, Fields, Elements, does_stay, IsUnchanged, KeepsVariables}
 use Rattle.search_laws.proofs.Callees.{same_class}
 use Rattle.search_laws.proofs.Instructed.{IsLeft, found, put, done_at, step_at, put_left, only_zero}
@@ -449,10 +450,16 @@ module _ (files : Program) (frames t : ℕ) (frame : Frame) (stack own : StackOf
 
 record IsNextOwn (writes : Variables → Bool) (files : Program) (frames : ℕ) (state : State) (t : ℕ) (own : StackOf Value) : Type 0 where
   at : IsAt files state t
-  looks : at.meaning.looks ≡ None
+  looks : look_at t state.world at.meaning.looks ≡ IsReady
   does : own_outcome files frames at.frame at.stack (asks writes files at.site)
       (at.meaning.does (next_event t) state.world at.frame.place.slots (ops_of values at.meaning at.frame.place.slots) (under at.meaning.wants at.frame.place.slots))
       ≡ Some own
+
+ready_of : (look : Look) → is_ready look ≡ true → look ≡ IsReady
+ready_of IsReady h = refl
+ready_of IsNew h = absurd (false≢true h)
+ready_of IsHeld h = absurd (false≢true h)
+ready_of HasFailed h = absurd (false≢true h)
 
 none_of : {X : Type 0} (o : Option X) → is_none o ≡ true → o ≡ None
 none_of None h = refl
@@ -471,9 +478,9 @@ module _ (writes : Variables → Bool) (files : Program) (frames : ℕ) (state :
         → (o : Option (MeaningOf Value)) → meaning_of values files site ≡ o
         → option_and_then (own_meant writes files frames t state.world frame stack site) o ≡ Some own → IsNextOwn writes files frames state t own
     by_meaning frame stack there body b site s None m e = not_some own e
-    by_meaning frame stack there body b site s (Some meaning) m e = by (is_none meaning.looks) refl e
+    by_meaning frame stack there body b site s (Some meaning) m e = by (is_ready (look_at t state.world meaning.looks)) refl e
       where
-        by : (k : Bool) → is_none meaning.looks ≡ k
+        by : (k : Bool) → is_ready (look_at t state.world meaning.looks) ≡ k
             → (if k then own_outcome files frames frame stack (asks writes files site) (meaning.does (next_event t) state.world frame.place.slots (ops_of values meaning frame.place.slots) (under meaning.wants frame.place.slots)) else None) ≡ Some own
             → IsNextOwn writes files frames state t own
         by true q x =
@@ -491,7 +498,7 @@ module _ (writes : Variables → Bool) (files : Program) (frames : ℕ) (state :
                 meaning = meaning;
                 means = m;
               };
-              looks = none_of meaning.looks q;
+              looks = ready_of (look_at t state.world meaning.looks) q;
               does = x;
             }
         by false q x = not_some own x
@@ -548,7 +555,7 @@ module _ (writes : Variables → Bool) (files : Program) (rooted : Rooted files)
   goes_now : (later : State) → IsWellTyped files later → StandsAs writes state t later → step files frames later (next_event t) ≡ Some (with_stack later t own)
   goes_now later g s =
       let x = steady_at later s in
-      step_at files rooted frames state t at later g s.alone n.looks 0
+      step_at files rooted frames state t at later g s.alone (s.ready at.meaning.looks n.looks) 0
       ∙ (ap (λ b. put files rooted frames state t at later g s.alone (enabled_if b (done_at files rooted frames state t at later g s.alone 0))) (x.may 0)
       ∙ (ap (put files rooted frames state t at later g s.alone) x.becomes.becomes
       ∙ put_left files rooted frames state t at later g s.alone Free later.world own refl x.becomes.left))
@@ -561,7 +568,7 @@ module _ (writes : Variables → Bool) (files : Program) (rooted : Rooted files)
         runs = at.status;
         goes = goes_now;
         only = λ later next pick g s e.
-            only_zero files rooted frames state t at later g s.alone n.looks (λ p q. (steady_at later s).may p ∙ q) next pick e;
+            only_zero files rooted frames state t at later g s.alone (s.ready at.meaning.looks n.looks) (λ p q. (steady_at later s).may p ∙ q) next pick e;
       }
 
 pub own_steps_own : AreOwnStepsOwn

@@ -1,12 +1,14 @@
 -- Events that are a thread's own: functions of its stack, which change its stack alone.
-use Rattle.std.specs.Prelude.{◌≡◌, ℕ, List, Some, Bool, false, true, slice_get, IsTrue}
+use Rattle.std.specs.Prelude.{◌≡◌, ℕ, List, Option, Some, Bool, false, true, slice_get, IsTrue}
 use Rattle.std.specs.Option.{option_and_then}
 use Rattle.model.specs.declared.event.Event.{Event}
 use Rattle.model.specs.declared.value.Value.{Value}
 use Rattle.model.specs.Accepted.{IsAccepted}
 use Rattle.model.specs.Classes.{Program}
+use Rattle.model.specs.ClassInitialisation.{IsReady, look_at}
+use Rattle.model.specs.Names.{Name}
 use Rattle.model.specs.Run.{run, run_from}
-use Rattle.model.specs.State.{types_of, Running, StackOf, State}
+use Rattle.model.specs.State.{types_of, Running, StackOf, World, State}
 use Rattle.model.specs.Step.{step}
 use Rattle.model.specs.WellTyped.{Extends, IsWellTyped}
 use Rattle.model.specs.Worlds.{thread_at}
@@ -15,14 +17,19 @@ use Rattle.run_laws.specs.interleavings.Local.{next_local, with_stack}
 use Rattle.run_laws.specs.interleavings.Statements.{IsLeftAlone}
 use Rattle.run_laws.specs.searches.Searches.{IsWhole}
 use Rattle.search_laws.specs.Alone.{passing, next_event, AreOfOthers, IsAlone, HaveSameWords}
-use Rattle.search_laws.specs.KeptStates.{Graph}
+use Rattle.search_laws.specs.KeptStates.{Graph, IsReached}
 use Rattle.search_laws.specs.Writes.{Variables, AreWritesOfOthers, KeepsVariables}
 use Rattle.search_laws.specs.Preemptions.{LeavesEnabled}
 use Rattle.search_laws.specs.Verdicts.{IsWholeSearch, AreListed}
 
--- The thread stands as it stood, and the objects that were there are there, with their types, and with all but what may be written.
+-- classes that a thread may use, it may use (JVMS 5.5)
+abbrev pub KeepsReady : ℕ → World → World → Type 0
+KeepsReady t before after = (class : Option Name) → look_at t before class ≡ IsReady → look_at t after class ≡ IsReady
+
+-- The thread stands as it stood, may use the classes that it might, and the objects that were there are there, with their types, and with all but what may be written.
 pub record StandsAs (writes : Variables → Bool) (before : State) (t : ℕ) (after : State) : Type 0 where
   pub alone : IsLeftAlone before after t
+  pub ready : KeepsReady t before.world after.world
   pub types : Extends (types_of before.world.heap) (types_of after.world.heap)
   pub variables : KeepsVariables writes before.world.heap after.world.heap
 
@@ -47,7 +54,7 @@ IsFreeOf files frames conflict state t =
 abbrev pub AreOwnEventsAlone : Type 0
 AreOwnEventsAlone =
     (files : List (List ℕ)) (trees : Program) → IsAccepted files trees → (frames : ℕ) (conflict : State → ℕ → ℕ → Bool) (state : State)
-    → IsWellTyped trees state → (t : ℕ) (own : StackOf Value) (writes : Variables → Bool) → AreWritesOfOthers trees frames writes state t
+    → IsReached trees frames state → (t : ℕ) (own : StackOf Value) (writes : Variables → Bool) → AreWritesOfOthers trees frames writes state t
     → IsOwnEvent trees frames writes state t own → IsFreeOf trees frames conflict state t
     → IsAlone trees frames (passing conflict) (HaveSameWords trees) state t (with_stack state t own)
     × LeavesEnabled trees frames (passing conflict) (HaveSameWords trees) state t

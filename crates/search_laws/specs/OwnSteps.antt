@@ -7,6 +7,7 @@ use Rattle.model.specs.declared.instr.Instr.TheVariants as instr
 use Rattle.model.specs.declared.value.Value.{Value}
 use Rattle.model.specs.Accepted.{IsAccepted}
 use Rattle.model.specs.Classes.{Program, Body, body_of}
+use Rattle.model.specs.ClassInitialisation.{Look, IsReady, IsNew, IsHeld, HasFailed, look_at}
 use Rattle.model.specs.Frames.{frame_count, at_offset, at_call}
 use Rattle.model.specs.Meanings.{meaning_of}
 use Rattle.model.specs.Operands.{values, under}
@@ -53,10 +54,16 @@ own_outcome files frames frame stack query (Throws exception) = None
 own_outcome files frames frame stack query Interrupts = None
 own_outcome files frames frame stack query (Waits cost world rest) = None
 
--- where no class comes first
+abbrev pub is_ready : Look → Bool
+is_ready IsReady = true
+is_ready IsNew = false
+is_ready IsHeld = false
+is_ready HasFailed = false
+
+-- where no class comes first, or one that the thread may use
 abbrev pub own_meant : (Variables → Bool) → Program → ℕ → ℕ → World → Frame → StackOf Value → Site → MeaningOf Value → Option (StackOf Value)
 own_meant writes files frames t world frame stack site meaning =
-    if is_none meaning.looks
+    if is_ready (look_at t world meaning.looks)
     then own_outcome files frames frame stack (asks writes files site)
     (meaning.does (next_event t) world frame.place.slots (ops_of values meaning frame.place.slots) (under meaning.wants frame.place.slots))
     else None

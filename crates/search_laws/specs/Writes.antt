@@ -45,6 +45,11 @@ abbrev pub stack_written : Program → StackOf Value → Option Variables
 stack_written files (Invocation frame ∷ stack) = option_and_then (body_written files frame) (body_of files frame.method)
 stack_written files other = None
 
+-- the instruction that the thread is to do writes these at most
+abbrev pub WritesAtMost : Program → (Variables → Bool) → Thread → StackOf Value → Type 0
+WritesAtMost files writes thread stack =
+    IsTrue (is_going thread.status thread.pending) → (variables : Variables) → stack_written files stack ≡ Some variables → IsTrue (writes variables)
+
 -- ---- what an instruction reads
 
 abbrev pub read_by : Program → Site → Instr → Option Variables
@@ -56,11 +61,6 @@ read_by files site other = None
 abbrev pub does_stay : (Variables → Bool) → Variables → Bool
 does_stay writes (Fields field) = not (writes (Fields field)) && not (member_eq thread_target field)
 does_stay writes Elements = not (writes Elements)
-
--- the instruction that the thread is to do writes these at most
-abbrev pub WritesAtMost : Program → (Variables → Bool) → Thread → StackOf Value → Type 0
-WritesAtMost files writes thread stack =
-    IsTrue (is_going thread.status thread.pending) → (variables : Variables) → stack_written files stack ≡ Some variables → IsTrue (writes variables)
 
 -- ---- what others can still write
 

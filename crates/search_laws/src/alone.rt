@@ -20,20 +20,20 @@
 //!   field `target` of `Thread` is left out, which a constructor of the machine puts
 //!   (`variables_that_are_not_written_are_kept`).
 //! - An event is its thread's own (`IsOwnEvent`) where it changes the thread's stack alone, to the same one wherever the
-//!   thread stands as here and variables of the kinds that nothing may write are as here. Where each event of others,
-//!   behind each run of theirs, writes what may be written at most, an own event that is in no conflict is alone, and
-//!   leaves it to each other thread whether it may step (`own_events_are_alone`).
-//! - A local event is its thread's own (`local_events_are_own`). So are the call of an instance method that is not
-//!   synchronized, the return from a method that is not, a cast that passes, a test of a type, and the length of an
-//!   array. So are the get of a field that nothing may put, and the load of an element where nothing may store one
-//!   (`own_steps_are_own`).
+//!   thread stands as here, may use the classes that it may use here, and finds as here the variables of the kinds that
+//!   nothing may write. In a state of a run, where each event of others, behind each run of theirs, writes what may be
+//!   written at most, an own event that is in no conflict is alone, and leaves it to each other thread whether it may
+//!   step (`own_events_are_alone`).
+//! - A local event is its thread's own (`local_events_are_own`). So are the call of a method that is not synchronized,
+//!   the return from a method that is not, a cast that passes, a test of a type, and the length of an array; a static
+//!   method is of a class that the thread may use. So are the get of a field of an object that nothing may put, and the
+//!   load of an element where nothing may store one (`own_steps_are_own`).
 //! - A monitorexit of a monitor that the thread owns, a monitorenter of one, and the return from a synchronized method
 //!   whose monitor it owns, but for its first method, are alone (`events_on_owned_monitors_are_alone`).
 //!
 //! # Not proved
 //!
-//! - Not said: which other events are alone, as calls of static methods, gets of static fields, exceptions that are
-//!   caught, or puts of fields that the others can neither get nor put; what of the program the others can still reach.
+//! - Not said: which other events are alone, as gets of static fields, exceptions that are caught, or puts of fields that the others can neither get nor put; what of the program the others can still reach.
 
 ghost use Rattle.search_laws.specs.Alone.{AreSameWordsBisimilar, DoesAloneStay};
 ghost use Rattle.search_laws.specs.Lengths.{AreLengthsKept};
@@ -73,8 +73,7 @@ pub fn local_events_are_own()
     ensures holds { AreLocalEventsOwn }
 {}
 
-/// The call of an instance method, the return from a method, neither synchronized, a cast that passes, a test of a
-/// type, the length of an array, and the gets and loads of what nothing may write are their thread's own.
+/// The call of a method, the return from a method, neither synchronized, a cast that passes, a test of a type, the length of an array, and the gets and loads of what nothing may write are their thread's own.
 pub fn own_steps_are_own()
     ensures holds { AreOwnStepsOwn }
 {}
