@@ -33,7 +33,8 @@
 //!
 //! # Not proved
 //!
-//! - Not said: which other events are alone, as gets of static fields, exceptions that are caught, or puts of fields that the others can neither get nor put; what of the program the others can still reach.
+//! - Not said: which other events are alone, as gets of static fields, exceptions that are caught, or puts of fields
+//!   that the others can neither get nor put; what of the program the others can still reach.
 
 ghost use Rattle.search_laws.specs.Alone.{AreSameWordsBisimilar, DoesAloneStay};
 ghost use Rattle.search_laws.specs.Lengths.{AreLengthsKept};
@@ -73,7 +74,8 @@ pub fn local_events_are_own()
     ensures holds { AreLocalEventsOwn }
 {}
 
-/// The call of a method, the return from a method, neither synchronized, a cast that passes, a test of a type, the length of an array, and the gets and loads of what nothing may write are their thread's own.
+/// The call of a method, the return from a method, neither synchronized, a cast that passes, a test of a type, the
+/// length of an array, and the gets and loads of what nothing may write are their thread's own.
 pub fn own_steps_are_own()
     ensures holds { AreOwnStepsOwn }
 {}
