@@ -1,5 +1,5 @@
 -- Which classes a thread initialises: those on its stack, whatever the others do (JVMS 5.5).
-use Rattle.std.proofs.Common.{◌≡◌, ℕ, zero, suc, List, [], ◌∷◌, nat_lt, Bool, true, false, ◌==◌, if◌then◌else◌, Option, Some, None, refl, sym, ap, ◌∙◌, subst}
+use Rattle.std.proofs.Common.{◌≡◌, ℕ, zero, suc, List, [], ◌∷◌, nat_lt, Bool, true, false, ◌==◌, if◌then◌else◌, Option, Some, None, refl, sym, ap, ◌∙◌, subst, ◌&&◌}
 use Rattle.std.specs.Prelude.{slice_get, length}
 use Rattle.std.specs.Option.{option_map_or, option_and_then}
 use Rattle.model.specs.declared.event.Event.{Event}
@@ -11,7 +11,7 @@ use Rattle.model.specs.Frames.{frame_with, entered_by, frame_count, at_call}
 use Rattle.model.specs.Lookup.{select, field_member}
 use Rattle.model.specs.Meanings.{meaning_of}
 use Rattle.model.specs.Monitors as monitors
-use Rattle.model.specs.Names.{Name, Member, main_of, thread_run, initialiser_of, java_lang_error}
+use Rattle.model.specs.Names.{Name, Member, main_of, thread_run, initialiser_of, java_lang_error, name_eq}
 use Rattle.model.specs.Opening.{arguments_reference, class_reference}
 use Rattle.model.specs.Operands.{values, under}
 use Rattle.model.specs.Outcomes.{MachineException, exception_class, OutcomeOf, Goes, Raises, Throws, Interrupts, Calls, Returns, Waits, NoClassDefFound, StackOverflow, IllegalMonitorState, InterruptedWait, AbstractMethod, ExceptionInInitializer}
@@ -21,10 +21,12 @@ use Rattle.model.specs.State.{Instance, types_of, ClassStatus, NotInitialised, I
 use Rattle.model.specs.Step.{SteppedOf, NotEnabled, WrongKind, Next, PartOf, part, on_to, enabled_if, unpicked, is_over, ended, with_end, end_of, raised, needing, needing_class, entering, pushed, leaving, returned, become, ops_of, bytecode_by, bytecode_in, initialiser_event, before, initialisation_event, initial_class, main_frame, run_frame, run_of, begin_event, handler_in, unwound, failed, pending_event, after_wait, relock_event, running_event, going_event, thread_event}
 use Rattle.model.specs.Tree.{Entry, FieldTree, FileTree}
 use Rattle.model.specs.Types.{is_object_of}
-use Rattle.model.specs.Worlds.{thread_at, with_thread, with_begun, with_pending, with_caught, with_status, with_interrupted, with_static, put_value, allocated, object_at, class_of_object, is_owner, may_enter, with_entry, entry_cost, with_exit, with_monitors, is_done}
+use Rattle.model.specs.Worlds.{thread_at, with_thread, with_begun, with_pending, with_caught, with_status, with_interrupted, with_static, put_value, allocated, object_at, class_of_object, is_owner, may_enter, with_entry, entry_cost, with_exit, with_monitors, is_done, value_in}
+use Rattle.run_laws.proofs.laws.Classes.{names_same}
 use Rattle.run_laws.proofs.laws.Operations.{OfMeaning}
 use Rattle.run_laws.specs.interleavings.Local.{is_going}
-use Rattle.search_laws.specs.Writes.{Variables, site_written, body_written, stack_written, KeepsVariables}
+use Rattle.search_laws.specs.Writes.{Variables, Statics, site_written, body_written, stack_written, KeepsVariables}
+use Rattle.search_laws.proofs.Variables.{value_other}
 use Rattle.search_laws.proofs.Spares.{SparesMonitors, Spares, Permits, itself, threads_aside, with_object_made, entry_spares, exit_spares, relock_spares, all_leave, OutcomeSpares, DoesSpare, meaning_spares}
 
 -- the classes that the stack initialises, the top first
@@ -44,6 +46,9 @@ pub data ClassChange (v : ℕ) (world : World) (old : StackOf Value) (p : PartOf
 pub record IsEffect (writes : Variables → Bool) (v : ℕ) (world : World) (old : StackOf Value) (p : PartOf Value) : Type 0 where
   pub monitors : SparesMonitors v world.monitors p.world.monitors
   pub variables : KeepsVariables writes world.heap p.world.heap
+  -- of classes that are begun
+  pub statics : (field : Member) (first : Value) → writes (Statics field) ≡ false → (status_of world field.class ≡ NotInitialised → ⊥)
+      → value_in first field p.world.statics ≡ value_in first field world.statics
   pub change : ClassChange v world old p
 
 abbrev pub OnEffect : (Variables → Bool) → ℕ → World → StackOf Value → SteppedOf (PartOf Value) → Type 0
@@ -70,39 +75,48 @@ returned_same files results (Initialisation class phase ∷ stack) = refl
 
 module _ (files : Program) where
   -- but for static fields and statuses
-  record IsBeside (world after : World) (classes : List (Name × ClassStatus)) : Type 0 where
+  record IsBeside (of : Name) (world after : World) (classes : List (Name × ClassStatus)) : Type 0 where
     classes_are : after.classes ≡ classes
     monitors : after.monitors ≡ world.monitors
     heap : after.heap ≡ world.heap
+    statics : (field : Member) (first : Value) → name_eq of field.class ≡ false → value_in first field after.statics ≡ value_in first field world.statics
 
   constant_same : (class : Name) (pool : List Entry) (world : World) (field : FieldTree)
-      → IsBeside world (with_constant values files class pool world field) world.classes
+      → IsBeside class world (with_constant values files class pool world field) world.classes
   constant_same class pool world field = by (constant_value values files pool field)
     where
       by : (o : Option Value)
-          → IsBeside world (option_map_or (λ value. with_static world (field_member class pool field) (put_value values (field_member class pool field) value)) o world) world.classes
-      by None = record { classes_are = refl; monitors = refl; heap = refl }
-      by (Some value) = record { classes_are = refl; monitors = refl; heap = refl }
+          → IsBeside class world (option_map_or (λ value. with_static world (field_member class pool field) (put_value values (field_member class pool field) value)) o world) world.classes
+      by None = record { classes_are = refl; monitors = refl; heap = refl; statics = λ field first n. refl }
+      by (Some value) =
+          let m = field_member class pool field in
+          record {
+            classes_are = refl;
+            monitors = refl;
+            heap = refl;
+            statics = λ other first n.
+                value_other m other first (put_value values m value) (ap (λ b. b && (name_eq m.name other.name && name_eq m.descriptor other.descriptor)) n) world.statics;
+          }
 
   constants_same : (class : Name) (pool : List Entry) (world : World) (fields : List FieldTree)
-      → IsBeside world (with_constants values files class pool world fields) world.classes
-  constants_same class pool world [] = record { classes_are = refl; monitors = refl; heap = refl }
+      → IsBeside class world (with_constants values files class pool world fields) world.classes
+  constants_same class pool world [] = record { classes_are = refl; monitors = refl; heap = refl; statics = λ field first n. refl }
   constants_same class pool world (field ∷ fields) =
       let rest = constants_same class pool (with_constant values files class pool world field) fields in
       let one = constant_same class pool world field in
-      record { classes_are = rest.classes_are ∙ one.classes_are; monitors = rest.monitors ∙ one.monitors; heap = rest.heap ∙ one.heap }
+      record { classes_are = rest.classes_are ∙ one.classes_are; monitors = rest.monitors ∙ one.monitors; heap = rest.heap ∙ one.heap; statics = λ other first n. rest.statics other first n ∙ one.statics other first n }
 
   begun_same : (v : ℕ) (class : Name) (world : World)
-      → IsBeside world (with_class_begun values files v class world) (with_status_in class (InProgress v) world.classes)
+      → IsBeside class world (with_class_begun values files v class world) (with_status_in class (InProgress v) world.classes)
   begun_same v class world = by (class_of files class)
     where
       by : (o : Option FileTree)
-          → IsBeside world (option_map_or (λ (file : FileTree). with_constants values files class file.pool (with_class_status world class (InProgress v)) file.fields) o (with_class_status world class (InProgress v)))
+          → IsBeside class world (option_map_or (λ (file : FileTree). with_constants values files class file.pool (with_class_status world class (InProgress v)) file.fields) o (with_class_status world class (InProgress v)))
           (with_status_in class (InProgress v) world.classes)
-      by None = record { classes_are = refl; monitors = refl; heap = refl }
+      by None = record { classes_are = refl; monitors = refl; heap = refl; statics = λ field first n. refl }
       by (Some file) =
           let x = constants_same class file.pool (with_class_status world class (InProgress v)) file.fields in
-          record { classes_are = x.classes_are; monitors = x.monitors; heap = x.heap }
+          record { classes_are = x.classes_are; monitors = x.monitors; heap = x.heap; statics = x.statics }
 
 module _ (writes : Variables → Bool) (v : ℕ) (world : World) (old : StackOf Value) where
   abbrev Effect : SteppedOf (PartOf Value) → Type 0
@@ -120,7 +134,7 @@ module _ (writes : Variables → Bool) (v : ℕ) (world : World) (old : StackOf 
   either_effect false x y h g = g
 
   kept : (after : World) (stack : StackOf Value) → Spares writes v world after → Same stack → IsEffect writes v world old (part after stack)
-  kept after stack s e = record { monitors = s.monitors; variables = s.variables; change = Kept s.classes e }
+  kept after stack s e = record { monitors = s.monitors; variables = s.variables; statics = λ field first n k. s.statics field first n; change = Kept s.classes e }
 
   -- ---- exceptions, calls and returns
 
@@ -168,8 +182,16 @@ module _ (writes : Variables → Bool) (v : ℕ) (world : World) (old : StackOf 
       record {
         monitors = subst (SparesMonitors v world.monitors) (sym b.monitors) self.monitors;
         variables = subst (KeepsVariables writes world.heap) (sym b.heap) self.variables;
+        statics = λ field first n k. b.statics field first (other field k);
         change = Begun class new b.classes_are (ap (λ l. class ∷ l) e);
       }
+    where
+      other : (field : Member) → (status_of world field.class ≡ NotInitialised → ⊥) → name_eq class field.class ≡ false
+      other field k = by (name_eq class field.class) refl
+        where
+          by : (b : Bool) → name_eq class field.class ≡ b → name_eq class field.class ≡ false
+          by true q = absurd (k (sym (ap (status_of world) (names_same class field.class q)) ∙ new))
+          by false q = q
 
   needing_effect : (files : Program) (class : Name) (look : Look) (stack : StackOf Value) (x : SteppedOf (PartOf Value))
       → look_by v (status_of world class) ≡ look → Same stack → Effect x → Effect (needing values files v class look world stack x)
@@ -244,7 +266,7 @@ module _ (writes : Variables → Bool) (v : ℕ) (world : World) (files : Progra
           let next : StackOf Value = Initialisation class End ∷ stack in
           pushed_effect writes v world (Initialisation class Super ∷ stack) frames world world next next (frame_with values (initialiser_of class) [] None body) (itself writes v world) (itself writes v world) refl refl
   initialisation_effect class End stack =
-      record { monitors = (itself writes v world).monitors; variables = (itself writes v world).variables; change = Left class Initialised refl refl }
+      record { monitors = (itself writes v world).monitors; variables = (itself writes v world).variables; statics = λ field first n k. refl; change = Left class Initialised refl refl }
 
   begun_spares : Spares writes v world (with_begun world v)
   begun_spares = threads_aside writes v world world (with_begun world v).threads (itself writes v world)
@@ -271,12 +293,13 @@ module _ (writes : Variables → Bool) (v : ℕ) (world : World) (files : Progra
 
   failed_effect : (b : Bool) (class : Name) (phase : Phase) (stack : StackOf Value)
       → OnEffect writes v world (Initialisation class phase ∷ stack) (failed v b (with_class_status world class Erroneous) stack)
-  failed_effect true class phase stack = record { monitors = (itself writes v world).monitors; variables = (itself writes v world).variables; change = Left class Erroneous refl refl }
+  failed_effect true class phase stack = record { monitors = (itself writes v world).monitors; variables = (itself writes v world).variables; statics = λ field first n k. refl; change = Left class Erroneous refl refl }
   failed_effect false class phase stack =
       let after = with_class_status world class Erroneous in
       record {
         monitors = (with_object_made writes v after after (Instance (exception_class ExceptionInInitializer) []) (itself writes v after)).monitors;
         variables = (with_object_made writes v after after (Instance (exception_class ExceptionInInitializer) []) (itself writes v after)).variables;
+        statics = λ field first n k. refl;
         change = Left class Erroneous refl refl;
       }
 

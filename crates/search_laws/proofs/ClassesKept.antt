@@ -8,18 +8,18 @@ use Rattle.model.specs.declared.event.Event.{Event}
 use Rattle.model.specs.declared.value.Value.{Value}
 use Rattle.model.specs.Classes.{Program, is_built_in}
 use Rattle.model.specs.ClassInitialisation.{status_in, status_of, with_status_in, IsReady, IsHeld, look_by, look_at}
-use Rattle.model.specs.Names.{Name, name_eq}
+use Rattle.model.specs.Names.{Name, name_eq, Member}
 use Rattle.model.specs.Opening.{opening}
 use Rattle.model.specs.Operands.{values}
 use Rattle.model.specs.Run.{run_from}
 use Rattle.model.specs.State.{ClassStatus, NotInitialised, InProgress, Initialised, Erroneous, StackOf, World, State}
 use Rattle.model.specs.Step.{PartOf, part, end_of, step}
-use Rattle.model.specs.Worlds.{thread_at}
+use Rattle.model.specs.Worlds.{thread_at, value_in}
 use Rattle.run_laws.proofs.laws.Classes.{names_same}
 use Rattle.run_laws.proofs.typed_runs.Threads.{get_set_at, get_set_other}
 use Rattle.search_laws.specs.KeptStates.{IsReached}
 use Rattle.search_laws.specs.Lengths.{KeepsLengths, AreLengthsKept}
-use Rattle.search_laws.specs.Writes.{Variables, WritesAtMost, KeepsVariables, AreVariablesKept}
+use Rattle.search_laws.specs.Writes.{Variables, Statics, WritesAtMost, KeepsVariables, AreVariablesKept}
 use Rattle.search_laws.proofs.ClassesHeld.{initialising, ClassChange, Kept, Begun, Left, IsEffect, OnEffect, event_effect, end_spares}
 use Rattle.search_laws.proofs.Events.{IsDone, done_of, state_with}
 use Rattle.search_laws.proofs.Variables.{keeps_on, lengths_of}
@@ -266,6 +266,7 @@ module _ (trees : Program) (frames : ℕ) (state next : State) (event : Event) (
         record {
           monitors = λ t object ne own. s.monitors t object ne (before_end.monitors t object ne own);
           variables = keeps_on writes state.world.heap d.left.world.heap (end_of u d.left.world d.left.stack).heap before_end.variables s.variables;
+          statics = λ field first n k. s.statics field first n ∙ before_end.statics field first n k;
           change = by before_end.change s.classes;
         }
       where
@@ -278,6 +279,11 @@ module _ (trees : Program) (frames : ℕ) (state next : State) (event : Event) (
     -- what the thread may not write is kept
     pub variables_next : KeepsVariables writes state.world.heap next.world.heap
     variables_next = subst (λ (z : State). KeepsVariables writes state.world.heap z.world.heap) d.is_next effect_of.variables
+
+    pub statics_next : (field : Member) (first : Value) → writes (Statics field) ≡ false → (status_of state.world field.class ≡ NotInitialised → ⊥)
+        → value_in first field next.world.statics ≡ value_in first field state.world.statics
+    statics_next field first n k =
+        sym (ap (λ (z : State). value_in first field z.world.statics) d.is_next) ∙ effect_of.statics field first n k
 
   pub effect : IsEffect all u state.world d.stack left
   effect = effect_of all (λ going variables q. refl)
@@ -359,4 +365,5 @@ pub variables_kept : AreVariablesKept
 variables_kept files frames writes state next event stack there at_most e =
     let x = d files frames state next event e in
     let same = same_Some stack x.stack (sym there ∙ x.there) in
-    variables_next files frames state next event e writes (subst (WritesAtMost files writes (thread_at state.world event.thread)) same at_most)
+    let w = subst (WritesAtMost files writes (thread_at state.world event.thread)) same at_most in
+    (variables_next files frames state next event e writes w, statics_next files frames state next event e writes w)

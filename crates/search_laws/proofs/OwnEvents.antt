@@ -9,10 +9,11 @@ use Rattle.model.specs.declared.event.Event.{Event}
 use Rattle.model.specs.declared.value.Value.{Value}
 use Rattle.model.specs.Accepted.{IsAccepted}
 use Rattle.model.specs.Classes.{Program}
+use Rattle.model.specs.ClassInitialisation.{IsReady, IsNew, look_by, status_of}
 use Rattle.model.specs.Opening.{opening}
 use Rattle.model.specs.Operands.{values}
 use Rattle.model.specs.Run.{run, run_from, may_step}
-use Rattle.model.specs.State.{Running, StackOf, State}
+use Rattle.model.specs.State.{ClassStatus, NotInitialised, Running, StackOf, State}
 use Rattle.model.specs.Step.{SteppedOf, NotEnabled, WrongKind, Next, PartOf, end_of, settled, with_part, event_of, is_enabled_by, next_by, stepped, step}
 use Rattle.model.specs.WellTyped.{IsWellTyped}
 use Rattle.model.specs.Worlds.{thread_at}
@@ -30,7 +31,7 @@ use Rattle.search_laws.specs.Preemptions.{LeavesEnabled}
 use Rattle.search_laws.specs.Verdicts.{IsWholeSearch, AreListed}
 use Rattle.search_laws.specs.Writes.{Variables, WritesAtMost, AreWritesOfOthers}
 use Rattle.search_laws.proofs.Events.{does, done_of, changed}
-use Rattle.search_laws.proofs.ClassesKept.{all, variables_next, AreClassesHeld, ready_next, held_next, opened_held, reached_held}
+use Rattle.search_laws.proofs.ClassesKept.{all, variables_next, statics_next, AreClassesHeld, ready_next, held_next, opened_held, reached_held}
 use Rattle.search_laws.proofs.Variables.{keeps_same, keeps_on}
 use Rattle.search_laws.proofs.Runs.{made_of, first_of, begun}
 use Rattle.search_laws.proofs.SameWords.{answer_of, typed}
@@ -82,6 +83,10 @@ module _ (trees : Program) (frames : ℕ) (state : State) (t : ℕ) (old own : S
 
 -- ---- own events
 
+-- a class that a thread may use is begun
+ready_begun : (t : ℕ) (s : ClassStatus) → look_by t s ≡ IsReady → s ≡ NotInitialised → ⊥
+ready_begun t s k e = let z : IsNew ≡ IsReady = sym (ap (look_by t) e) ∙ k in absurd cc
+
 -- whatever the others write is among all
 pub all_written : (trees : Program) (frames : ℕ) (state : State) (t : ℕ) → AreWritesOfOthers trees frames all state t
 all_written trees frames state t others later are r event next ne e stack there going variables q = refl
@@ -92,6 +97,7 @@ module _ (files : List (List ℕ)) (trees : Program) (accepted : IsAccepted file
       record {
         alone = record { stack = refl; status = refl; pending = refl };
         ready = λ class q. q;
+        statics = λ field first n q. refl;
         types = record { keeps = λ r type e. e };
         variables = keeps_same writes state.world.heap;
       }
@@ -110,6 +116,10 @@ module _ (files : List (List ℕ)) (trees : Program) (accepted : IsAccepted file
           alone = record { stack = k.stack ∙ s.alone.stack; status = k.status ∙ s.alone.status; pending = k.pending ∙ s.alone.pending };
           ready = λ class q. ready_next trees frames state next event e held t ne class (s.ready class q);
           types = record { keeps = λ r type q. c.extends.keeps r type (s.types.keeps r type q) };
+          statics = λ field first n q.
+              let x = done_of trees frames state event next e in
+              statics_next trees frames state next event e writes (at_most x.stack x.there) field first n (ready_begun t (status_of state.world field.class) (s.ready (Some field.class) q))
+              ∙ s.statics field first n q;
           variables =
               let x = done_of trees frames state event next e in
               keeps_on writes before.world.heap state.world.heap next.world.heap s.variables (variables_next trees frames state next event e writes (at_most x.stack x.there));

@@ -22,11 +22,11 @@ use Rattle.model.specs.ClassInitialisation.{Look, IsReady, IsNew, IsHeld, HasFai
 use Rattle.model.specs.Classes.{Program, Body, body_of}
 use Rattle.model.specs.DescribedTypes.{declared_want, made_type, parameters_declared, type_named}
 use Rattle.model.specs.Frames.{frame_count, frame_with, entered_by, at_offset, at_call}
-use Rattle.model.specs.Lookup.{find_field, is_instance_field}
+use Rattle.model.specs.Lookup.{find_field, is_instance_field, is_static_field}
 use Rattle.model.specs.Meanings.{meaning_of}
 use Rattle.model.specs.Names.{Name, Member, member_eq, thread_target}
 use Rattle.model.specs.Objects.{any_object, cast, instance_bit}
-use Rattle.model.specs.Opening.{class_reference, first_of}
+use Rattle.model.specs.Opening.{class_reference, first_of, print_stream_reference}
 use Rattle.model.specs.Operands.{Slots, values, under}
 use Rattle.model.specs.Outcomes.{OutcomeOf, Goes, Raises, Throws, Interrupts, Calls, Returns, Waits, Free, StackOverflow, not_null}
 use Rattle.model.specs.Pool.{integers_of}
@@ -45,10 +45,10 @@ use Rattle.run_laws.proofs.laws.Lists.{Pairwise, get_last}
 use Rattle.run_laws.proofs.laws.Operations.{NamedField, Operation, OfRow, GetSystemOut, GetStatic, PutStatic, GetField, PutField, Println, CallVirtual, CallConstructor, CallSpecial, CallStatic, CallInterface, Return, LoadClass, LoadString, New, NewArray, NewReferenceArray, ArrayLength, LoadElement, StoreElement, CheckCast, InstanceOf, Throw, MonitorEnter, MonitorExit, operation, OfMeaning, each_meaning}
 use Rattle.run_laws.proofs.word_runs.WordMeanings.{Kinded, wanted_at}
 use Rattle.search_laws.specs.Alone.{next_event}
-use Rattle.search_laws.specs.OwnEvents.{StandsAs, IsOwnEvent}
+use Rattle.search_laws.specs.OwnEvents.{KeepsStatics, StandsAs, IsOwnEvent}
 use Rattle.search_laws.specs.OwnedMonitors.{IsAt}
 use Rattle.search_laws.specs.OwnSteps.{asks_by, asks, is_ready, if_left, own_outcome, own_meant, own_at, own_in, own_stack, next_own, AreOwnStepsOwn}
-use Rattle.search_laws.specs.Writes.{Variables, Fields, Elements, does_stay, IsUnchanged, KeepsVariables}
+use Rattle.search_laws.specs.Writes.{Variables, Fields, Statics, Elements, does_stay, IsUnchanged, KeepsVariables}
 use Rattle.search_laws.proofs.Callees.{same_class}
 use Rattle.search_laws.proofs.Instructed.{IsLeft, found, put, done_at, step_at, put_left, only_zero}
 use Rattle.search_laws.proofs.Operands.{kinded}
@@ -137,7 +137,7 @@ module _ (files : Program) (frames t : ℕ) (frame : Frame) (stack own : StackOf
       by (Some object) e = not_some own e
 
   module _ (writes : Variables → Bool) (site : Site) (before after : World) (extends : Extends (types_of before.heap) (types_of after.heap))
-      (kept : KeepsVariables writes before.heap after.heap) (ops rest : List Value) where
+      (kept : KeepsVariables writes before.heap after.heap) (kept_statics : KeepsStatics writes t before after) (ops rest : List Value) where
     abbrev slots : Slots Value
     slots = frame.place.slots
 
@@ -153,13 +153,13 @@ module _ (files : Program) (frames t : ℕ) (frame : Frame) (stack own : StackOf
       may : (pick : ℕ) → m.may (record { thread = t; pick = pick }) after ops ≡ (pick == 0)
 
     abbrev Steady : MeaningOf Value → Type 0
-    Steady m = Kinded files (types_of before.heap) m.wants ops → Own is (m.does first before slots ops rest) → IsSteady m
+    Steady m = Kinded files (types_of before.heap) m.wants ops → look_at t before m.looks ≡ IsReady → Own is (m.does first before slots ops rest) → IsSteady m
 
     no_query : (i : Instr) → site.instr ≡ i → asks_by writes files site i ≡ false → is ≡ false
     no_query i e n = ap (asks_by writes files site) e ∙ n
 
     plain_steady : (m : MeaningOf Value) → is ≡ false → IsPlain (m.does first before slots ops rest) → Steady m
-    plain_steady m n h q e = plain_own is (m.does first before slots ops rest) h n e
+    plain_steady m n h q ready e = plain_own is (m.does first before slots ops rest) h n e
 
     -- ---- questions
 
@@ -266,23 +266,23 @@ module _ (files : Program) (frames t : ℕ) (frame : Frame) (stack own : StackOf
 
     module _ (c : is ≡ true) (n : writes Elements ≡ false) where
       load_steady : (kind : ArrayKind) → Steady (load_of values files site kind)
-      load_steady array_kind.Int q e = record {
+      load_steady array_kind.Int q ready e = record {
         becomes = loaded_becomes (values.int 0) (int_operand values ops 0) (referent values ops 1) (object_there (operand values ops 1) (PrimitiveArray Int) (meets_second (AReference (PrimitiveArray Int)) q)) c n e;
         may = λ pick. refl;
       }
-      load_steady array_kind.Reference q e = record {
+      load_steady array_kind.Reference q ready e = record {
         becomes = loaded_becomes values.over.null (int_operand values ops 0) (referent values ops 1) (object_there (operand values ops 1) (ReferenceArray any_object) (meets_second (AReference (ReferenceArray any_object)) q)) c n e;
         may = λ pick. refl;
       }
-      load_steady array_kind.ByteOrBoolean q e = record {
+      load_steady array_kind.ByteOrBoolean q ready e = record {
         becomes = loaded_becomes (values.int 0) (int_operand values ops 0) (referent values ops 1) (bytes_there (operand values ops 1) (meets_second AByteArray q)) c n e;
         may = λ pick. refl;
       }
-      load_steady array_kind.Char q e = record {
+      load_steady array_kind.Char q ready e = record {
         becomes = loaded_becomes (values.int 0) (int_operand values ops 0) (referent values ops 1) (object_there (operand values ops 1) (PrimitiveArray Char) (meets_second (AReference (PrimitiveArray Char)) q)) c n e;
         may = λ pick. refl;
       }
-      load_steady array_kind.Short q e = record {
+      load_steady array_kind.Short q ready e = record {
         becomes = loaded_becomes (values.int 0) (int_operand values ops 0) (referent values ops 1) (object_there (operand values ops 1) (PrimitiveArray Short) (meets_second (AReference (PrimitiveArray Short)) q)) c n e;
         may = λ pick. refl;
       }
@@ -348,9 +348,9 @@ module _ (files : Program) (frames t : ℕ) (frame : Frame) (stack own : StackOf
     called_steady n method choose k e = called_on n choose (values.referent (operand values ops (parameter_count method))) k e
 
     return_steady : (kind : Returned) → Steady (return_of values files site.method.descriptor kind)
-    return_steady returned.Nothing q e = record { becomes = returns_own is after before [] e; may = λ pick. refl }
-    return_steady returned.Int q e = record { becomes = returns_own is after before (operand values ops 0 ∷ []) e; may = λ pick. refl }
-    return_steady returned.Reference q e = record { becomes = returns_own is after before (operand values ops 0 ∷ []) e; may = λ pick. refl }
+    return_steady returned.Nothing q ready e = record { becomes = returns_own is after before [] e; may = λ pick. refl }
+    return_steady returned.Int q ready e = record { becomes = returns_own is after before (operand values ops 0 ∷ []) e; may = λ pick. refl }
+    return_steady returned.Reference q ready e = record { becomes = returns_own is after before (operand values ops 0 ∷ []) e; may = λ pick. refl }
 
     plain_at : (o : Operation files site) → is ≡ false → IsPlain ((operation values files site o).does first before slots ops rest)
         → Steady (operation values files site o)
@@ -358,7 +358,7 @@ module _ (files : Program) (frames t : ℕ) (frame : Frame) (stack own : StackOf
 
     get_steady : (f : NamedField files site access.GetField is_instance_field) (b : Bool) → is ≡ b → Steady (operation values files site (GetField f))
     get_steady f false c = plain_at (GetField f) c (null_plain (referent values ops 0) _ (λ r. tt))
-    get_steady f true c = λ q own.
+    get_steady f true c = λ q ready own.
         let reads =
         ap (asks_by writes files site) f.instruction
         ∙ (ap (λ o. option_map_or (does_stay writes) (option_map (λ field. Fields field) (option_and_then (find_field files) o)) false) f.names
@@ -374,6 +374,26 @@ module _ (files : Program) (frames t : ℕ) (frame : Frame) (stack own : StackOf
           may = λ pick. refl;
         }
 
+    out_steady : (index : ℕ) (i : site.instr ≡ instr.Field access.GetStatic index) (b : Bool) → is ≡ b → Steady (operation values files site (GetSystemOut index i))
+    out_steady index i false c = plain_at (GetSystemOut index i) c tt
+    out_steady index i true c = λ q ready own.
+        let v = values.reference print_stream_reference in record { becomes = answer_becomes site.next v v c refl own; may = λ pick. refl }
+
+    static_steady : (f : NamedField files site access.GetStatic is_static_field) (b : Bool) → is ≡ b → Steady (operation values files site (GetStatic f))
+    static_steady f false c = plain_at (GetStatic f) c tt
+    static_steady f true c = λ q ready own.
+        let reads =
+        ap (asks_by writes files site) f.instruction
+        ∙ (ap (λ o. option_map_or (does_stay writes) (option_map (λ field. Statics field) (option_and_then (find_field files) o)) false) f.names
+        ∙ ap (λ o. option_map_or (does_stay writes) (option_map (λ field. Statics field) o) false) f.found)
+        in
+        let first = first_of values f.field in
+        let same = kept_statics f.field first (not_true (writes (Statics f.field)) (sym reads ∙ c)) ready in
+        record {
+          becomes = answer_becomes site.next (value_in first f.field before.statics) (value_in first f.field after.statics) c same own;
+          may = λ pick. refl;
+        }
+
     load_at : (kind : ArrayKind) (i : site.instr ≡ instr.LoadElement kind) (b : Bool) → is ≡ b → Steady (load_of values files site kind)
     load_at kind i false c = plain_at (LoadElement kind i) c (load_plain files site first before slots ops rest kind)
     load_at kind i true c = load_steady c (not_true (writes Elements) (sym (ap (asks_by writes files site) i) ∙ c)) kind
@@ -381,25 +401,25 @@ module _ (files : Program) (frames t : ℕ) (frame : Frame) (stack own : StackOf
     steady : (o : Operation files site) → Steady (operation values files site o)
     steady (OfRow row e) =
         plain_at (OfRow row e) (row_no_query writes files site (integers_of site.body.pool) site.body.code.code site.offset site.next site.instr row e) (row_plain files site first before slots ops rest row)
-    steady (GetSystemOut index i) = plain_at (GetSystemOut index i) (no_query _ i refl) tt
-    steady (GetStatic f) = plain_at (GetStatic f) (no_query _ f.instruction refl) tt
+    steady (GetSystemOut index i) = out_steady index i is refl
+    steady (GetStatic f) = static_steady f is refl
     steady (PutStatic f) = plain_at (PutStatic f) (no_query _ f.instruction refl) tt
     steady (GetField f) = get_steady f is refl
     steady (PutField f) = plain_at (PutField f) (no_query _ f.instruction refl) (null_plain (referent values ops 1) _ (λ r. tt))
     steady (Println call e) = plain_at (Println call e) (no_query _ call.instruction refl) (null_plain (referent values ops 1) _ (λ r. tt))
-    steady (CallVirtual call e m) = λ q own.
+    steady (CallVirtual call e m) = λ q ready own.
         let c = called_steady (no_query _ call.instruction refl) m.method (λ world r. selected files (its_class world r) m.method)
         (λ r k. ap (λ c. selected files c m.method) (same_class before after r (type_same m.method call.named.class q r k))) own in
         record { becomes = c.becomes; may = c.may }
-    steady (CallConstructor call e passes) = λ q own.
+    steady (CallConstructor call e passes) = λ q ready own.
         let c = called_steady (no_query _ call.instruction refl) call.named (λ world r. Runs call.named) (λ r k. refl) own in
         record { becomes = c.becomes; may = c.may }
-    steady (CallSpecial call e m) = λ q own.
+    steady (CallSpecial call e m) = λ q ready own.
         let c = called_steady (no_query _ call.instruction refl) m.method (λ world r. selected files (special_class files site.method.class call.named.class) m.method) (λ r k. refl) own in
         record { becomes = c.becomes; may = c.may }
-    steady (CallStatic index i m) = λ q own.
+    steady (CallStatic index i m) = λ q ready own.
         let c = called (no_query _ i refl) (class_reference files m.method.class) (Runs m.method) own in record { becomes = c.becomes; may = c.may }
-    steady (CallInterface call m) = λ q own.
+    steady (CallInterface call m) = λ q ready own.
         let choose : World → ℕ → Chosen = λ world r. if_implements (is_subtype files (type_of (object_at world r)) (ClassType call.named.class)) (selected files (its_class world r) m.method) in
         let c = called_steady (no_query _ call.instruction refl) m.method choose
         (λ r k.
@@ -413,13 +433,13 @@ module _ (files : Program) (frames t : ℕ) (frame : Frame) (stack own : StackOf
     steady (New class file e) = plain_at (New class file e) (no_query _ class.instruction refl) tt
     steady (NewArray code of i e) = plain_at (NewArray code of i e) (no_query _ i refl) (array_plain (is_negative (int_operand values ops 0)) site.next (int_operand values ops 0) _ _ before slots rest)
     steady (NewReferenceArray class) = plain_at (NewReferenceArray class) (no_query _ class.instruction refl) (array_plain (is_negative (int_operand values ops 0)) site.next (int_operand values ops 0) _ _ before slots rest)
-    steady (ArrayLength i) = λ q own.
+    steady (ArrayLength i) = λ q ready own.
         let v = operand values ops 0 in
         let meets = wanted_at (value_meets files (types_of before.heap)) (AnArray ∷ []) ops 0 AnArray value.Unset q refl in
         record { becomes = asked_becomes (λ o. values.int (length (elements_of o))) (λ old new u. ap values.int u.lengths) (ap (asks_by writes files site) i) (referent values ops 0) (array_there v meets) own; may = λ pick. refl }
     steady (LoadElement kind i) = load_at kind i is refl
     steady (StoreElement kind i) = plain_at (StoreElement kind i) (no_query _ i refl) (store_plain files site first before slots ops rest kind)
-    steady (CheckCast class) = λ q own.
+    steady (CheckCast class) = λ q ready own.
         let type = type_named class.name in
         let v = operand values ops 0 in
         let meets = wanted_at (value_meets files (types_of before.heap)) (AReference any_object ∷ []) ops 0 (AReference any_object) value.Unset q refl in
@@ -428,7 +448,7 @@ module _ (files : Program) (frames t : ℕ) (frame : Frame) (stack own : StackOf
               (instance_same files (types_of before.heap) (types_of after.heap) extends type any_object v meets) own;
           may = λ pick. refl;
         }
-    steady (InstanceOf class) = λ q own.
+    steady (InstanceOf class) = λ q ready own.
         let type = type_named class.name in
         let v = operand values ops 0 in
         let meets = wanted_at (value_meets files (types_of before.heap)) (AReference any_object ∷ []) ops 0 (AReference any_object) value.Unset q refl in
@@ -546,11 +566,11 @@ module _ (writes : Variables → Bool) (files : Program) (rooted : Rooted files)
   rest_now = under at.meaning.wants at.frame.place.slots
 
   steady_at : (later : State) → (s : StandsAs writes state t later)
-      → IsSteady files frames t at.frame at.stack own writes at.site state.world later.world s.types s.variables ops_now rest_now at.meaning
+      → IsSteady files frames t at.frame at.stack own writes at.site state.world later.world s.types s.variables s.statics ops_now rest_now at.meaning
   steady_at later s =
-      let table = subst (OfMeaning (Steady files frames t at.frame at.stack own writes at.site state.world later.world s.types s.variables ops_now rest_now)) at.means
-      (meaning_steady files frames t at.frame at.stack own writes at.site state.world later.world s.types s.variables ops_now rest_now) in
-      table (kinded files (types_of state.world.heap) at.meaning.wants at.body.code.max_stack at.frame.place.slots (found files rooted frames state t at state h at.there at.status at.pending)) n.does
+      let table = subst (OfMeaning (Steady files frames t at.frame at.stack own writes at.site state.world later.world s.types s.variables s.statics ops_now rest_now)) at.means
+      (meaning_steady files frames t at.frame at.stack own writes at.site state.world later.world s.types s.variables s.statics ops_now rest_now) in
+      table (kinded files (types_of state.world.heap) at.meaning.wants at.body.code.max_stack at.frame.place.slots (found files rooted frames state t at state h at.there at.status at.pending)) n.looks n.does
 
   goes_now : (later : State) → IsWellTyped files later → StandsAs writes state t later → step files frames later (next_event t) ≡ Some (with_stack later t own)
   goes_now later g s =

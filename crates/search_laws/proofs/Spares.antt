@@ -3,7 +3,7 @@ use Rattle.std.proofs.Common.{◌≡◌, ℕ, zero, suc, List, [], ◌∷◌, Bo
 use Rattle.std.specs.List.{remove}
 use Rattle.std.specs.Option.{option_and_then}
 use Rattle.std.specs.Prelude.{◌+◌, ◌-◌, ◌++◌, slice_get, slice_set, unwrap_or, is_some}
-use Rattle.std.proofs.lemmas.Bool.{false≢true}
+use Rattle.std.proofs.lemmas.Bool.{false≢true, true≢false}
 use Rattle.model.specs.declared.event.Event.{Event}
 use Rattle.model.specs.declared.instr.ArrayKind.{ArrayKind}
 use Rattle.model.specs.declared.instr.ArrayKind.TheVariants as array_kind
@@ -15,12 +15,12 @@ use Rattle.model.specs.Arrays.{is_negative, made_array, in_range, at_index, elem
 use Rattle.model.specs.BuiltInMethods.{BuiltInMethod, Construct, ConstructWithTarget, ObjectWait, ObjectNotify, ObjectNotifyAll, ThreadStart, ThreadInterrupt, ThreadIsInterrupted, ThreadInterrupted, ThreadYield, ThreadCurrentThread, ThreadJoin, ThreadIsAlive, PrintStreamPrintln, built_in_method, object_of, wait_by, notified_one, notified, notified_all, if_owner, start_by, interrupted_in, interrupted_on, join_by, built_in_does}
 use Rattle.model.specs.Calls.{Chosen, Fails, Runs, runs, invoked, of_receiver, parameter_count, return_of}
 use Rattle.model.specs.Classes.{Program, Body, body_of}
-use Rattle.model.specs.Lookup.{find_field, is_instance_field}
+use Rattle.model.specs.Lookup.{find_field, is_instance_field, is_static_field}
 use Rattle.model.specs.MonitorMeanings.{left, monitor_exit_meaning}
 use Rattle.model.specs.Meanings.{local_meaning, meaning_of}
 use Rattle.model.specs.Monitors as monitors
 use Rattle.model.specs.Monitors.{Answered, unlocked, owns, monitor_at, as_owner, as_entrant, owned, answers_done, at_object, released, relock_from}
-use Rattle.model.specs.Names.{Member, thread_target}
+use Rattle.model.specs.Names.{Member, member_eq, thread_target}
 use Rattle.model.specs.Objects.{cast}
 use Rattle.model.specs.Opening.{class_reference}
 use Rattle.model.specs.Operands.{Slots, values}
@@ -29,21 +29,28 @@ use Rattle.model.specs.Rows.{Row, after_row, row_target}
 use Rattle.model.specs.Sites.{MeaningOf, Site, operand, referent, int_operand, pushing}
 use Rattle.model.specs.State.{ObjectOf, Monitor, Waiter, WakeCause, Notified, ThreadStatus, Running, Waiting, Relock, Ended, Thread, World}
 use Rattle.model.specs.declared.monitor_answer.MonitorAnswer.TheVariants.{Held, NotOwner}
-use Rattle.model.specs.Worlds.{thread_at, with_monitors, with_entry, with_exit, is_owner, object_at, all_woken, woken, waiters_of, thread_of, is_alive, allocated, put_value, with_element, with_field, with_object}
+use Rattle.model.specs.Worlds.{thread_at, with_monitors, with_entry, with_exit, is_owner, object_at, all_woken, woken, waiters_of, thread_of, is_alive, allocated, put_value, with_element, with_field, with_object, value_in}
+use Rattle.run_laws.proofs.laws.Classes.{members_same}
 use Rattle.run_laws.proofs.laws.Operations.{NamedField, Operation, OfRow, GetSystemOut, GetStatic, PutStatic, GetField, PutField, Println, CallVirtual, CallConstructor, CallSpecial, CallStatic, CallInterface, Return, LoadClass, LoadString, New, NewArray, NewReferenceArray, ArrayLength, LoadElement, StoreElement, CheckCast, InstanceOf, Throw, MonitorEnter, MonitorExit, operation, OfMeaning, each_meaning}
-use Rattle.search_laws.specs.Writes.{Variables, Fields, Elements, site_written, written_by, put_by, IsUnchanged, KeepsVariables}
+use Rattle.search_laws.specs.Writes.{Variables, Fields, Statics, Elements, site_written, written_by, put_by, IsUnchanged, KeepsVariables}
 use Rattle.search_laws.proofs.Owners.{owner_is, differs}
-use Rattle.search_laws.proofs.Variables.{keeps_same, keeps_on, keeps_more, keeps_set, field_put, target_put, element_put}
+use Rattle.search_laws.proofs.Variables.{keeps_same, keeps_on, keeps_more, keeps_set, field_put, target_put, element_put, value_other}
 
 -- whoever else owns a monitor owns it still
 abbrev pub SparesMonitors : ℕ → List Monitor → List Monitor → Type 0
 SparesMonitors v before after =
     (u object : ℕ) → (u ≡ v → ⊥) → owns u (monitor_at before object).owner ≡ true → owns u (monitor_at after object).owner ≡ true
 
+-- static fields have their values, but for what is written
+abbrev pub SparesStatics : (Variables → Bool) → List (Member × Value) → List (Member × Value) → Type 0
+SparesStatics writes before after =
+    (field : Member) (first : Value) → writes (Statics field) ≡ false → value_in first field after ≡ value_in first field before
+
 pub record Spares (writes : Variables → Bool) (v : ℕ) (before after : World) : Type 0 where
   pub monitors : SparesMonitors v before.monitors after.monitors
   pub classes : after.classes ≡ before.classes
   pub variables : KeepsVariables writes before.heap after.heap
+  pub statics : SparesStatics writes before.statics after.statics
 
 -- ---- a monitor
 
@@ -105,6 +112,7 @@ module _ (writes : Variables → Bool) (v : ℕ) where
             (λ e. leaves (monitor_at world.monitors object) u ne (ap (λ k. owns u (monitor_at world.monitors k).owner) e ∙ h));
         classes = s.classes;
         variables = s.variables;
+        statics = s.statics;
       }
 
   -- what is written is among these
@@ -114,12 +122,12 @@ module _ (writes : Variables → Bool) (v : ℕ) where
   -- ---- a world
 
   pub itself : (world : World) → Spares writes v world world
-  itself world = record { monitors = λ u o ne own. own; classes = refl; variables = keeps_same writes world.heap }
+  itself world = record { monitors = λ u o ne own. own; classes = refl; variables = keeps_same writes world.heap; statics = λ field first n. refl }
 
   -- the threads have no part in it
   pub threads_aside : (before world : World) (threads : List Thread) → Spares writes v before world
       → Spares writes v before (record world { threads = threads })
-  threads_aside before world threads s = record { monitors = s.monitors; classes = s.classes; variables = s.variables }
+  threads_aside before world threads s = record { monitors = s.monitors; classes = s.classes; variables = s.variables; statics = s.statics }
 
   pub with_object_made : (before world : World) (object : ObjectOf Value) → Spares writes v before world → Spares writes v before (allocated world object)
   with_object_made before world object s =
@@ -127,13 +135,14 @@ module _ (writes : Variables → Bool) (v : ℕ) where
         monitors = λ u o ne own. added world.monitors o u (s.monitors u o ne own);
         classes = s.classes;
         variables = keeps_on writes before.heap world.heap (world.heap ++ object ∷ []) s.variables (keeps_more writes world.heap object);
+        statics = s.statics;
       }
 
   -- an object is changed in what the thread may write
   with_object_set : (world : World) (r : ℕ) (object : ObjectOf Value) → IsUnchanged writes (object_at world r) object
       → Spares writes v world (with_object world r object)
   with_object_set world r object same =
-      record { monitors = λ u o ne own. own; classes = refl; variables = keeps_set writes world.heap r object same }
+      record { monitors = λ u o ne own. own; classes = refl; variables = keeps_set writes world.heap r object same; statics = λ field first n. refl }
 
   pub entry_spares : (before world : World) (r : ℕ) → Spares writes v before world → Spares writes v before (with_entry world v r)
   entry_spares before world r s = called before world r (monitors.monitor_enter v) enter_leaves s
@@ -229,7 +238,7 @@ module _ (writes : Variables → Bool) (v : ℕ) where
         by : (o : Option Waiter)
             → Spares writes v world (notified_one (with_monitors world (monitors.notify object v pick world.monitors)) object o)
         by None = one
-        by (Some w) = record { monitors = one.monitors; classes = one.classes; variables = one.variables }
+        by (Some w) = record { monitors = one.monitors; classes = one.classes; variables = one.variables; statics = one.statics }
 
     notified_all_ok : (object : ℕ) → Spares writes v world (notified_all world v object)
     notified_all_ok object =
@@ -237,11 +246,11 @@ module _ (writes : Variables → Bool) (v : ℕ) where
         (called world world object (monitors.monitor_notify_all v) (owner_leaves (λ m. record m { waiters = [] })) same_ok)
 
     interrupted_ok : (t : ℕ) (status : ThreadStatus) → Spares writes v world (interrupted_in world t status)
-    interrupted_ok t Running = record { monitors = same_ok.monitors; classes = refl; variables = same_ok.variables }
+    interrupted_ok t Running = record { monitors = same_ok.monitors; classes = refl; variables = same_ok.variables; statics = same_ok.statics }
     interrupted_ok t (Waiting object count) =
         let s = called world world object (monitors.monitor_interrupt t) (λ m u ne own. own) same_ok in
-        record { monitors = s.monitors; classes = s.classes; variables = s.variables }
-    interrupted_ok t (Relock object count cause) = record { monitors = same_ok.monitors; classes = refl; variables = same_ok.variables }
+        record { monitors = s.monitors; classes = s.classes; variables = s.variables; statics = s.statics }
+    interrupted_ok t (Relock object count cause) = record { monitors = same_ok.monitors; classes = refl; variables = same_ok.variables; statics = same_ok.statics }
     interrupted_ok t (Ended exception) = same_ok
 
     interrupted_on_ok : (o : Option ℕ) → Spares writes v world (interrupted_on world o)
@@ -251,7 +260,7 @@ module _ (writes : Variables → Bool) (v : ℕ) where
     start_ok : (started : Bool) (next object : ℕ) (slots : Slots Value) (rest : List Value)
         → Ok (start_by started next object world slots rest)
     start_ok true next object slots rest = tt
-    start_ok false next object slots rest = record { monitors = same_ok.monitors; classes = refl; variables = same_ok.variables }
+    start_ok false next object slots rest = record { monitors = same_ok.monitors; classes = refl; variables = same_ok.variables; statics = same_ok.statics }
 
     join_ok : (alive : Bool) (next : ℕ) (slots : Slots Value) (rest : List Value) → Ok (join_by alive next world slots rest)
     join_ok true next slots rest = tt
@@ -278,12 +287,12 @@ module _ (writes : Variables → Bool) (v : ℕ) where
       built_in_ok ThreadStart next slots ops rest = start_ok (is_some (thread_of world (object_of values ops 0))) next (object_of values ops 0) slots rest
       built_in_ok ThreadInterrupt next slots ops rest = interrupted_on_ok (thread_of world (object_of values ops 0))
       built_in_ok ThreadIsInterrupted next slots ops rest = same_ok
-      built_in_ok ThreadInterrupted next slots ops rest = record { monitors = same_ok.monitors; classes = refl; variables = same_ok.variables }
+      built_in_ok ThreadInterrupted next slots ops rest = record { monitors = same_ok.monitors; classes = refl; variables = same_ok.variables; statics = same_ok.statics }
       built_in_ok ThreadYield next slots ops rest = same_ok
       built_in_ok ThreadCurrentThread next slots ops rest = same_ok
       built_in_ok ThreadJoin next slots ops rest = join_ok (is_alive world (object_of values ops 0)) next slots rest
       built_in_ok ThreadIsAlive next slots ops rest = same_ok
-      built_in_ok PrintStreamPrintln next slots ops rest = record { monitors = same_ok.monitors; classes = refl; variables = same_ok.variables }
+      built_in_ok PrintStreamPrintln next slots ops rest = record { monitors = same_ok.monitors; classes = refl; variables = same_ok.variables; statics = same_ok.statics }
 
       -- ---- the table
 
@@ -359,16 +368,37 @@ module _ (writes : Variables → Bool) (v : ℕ) where
             ∙ (ap (λ o. option_and_then (put_by access.PutField) (option_and_then (find_field files) o)) f.names
             ∙ ap (option_and_then (put_by access.PutField)) f.found)
 
+        puts_static : (f : NamedField files site access.PutStatic is_static_field) → site_written files site ≡ Some (Statics f.field)
+        puts_static f =
+            ap (written_by files site) f.instruction
+            ∙ (ap (λ o. option_and_then (put_by access.PutStatic) (option_and_then (find_field files) o)) f.names
+            ∙ ap (option_and_then (put_by access.PutStatic)) f.found)
+
+        field_beside : (f : NamedField files site access.PutStatic is_static_field) (other : Member) → writes (Statics other) ≡ false
+            → member_eq f.field other ≡ false
+        field_beside f other n = by (member_eq f.field other) refl
+          where
+            by : (b : Bool) → member_eq f.field other ≡ b → member_eq f.field other ≡ false
+            by true q =
+                absurd (true≢false (sym (permits (Statics f.field) (puts_static f)) ∙ (ap (λ m. writes (Statics m)) (members_same f.field other q) ∙ n)))
+            by false q = q
+
         operation_ok : (o : Operation files site) → Ok ((operation values files site o).does event world slots ops rest)
         operation_ok (OfRow row e) = row_ok row
         operation_ok (GetSystemOut index i) = same_ok
         operation_ok (GetStatic f) = same_ok
-        operation_ok (PutStatic f) = record { monitors = same_ok.monitors; classes = refl; variables = same_ok.variables }
+        operation_ok (PutStatic f) =
+            record {
+              monitors = same_ok.monitors;
+              classes = refl;
+              variables = same_ok.variables;
+              statics = λ other first n. value_other f.field other first (put_value values f.field (operand values ops 0)) (field_beside f other n) world.statics;
+            }
         operation_ok (GetField f) = not_null_ok (referent values ops 0) _ (λ r. same_ok)
         operation_ok (PutField f) =
             not_null_ok (referent values ops 1) _
             (λ r. with_object_set world r (with_field f.field (put_value values f.field (operand values ops 0)) (object_at world r)) (field_put writes f.field (put_value values f.field (operand values ops 0)) (object_at world r) (permits (Fields f.field) (puts f))))
-        operation_ok (Println call e) = not_null_ok (referent values ops 1) _ (λ r. record { monitors = same_ok.monitors; classes = refl; variables = same_ok.variables })
+        operation_ok (Println call e) = not_null_ok (referent values ops 1) _ (λ r. record { monitors = same_ok.monitors; classes = refl; variables = same_ok.variables; statics = same_ok.statics })
         operation_ok (CallVirtual call e m) = call_ok m.method _
         operation_ok (CallConstructor call e passes) = call_ok call.named _
         operation_ok (CallSpecial call e m) = call_ok m.method _

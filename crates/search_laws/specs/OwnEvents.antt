@@ -1,24 +1,24 @@
 -- Events that are a thread's own: functions of its stack, which change its stack alone.
-use Rattle.std.specs.Prelude.{◌≡◌, ℕ, List, Option, Some, Bool, false, true, slice_get, IsTrue}
+use Rattle.std.specs.Prelude.{◌≡◌, ℕ, List, Option, Some, Bool, false, true, slice_get, IsTrue, IsFalse}
 use Rattle.std.specs.Option.{option_and_then}
 use Rattle.model.specs.declared.event.Event.{Event}
 use Rattle.model.specs.declared.value.Value.{Value}
 use Rattle.model.specs.Accepted.{IsAccepted}
 use Rattle.model.specs.Classes.{Program}
 use Rattle.model.specs.ClassInitialisation.{IsReady, look_at}
-use Rattle.model.specs.Names.{Name}
+use Rattle.model.specs.Names.{Name, Member}
 use Rattle.model.specs.Run.{run, run_from}
 use Rattle.model.specs.State.{types_of, Running, StackOf, World, State}
 use Rattle.model.specs.Step.{step}
 use Rattle.model.specs.WellTyped.{Extends, IsWellTyped}
-use Rattle.model.specs.Worlds.{thread_at}
+use Rattle.model.specs.Worlds.{thread_at, value_in}
 use Rattle.run_laws.specs.interleavings.Ends.{Outcome}
 use Rattle.run_laws.specs.interleavings.Local.{next_local, with_stack}
 use Rattle.run_laws.specs.interleavings.Statements.{IsLeftAlone}
 use Rattle.run_laws.specs.searches.Searches.{IsWhole}
 use Rattle.search_laws.specs.Alone.{passing, next_event, AreOfOthers, IsAlone, HaveSameWords}
 use Rattle.search_laws.specs.KeptStates.{Graph, IsReached}
-use Rattle.search_laws.specs.Writes.{Variables, AreWritesOfOthers, KeepsVariables}
+use Rattle.search_laws.specs.Writes.{Variables, Statics, AreWritesOfOthers, KeepsVariables}
 use Rattle.search_laws.specs.Preemptions.{LeavesEnabled}
 use Rattle.search_laws.specs.Verdicts.{IsWholeSearch, AreListed}
 
@@ -26,10 +26,17 @@ use Rattle.search_laws.specs.Verdicts.{IsWholeSearch, AreListed}
 abbrev pub KeepsReady : ℕ → World → World → Type 0
 KeepsReady t before after = (class : Option Name) → look_at t before class ≡ IsReady → look_at t after class ≡ IsReady
 
+-- and the static fields of such a class have their values, but for what may be written
+abbrev pub KeepsStatics : (Variables → Bool) → ℕ → World → World → Type 0
+KeepsStatics writes t before after =
+    (field : Member) (first : Value) → IsFalse (writes (Statics field)) → look_at t before (Some field.class) ≡ IsReady
+    → value_in first field after.statics ≡ value_in first field before.statics
+
 -- The thread stands as it stood, may use the classes that it might, and the objects that were there are there, with their types, and with all but what may be written.
 pub record StandsAs (writes : Variables → Bool) (before : State) (t : ℕ) (after : State) : Type 0 where
   pub alone : IsLeftAlone before after t
   pub ready : KeepsReady t before.world after.world
+  pub statics : KeepsStatics writes t before.world after.world
   pub types : Extends (types_of before.world.heap) (types_of after.world.heap)
   pub variables : KeepsVariables writes before.world.heap after.world.heap
 

@@ -1,4 +1,4 @@
--- What others can still write (JLS 17.4.1), and gets of fields and loads of elements that no other thread can still write.
+-- What others can still write (JLS 17.4.1), and what stays as it is where they write no more.
 use Rattle.std.specs.Prelude.{◌≡◌, ℕ, List, ◌∷◌, Option, Some, None, Bool, length, slice_get, IsTrue, IsFalse, not, ◌&&◌}
 use Rattle.std.specs.Option.{option_map, option_and_then}
 use Rattle.model.specs.declared.event.Event.{Event}
@@ -8,26 +8,29 @@ use Rattle.model.specs.declared.instr.Instr.{Instr}
 use Rattle.model.specs.declared.instr.Instr.TheVariants as instr
 use Rattle.model.specs.declared.value.Value.{Value}
 use Rattle.model.specs.Classes.{Program, Body, body_of}
+use Rattle.model.specs.ClassInitialisation.{status_of}
 use Rattle.model.specs.Lookup.{find_field}
 use Rattle.model.specs.Names.{Member, member_eq, thread_target}
 use Rattle.model.specs.Pool.{field_at}
 use Rattle.model.specs.Run.{run_from}
 use Rattle.model.specs.Sites.{Site, site_at}
-use Rattle.model.specs.State.{ObjectOf, Frame, Invocation, StackOf, Thread, State}
+use Rattle.model.specs.State.{ObjectOf, Frame, Invocation, StackOf, Thread, NotInitialised, World, State}
 use Rattle.model.specs.Step.{step}
 use Rattle.model.specs.Worlds.{thread_at, elements_of, fields_of, value_in}
 use Rattle.run_laws.specs.interleavings.Local.{is_going}
 use Rattle.search_laws.specs.Alone.{AreOfOthers}
 
--- the variables of objects, by what an instruction names: a field of any object, or the elements of any array
+-- variables, by what an instruction names: a field of any object, a static field, or the elements of any array
 pub data Variables : Type 0 where
   Fields : (field : Member) → Variables
+  Statics : (field : Member) → Variables
   Elements : Variables
 
 -- ---- what the next event of a thread writes
 
 abbrev pub put_by : FieldAccess → Member → Option Variables
 put_by access.PutField field = Some (Fields field)
+put_by access.PutStatic field = Some (Statics field)
 put_by other field = None
 
 abbrev pub written_by : Program → Site → Instr → Option Variables
@@ -54,12 +57,14 @@ WritesAtMost files writes thread stack =
 
 abbrev pub read_by : Program → Site → Instr → Option Variables
 read_by files site (instr.Field access.GetField index) = option_map (λ field. Fields field) (option_and_then (find_field files) (field_at site.body.pool index))
+read_by files site (instr.Field access.GetStatic index) = option_map (λ field. Statics field) (option_and_then (find_field files) (field_at site.body.pool index))
 read_by files site (instr.LoadElement kind) = Some Elements
 read_by files site other = None
 
 -- these stay where no more is written
 abbrev pub does_stay : (Variables → Bool) → Variables → Bool
 does_stay writes (Fields field) = not (writes (Fields field)) && not (member_eq thread_target field)
+does_stay writes (Statics field) = not (writes (Statics field))
 does_stay writes Elements = not (writes Elements)
 
 -- ---- what others can still write
@@ -87,9 +92,16 @@ KeepsVariables writes before after =
     (r : ℕ) (old : ObjectOf Value) → slice_get before r ≡ Some old
     → (new : ObjectOf Value) × ((slice_get after r ≡ Some new) × IsUnchanged writes old new)
 
+-- the static fields of each class have their values, once its initialisation has begun (which sets its constants)
+abbrev pub KeepsBegun : (Variables → Bool) → World → World → Type 0
+KeepsBegun writes before after =
+    (field : Member) (first : Value) → IsFalse (writes (Statics field)) → (status_of before field.class ≡ NotInitialised → ⊥)
+    → value_in first field after.statics ≡ value_in first field before.statics
+
 -- so behind each event of a thread that writes these at most
 abbrev pub AreVariablesKept : Type 0
 AreVariablesKept =
     (files : Program) (frames : ℕ) (writes : Variables → Bool) (state next : State) (event : Event) (stack : StackOf Value)
     → slice_get state.stacks event.thread ≡ Some stack → WritesAtMost files writes (thread_at state.world event.thread) stack
-    → step files frames state event ≡ Some next → KeepsVariables writes state.world.heap next.world.heap
+    → step files frames state event ≡ Some next
+    → KeepsVariables writes state.world.heap next.world.heap × KeepsBegun writes state.world next.world

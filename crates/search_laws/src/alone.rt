@@ -16,25 +16,25 @@
 //!   threads that may step and the same outcome so far (`states_with_the_same_words_are_bisimilar`). What is alone in a
 //!   state is alone behind each event of another thread (`what_is_alone_stays`).
 //! - Each event leaves each object there, and each array as many elements as it had (`arrays_keep_their_lengths`).
-//!   Fields that the instruction of the thread doesn't put keep their values, and elements do where it stores none. The
-//!   field `target` of `Thread` is left out, which a constructor of the machine puts
-//!   (`variables_that_are_not_written_are_kept`).
-//! - An event is its thread's own (`IsOwnEvent`) where it changes the thread's stack alone, to the same one wherever the
-//!   thread stands as here, may use the classes that it may use here, and finds as here the variables of the kinds that
+//!   Fields that the instruction of the thread doesn't put keep their values, and elements do where it stores none.
+//!   Left out are the field `target` of `Thread`, which a constructor of the machine puts, and static fields of a class
+//!   whose initialisation hasn't begun (`variables_that_are_not_written_are_kept`).
+//! - An event is its thread's own (`IsOwnEvent`) where it changes the thread's stack alone, to the same one wherever
+//!   the thread stands as here, may use the classes that it may use here, and finds as here the variables of the kinds that
 //!   nothing may write. In a state of a run, where each event of others, behind each run of theirs, writes what may be
 //!   written at most, an own event that is in no conflict is alone, and leaves it to each other thread whether it may
 //!   step (`own_events_are_alone`).
 //! - A local event is its thread's own (`local_events_are_own`). So are the call of a method that is not synchronized,
-//!   the return from a method that is not, a cast that passes, a test of a type, and the length of an array; a static
-//!   method is of a class that the thread may use. So are the get of a field of an object that nothing may put, and the
-//!   load of an element where nothing may store one (`own_steps_are_own`).
+//!   the return from a method that is not, a cast that passes, a test of a type, and the length of an array. So are the
+//!   get of a field that nothing may put, static or not, and the load of an element where nothing may store one. What is
+//!   static is of a class that the thread may use, and the field `target` of `Thread` is left out (`own_steps_are_own`).
 //! - A monitorexit of a monitor that the thread owns, a monitorenter of one, and the return from a synchronized method
 //!   whose monitor it owns, but for its first method, are alone (`events_on_owned_monitors_are_alone`).
 //!
 //! # Not proved
 //!
-//! - Not said: which other events are alone, as gets of static fields, exceptions that are caught, or puts of fields
-//!   that the others can neither get nor put; what of the program the others can still reach.
+//! - Not said: which other events are alone, as exceptions that are caught, or puts of fields that the others can
+//!   neither get nor put; what of the program the others can still reach.
 
 ghost use Rattle.search_laws.specs.Alone.{AreSameWordsBisimilar, DoesAloneStay};
 ghost use Rattle.search_laws.specs.Lengths.{AreLengthsKept};
