@@ -15,13 +15,15 @@
 //! - Well-typed states with the same words are bisimilar: an event leads from both to such states, with the same
 //!   threads that may step and the same outcome so far (`states_with_the_same_words_are_bisimilar`). What is alone in a
 //!   state is alone behind each event of another thread (`what_is_alone_stays`).
+//! - Where no other thread has an event, as where all others wait for one, its event is alone whatever it does, if it
+//!   has a single one and is in no conflict (`sole_events_are_alone`).
 //! - Each event leaves each object there, and each array as many elements as it had (`arrays_keep_their_lengths`).
 //!   Fields that the instruction of the thread doesn't put keep their values, and elements do where it stores none.
 //!   Left out are the field `target` of `Thread`, which a constructor of the machine puts, and static fields of a class
 //!   whose initialisation hasn't begun (`variables_that_are_not_written_are_kept`).
 //! - An event is its thread's own (`IsOwnEvent`) where it changes the thread's stack alone, to the same one wherever
-//!   the thread stands as here, may use the classes that it may use here, and finds as here the variables of the kinds that
-//!   nothing may write. In a state of a run, where each event of others, behind each run of theirs, writes what may be
+//!   the thread stands as here, may use the classes that it may use here, and finds as here the variables of the kinds
+//!   that nothing may write. In a state of a run, where each event of others, behind each run of theirs, writes what may be
 //!   written at most, an own event that is in no conflict is alone, and leaves it to each other thread whether it may
 //!   step (`own_events_are_alone`).
 //! - A local event is its thread's own (`local_events_are_own`). So are the call of a method that is not synchronized,
@@ -36,7 +38,7 @@
 //! - Not said: which other events are alone, as exceptions that are caught, or puts of fields that the others can
 //!   neither get nor put; what of the program the others can still reach.
 
-ghost use Rattle.search_laws.specs.Alone.{AreSameWordsBisimilar, DoesAloneStay};
+ghost use Rattle.search_laws.specs.Alone.{AreSameWordsBisimilar, AreSoleEventsAlone, DoesAloneStay};
 ghost use Rattle.search_laws.specs.Lengths.{AreLengthsKept};
 ghost use Rattle.search_laws.specs.OwnEvents.{AreLocalEventsOwn, AreOwnEventsAlone};
 ghost use Rattle.search_laws.specs.OwnSteps.{AreOwnStepsOwn};
@@ -51,6 +53,11 @@ pub fn states_with_the_same_words_are_bisimilar()
 /// What is alone stays alone behind each event of another thread.
 pub fn what_is_alone_stays()
     ensures holds { DoesAloneStay }
+{}
+
+/// Where no other thread has an event, the only event of a thread is alone.
+pub fn sole_events_are_alone()
+    ensures holds { AreSoleEventsAlone }
 {}
 
 /// Each event leaves each object there, and each array as many elements as it had.
