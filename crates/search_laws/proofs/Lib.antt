@@ -8,6 +8,7 @@ pub mod Ends
 pub mod Bounded
 pub mod OwnEvents
 pub mod Sole
+pub mod Program
 pub mod Lengths
 pub mod Variables
 pub mod Owners

@@ -105,3 +105,17 @@ AreVariablesKept =
     → slice_get state.stacks event.thread ≡ Some stack → WritesAtMost files writes (thread_at state.world event.thread) stack
     → step files frames state event ≡ Some next
     → KeepsVariables writes state.world.heap next.world.heap × KeepsBegun writes state.world next.world
+
+-- ---- what the program writes at all
+
+-- each instruction of each method writes these at most: one pass over the program
+abbrev pub AreWritesOfProgram : Program → (Variables → Bool) → Type 0
+AreWritesOfProgram files writes =
+    (method : Member) (body : Body) (offset : ℕ) (site : Site) (variables : Variables) → body_of files method ≡ Some body
+    → site_at method body offset ≡ Some site → site_written files site ≡ Some variables → IsTrue (writes variables)
+
+-- so do the others, in any state
+abbrev pub AreWritesOfProgramKept : Type 0
+AreWritesOfProgramKept =
+    (files : Program) (frames : ℕ) (writes : Variables → Bool) → AreWritesOfProgram files writes → (state : State) (t : ℕ)
+    → AreWritesOfOthers files frames writes state t

@@ -26,6 +26,8 @@
 //!   that nothing may write. In a state of a run, where each event of others, behind each run of theirs, writes what may be
 //!   written at most, an own event that is in no conflict is alone, and leaves it to each other thread whether it may
 //!   step (`own_events_are_alone`).
+//! - What each instruction of the program writes at most, the others write at most, in any state
+//!   (`others_write_what_the_program_writes`): so a field that no instruction puts, no other thread can still put.
 //! - A local event is its thread's own (`local_events_are_own`). So are the call of a method that is not synchronized,
 //!   the return from a method that is not, a cast that passes, a test of a type, and the length of an array. So are the
 //!   get of a field that nothing may put, static or not, and the load of an element where nothing may store one. What is
@@ -43,7 +45,7 @@ ghost use Rattle.search_laws.specs.Lengths.{AreLengthsKept};
 ghost use Rattle.search_laws.specs.OwnEvents.{AreLocalEventsOwn, AreOwnEventsAlone};
 ghost use Rattle.search_laws.specs.OwnSteps.{AreOwnStepsOwn};
 ghost use Rattle.search_laws.specs.OwnedMonitors.{AreOwnedMonitorsAlone};
-ghost use Rattle.search_laws.specs.Writes.{AreVariablesKept};
+ghost use Rattle.search_laws.specs.Writes.{AreVariablesKept, AreWritesOfProgramKept};
 
 /// Well-typed states with the same words do the same.
 pub fn states_with_the_same_words_are_bisimilar()
@@ -68,6 +70,11 @@ pub fn arrays_keep_their_lengths()
 /// Each event leaves the fields that its instruction doesn't put, and the elements where it stores none.
 pub fn variables_that_are_not_written_are_kept()
     ensures holds { AreVariablesKept }
+{}
+
+/// The others write what some instruction of the program writes.
+pub fn others_write_what_the_program_writes()
+    ensures holds { AreWritesOfProgramKept }
 {}
 
 /// Where the others write no more than may be written, a thread's own event is alone, and leaves it to them whether
