@@ -4,11 +4,12 @@
 //!
 //! Theorems by computation: for a program and a schedule, which pairs of events race, and that no others do.
 //!
-//! - Locks, and none: `lost_update`, which also has a state that is racy and one that isn't; `locked`, with wait and
-//!   notify, a thread found alive or ended, and a wait that a thread's end ends.
+//! - Locks, and none: `lost_update`, which also has a state that is racy and one that isn't; `locked`, with one monitor
+//!   and with two, wait and notify, a thread found alive or ended, and a wait that a thread's end ends.
 //! - Volatile variables, and the same programs without: `flags`, `double_checked`.
-//! - Elements of arrays: `elements`. Interrupts, found, cleared, or of a thread just started: `interrupts`.
-//! - What a class's initialiser wrote, read by who needs the class before and by who doesn't: `initialised`.
+//! - Elements of arrays: `elements`. Interrupts, found or cleared, and of a thread just started or ended: `interrupts`.
+//! - What a class's initialiser wrote, read by who needs the class before, by who doesn't, and by the initialiser of a
+//!   class below it: `initialised`.
 //!
 //! # Not proved
 //!

@@ -9,8 +9,7 @@
 //!
 //! # Not proved
 //!
-//! - Nothing of programs: that a state of a run is racy (`IsRacy`) says nothing here of a run that has a race, nor the
-//!   other way round.
+//! - Nothing of racy states (`IsRacy`): the module `racy_states` says of a run to one that it goes on to a race.
 
 ghost use Rattle.data_races.specs.race_tests.Tests.{AreAllRacesFound};
 

@@ -29,8 +29,17 @@
 --             f = 1; u.start();
 --         }
 --     }
+--     class Over extends Thread {
+--         static Over u;
+--         static int f;
+--         public void run() { if (this == u) f = 1; else { u.interrupt(); if (!u.isInterrupted()) System.out.println(f); } }
+--         public static void main(String[] args) {
+--             u = new Over();
+--             u.start(); new Over().start();
+--         }
+--     }
 use Rattle.std.specs.Prelude.{[], ◌∷◌, ◌++◌}
-use Rattle.data_races.specs.race_examples.Programs.{interrupted, cleared, started}
+use Rattle.data_races.specs.race_examples.Programs.{interrupted, cleared, started, over}
 use Rattle.data_races.specs.race_examples.Raced.{times, AreRacing}
 
 pub record Interrupts : Type 0 where
@@ -42,3 +51,5 @@ pub record Interrupts : Type 0 where
   pub found_started : AreRacing (started ∷ []) (times 28 0 ++ times 11 1) []
   -- thread 2 writes f in event 44
   pub written_behind : AreRacing (started ∷ []) (times 28 0 ++ times 11 1 ++ times 6 2) ((38, 44) ∷ [])
+  -- thread 1 writes f in event 26 and ends; the interrupt of it in event 34 does nothing, and thread 2 reads f in 39
+  pub found_ended : AreRacing (over ∷ []) (times 21 0 ++ times 8 1 ++ times 11 2) []

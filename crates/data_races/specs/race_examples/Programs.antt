@@ -240,3 +240,96 @@ lazy =
     ∷ method 0x0009 43 44 36 2 1 (hex (codes "bb000859b7000db60021b20012b80018b4000eb6001bb1")) []
     ∷ []
     )
+
+abbrev pub two_locks_pool : List Entry
+two_locks_pool =
+    Method 2 3 ∷ Class 4 ∷ NameAndType 5 6 ∷ Utf8 (codes "java/lang/Thread") ∷ Utf8 (codes "<init>")
+    ∷ Utf8 (codes "()V") ∷ Field 8 9 ∷ Class 10 ∷ NameAndType 11 12 ∷ Utf8 (codes "TwoLocks") ∷ Utf8 (codes "n")
+    ∷ Utf8 (codes "I") ∷ Method 8 3 ∷ Method 8 15 ∷ NameAndType 16 6 ∷ Utf8 (codes "start") ∷ Utf8 (codes "Code")
+    ∷ Utf8 (codes "run") ∷ Utf8 (codes "main") ∷ Utf8 (codes "([Ljava/lang/String;)V") ∷ []
+
+abbrev pub two_locks : FileTree
+two_locks =
+    file_with 0x0020 two_locks_pool 8 2 [] (field 0x0008 11 12 [] ∷ [])
+    (
+    method 0x0000 5 6 17 1 1 (hex (codes "2ab70001b1")) []
+    ∷ method 0x0021 18 6 17 2 1 (hex (codes "b200070460b30007b1")) []
+    ∷ method 0x0009 19 20 17 2 1 (hex (codes "bb000859b7000db6000ebb000859b7000db6000eb1")) []
+    ∷ []
+    )
+
+abbrev pub over_pool : List Entry
+over_pool =
+    Method 2 3 ∷ Class 4 ∷ NameAndType 5 6 ∷ Utf8 (codes "java/lang/Thread") ∷ Utf8 (codes "<init>")
+    ∷ Utf8 (codes "()V") ∷ Field 8 9 ∷ Class 10 ∷ NameAndType 11 12 ∷ Utf8 (codes "Over") ∷ Utf8 (codes "u")
+    ∷ Utf8 (codes "LOver;") ∷ Field 8 14 ∷ NameAndType 15 16 ∷ Utf8 (codes "f") ∷ Utf8 (codes "I") ∷ Method 8 18
+    ∷ NameAndType 19 6 ∷ Utf8 (codes "interrupt") ∷ Method 8 21 ∷ NameAndType 22 23 ∷ Utf8 (codes "isInterrupted")
+    ∷ Utf8 (codes "()Z") ∷ Field 25 26 ∷ Class 27 ∷ NameAndType 28 29 ∷ Utf8 (codes "java/lang/System")
+    ∷ Utf8 (codes "out") ∷ Utf8 (codes "Ljava/io/PrintStream;") ∷ Method 31 32 ∷ Class 33 ∷ NameAndType 34 35
+    ∷ Utf8 (codes "java/io/PrintStream") ∷ Utf8 (codes "println") ∷ Utf8 (codes "(I)V") ∷ Method 8 3 ∷ Method 8 38
+    ∷ NameAndType 39 6 ∷ Utf8 (codes "start") ∷ Utf8 (codes "Code") ∷ Utf8 (codes "run")
+    ∷ Utf8 (codes "StackMapTable") ∷ Utf8 (codes "main") ∷ Utf8 (codes "([Ljava/lang/String;)V") ∷ []
+
+abbrev pub over : FileTree
+over =
+    file_with 0x0020 over_pool 8 2 [] (field 0x0008 11 12 [] ∷ field 0x0008 15 16 [] ∷ [])
+    (
+    method 0x0000 5 6 40 1 1 (hex (codes "2ab70001b1")) []
+    ∷ method 0x0001 41 6 40 2 1 (hex (codes "2ab20007a6000a04b3000da7001bb20007b60011b20007b600149a000cb20018b2000db6001eb1")) []
+    ∷ method 0x0009 43 44 40 2 1 (hex (codes "bb000859b70024b30007b20007b60025bb000859b70024b60025b1")) []
+    ∷ []
+    )
+
+abbrev pub below_pool : List Entry
+below_pool =
+    Method 2 3 ∷ Class 4 ∷ NameAndType 5 6 ∷ Utf8 (codes "java/lang/Thread") ∷ Utf8 (codes "<init>")
+    ∷ Utf8 (codes "()V") ∷ Method 8 9 ∷ Class 10 ∷ NameAndType 11 6 ∷ Utf8 (codes "Below$C") ∷ Utf8 (codes "touch")
+    ∷ Class 13 ∷ Utf8 (codes "Below") ∷ Method 12 3 ∷ Method 12 16 ∷ NameAndType 17 6 ∷ Utf8 (codes "start")
+    ∷ Method 19 20 ∷ Class 21 ∷ NameAndType 22 6 ∷ Utf8 (codes "Below$D") ∷ Utf8 (codes "use") ∷ Utf8 (codes "f")
+    ∷ Utf8 (codes "I") ∷ Utf8 (codes "Code") ∷ Utf8 (codes "run") ∷ Utf8 (codes "main")
+    ∷ Utf8 (codes "([Ljava/lang/String;)V") ∷ Utf8 (codes "InnerClasses") ∷ Utf8 (codes "C") ∷ Utf8 (codes "D") ∷ []
+
+abbrev pub below : FileTree
+below =
+    file_with 0x0020 below_pool 12 2 [] (field 0x0008 23 24 [] ∷ [])
+    (
+    method 0x0000 5 6 25 1 1 (hex (codes "2ab70001b1")) []
+    ∷ method 0x0001 26 6 25 0 1 (hex (codes "b80007b1")) []
+    ∷ method 0x0009 27 28 25 2 1 (hex (codes "bb000c59b7000eb6000fb80012b1")) []
+    ∷ []
+    )
+
+abbrev pub below_c_pool : List Entry
+below_c_pool =
+    Method 2 3 ∷ Class 4 ∷ NameAndType 5 6 ∷ Utf8 (codes "java/lang/Object") ∷ Utf8 (codes "<init>")
+    ∷ Utf8 (codes "()V") ∷ Field 8 9 ∷ Class 10 ∷ NameAndType 11 12 ∷ Utf8 (codes "Below") ∷ Utf8 (codes "f")
+    ∷ Utf8 (codes "I") ∷ Class 14 ∷ Utf8 (codes "Below$C") ∷ Utf8 (codes "Code") ∷ Utf8 (codes "touch")
+    ∷ Utf8 (codes "<clinit>") ∷ Utf8 (codes "InnerClasses") ∷ Utf8 (codes "C") ∷ []
+
+abbrev pub below_c : FileTree
+below_c =
+    file_with 0x0020 below_c_pool 13 2 [] []
+    (
+    method 0x0000 5 6 15 1 1 (hex (codes "2ab70001b1")) []
+    ∷ method 0x0008 16 6 15 0 0 (hex (codes "b1")) []
+    ∷ method 0x0008 17 6 15 1 0 (hex (codes "04b30007b1")) []
+    ∷ []
+    )
+
+abbrev pub below_d_pool : List Entry
+below_d_pool =
+    Method 2 3 ∷ Class 4 ∷ NameAndType 5 6 ∷ Utf8 (codes "Below$C") ∷ Utf8 (codes "<init>") ∷ Utf8 (codes "()V")
+    ∷ Field 8 9 ∷ Class 10 ∷ NameAndType 11 12 ∷ Utf8 (codes "Below") ∷ Utf8 (codes "f") ∷ Utf8 (codes "I")
+    ∷ Field 14 15 ∷ Class 16 ∷ NameAndType 17 12 ∷ Utf8 (codes "Below$D") ∷ Utf8 (codes "d") ∷ Utf8 (codes "Code")
+    ∷ Utf8 (codes "use") ∷ Utf8 (codes "<clinit>") ∷ Utf8 (codes "InnerClasses") ∷ Utf8 (codes "C") ∷ Utf8 (codes "D")
+    ∷ []
+
+abbrev pub below_d : FileTree
+below_d =
+    file_with 0x0020 below_d_pool 14 2 [] (field 0x0008 17 12 [] ∷ [])
+    (
+    method 0x0000 5 6 18 1 1 (hex (codes "2ab70001b1")) []
+    ∷ method 0x0008 19 6 18 0 0 (hex (codes "b1")) []
+    ∷ method 0x0008 20 6 18 1 0 (hex (codes "b20007b3000db1")) []
+    ∷ []
+    )

@@ -8,4 +8,4 @@ use Rattle.data_races.proofs.race_examples.interrupts.Goals as goal
 
 pub returns : goal.returns
 unfolding low_form high_form element_at field_at field_type parameters_at method_type built_in_classes opening_heap
-returns c = record { holds = record { found = raced _ _ _ refl; found_cleared = raced _ _ _ refl; found_started = raced _ _ _ refl; written_behind = raced _ _ _ refl } }
+returns c = record { holds = record { found = raced _ _ _ refl; found_cleared = raced _ _ _ refl; found_started = raced _ _ _ refl; written_behind = raced _ _ _ refl; found_ended = raced _ _ _ refl } }

@@ -8,4 +8,4 @@ use Rattle.data_races.proofs.race_examples.locked.Goals as goal
 
 pub returns : goal.returns
 unfolding low_form high_form element_at field_at field_type parameters_at method_type built_in_classes opening_heap
-returns c = record { holds = record { one_monitor = raced _ _ _ refl; notified_in_between = raced _ _ _ refl; still_alive = raced _ _ _ refl; no_longer_alive = raced _ _ _ refl; woken_by_the_end = raced _ _ _ refl } }
+returns c = record { holds = record { one_monitor = raced _ _ _ refl; notified_in_between = raced _ _ _ refl; still_alive = raced _ _ _ refl; no_longer_alive = raced _ _ _ refl; woken_by_the_end = raced _ _ _ refl; two_monitors = raced _ _ _ refl } }
