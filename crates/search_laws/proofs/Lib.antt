@@ -22,6 +22,7 @@ pub mod Waiting
 pub mod WaitsLast
 pub mod NeedsByWords
 pub mod Circles
+pub mod Steady
 pub mod OwnSteps
 pub mod Locks
 pub mod LockOutcomes
