@@ -1,5 +1,5 @@
 -- The classes on the stack of a thread are those that it initialises (JVMS 5.5): an invariant of all runs, and what it tells of an event.
-use Rattle.std.proofs.Common.{◌≡◌, ℕ, zero, suc, ◌-◌, List, [], ◌∷◌, ◌++◌, length, Bool, true, false, ◌==◌, if◌then◌else◌, Some, inl, inr, refl, sym, ap, ◌∙◌, subst}
+use Rattle.std.proofs.Common.{◌≡◌, ℕ, zero, suc, ◌-◌, List, [], ◌∷◌, ◌++◌, length, Bool, true, false, ◌==◌, if◌then◌else◌, Option, Some, None, inl, inr, refl, sym, ap, ◌∙◌, subst}
 use Rattle.std.specs.Prelude.{slice_get, slice_set, replicate, ◌⊎◌, ◌||◌}
 use Rattle.std.specs.List.{list_any}
 use Rattle.std.proofs.lemmas.Bool.{true≢false, false≢true, eqb-true, eq-eqb}
@@ -7,21 +7,22 @@ use Rattle.std.proofs.lemmas.Option.{same_Some}
 use Rattle.model.specs.declared.event.Event.{Event}
 use Rattle.model.specs.declared.value.Value.{Value}
 use Rattle.model.specs.Classes.{Program, is_built_in}
-use Rattle.model.specs.ClassInitialisation.{status_in, status_of, with_status_in}
-use Rattle.model.specs.Names.{Name, name_eq}
+use Rattle.model.specs.ClassInitialisation.{status_in, status_of, with_status_in, IsReady, IsHeld, look_by, look_at}
+use Rattle.model.specs.Names.{Name, name_eq, Member}
 use Rattle.model.specs.Opening.{opening}
 use Rattle.model.specs.Operands.{values}
 use Rattle.model.specs.Run.{run_from}
-use Rattle.model.specs.State.{ClassStatus, NotInitialised, InProgress, Initialised, StackOf, World, State}
+use Rattle.model.specs.State.{ClassStatus, NotInitialised, InProgress, Initialised, Erroneous, StackOf, World, State}
 use Rattle.model.specs.Step.{PartOf, part, end_of, step}
-use Rattle.model.specs.Worlds.{thread_at}
+use Rattle.model.specs.Worlds.{thread_at, value_in}
 use Rattle.run_laws.proofs.laws.Classes.{names_same}
 use Rattle.run_laws.proofs.typed_runs.Threads.{get_set_at, get_set_other}
 use Rattle.search_laws.specs.KeptStates.{IsReached}
 use Rattle.search_laws.specs.Lengths.{KeepsLengths, AreLengthsKept}
+use Rattle.search_laws.specs.Writes.{Variables, Statics, WritesAtMost, KeepsVariables, AreVariablesKept}
 use Rattle.search_laws.proofs.ClassesHeld.{initialising, ClassChange, Kept, Begun, Left, IsEffect, OnEffect, event_effect, end_spares}
 use Rattle.search_laws.proofs.Events.{IsDone, done_of, state_with}
-use Rattle.search_laws.proofs.Lengths.{lengths_on}
+use Rattle.search_laws.proofs.Variables.{keeps_on, lengths_of}
 use Rattle.search_laws.proofs.Runs.{first_of}
 
 -- ---- the list of statuses
@@ -238,6 +239,10 @@ front_or_empty (x ∷ xs) k (suc t) stack e = front_or_empty xs k t stack e
 abbrev pub AreClassesHeld : State → Type 0
 AreClassesHeld state = (t : ℕ) (stack : StackOf Value) → slice_get state.stacks t ≡ Some stack → Holds state.world.classes t (initialising stack)
 
+-- an event that may write all
+abbrev pub all : Variables → Bool
+all variables = true
+
 module _ (trees : Program) (frames : ℕ) (state next : State) (event : Event) (e : step trees frames state event ≡ Some next) where
   abbrev pub u : ℕ
   u = event.thread
@@ -249,27 +254,43 @@ module _ (trees : Program) (frames : ℕ) (state next : State) (event : Event) (
   abbrev pub left : PartOf Value
   left = part (end_of u d.left.world d.left.stack) d.left.stack
 
-  before_end : IsEffect u state.world d.stack d.left
-  before_end = subst (OnEffect u state.world d.stack) d.did (event_effect trees frames event state.world d.stack (thread_at state.world u).status)
+  module _ (writes : Variables → Bool) (at_most : WritesAtMost trees writes (thread_at state.world u) d.stack) where
+    before_end : IsEffect writes u state.world d.stack d.left
+    before_end =
+        subst (OnEffect writes u state.world d.stack) d.did
+        (event_effect writes trees frames event state.world d.stack (thread_at state.world u).status at_most)
 
-  pub effect : IsEffect u state.world d.stack left
-  effect =
-      let s = end_spares u d.left.world d.left.stack in
-      record {
-        monitors = λ t object ne own. s.monitors t object ne (before_end.monitors t object ne own);
-        lengths = lengths_on state.world.heap d.left.world.heap (end_of u d.left.world d.left.stack).heap before_end.lengths s.lengths;
-        change = by before_end.change s.classes;
-      }
-    where
-      by : ClassChange u state.world d.stack d.left → (end_of u d.left.world d.left.stack).classes ≡ d.left.world.classes
-          → ClassChange u state.world d.stack (part (end_of u d.left.world d.left.stack) d.left.stack)
-      by (Kept c q) s = Kept (s ∙ c) q
-      by (Begun class new c q) s = Begun class new (s ∙ c) q
-      by (Left class status c q) s = Left class status (s ∙ c) q
+    effect_of : IsEffect writes u state.world d.stack left
+    effect_of =
+        let s = end_spares writes u d.left.world d.left.stack in
+        record {
+          monitors = λ t object ne own. s.monitors t object ne (before_end.monitors t object ne own);
+          variables = keeps_on writes state.world.heap d.left.world.heap (end_of u d.left.world d.left.stack).heap before_end.variables s.variables;
+          statics = λ field first n k. s.statics field first n ∙ before_end.statics field first n k;
+          change = by before_end.change s.classes;
+        }
+      where
+        by : ClassChange u state.world d.stack d.left → (end_of u d.left.world d.left.stack).classes ≡ d.left.world.classes
+            → ClassChange u state.world d.stack (part (end_of u d.left.world d.left.stack) d.left.stack)
+        by (Kept c q) s = Kept (s ∙ c) q
+        by (Begun class new c q) s = Begun class new (s ∙ c) q
+        by (Left class status c q) s = Left class status (s ∙ c) q
+
+    -- what the thread may not write is kept
+    pub variables_next : KeepsVariables writes state.world.heap next.world.heap
+    variables_next = subst (λ (z : State). KeepsVariables writes state.world.heap z.world.heap) d.is_next effect_of.variables
+
+    pub statics_next : (field : Member) (first : Value) → writes (Statics field) ≡ false → (status_of state.world field.class ≡ NotInitialised → ⊥)
+        → value_in first field next.world.statics ≡ value_in first field state.world.statics
+    statics_next field first n k =
+        sym (ap (λ (z : State). value_in first field z.world.statics) d.is_next) ∙ effect_of.statics field first n k
+
+  pub effect : IsEffect all u state.world d.stack left
+  effect = effect_of all (λ going variables q. refl)
 
   -- arrays keep their lengths
   pub lengths_next : KeepsLengths state.world.heap next.world.heap
-  lengths_next = subst (λ (z : State). KeepsLengths state.world.heap z.world.heap) d.is_next effect.lengths
+  lengths_next = lengths_of all state.world.heap next.world.heap (variables_next all (λ going variables q. refl))
 
   module _ (h : AreClassesHeld state) where
     own : Holds state.world.classes u (initialising d.stack)
@@ -279,6 +300,26 @@ module _ (trees : Program) (frames : ℕ) (state next : State) (event : Event) (
     pub class_stays : (c : Name) (s : ClassStatus) → Stays u s → status_of state.world c ≡ s → status_of next.world c ≡ s
     class_stays c s k is =
         subst (λ (z : State). status_of z.world c ≡ s) d.is_next (status_stays u state.world d.stack left c s k own effect.change is)
+
+    -- what another thread may use, it may use still
+    module _ (t : ℕ) (ne : t ≡ u → ⊥) where
+      ready_by : (class : Name) (s : ClassStatus) → status_of state.world class ≡ s → look_by t s ≡ IsReady
+          → look_by t (status_of next.world class) ≡ IsReady
+      ready_by class NotInitialised q k = absurd cc
+      ready_by class (InProgress by) q k = owned (by == t) refl k
+        where
+          owned : (b : Bool) → (by == t) ≡ b → (if b then IsReady else IsHeld) ≡ IsReady → look_by t (status_of next.world class) ≡ IsReady
+          owned true z x =
+              let stays : Stays u (InProgress by) = record { known = progress_new by; others = λ e. ne (sym (eqb-true by t z) ∙ in_progress_inv by u e) } in
+              ap (look_by t) (class_stays class (InProgress by) stays q) ∙ ap (λ (b : Bool). if b then IsReady else IsHeld) z
+          owned false z x = absurd cc
+      ready_by class Initialised q k =
+          ap (look_by t) (class_stays class Initialised (record { known = λ e. absurd cc; others = λ e. absurd cc }) q)
+      ready_by class Erroneous q k = absurd cc
+
+      pub ready_next : (class : Option Name) → look_at t state.world class ≡ IsReady → look_at t next.world class ≡ IsReady
+      ready_next None k = refl
+      ready_next (Some class) k = ready_by class (status_of state.world class) refl k
 
     held_left : AreClassesHeld (state_with trees frames state event left.world left.stack)
     held_left t stack there = by (t == u) refl (front_or_empty (slice_set state.stacks u left.stack) (length left.world.threads - length state.stacks) t stack there)
@@ -300,7 +341,7 @@ module _ (trees : Program) (frames : ℕ) (state next : State) (event : Event) (
     pub held_next : AreClassesHeld next
     held_next = subst AreClassesHeld d.is_next held_left
 
-opened_held : (trees : Program) → AreClassesHeld (opening values trees)
+pub opened_held : (trees : Program) → AreClassesHeld (opening values trees)
 opened_held trees zero stack there =
     subst (λ k. Holds (opening values trees).world.classes 0 (initialising k)) (same_Some [] stack there) tt
 opened_held trees (suc t) stack there = absurd cc
@@ -319,3 +360,10 @@ module _ (trees : Program) (frames : ℕ) where
 
 pub lengths_kept : AreLengthsKept
 lengths_kept files frames state next event e = lengths_next files frames state next event e
+
+pub variables_kept : AreVariablesKept
+variables_kept files frames writes state next event stack there at_most e =
+    let x = d files frames state next event e in
+    let same = same_Some stack x.stack (sym there ∙ x.there) in
+    let w = subst (WritesAtMost files writes (thread_at state.world event.thread)) same at_most in
+    (variables_next files frames state next event e writes w, statics_next files frames state next event e writes w)

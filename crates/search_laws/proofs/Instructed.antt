@@ -9,17 +9,19 @@ use Rattle.model.specs.declared.event.Event.{Event}
 use Rattle.model.specs.declared.value.Value.{Value}
 use Rattle.model.specs.Classes.{Program}
 use Rattle.model.specs.Meanings.{meaning_of}
+use Rattle.model.specs.ClassInitialisation.{IsReady, look_at}
+use Rattle.model.specs.Names.{Name}
 use Rattle.model.specs.Operands.{values}
 use Rattle.model.specs.Outcomes.{Cost}
 use Rattle.model.specs.State.{types_of, Running, StackEntryOf, Invocation, StackOf, Thread, World, State}
-use Rattle.model.specs.Step.{SteppedOf, WrongKind, Next, PartOf, part, enabled_if, unpicked, settled, ops_of, done, needing_class, bytecode_by, bytecode_in, going_event, thread_event, with_part, event_of, next_by, step}
+use Rattle.model.specs.Step.{SteppedOf, WrongKind, Next, PartOf, part, enabled_if, unpicked, settled, ops_of, done, needing, needing_class, bytecode_by, bytecode_in, going_event, thread_event, with_part, event_of, next_by, step}
 use Rattle.model.specs.WellTyped.{IsStackTyped, IsRunning, IsWellTyped}
 use Rattle.model.specs.Worlds.{thread_at, no_thread}
 use Rattle.model.specs.WrongKind.{finds_operands, finds_in}
+use Rattle.run_laws.specs.interleavings.Statements.{IsLeftAlone}
 use Rattle.run_laws.specs.laws.Steps.{Rooted}
 use Rattle.run_laws.proofs.laws.Progress.{ready_finds}
 use Rattle.run_laws.proofs.typed_runs.Settled.{lengths_same, thread_there}
-use Rattle.search_laws.specs.OwnEvents.{StandsAs}
 use Rattle.search_laws.specs.OwnedMonitors.{IsAt}
 
 -- a stack that is not empty
@@ -27,6 +29,15 @@ pub record IsLeft (own : StackOf Value) : Type 0 where
   pub entry : StackEntryOf Value
   pub rest : StackOf Value
   pub is : own ≡ entry ∷ rest
+
+ready_needs : (files : Program) (t : ℕ) (class : Option Name) (world : World) (stack : StackOf Value) (x : SteppedOf (PartOf Value))
+    → look_at t world class ≡ IsReady → needing_class values files t class world stack x ≡ x
+ready_needs files t None world stack x e = refl
+ready_needs files t (Some class) world stack x e = ap (λ look. needing values files t class look world stack x) e
+
+-- where none comes first
+pub none_ready : (t : ℕ) (world : World) (class : Option Name) → class ≡ None → look_at t world class ≡ IsReady
+none_ready t world class e = ap (look_at t world) e
 
 pub stays : (t : ℕ) (cost : Cost) (world : World) (own : StackOf Value) → IsLeft own
     → settled t (Next cost (part world own)) ≡ Next cost (part world own)
@@ -55,7 +66,7 @@ module _ (files : Program) (rooted : Rooted files) (frames : ℕ) (state : State
       (subst (λ o. finds_operands files os at.body.code.max_stack at.frame (option_and_then (meaning_of values files) o) ≡ true) at.is_site
       (subst (λ o. finds_in files os at.frame o ≡ true) at.is_body all))
 
-  module _ (later : State) (g : IsWellTyped files later) (s : StandsAs state t later) where
+  module _ (later : State) (g : IsWellTyped files later) (s : IsLeftAlone state later t) where
     abbrev pub put : SteppedOf (PartOf Value) → Option State
     put x = next_by (with_part later t (settled t x))
 
@@ -63,13 +74,13 @@ module _ (files : Program) (rooted : Rooted files) (frames : ℕ) (state : State
     event_at pick = record { thread = t; pick = pick }
 
     there_now : slice_get later.stacks t ≡ Some whole
-    there_now = s.alone.stack ∙ at.there
+    there_now = s.stack ∙ at.there
 
     runs_now : (thread_at later.world t).status ≡ Running
-    runs_now = s.alone.status ∙ at.status
+    runs_now = s.status ∙ at.status
 
     none_now : (thread_at later.world t).pending ≡ None
-    none_now = s.alone.pending ∙ at.pending
+    none_now = s.pending ∙ at.pending
 
     abbrev pub done_at : ℕ → SteppedOf (PartOf Value)
     done_at pick = done values files frames (event_at pick) later.world at.frame at.stack at.meaning
@@ -77,9 +88,9 @@ module _ (files : Program) (rooted : Rooted files) (frames : ℕ) (state : State
     abbrev pub may_at : ℕ → Bool
     may_at pick = at.meaning.may (event_at pick) later.world operands_at
 
-    -- where no class comes first
-    pub step_at : at.meaning.looks ≡ None → (pick : ℕ) → step files frames later (event_at pick) ≡ put (enabled_if (may_at pick) (done_at pick))
-    step_at looks pick =
+    -- where no class comes first, or one that the thread may use
+    pub step_at : look_at t later.world at.meaning.looks ≡ IsReady → (pick : ℕ) → step files frames later (event_at pick) ≡ put (enabled_if (may_at pick) (done_at pick))
+    step_at ready pick =
         ap (λ o. next_by (event_of values files frames later (event_at pick) o)) there_now
         ∙ (ap (λ z. put (thread_event values files frames (event_at pick) later.world whole z)) runs_now
         ∙ (ap (λ o. put (going_event values files frames (event_at pick) later.world whole o)) none_now
@@ -87,7 +98,7 @@ module _ (files : Program) (rooted : Rooted files) (frames : ℕ) (state : State
         ∙ (ap (λ o. put (bytecode_by values files frames (event_at pick) later.world at.frame at.stack at.body.code.max_stack (option_and_then (meaning_of values files) o))) at.is_site
         ∙ (ap (λ o. put (bytecode_by values files frames (event_at pick) later.world at.frame at.stack at.body.code.max_stack o)) at.means
         ∙ (ap (λ (b : Bool). put (if b then enabled_if (may_at pick) (needing_class values files t at.meaning.looks later.world whole (done_at pick)) else unpicked (event_at pick) WrongKind)) (found later g there_now runs_now none_now)
-        ∙ ap (λ o. put (enabled_if (may_at pick) (needing_class values files t o later.world whole (done_at pick)))) looks))))))
+        ∙ ap (λ x. put (enabled_if (may_at pick) x)) (ready_needs files t at.meaning.looks later.world whole (done_at pick) ready)))))))
 
     -- what the thread leaves, with as many threads as there are
     pub put_left : (cost : Cost) (world : World) (own : StackOf Value) → world.threads ≡ later.world.threads → IsLeft own
@@ -102,10 +113,10 @@ module _ (files : Program) (rooted : Rooted files) (frames : ℕ) (state : State
         ∙ ap (λ k. Some (let z : State = record { world = world; stacks = k } in z)) (append-nil ss))
 
     -- one that takes pick 0 alone has no other event
-    pub only_zero : at.meaning.looks ≡ None → ((pick : ℕ) → (pick == 0) ≡ false → may_at pick ≡ false) → (next : State) (pick : ℕ)
+    pub only_zero : look_at t later.world at.meaning.looks ≡ IsReady → ((pick : ℕ) → (pick == 0) ≡ false → may_at pick ≡ false) → (next : State) (pick : ℕ)
         → step files frames later (event_at pick) ≡ Some next → pick ≡ 0
-    only_zero looks none next pick e = by (pick == 0) refl
+    only_zero ready none next pick e = by (pick == 0) refl
       where
         by : (b : Bool) → (pick == 0) ≡ b → pick ≡ 0
         by true q = eqb-true pick 0 q
-        by false q = absurd (none-some next (sym (step_at looks pick ∙ ap (λ b. put (enabled_if b (done_at pick))) (none pick q)) ∙ e))
+        by false q = absurd (none-some next (sym (step_at ready pick ∙ ap (λ b. put (enabled_if b (done_at pick))) (none pick q)) ∙ e))

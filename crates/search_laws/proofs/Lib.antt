@@ -7,7 +7,10 @@ pub mod Events
 pub mod Ends
 pub mod Bounded
 pub mod OwnEvents
+pub mod Sole
+pub mod Program
 pub mod Lengths
+pub mod Variables
 pub mod Owners
 pub mod Spares
 pub mod ClassesHeld
@@ -19,6 +22,7 @@ pub mod Waiting
 pub mod WaitsLast
 pub mod NeedsByWords
 pub mod Circles
+pub mod Steady
 pub mod OwnSteps
 pub mod Locks
 pub mod LockOutcomes

@@ -25,6 +25,7 @@ use Rattle.model.specs.Worlds.{thread_at, with_thread, with_begun, with_pending,
 use Rattle.run_laws.proofs.laws.Operations.{OfMeaning}
 use Rattle.search_laws.proofs.LockOutcomes.{outcome_in, DoesSame, meaning_same}
 use Rattle.search_laws.proofs.Locks.{IsChange, with_change, Owned, owned_apart, entered_apart, relocked_apart, owner_same, waiters_same, count_same, answer_same, called_same, woken_all_same, allocated_same, woken_same}
+use Rattle.search_laws.proofs.ClassesKept.{all}
 use Rattle.search_laws.proofs.Spares.{itself, relock_spares, OutcomeSpares, DoesSpare, meaning_spares}
 
 module _ (t r : ℕ) (change : Monitor → Monitor) (c : IsChange t change) where
@@ -153,7 +154,7 @@ module _ (t r : ℕ) (change : Monitor → Monitor) (c : IsChange t change) wher
       -- ---- an instruction
 
       module _ (frames : ℕ) (w : World) (own : Owned t r change c w) where
-        becomes : (frame : Frame) (stack : StackOf Value) (o : OutcomeOf Value) → OutcomeSpares v w o
+        becomes : (frame : Frame) (stack : StackOf Value) (o : OutcomeOf Value) → OutcomeSpares all v w o
             → Follows (become files frames v (f w) frame stack (outcome_in t r change c o)) (become files frames v w frame stack o)
         becomes frame stack (Goes cost after slots to) s = by_same (become files frames v (f w) frame stack (Goes cost (f after) slots to)) (become files frames v w frame stack (Goes cost after slots to)) refl
         becomes frame stack (Raises fault) s = raises fault w own (Invocation frame ∷ stack)
@@ -222,7 +223,7 @@ module _ (t r : ℕ) (change : Monitor → Monitor) (c : IsChange t change) wher
             (λ h.
             let n = relocked_apart t r change c v ne w own object count h in
             let a = with_status (with_monitors w (monitors.relock object v count w.monitors)) v Running in
-            let own_a = (relock_spares v w w object count (itself v w)).monitors t r ne own in
+            let own_a = (relock_spares all v w w object count (itself all v w)).monitors t r ne own in
             subst (λ k. Follows (after_wait files v cause (with_status k v Running) stack) (after_wait files v cause a stack))
             (sym (called_same t r change c v ne w own object (monitors.monitor_relock v count) n)) (returns cause a own_a stack))
 
@@ -233,7 +234,7 @@ module _ (t r : ℕ) (change : Monitor → Monitor) (c : IsChange t change) wher
     v = event.thread
 
     bytecode_follows : (frame : Frame) (stack : StackOf Value) (max_stack : ℕ) (o : Option (MeaningOf Value))
-        → OfMeaning (DoesSame t r change c event ne w own) o → OfMeaning (DoesSpare v w event refl) o
+        → OfMeaning (DoesSame t r change c event ne w own) o → OfMeaning (DoesSpare all v w event refl) o
         → Follows (bytecode_by values files frames event (f w) frame stack max_stack o) (bytecode_by values files frames event w frame stack max_stack o)
     bytecode_follows frame stack max_stack None k s =
         enabled (event.pick == 0) (event.pick == 0) WrongKind WrongKind (λ h. h) (λ h. wrong WrongKind)
@@ -256,9 +257,9 @@ module _ (t r : ℕ) (change : Monitor → Monitor) (c : IsChange t change) wher
     same_of None = tt
     same_of (Some site) = meaning_same t r change c event ne w own files site
 
-    spares_of : (o : Option Site) → OfMeaning (DoesSpare v w event refl) (option_and_then (meaning_of values files) o)
+    spares_of : (o : Option Site) → OfMeaning (DoesSpare all v w event refl) (option_and_then (meaning_of values files) o)
     spares_of None = tt
-    spares_of (Some site) = meaning_spares v w event refl files site
+    spares_of (Some site) = meaning_spares all v w event refl files site (λ variables q. refl)
 
     body_follows : (frame : Frame) (stack : StackOf Value) (o : Option Body)
         → Follows (bytecode_in values files frames event (f w) frame stack o) (bytecode_in values files frames event w frame stack o)

@@ -17,6 +17,7 @@ use Rattle.run_laws.proofs.typed_runs.Threads.{get_set_other}
 use Rattle.search_laws.specs.Alone.{passing, next_event, AreOfOthers, IsAlone, HaveSameWords}
 use Rattle.search_laws.specs.OwnEvents.{StandsAs, IsFreeOf}
 use Rattle.search_laws.proofs.ClassesHeld.{OnEffect, IsEffect, event_effect}
+use Rattle.search_laws.proofs.ClassesKept.{all, AreClassesHeld, held_next}
 use Rattle.search_laws.proofs.ClassesKept.{effect}
 use Rattle.search_laws.proofs.Events.{does, IsDone, done_of}
 use Rattle.search_laws.proofs.LockEvents.{f, event_follows, end_same}
@@ -37,8 +38,8 @@ module _ (t r : ℕ) (change : Monitor → Monitor) (c : IsChange t change) (own
     abbrev d : IsDone trees frames s event next
     d = done_of trees frames s event next e
 
-    before_end : IsEffect u s.world d.stack d.left
-    before_end = subst (OnEffect u s.world d.stack) d.did (event_effect trees frames event s.world d.stack (thread_at s.world u).status)
+    before_end : IsEffect all u s.world d.stack d.left
+    before_end = subst (OnEffect all u s.world d.stack) d.did (event_effect all trees frames event s.world d.stack (thread_at s.world u).status (λ going variables q. refl))
 
     owned_left : Owned t r change c d.left.world
     owned_left = before_end.monitors t r ne owned
@@ -74,35 +75,35 @@ module _ (t r : ℕ) (change : Monitor → Monitor) (c : IsChange t change) (own
     pub stack : StackOf Value
     pub there : slice_get before.stacks t ≡ Some stack
     pub runs : (thread_at before.world t).status ≡ Running
-    pub goes : (later : State) → IsWellTyped trees later → StandsAs before t later → Owned t r change c later.world
+    pub goes : (later : State) → IsWellTyped trees later → StandsAs all before t later → Owned t r change c later.world
         → step trees frames later (next_event t) ≡ Some (moved later)
-    pub only : (later next : State) (pick : ℕ) → IsWellTyped trees later → StandsAs before t later → Owned t r change c later.world
+    pub only : (later next : State) (pick : ℕ) → IsWellTyped trees later → StandsAs all before t later → Owned t r change c later.world
         → step trees frames later (record { thread = t; pick = pick }) ≡ Some next → pick ≡ 0
 
   module _ (files : List (List ℕ)) (trees : Program) (accepted : IsAccepted files trees) (frames : ℕ) (before : State) (m : IsMoving trees frames before) where
     record IsBeside (s : State) (others : List Event) (later : State) : Type 0 where
       typed_later : IsWellTyped trees later
-      stands : StandsAs before t later
+      stands : StandsAs all before t later
       owned : Owned t r change c later.world
       runs : run_from trees frames (moved s) others ≡ Some (moved later)
 
-    beside : (others : List Event) (s later : State) → IsWellTyped trees s → StandsAs before t s → Owned t r change c s.world → AreOfOthers t others
+    beside : (others : List Event) (s later : State) → IsWellTyped trees s → AreClassesHeld s → StandsAs all before t s → Owned t r change c s.world → AreOfOthers t others
         → run_from trees frames s others ≡ Some later → IsBeside s others later
-    beside [] s later h st own_s are run =
+    beside [] s later h held st own_s are run =
         let same = same_Some s later run in
         record {
           typed_later = subst (IsWellTyped trees) same h;
-          stands = subst (StandsAs before t) same st;
+          stands = subst (StandsAs all before t) same st;
           owned = subst (λ (z : State). Owned t r change c z.world) same own_s;
           runs = ap (λ (z : State). Some (moved z)) same;
         }
-    beside (event ∷ others) s later h st own_s are run =
+    beside (event ∷ others) s later h held st own_s are run =
         let k = first_of trees frames s later event others run in
         let h2 = typed files trees accepted frames s k.0 event h k.1.0 in
-        let s2 = stands_on files trees accepted frames before t m.stack m.there m.runs s k.0 event h st are.0 k.1.0 in
+        let s2 = stands_on files trees accepted frames all before t m.stack m.there m.runs s k.0 event h held st are.0 k.1.0 (λ stack there going variables q. refl) in
         let there_s = st.alone.stack ∙ m.there in
         let own2 = owned_next trees frames s k.0 event are.0 m.stack there_s own_s k.1.0 in
-        let rest = beside others k.0 later h2 s2 own2 are.1 k.1.1 in
+        let rest = beside others k.0 later h2 (held_next trees frames s k.0 event k.1.0 held) s2 own2 are.1 k.1.1 in
         record {
           typed_later = rest.typed_later;
           stands = rest.stands;
@@ -110,14 +111,14 @@ module _ (t r : ℕ) (change : Monitor → Monitor) (c : IsChange t change) (own
           runs = begun trees frames (moved s) (moved k.0) (moved later) event others (moved_step trees frames s k.0 event are.0 m.stack there_s own_s k.1.0) rest.runs;
         }
 
-    pub moving_alone : (conflict : State → ℕ → ℕ → Bool) → IsWellTyped trees before → Owned t r change c before.world → IsFreeOf conflict before t
+    pub moving_alone : (conflict : State → ℕ → ℕ → Bool) → IsWellTyped trees before → AreClassesHeld before → Owned t r change c before.world → IsFreeOf trees frames conflict before t
         → IsAlone trees frames (passing conflict) (HaveSameWords trees) before t (moved before)
-    moving_alone conflict h owned free =
-        let self = left_alone_self files trees accepted frames before t in
+    moving_alone conflict h held owned free =
+        let self = left_alone_self files trees accepted frames all before t in
         record {
           goes = m.goes before h self owned;
           behind = λ others later are run.
-              let x = beside others before later h self owned are run in
+              let x = beside others before later h held self owned are run in
               let goes = m.goes later x.typed_later x.stands x.owned in
               let after = typed files trees accepted frames later (moved later) (next_event t) x.typed_later goes in
               record {
@@ -127,6 +128,6 @@ module _ (t r : ℕ) (change : Monitor → Monitor) (c : IsChange t change) (own
                 after = moved later;
                 runs = x.runs;
                 like = record { one_typed = after; other_typed = after; same = refl };
-                free = λ u k. free later u x.stands k;
+                free = λ u k. free others later are run u k;
               };
         }

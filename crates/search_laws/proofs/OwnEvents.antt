@@ -9,10 +9,11 @@ use Rattle.model.specs.declared.event.Event.{Event}
 use Rattle.model.specs.declared.value.Value.{Value}
 use Rattle.model.specs.Accepted.{IsAccepted}
 use Rattle.model.specs.Classes.{Program}
+use Rattle.model.specs.ClassInitialisation.{IsReady, IsNew, look_by, status_of}
 use Rattle.model.specs.Opening.{opening}
 use Rattle.model.specs.Operands.{values}
 use Rattle.model.specs.Run.{run, run_from, may_step}
-use Rattle.model.specs.State.{Running, StackOf, State}
+use Rattle.model.specs.State.{ClassStatus, NotInitialised, Running, StackOf, State}
 use Rattle.model.specs.Step.{SteppedOf, NotEnabled, WrongKind, Next, PartOf, end_of, settled, with_part, event_of, is_enabled_by, next_by, stepped, step}
 use Rattle.model.specs.WellTyped.{IsWellTyped}
 use Rattle.model.specs.Worlds.{thread_at}
@@ -28,12 +29,13 @@ use Rattle.search_laws.specs.KeptStates.{Graph, IsFollowed as IsKeptBehind}
 use Rattle.search_laws.specs.OwnEvents.{StandsAs, IsOwnEvent, IsFreeOf, AreOwnEventsAlone, AreLocalEventsOwn, no_conflict, graph_of, AreSearchesWhole}
 use Rattle.search_laws.specs.Preemptions.{LeavesEnabled}
 use Rattle.search_laws.specs.Verdicts.{IsWholeSearch, AreListed}
+use Rattle.search_laws.specs.Writes.{Variables, WritesAtMost, AreWritesOfOthers}
 use Rattle.search_laws.proofs.Events.{does, done_of, changed}
-use Rattle.search_laws.proofs.ClassesKept.{lengths_next}
-use Rattle.search_laws.proofs.Lengths.{lengths_same, lengths_on}
+use Rattle.search_laws.proofs.ClassesKept.{all, variables_next, statics_next, AreClassesHeld, ready_next, held_next, opened_held, reached_held}
+use Rattle.search_laws.proofs.Variables.{keeps_same, keeps_on}
 use Rattle.search_laws.proofs.Runs.{made_of, first_of, begun}
 use Rattle.search_laws.proofs.SameWords.{answer_of, typed}
-use Rattle.search_laws.proofs.Verdicts.{outcome_met}
+use Rattle.search_laws.proofs.Verdicts.{outcome_met, reached_typed}
 
 -- ---- a stack beside that of the thread that moves
 
@@ -81,49 +83,72 @@ module _ (trees : Program) (frames : ℕ) (state : State) (t : ℕ) (old own : S
 
 -- ---- own events
 
+-- a class that a thread may use is begun
+ready_begun : (t : ℕ) (s : ClassStatus) → look_by t s ≡ IsReady → s ≡ NotInitialised → ⊥
+ready_begun t s k e = let z : IsNew ≡ IsReady = sym (ap (look_by t) e) ∙ k in absurd cc
+
+-- whatever the others write is among all
+pub all_written : (trees : Program) (frames : ℕ) (state : State) (t : ℕ) → AreWritesOfOthers trees frames all state t
+all_written trees frames state t others later are r event next ne e stack there going variables q = refl
+
 module _ (files : List (List ℕ)) (trees : Program) (accepted : IsAccepted files trees) (frames : ℕ) where
-  pub left_alone_self : (state : State) (t : ℕ) → StandsAs state t state
-  left_alone_self state t =
+  pub left_alone_self : (writes : Variables → Bool) (state : State) (t : ℕ) → StandsAs writes state t state
+  left_alone_self writes state t =
       record {
         alone = record { stack = refl; status = refl; pending = refl };
+        ready = λ class q. q;
+        statics = λ field first n q. refl;
         types = record { keeps = λ r type e. e };
-        lengths = lengths_same state.world.heap;
+        variables = keeps_same writes state.world.heap;
       }
 
-  module _ (before : State) (t : ℕ) (old : StackOf Value) (there : slice_get before.stacks t ≡ Some old) (runs : (thread_at before.world t).status ≡ Running) where
-    pub stands_on : (state next : State) (event : Event) → IsWellTyped trees state → StandsAs before t state → (t ≡ event.thread → ⊥)
-        → step trees frames state event ≡ Some next → StandsAs before t next
-    stands_on state next event h s ne e =
+  module _ (writes : Variables → Bool) (before : State) (t : ℕ) (old : StackOf Value) (there : slice_get before.stacks t ≡ Some old) (runs : (thread_at before.world t).status ≡ Running) where
+    pub stands_on : (state next : State) (event : Event) → IsWellTyped trees state → AreClassesHeld state → StandsAs writes before t state → (t ≡ event.thread → ⊥)
+        → step trees frames state event ≡ Some next
+        → ((stack : StackOf Value) → slice_get state.stacks event.thread ≡ Some stack
+        → WritesAtMost trees writes (thread_at state.world event.thread) stack)
+        → StandsAs writes before t next
+    stands_on state next event h held s ne e at_most =
         let x = answer_of (stepped values trees frames state event) next e in
         let k = left_alone files trees accepted frames state h t old (s.alone.stack ∙ there) (s.alone.status ∙ runs) event ne x.0 next x.1 in
         let c = changed files trees accepted frames state h event next e in
         record {
           alone = record { stack = k.stack ∙ s.alone.stack; status = k.status ∙ s.alone.status; pending = k.pending ∙ s.alone.pending };
+          ready = λ class q. ready_next trees frames state next event e held t ne class (s.ready class q);
           types = record { keeps = λ r type q. c.extends.keeps r type (s.types.keeps r type q) };
-          lengths = lengths_on before.world.heap state.world.heap next.world.heap s.lengths (lengths_next trees frames state next event e);
+          statics = λ field first n q.
+              let x = done_of trees frames state event next e in
+              statics_next trees frames state next event e writes (at_most x.stack x.there) field first n (ready_begun t (status_of state.world field.class) (s.ready (Some field.class) q))
+              ∙ s.statics field first n q;
+          variables =
+              let x = done_of trees frames state event next e in
+              keeps_on writes before.world.heap state.world.heap next.world.heap s.variables (variables_next trees frames state next event e writes (at_most x.stack x.there));
         }
 
-  module _ (before : State) (t : ℕ) (own : StackOf Value) (o : IsOwnEvent trees frames before t own) where
+  module _ (writes : Variables → Bool) (before : State) (t : ℕ) (own : StackOf Value) (o : IsOwnEvent trees frames writes before t own) where
     -- where others led, and the same with the thread's own event before
     record IsBeside (state : State) (others : List Event) (later : State) : Type 0 where
       typed_later : IsWellTyped trees later
-      stands : StandsAs before t later
+      stands : StandsAs writes before t later
       runs : run_from trees frames (with_stack state t own) others ≡ Some (with_stack later t own)
 
-    beside : (others : List Event) (state later : State) → IsWellTyped trees state → StandsAs before t state → AreOfOthers t others
-        → run_from trees frames state others ≡ Some later → IsBeside state others later
-    beside [] state later h s are r =
+    beside : (others : List Event) (state later : State) → IsWellTyped trees state → AreClassesHeld state → StandsAs writes before t state
+        → AreWritesOfOthers trees frames writes state t → AreOfOthers t others → run_from trees frames state others ≡ Some later → IsBeside state others later
+    beside [] state later h held s w are r =
         let same = same_Some state later r in
         record {
           typed_later = subst (IsWellTyped trees) same h;
-          stands = subst (StandsAs before t) same s;
+          stands = subst (StandsAs writes before t) same s;
           runs = ap (λ (z : State). Some (with_stack z t own)) same;
         }
-    beside (event ∷ others) state later h s are r =
+    beside (event ∷ others) state later h held s w are r =
         let f = first_of trees frames state later event others r in
         let h2 = typed files trees accepted frames state f.0 event h f.1.0 in
-        let s2 = stands_on before t o.stack o.there o.runs state f.0 event h s are.0 f.1.0 in
-        let rest = beside others f.0 later h2 s2 are.1 f.1.1 in
+        let s2 = stands_on writes before t o.stack o.there o.runs state f.0 event h held s are.0 f.1.0 (w [] state tt refl event f.0 are.0 f.1.0) in
+        let w2 : AreWritesOfOthers trees frames writes f.0 t =
+        λ more last a run. w (event ∷ more) last (are.0, a) (begun trees frames state f.0 last event more f.1.0 run)
+        in
+        let rest = beside others f.0 later h2 (held_next trees frames state f.0 event f.1.0 held) s2 w2 are.1 f.1.1 in
         let goes = stack_beside trees frames state t o.stack own (s.alone.stack ∙ o.there) event f.0 are.0 f.1.0 in
         record {
           typed_later = rest.typed_later;
@@ -131,13 +156,13 @@ module _ (files : List (List ℕ)) (trees : Program) (accepted : IsAccepted file
           runs = begun trees frames (with_stack state t own) (with_stack f.0 t own) (with_stack later t own) event others goes rest.runs;
         }
 
-    module _ (conflict : State → ℕ → ℕ → Bool) (h : IsWellTyped trees before) where
-      pub own_alone : IsFreeOf conflict before t → IsAlone trees frames (passing conflict) (HaveSameWords trees) before t (with_stack before t own)
+    module _ (conflict : State → ℕ → ℕ → Bool) (h : IsWellTyped trees before) (held : AreClassesHeld before) (w : AreWritesOfOthers trees frames writes before t) where
+      pub own_alone : IsFreeOf trees frames conflict before t → IsAlone trees frames (passing conflict) (HaveSameWords trees) before t (with_stack before t own)
       own_alone free =
           record {
-            goes = o.goes before h (left_alone_self before t);
+            goes = o.goes before h (left_alone_self writes before t);
             behind = λ others later are r.
-                let x = beside others before later h (left_alone_self before t) are r in
+                let x = beside others before later h held (left_alone_self writes before t) w are r in
                 let goes = o.goes later x.typed_later x.stands in
                 let after = typed files trees accepted frames later (with_stack later t own) (next_event t) x.typed_later goes in
                 record {
@@ -147,27 +172,27 @@ module _ (files : List (List ℕ)) (trees : Program) (accepted : IsAccepted file
                   after = with_stack later t own;
                   runs = x.runs;
                   like = record { one_typed = after; other_typed = after; same = refl };
-                  free = λ u c. free later u x.stands c;
+                  free = λ u c. free others later are r u c;
                 };
           }
 
       pub own_leaves : LeavesEnabled trees frames (passing conflict) (HaveSameWords trees) before t
       own_leaves others later last are r goes u ne =
-          let x = beside others before later h (left_alone_self before t) are r in
+          let x = beside others before later h held (left_alone_self writes before t) w are r in
           let same = same_Some (with_stack later t own) last (sym (o.goes later x.typed_later x.stands) ∙ goes) in
           subst (λ z. may_step trees frames z u ≡ may_step trees frames later u) same
           (may_beside trees frames later t o.stack own (x.stands.alone.stack ∙ o.there) u ne)
 
   -- ---- local events
 
-  module _ (state : State) (h : IsWellTyped trees state) (t : ℕ) (own : StackOf Value) (e : next_local trees state t ≡ Some own) where
-    local_later : (later : State) → StandsAs state t later → next_local trees later t ≡ Some own
+  module _ (writes : Variables → Bool) (state : State) (h : IsWellTyped trees state) (t : ℕ) (own : StackOf Value) (e : next_local trees state t ≡ Some own) where
+    local_later : (later : State) → StandsAs writes state t later → next_local trees later t ≡ Some own
     local_later later s =
         let n = next_of trees state t own e in
         of_next trees later t own
         (record { stack = n.stack; status = s.alone.status ∙ n.status; pending = s.alone.pending ∙ n.pending; there = s.alone.stack ∙ n.there; does = n.does })
 
-    pub local_own : IsOwnEvent trees frames state t own
+    pub local_own : IsOwnEvent trees frames writes state t own
     local_own =
         let n = next_of trees state t own e in
         record {
@@ -178,7 +203,7 @@ module _ (files : List (List ℕ)) (trees : Program) (accepted : IsAccepted file
           only = λ later next pick g s q. by later next pick g s q (pick == 0) refl;
         }
       where
-        by : (later next : State) (pick : ℕ) → IsWellTyped trees later → StandsAs state t later
+        by : (later next : State) (pick : ℕ) → IsWellTyped trees later → StandsAs writes state t later
             → step trees frames later (record { thread = t; pick = pick }) ≡ Some next → (k : Bool) → (pick == 0) ≡ k → pick ≡ 0
         by later next pick g s q true k = eqb-true pick 0 k
         by later next pick g s q false k =
@@ -193,16 +218,16 @@ module _ (files : List (List ℕ)) (trees : Program) (accepted : IsAccepted file
     are_alone : Chain threads state last
     typed_last : IsWellTyped trees last
 
-  local_chain : (threads : List ℕ) (state last : State) → IsWellTyped trees state → AreLocal trees threads state last
+  local_chain : (threads : List ℕ) (state last : State) → IsWellTyped trees state → AreClassesHeld state → AreLocal trees threads state last
       → LocalChain threads state last
-  local_chain [] state last h l = record { are_alone = l; typed_last = subst (IsWellTyped trees) l h }
-  local_chain (t ∷ threads) state last h l =
-      let o = local_own state h t l.0 l.1 in
+  local_chain [] state last h held l = record { are_alone = l; typed_last = subst (IsWellTyped trees) l h }
+  local_chain (t ∷ threads) state last h held l =
+      let o = local_own all state h t l.0 l.1 in
       let first = with_stack state t l.0 in
-      let goes = o.goes state h (left_alone_self state t) in
-      let rest = local_chain threads first last (typed files trees accepted frames state first (next_event t) h goes) l.2 in
+      let goes = o.goes state h (left_alone_self all state t) in
+      let rest = local_chain threads first last (typed files trees accepted frames state first (next_event t) h goes) (held_next trees frames state first (next_event t) goes held) l.2 in
       record {
-        are_alone = (first, (own_alone state t l.0 o no_conflict h (λ later u s c. absurd (false≢true c)), rest.are_alone));
+        are_alone = (first, (own_alone all state t l.0 o no_conflict h held (all_written trees frames state t) (λ others later are r u c. absurd (false≢true c)), rest.are_alone));
         typed_last = rest.typed_last;
       }
 
@@ -213,9 +238,9 @@ module _ (files : List (List ℕ)) (trees : Program) (accepted : IsAccepted file
     abbrev Followed : State → ℕ → Type 0
     Followed = IsKeptBehind trees frames (passing no_conflict) (HaveSameWords trees) graph
 
-    followed : (state : State) → IsWellTyped trees state → IsFollowed trees frames schedules state → (node : ℕ) × Followed state node
-    followed state h f =
-        let c = local_chain f.threads state f.last h f.are_local in
+    followed : (state : State) → IsWellTyped trees state → AreClassesHeld state → IsFollowed trees frames schedules state → (node : ℕ) × Followed state node
+    followed state h held f =
+        let c = local_chain f.threads state f.last h held f.are_local in
         let m = f.is_met in
         let met_typed = run_typed files trees accepted frames m.schedule (opening values trees) m.met (opened files trees accepted frames) m.leads in (
           m.has.0,
@@ -236,7 +261,7 @@ module _ (files : List (List ℕ)) (trees : Program) (accepted : IsAccepted file
 
     whole : IsWholeSearch files trees frames no_conflict graph
     whole =
-        let start = followed (opening values trees) (opened files trees accepted frames) w.opened in
+        let start = followed (opening values trees) (opened files trees accepted frames) (opened_held trees) w.opened in
         record {
           search = record {
             accepted = accepted;
@@ -250,7 +275,7 @@ module _ (files : List (List ℕ)) (trees : Program) (accepted : IsAccepted file
           expanded = λ node state next event is e.
               let s = schedule_of node state is in
               let h = run_typed files trees accepted frames s.0 (opening values trees) state (opened files trees accepted frames) s.1.1 in
-              let f = followed next (typed files trees accepted frames state next event h e) (w.closed s.0 state next event (node, s.1.0) s.1.1 e) in
+              let f = followed next (typed files trees accepted frames state next event h e) (held_next trees frames state next event e (reached_held trees frames state (s.0, s.1.1))) (w.closed s.0 state next event (node, s.1.0) s.1.1 e) in
               (f.0, (refl, f.1));
         }
 
@@ -264,11 +289,13 @@ module _ (files : List (List ℕ)) (trees : Program) (accepted : IsAccepted file
         }
 
 pub own_events_alone : AreOwnEventsAlone
-own_events_alone files trees accepted frames conflict state h t own o free =
-    (own_alone files trees accepted frames state t own o conflict h free, own_leaves files trees accepted frames state t own o conflict h)
+own_events_alone files trees accepted frames conflict state reached t own writes w o free = (
+  own_alone files trees accepted frames writes state t own o conflict (reached_typed files trees accepted frames state reached) (reached_held trees frames state reached) w free,
+  own_leaves files trees accepted frames writes state t own o conflict (reached_typed files trees accepted frames state reached) (reached_held trees frames state reached) w,
+)
 
 pub local_events_own : AreLocalEventsOwn
-local_events_own files trees accepted frames state h t own e = local_own files trees accepted frames state h t own e
+local_events_own files trees accepted frames state h t own writes e = local_own files trees accepted frames writes state h t own e
 
 pub searches_whole : AreSearchesWhole
 searches_whole files trees accepted frames schedules outcomes w =

@@ -25,15 +25,17 @@ use Rattle.model.specs.Sites.{MeaningOf, Site, referent, operand, pushing_at}
 use Rattle.model.specs.State.{Monitor, Waiter, StackEntryOf, Invocation, Initialisation, StackOf, State}
 use Rattle.model.specs.Step.{SteppedOf, Next, PartOf, part, on_to, enabled_if, raised, returned as returned_to, leaving, become, ops_of, step}
 use Rattle.model.specs.Outcomes.{IllegalMonitorState}
-use Rattle.model.specs.WellTyped.{IsWellTyped}
 use Rattle.model.specs.Worlds.{is_owner, is_done, with_entry, with_exit, entry_cost}
 use Rattle.run_laws.specs.laws.Steps.{Rooted}
 use Rattle.run_laws.proofs.laws.LinkedOf.{linked_of}
 use Rattle.search_laws.specs.Alone.{passing, next_event, IsAlone, HaveSameWords}
 use Rattle.search_laws.specs.OwnEvents.{IsFreeOf}
+use Rattle.search_laws.specs.KeptStates.{IsReached}
 use Rattle.search_laws.specs.OwnedMonitors.{IsAt, IsToUse, Exits, Enters, Returns, AreOwnedMonitorsAlone}
-use Rattle.search_laws.proofs.Instructed.{IsLeft, operands_at, put, done_at, step_at, put_left, only_zero}
+use Rattle.search_laws.proofs.Instructed.{none_ready, IsLeft, operands_at, put, done_at, step_at, put_left, only_zero}
 use Rattle.search_laws.proofs.Locks.{IsChange}
+use Rattle.search_laws.proofs.ClassesKept.{reached_held}
+use Rattle.search_laws.proofs.Verdicts.{reached_typed}
 use Rattle.search_laws.proofs.LockSteps.{moved, IsMoving, moving_alone}
 use Rattle.search_laws.proofs.Owners.{owner_is, differs, not_owner}
 use Rattle.search_laws.proofs.Waiting.{enter_means}
@@ -173,12 +175,12 @@ module _ (files : Program) (rooted : Rooted files) (frames : ℕ) (state : State
             there = at.there;
             runs = at.status;
             goes = λ later g s owned.
-                step_at files rooted frames state t at later g s (ap (λ (m : MeaningOf Value). m.looks) is) 0
-                ∙ (ap (λ b. put files rooted frames state t at later g s (enabled_if b (done_at files rooted frames state t at later g s 0))) (may_zero later 0)
-                ∙ (ap (put files rooted frames state t at later g s) (does later owned)
-                ∙ put_left files rooted frames state t at later g s Free (with_exit later.world t r) own refl own_left));
+                step_at files rooted frames state t at later g s.alone (none_ready t later.world at.meaning.looks (ap (λ (m : MeaningOf Value). m.looks) is)) 0
+                ∙ (ap (λ b. put files rooted frames state t at later g s.alone (enabled_if b (done_at files rooted frames state t at later g s.alone 0))) (may_zero later 0)
+                ∙ (ap (put files rooted frames state t at later g s.alone) (does later owned)
+                ∙ put_left files rooted frames state t at later g s.alone Free (with_exit later.world t r) own refl own_left));
             only = λ later next pick g s owned e.
-                only_zero files rooted frames state t at later g s (ap (λ (m : MeaningOf Value). m.looks) is) (λ p q. may_zero later p ∙ q) next pick e;
+                only_zero files rooted frames state t at later g s.alone (none_ready t later.world at.meaning.looks (ap (λ (m : MeaningOf Value). m.looks) is)) (λ p q. may_zero later p ∙ q) next pick e;
           }
         where
           may_zero : (later : State) (pick : ℕ) → at.meaning.may (record { thread = t; pick = pick }) later.world (ops_of values at.meaning at.frame.place.slots) ≡ (pick == 0)
@@ -202,12 +204,12 @@ module _ (files : Program) (rooted : Rooted files) (frames : ℕ) (state : State
             there = at.there;
             runs = at.status;
             goes = λ later g s owned.
-                step_at files rooted frames state t at later g s (ap (λ (m : MeaningOf Value). m.looks) is) 0
-                ∙ (ap (λ b. put files rooted frames state t at later g s (enabled_if b (done_at files rooted frames state t at later g s 0))) (may_zero later owned)
-                ∙ (ap (put files rooted frames state t at later g s) (does later)
-                ∙ put_left files rooted frames state t at later g s (entry_cost later.world r) (with_entry later.world t r) own refl own_left));
+                step_at files rooted frames state t at later g s.alone (none_ready t later.world at.meaning.looks (ap (λ (m : MeaningOf Value). m.looks) is)) 0
+                ∙ (ap (λ b. put files rooted frames state t at later g s.alone (enabled_if b (done_at files rooted frames state t at later g s.alone 0))) (may_zero later owned)
+                ∙ (ap (put files rooted frames state t at later g s.alone) (does later)
+                ∙ put_left files rooted frames state t at later g s.alone (entry_cost later.world r) (with_entry later.world t r) own refl own_left));
             only = λ later next pick g s owned e.
-                only_zero files rooted frames state t at later g s (ap (λ (m : MeaningOf Value). m.looks) is) (λ p q. may_picked later p ∙ ap (λ b. b && may_enter_object later.world t (referent values (ops_of values at.meaning at.frame.place.slots) 0)) q) next pick e;
+                only_zero files rooted frames state t at later g s.alone (none_ready t later.world at.meaning.looks (ap (λ (m : MeaningOf Value). m.looks) is)) (λ p q. may_picked later p ∙ ap (λ b. b && may_enter_object later.world t (referent values (ops_of values at.meaning at.frame.place.slots) 0)) q) next pick e;
           }
         where
           may_picked : (later : State) (pick : ℕ)
@@ -248,12 +250,12 @@ module _ (files : Program) (rooted : Rooted files) (frames : ℕ) (state : State
             there = at.there;
             runs = at.status;
             goes = λ later g s owned.
-                step_at files rooted frames state t at later g s (looks kind is) 0
-                ∙ (ap (λ b. put files rooted frames state t at later g s (enabled_if b (done_at files rooted frames state t at later g s 0))) (may_zero kind is later 0)
-                ∙ (ap (put files rooted frames state t at later g s) (does kind is later owned)
-                ∙ put_left files rooted frames state t at later g s Free (with_exit later.world t r) behind refl behind_left));
+                step_at files rooted frames state t at later g s.alone (none_ready t later.world at.meaning.looks (looks kind is)) 0
+                ∙ (ap (λ b. put files rooted frames state t at later g s.alone (enabled_if b (done_at files rooted frames state t at later g s.alone 0))) (may_zero kind is later 0)
+                ∙ (ap (put files rooted frames state t at later g s.alone) (does kind is later owned)
+                ∙ put_left files rooted frames state t at later g s.alone Free (with_exit later.world t r) behind refl behind_left));
             only = λ later next pick g s owned e.
-                only_zero files rooted frames state t at later g s (looks kind is) (λ p q. may_zero kind is later p ∙ q) next pick e;
+                only_zero files rooted frames state t at later g s.alone (none_ready t later.world at.meaning.looks (looks kind is)) (λ p q. may_zero kind is later p ∙ q) next pick e;
           }
         where
           looks : (k : Returned) → at.meaning ≡ return_of values files at.site.method.descriptor k → at.meaning.looks ≡ None
@@ -286,7 +288,7 @@ module _ (files : Program) (rooted : Rooted files) (frames : ℕ) (state : State
               ∙ ap (λ b. if b then on_to (with_exit later.world t r) gone else x) owned)
 
 module _ (files : List (List ℕ)) (trees : Program) (accepted : IsAccepted files trees) (frames : ℕ) (conflict : State → ℕ → ℕ → Bool)
-    (state next : State) (h : IsWellTyped trees state) (t r : ℕ) (owned : is_owner state.world t r ≡ true) (free : IsFreeOf conflict state t)
+    (state next : State) (reached : IsReached trees frames state) (t r : ℕ) (owned : is_owner state.world t r ≡ true) (free : IsFreeOf trees frames conflict state t)
     (e : step trees frames state (next_event t) ≡ Some next) where
   rooted : Rooted trees
   rooted = (linked_of files trees accepted.linkable.spelled accepted.linkable.no_refusal).rooted
@@ -296,7 +298,7 @@ module _ (files : List (List ℕ)) (trees : Program) (accepted : IsAccepted file
 
   by_moving : (change : Monitor → Monitor) (c : IsChange t change) (own : StackOf Value) → IsMoving t r change c own trees frames state → Alone next
   by_moving change c own m =
-      let a = moving_alone t r change c own files trees accepted frames state m conflict h owned free in
+      let a = moving_alone t r change c own files trees accepted frames state m conflict (reached_typed files trees accepted frames state reached) (reached_held trees frames state reached) owned free in
       subst Alone (same_Some (moved t r change c own state) next (sym a.goes ∙ e)) a
 
   by_use : IsToUse trees state t r → Alone next

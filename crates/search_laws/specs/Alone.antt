@@ -96,3 +96,16 @@ DoesAloneStay =
     → IsAlone trees frames (passing conflict) (HaveSameWords trees) state t first → (t ≡ event.thread → ⊥)
     → step trees frames state event ≡ Some next
     → (after : State) × IsAlone trees frames (passing conflict) (HaveSameWords trees) next t after
+
+-- no other thread has an event
+abbrev pub IsSole : Program → ℕ → State → ℕ → Type 0
+IsSole files frames state t = (event : Event) (next : State) → (t ≡ event.thread → ⊥) → step files frames state event ≡ Some next → ⊥
+
+-- Where a thread alone has an event, and has a single one, which is in no conflict, that one is alone, whatever it does.
+abbrev pub AreSoleEventsAlone : Type 0
+AreSoleEventsAlone =
+    (files : List (List ℕ)) (trees : Program) → IsAccepted files trees → (frames : ℕ) (conflict : State → ℕ → ℕ → Bool) (state first : State)
+    → IsWellTyped trees state → (t : ℕ) → IsSole trees frames state t → step trees frames state (next_event t) ≡ Some first
+    → ((pick : ℕ) (next : State) → step trees frames state (record { thread = t; pick = pick }) ≡ Some next → pick ≡ 0)
+    → ((u : ℕ) → IsTrue (conflict state t u) → ⊥)
+    → IsAlone trees frames (passing conflict) (HaveSameWords trees) state t first

@@ -8,3 +8,4 @@ pub mod OwnEvents
 pub mod Waits
 pub mod OwnSteps
 pub mod OwnedMonitors
+pub mod Writes

@@ -10,9 +10,9 @@ use Rattle.model.specs.Operands.{values}
 use Rattle.model.specs.Sites.{MeaningOf, Site, site_at, referent}
 use Rattle.model.specs.State.{Running, Frame, StackEntryOf, Invocation, StackOf, State}
 use Rattle.model.specs.Step.{ops_of, step}
-use Rattle.model.specs.WellTyped.{IsWellTyped}
 use Rattle.model.specs.Worlds.{thread_at, is_owner}
 use Rattle.search_laws.specs.Alone.{passing, next_event, IsAlone, HaveSameWords}
+use Rattle.search_laws.specs.KeptStates.{IsReached}
 use Rattle.search_laws.specs.OwnEvents.{IsFreeOf}
 
 -- the thread runs, and is to do this instruction
@@ -42,6 +42,6 @@ pub data IsToUse (files : Program) (state : State) (t r : ℕ) : Type 0 where
 abbrev pub AreOwnedMonitorsAlone : Type 0
 AreOwnedMonitorsAlone =
     (files : List (List ℕ)) (trees : Program) → IsAccepted files trees → (frames : ℕ) (conflict : State → ℕ → ℕ → Bool) (state next : State)
-    → IsWellTyped trees state → (t r : ℕ) → IsTrue (is_owner state.world t r) → IsToUse trees state t r → IsFreeOf conflict state t
+    → IsReached trees frames state → (t r : ℕ) → IsTrue (is_owner state.world t r) → IsToUse trees state t r → IsFreeOf trees frames conflict state t
     → step trees frames state (next_event t) ≡ Some next
     → IsAlone trees frames (passing conflict) (HaveSameWords trees) state t next
