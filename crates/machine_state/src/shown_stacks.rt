@@ -1,7 +1,7 @@
 //! What the stack of a thread over numbers is of the model's stack over words. Each function here is a theorem, and
 //! does nothing.
 
-ghost use Rattle.machine_state.specs.shown_stacks.Shown.{AreCounted, IsBeginShown, IsCallShown, IsCallOverShown, IsCallInTwoSteps, IsMoveShown, IsReturnShown, IsCatchShown, IsInitialisationShown, IsPhaseShown};
+ghost use Rattle.machine_state.specs.shown_stacks.Shown.{AreCounted, IsBeginShown, IsCallShown, IsMoveShown, IsReturnShown, IsCatchShown, IsInitialisationShown, IsPhaseShown};
 
 /// As many frames are counted.
 pub fn frames_are_counted()
@@ -16,16 +16,6 @@ pub fn begins_are_shown()
 /// A call makes of a stack what the model does.
 pub fn calls_are_shown()
     ensures holds { IsCallShown }
-{}
-
-/// A frame put over its caller is the model's, and the caller is as it was.
-pub fn calls_over_are_shown()
-    ensures holds { IsCallOverShown }
-{}
-
-/// A call is done in two steps, and the first is undone by taking the frame away.
-pub fn calls_in_two_steps()
-    ensures holds { IsCallInTwoSteps }
 {}
 
 /// A frame that goes on at a place is the model's.

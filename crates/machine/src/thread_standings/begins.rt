@@ -1,31 +1,21 @@
 //! Threads with an empty stack (JVMS 5.2; JLS 17).
 
-ghost use Rattle.std.specs.Prelude.{◌≡◌, ◌+◌};
 ghost use Rattle.machine.specs.thread_standings.Parts.{IsInitialIf, SaysCallsMain, SaysMainMayBegin, SaysMainHeld, SaysMayBegin, StandsEmpty, StandsBeginning};
 ghost use Rattle.machine_threads.specs.thread_begins.Initial.{IsInitialClass};
 
-use crate::thread_standings::callees::callee_at;
 use crate::thread_standings::classes::is_held;
 use crate::thread_standings::monitors::may_call;
 use crate::thread_standings::runs::run_may_begin;
 use linked_code::LinkedProgram;
+use machine_instructions::called_methods::class_object_of;
 use machine_state::Shared;
 use machine_state::class_initialisation::{ClassLook, look};
 use machine_state::method_selection::{method_at, methods_are_read};
+use machine_threads::thread_begins::callee_at;
 use machine_threads::waiting_instructions::Standing;
-
-/// The object of the first class among the objects of the opening heap: those of all classes follow in their order.
-const FIRST_CLASS_OBJECT: u32 = 3;
 
 /// The thread that runs `main`.
 const MAIN_THREAD: u16 = 0;
-
-/// The Class object of a class, by the class's number.
-fn class_object(class: u16) -> u32
-    ensures { result ≡ 3 + class }
-{
-    FIRST_CLASS_OBJECT + class as u32
-}
 
 /// The number of the initial class, which declares `main` (JVMS 5.2).
 fn initial_class(program: &LinkedProgram) -> Option<u16>
@@ -44,7 +34,7 @@ fn may_call_main(shared: &Shared, program: &LinkedProgram, class: u16, frames: u
     requires { IsInitialClass program.now class }
     ensures { SaysCallsMain program.now shared.now frames result }
 {
-    match callee_at(program, program.main, class_object(class)) {
+    match callee_at(program, program.main, class_object_of(class)) {
         Some(callee) => may_call(&shared.heap, MAIN_THREAD, callee.entered, frames),
         None => true,
     }

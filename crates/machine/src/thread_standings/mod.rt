@@ -2,7 +2,6 @@
 //! 5.5; JLS 17).
 
 mod begins;
-mod callees;
 mod classes;
 mod monitors;
 mod running;

@@ -8,23 +8,23 @@ ghost use Rattle.machine_instructions.specs.called_methods.Selected.{IsClassObje
 use crate::called_methods::frames::{raised, receiver};
 use crate::called_methods::running::{Call, run_method};
 use linked_code::LinkedProgram;
-use linked_code::thread_stacks::ThreadStack;
 use machine_state::method_selection::{method_at, methods_are_read};
 use machine_state::{Effect, EventRefusal, MachineException, Shared};
+use thread_stacks::ThreadStack;
 
 /// The reference to the first of the Class objects, which stand in the order of the classes behind the PrintStream of
 /// System.out, the arguments and the Thread of `main`.
 const FIRST_CLASS_OBJECT: u32 = 3;
 
 /// The Class object of a class.
-fn class_object_of(class: u16) -> u32
+pub fn class_object_of(class: u16) -> u32
     ensures { result ≡ 3 + class }
 {
     FIRST_CLASS_OBJECT + u32::from(class)
 }
 
 /// The Class object of the class that declares a method.
-fn class_object(program: &LinkedProgram, method: u32) -> u32
+pub fn class_object(program: &LinkedProgram, method: u32) -> u32
     ensures { IsClassObject program.now method result }
 {
     methods_are_read();

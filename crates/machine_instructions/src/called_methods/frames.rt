@@ -3,12 +3,12 @@
 ghost use Rattle.std.specs.Prelude.{◌≡◌};
 ghost use Rattle.machine_instructions.specs.called_methods.Frames.{object_under, IsPlaceBehind, raised_by};
 
-use linked_code::thread_stacks::ThreadStack;
 use machine_state::{Effect, MachineException};
+use thread_stacks::ThreadStack;
 
 /// The object of the reference under so many parameters, if it is not null.
 #[inline]
-pub(crate) fn receiver(stack: &ThreadStack, parameters: u8) -> Option<u32>
+pub fn receiver(stack: &ThreadStack, parameters: u8) -> Option<u32>
     ensures { result ≡ object_under parameters stack.now }
 {
     match stack.frame() {

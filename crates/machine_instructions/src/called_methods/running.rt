@@ -5,11 +5,11 @@ ghost use Rattle.machine_instructions.specs.called_methods.Invoked.{CanInvoke, I
 
 use crate::called_methods::frames::{place_behind, raised};
 use crate::thread_methods::run_built_in;
-use linked_code::thread_stacks::{Callee, ThreadStack};
 use linked_code::{LinkedProgram, MethodBody};
 use machine_state::invocations::call as call_method;
 use machine_state::method_selection::{method_at, methods_are_run};
 use machine_state::{Effect, EventRefusal, MachineException, Shared};
+use thread_stacks::{Callee, ThreadStack};
 
 /// A call: the method that it runs, by its number, the object whose monitor that enters where it is synchronized, and
 /// how many words it takes.
@@ -22,7 +22,7 @@ pub(crate) struct Call {
 
 /// The object whose monitor an invocation enters, where its method is synchronized (JVMS 2.11.10).
 #[inline]
-fn entered(is_synchronized: bool, object: u32) -> Option<u32>
+pub fn entered(is_synchronized: bool, object: u32) -> Option<u32>
     ensures { result ≡ (if is_synchronized then Some object else None) }
 {
     if is_synchronized { Some(object) } else { None }

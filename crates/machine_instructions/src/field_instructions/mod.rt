@@ -7,7 +7,6 @@
 
 mod arrays;
 mod fields;
-mod leaving;
 mod narrowing;
 mod statics;
 

@@ -3,5 +3,5 @@
 mod event;
 mod kinds;
 
-pub use event::local_instruction;
+pub use event::{code_at, local_instruction};
 pub use kinds::is_local;

@@ -4,7 +4,6 @@
 mod allocation;
 mod arrays;
 mod casts;
-mod leaving;
 mod objects;
 mod stores;
 

@@ -1,7 +1,6 @@
 //! Where the frame on top of a thread stands in linked code, and what an instruction may take for granted there.
 //! The lemmas in `proofs/` are there for a crate above to cite.
 
-mod replacing;
 mod standing;
 
 ghost use Rattle.machine_state.specs.linked_frames.Frames.{AreFramesStanding, AreTopsShown, AreOperandsThere};
@@ -9,7 +8,6 @@ ghost use Rattle.machine_state.specs.linked_frames.Moves.{AreMovesShown, AreFree
 
 use crate::method_selection::methods_are_read;
 use linked_code::{places_are_filled, places_are_next};
-pub use replacing::replace_operands;
 pub use standing::instruction_at;
 
 /// The frame on top of a thread that runs, with no exception pending, stands at an instruction of the linked code of

@@ -1,6 +1,5 @@
 //! The method `main` of the initial class (JVMS 5.2).
 
-ghost use Rattle.std.specs.Prelude.{◌≡◌, ◌+◌};
 ghost use Rattle.machine_state.specs.invocations.Entering.{IsThere};
 ghost use Rattle.machine_threads.specs.thread_begins.Runs.{CanBegin};
 ghost use Rattle.machine_threads.specs.thread_begins.Initial.{IsOfProgram, IsInitialClass, CallsFirst, CallsMain, BeginsMain};
@@ -8,27 +7,18 @@ ghost use Rattle.machine_threads.specs.thread_begins.Initial.{IsOfProgram, IsIni
 use crate::thread_begins::callees::callee_at;
 use crate::thread_begins::first_frames::push_first;
 use linked_code::LinkedProgram;
-use linked_code::thread_stacks::{Callee, ThreadStack};
+use machine_instructions::called_methods::class_object_of;
 use machine_state::class_initialisation::need_class;
 use machine_state::method_selection::{method_at, methods_are_read};
 use machine_state::raised_exceptions::apply;
 use machine_state::{Answer, EventRefusal, Shared};
+use thread_stacks::{Callee, ThreadStack};
 
 /// The word of the reference to the empty array that `main` gets, one of the objects of the opening heap.
 const ARGUMENTS: u32 = 2;
 
-/// The object of the first class among the objects of the opening heap: those of all classes follow in their order.
-const FIRST_CLASS_OBJECT: u32 = 3;
-
 /// The thread that runs `main`.
 const MAIN_THREAD: u16 = 0;
-
-/// The Class object of a class, by the class's number.
-fn class_object(class: u16) -> u32
-    ensures { result ≡ 3 + class }
-{
-    FIRST_CLASS_OBJECT + class as u32
-}
 
 /// The number of the initial class, which declares `main` (JVMS 5.2).
 fn initial_class(program: &LinkedProgram) -> u16
@@ -71,7 +61,7 @@ fn call_main(
     requires initial { IsInitialClass program.now class }
     ensures { CallsMain program.now result frames shared.old shared.new stack.old stack.new }
 {
-    match callee_at(program, program.main, class_object(class)) {
+    match callee_at(program, program.main, class_object_of(class)) {
         Some(callee) => call_first(shared, stack, callee, frames),
         None => unreachable!(),
     }

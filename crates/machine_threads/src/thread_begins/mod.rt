@@ -7,7 +7,8 @@ mod initial;
 mod runs;
 mod threads;
 
+pub use callees::callee_at;
 pub use first_frames::push_first;
 pub use initial::begin_main;
-pub use runs::begin_run;
+pub use runs::{begin_run, run_of};
 pub use threads::begin_thread;

@@ -1,39 +1,15 @@
 //! For what `invokestatic` and `invokespecial` wait, whose method no receiver's class chooses.
 
-ghost use Rattle.std.specs.Prelude.{◌≡◌, ◌+◌, ℕ};
+ghost use Rattle.std.specs.Prelude.{ℕ};
 ghost use Rattle.linked_code.specs.declared.instruction.LinkedInstruction.TheVariants as linked;
-ghost use Rattle.machine_instructions.specs.called_methods.Selected.{IsClassObject};
 ghost use Rattle.machine_threads.specs.waiting_instructions.Held.{StandsInInstruction};
 
-use crate::waiting_instructions::frames::receiver;
 use crate::waiting_instructions::kinds::Standing;
 use crate::waiting_instructions::methods::call_standing;
 use linked_code::LinkedProgram;
-use linked_code::thread_stacks::ThreadStack;
+use machine_instructions::called_methods::{class_object, receiver};
 use machine_state::Shared;
-use machine_state::method_selection::{method_at, methods_are_read};
-
-/// The reference to the first of the Class objects, which stand in the order of the classes behind the PrintStream of
-/// System.out, the arguments and the Thread of `main`.
-const FIRST_CLASS_OBJECT: u32 = 3;
-
-/// The Class object of a class.
-fn class_object_of(class: u16) -> u32
-    ensures { result ≡ 3 + class }
-{
-    FIRST_CLASS_OBJECT + u32::from(class)
-}
-
-/// The Class object of the class that declares a method.
-fn class_object(program: &LinkedProgram, method: u32) -> u32
-    ensures { IsClassObject program.now method result }
-{
-    methods_are_read();
-    match method_at(program, method) {
-        Some(row) => class_object_of(row.class),
-        None => 0,
-    }
-}
+use thread_stacks::ThreadStack;
 
 /// At `invokestatic`, its class being ready.
 pub(crate) fn static_standing(

@@ -1,20 +1,9 @@
 //! What an instruction that may wait reads of its frame.
 
 ghost use Rattle.std.specs.Prelude.{◌≡◌, ◌-◌};
-ghost use Rattle.machine_instructions.specs.called_methods.Frames.{object_under};
 ghost use Rattle.machine_instructions.specs.thread_methods.Moves.{operand_of};
 
-use linked_code::thread_stacks::ThreadStack;
-
-/// The object of the reference under so many operands, if it is not null.
-pub(crate) fn receiver(stack: &ThreadStack, parameters: u8) -> Option<u32>
-    ensures { result ≡ object_under parameters stack.now }
-{
-    match stack.frame() {
-        Some(frame) => frame.operand(usize::from(parameters)).checked_sub(1),
-        None => None,
-    }
-}
+use thread_stacks::ThreadStack;
 
 /// The operand on top, 0 where there is none.
 fn operand_on_top(stack: &ThreadStack) -> u32

@@ -1,6 +1,5 @@
 //! For what a call waits, once it is known which method it runs.
 
-ghost use Rattle.std.specs.Prelude.{◌≡◌, Some, None, if◌then◌else◌};
 ghost use Rattle.machine_state.specs.invocations.Entering.{IsThere, SaysMayBegin};
 ghost use Rattle.machine_threads.specs.waiting_instructions.Held.{StandsInJoin, StandsInBuiltIn, StandsInCode, StandsInCall};
 
@@ -9,10 +8,11 @@ use crate::waiting_instructions::kinds::Standing;
 use crate::waiting_instructions::monitors::may_enter_there;
 use heap::Heap;
 use heap::monitor_events::is_alive;
-use linked_code::thread_stacks::ThreadStack;
 use linked_code::{BuiltInMethod, LinkedProgram, MethodBody};
+use machine_instructions::called_methods::entered;
 use machine_state::Shared;
 use machine_state::method_selection::{method_at, methods_are_run};
+use thread_stacks::ThreadStack;
 
 /// `Thread.join` waits while the target is alive, unless the thread itself is interrupted (JLS 17.2.3).
 fn join_standing(shared: &Shared, stack: &ThreadStack, thread: u16) -> Standing
@@ -40,13 +40,6 @@ fn built_in_standing(
         BuiltInMethod::ThreadJoin => join_standing(shared, stack, thread),
         _ => Standing::Runnable,
     }
-}
-
-/// The object whose monitor an invocation enters, where its method is synchronized (JVMS 2.11.10).
-fn entered(is_synchronized: bool, object: u32) -> Option<u32>
-    ensures { result ≡ (if is_synchronized then Some object else None) }
-{
-    if is_synchronized { Some(object) } else { None }
 }
 
 /// Whether no other thread owns the monitor that an invocation enters, if it enters one of an object that is there.
