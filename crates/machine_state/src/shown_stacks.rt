@@ -19,7 +19,7 @@
 //! - Not shown: that linked methods begin at place 0 with the model's count of local variables, which the laws on calls
 //!   ask of a callee; that the place after an instruction is that of the next offset.
 
-ghost use Rattle.machine_state.specs.shown_stacks.Shown.{AreCounted, IsBeginShown, IsCallShown, IsCallOverShown, IsCallInTwoSteps, IsMoveShown, IsReturnShown, IsCatchShown, IsInitialisationShown, IsPhaseShown};
+ghost use Rattle.machine_state.specs.shown_stacks.Shown.{AreCounted, IsBeginShown, IsCallShown, IsMoveShown, IsReturnShown, IsCatchShown, IsInitialisationShown, IsPhaseShown};
 
 /// A stack that shows one of the model has as many frames.
 pub fn frames_are_counted()
@@ -34,16 +34,6 @@ pub fn begins_are_shown()
 /// A call makes of a stack what the model does.
 pub fn calls_are_shown()
     ensures holds { IsCallShown }
-{}
-
-/// A frame put over its caller is the model's, and the caller is as it was.
-pub fn calls_over_are_shown()
-    ensures holds { IsCallOverShown }
-{}
-
-/// A call is done in two steps, and the first is undone by taking the frame away.
-pub fn calls_in_two_steps()
-    ensures holds { IsCallInTwoSteps }
 {}
 
 /// A frame that goes on at a place is the model's.

@@ -33,7 +33,7 @@ use Rattle.model.specs.declared.primitive.Primitive.{Primitive}
 use Rattle.model.specs.declared.primitive.Primitive.TheVariants as primitive
 use Rattle.linked_code.specs.Objects.{IsNew}
 use Rattle.machine_state.specs.shown_objects.Shown.{names_of, words_in, ShowsObject}
-use Rattle.linked_code.specs.thread_stacks.Stacks.{ShownFrame, ShownEntry, with_top}
+use Rattle.thread_stacks.specs.Stacks.{ShownFrame, ShownEntry, with_top}
 use Rattle.machine_state.specs.declared.answers.Effect.{Effect}
 use Rattle.machine_state.specs.declared.answers.Effect.TheVariants as effect
 use Rattle.machine_state.specs.declared.answers.MachineException.TheVariants as exception
@@ -45,7 +45,8 @@ use Rattle.machine_state.specs.Events.{MayBeRefused}
 use Rattle.machine_state.specs.allocations.Allocated.{IsMade}
 use Rattle.machine_state.proofs.allocations.Allocating.{made, refused}
 use Rattle.machine_state.specs.linked_frames.Frames.{IsRunning}
-use Rattle.machine_instructions.specs.type_instructions.Leaving.{gone_on, IsUnmade, LeavesNew}
+use Rattle.machine_instructions.specs.Leaving.{gone_on}
+use Rattle.machine_instructions.specs.type_instructions.Leaving.{IsUnmade, LeavesNew}
 use Rattle.machine_instructions.specs.type_instructions.Arrays.{kind_of_array, AreArrays}
 use Rattle.machine_instructions.proofs.type_instructions.Events.{IsEvent, DoesSo, own_after, slots_after, place_small, operand_is, operands_there, unchanged, event_by, goes_on, shows_after, stays}
 

@@ -10,7 +10,6 @@
 //!   world after it is shown (`free_events_are_done`). `instruction_at` answers the instruction. `replace_operands`
 //!   takes memory only where there are more operands then.
 
-mod replacing;
 mod standing;
 
 ghost use Rattle.machine_state.specs.linked_frames.Frames.{AreFramesStanding, AreTopsShown, AreOperandsThere};
@@ -18,7 +17,6 @@ ghost use Rattle.machine_state.specs.linked_frames.Moves.{AreMovesShown, AreFree
 
 use crate::method_selection::methods_are_read;
 use linked_code::{places_are_filled, places_are_next};
-pub use replacing::replace_operands;
 pub use standing::instruction_at;
 
 /// The frame on top of a thread that runs, with no exception pending, stands at an instruction of the linked code of

@@ -1,6 +1,6 @@
 use Rattle.std.proofs.Common.{Some, drop, subst}
 use Rattle.std.proofs.lemmas.Option.{same_Some}
-use Rattle.linked_code.specs.thread_stacks.Stacks.{ShownFrame, shown_frame}
+use Rattle.thread_stacks.specs.Stacks.{ShownFrame, shown_frame}
 use Rattle.machine_instructions.specs.returns.Places.{GoesOnAt}
 use Rattle.machine_instructions.proofs.returns.Going.{next_top}
 use Rattle.machine_instructions.proofs.returns.places.next_place_under.Goals as goal

@@ -1,0 +1,15 @@
+-- The frame on top at its handler.
+use Rattle.std.proofs.Common.{◌≡◌, ℕ, List, [], ◌∷◌, ◌++◌, length, drop, sym, ap, ◌∙◌, arith}
+use Rattle.std.proofs.Math.ListN.{drop_of_length-le}
+use Rattle.thread_stacks.specs.Stacks.{ShownFrame, ShownEntry, Invocation, caught, moved, on_top, operands_on, replaced, at_place, with_operands}
+use Rattle.machine_threads.specs.pending_exceptions.Caught.{IsCaughtOnTop}
+
+-- its operands go, and it goes on at the handler with the word
+pub caught_on : (from between to : List ShownEntry) (count handler word : ℕ) → count ≡ operands_on from
+    → between ≡ on_top (with_operands count (word ∷ [])) from → to ≡ on_top (moved handler) between → IsCaughtOnTop handler word from to
+caught_on from between to count handler word all first second shown others is =
+    let every : length shown.operands ≡ count = sym (all ∙ ap operands_on is) in
+    second
+    ∙ ap (on_top (moved handler)) first
+    ∙ ap (λ xs. on_top (moved handler) (on_top (with_operands count (word ∷ [])) xs)) is
+    ∙ ap (λ xs. Invocation (at_place handler (record shown { operands = word ∷ xs })) ∷ others) (drop_of_length-le shown.operands (omega arith))
