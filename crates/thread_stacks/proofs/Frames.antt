@@ -1,16 +1,13 @@
 -- Frames by the words of their entries, the top first.
-use Rattle.std.proofs.Common.{◌≡◌, ℕ, zero, suc, ◌+◌, ◌-◌, ◌<◌, ◌≤◌, List, [], ◌∷◌, ◌++◌, length, take, drop, reverse, subst, sym, ap, refl, ◌∙◌, arith, inl, inr}
-use Rattle.std.specs.Prelude.{Bool, true, false, Option, Some, min, max, replicate}
+use Rattle.std.proofs.Common.{◌≡◌, ℕ, zero, suc, ◌+◌, ◌-◌, ◌<◌, ◌≤◌, List, [], ◌∷◌, ◌++◌, length, take, drop, reverse, sym, ap, refl, ◌∙◌, arith, inl, inr}
+use Rattle.std.specs.Prelude.{Option, min, max, replicate}
 use Rattle.std.proofs.lemmas.Bool.{cases_lt}
-use Rattle.std.proofs.lemmas.List.{drop-drop, drop-take, length-take-le, length-replicate, length-append, length-drop, length-reverse, reverse-append, reverse-reverse, take_at, drop_at, take-take, append_assoc, take_all}
+use Rattle.std.proofs.lemmas.List.{drop-drop, drop-take, length-take-le, length-replicate, length-drop, length-reverse, reverse-append, reverse-reverse, take-take, take_all}
 use Rattle.std.proofs.Math.ListN.{drop_of_length-le}
-use Rattle.std.proofs.Math.Seq.{take-append-add, drop-append-add, take-append_seam, drop-append_seam}
+use Rattle.std.proofs.Math.Seq.{take-append-add, drop-append-add}
 use Rattle.thread_stacks.specs.declared.entry.EntryKind.{EntryKind}
 use Rattle.thread_stacks.specs.declared.entry.EntryKind.TheVariants as kind
-use Rattle.thread_stacks.specs.declared.entry.Phase.{Phase}
-use Rattle.thread_stacks.specs.declared.entry.Callee.{Callee}
-use Rattle.thread_stacks.specs.declared.entry.Entry.{Entry}
-use Rattle.thread_stacks.specs.Stacks.{ShownFrame, ShownEntry, Invocation, Initialisation, shown_by, shown_entry, frame_of, size, of_frame, operand_count, at_place, moved, replaced, topped, topped_words, with_operands, without, with_phase, begun, begins, filled, arguments_of, resumed}
+use Rattle.thread_stacks.specs.Stacks.{ShownFrame, Invocation, shown_by, of_frame, at_place, moved, replaced, topped, topped_words, without, filled, arguments_of}
 use Rattle.thread_stacks.proofs.Words.{take_reverse, same_turned}
 
 -- the words of a frame

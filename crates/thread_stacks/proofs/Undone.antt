@@ -1,10 +1,10 @@
 -- A call that is undone.
-use Rattle.std.proofs.Common.{◌≡◌, ℕ, ◌+◌, ◌-◌, ◌<◌, ◌≤◌, List, [], ◌∷◌, ◌++◌, length, take, drop, reverse, sym, ap, refl, ◌∙◌, arith, inl, inr}
-use Rattle.std.specs.Prelude.{min, replicate, Option}
-use Rattle.std.proofs.lemmas.List.{length-reverse, length-take, length-take-le, reverse-reverse, take-append-drop, take_at, take_all}
+use Rattle.std.proofs.Common.{◌≡◌, ℕ, ◌-◌, List, [], ◌∷◌, ◌++◌, length, take, drop, reverse, ap, refl, ◌∙◌, arith, inl, inr}
+use Rattle.std.specs.Prelude.{min, replicate}
+use Rattle.std.proofs.lemmas.List.{length-reverse, length-take-le, reverse-reverse, take-append-drop, take_at, take_all}
 use Rattle.std.proofs.lemmas.Bool.{cases_lt}
 use Rattle.thread_stacks.specs.declared.entry.Callee.{Callee}
-use Rattle.thread_stacks.specs.Stacks.{ShownFrame, ShownEntry, Invocation, Initialisation, begun, called, filled, operands_on, taken_back}
+use Rattle.thread_stacks.specs.Stacks.{ShownEntry, Invocation, Initialisation, called, filled, operands_on, taken_back}
 
 taken_count : (m : ℕ) (xs : List ℕ) → length (take m xs) ≡ min m (length xs)
 taken_count m xs =

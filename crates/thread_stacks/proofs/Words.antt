@@ -1,10 +1,9 @@
 -- The words in use, the top first.
-use Rattle.std.proofs.Common.{◌≡◌, ℕ, zero, suc, ◌+◌, ◌-◌, ◌<◌, ◌≤◌, List, [], ◌∷◌, ◌++◌, length, take, drop, reverse, sym, ap, refl, ◌∙◌, arith, inl, inr}
+use Rattle.std.proofs.Common.{◌≡◌, ℕ, zero, suc, ◌+◌, ◌-◌, ◌≤◌, List, [], ◌∷◌, ◌++◌, length, take, drop, reverse, sym, ap, refl, ◌∙◌, arith, inl, inr}
 use Rattle.std.specs.Prelude.{slice_range, replicate}
 use Rattle.std.proofs.lemmas.Bool.{cases_lt}
-use Rattle.std.proofs.lemmas.List.{drop_at, take-append-drop, length-drop, length-append, length-replicate, length-reverse, length-take-le, reverse-append, reverse-reverse, take-take, take_all, take_at, drop-take, append_assoc}
-use Rattle.std.proofs.Math.ListN.{drop_of_length-le}
-use Rattle.thread_stacks.specs.Stacks.{in_use, filled}
+use Rattle.std.proofs.lemmas.List.{drop_at, take-append-drop, length-drop, length-append, length-reverse, length-take-le, reverse-append, reverse-reverse, take-take, take_all, take_at, drop-take}
+use Rattle.thread_stacks.specs.Stacks.{in_use}
 
 drop_some : {A : Type 0} (n m : ℕ) (xs : List A) → length (drop m xs) ≡ n → drop n (reverse xs) ≡ reverse (take m xs)
 drop_some n m xs e =
