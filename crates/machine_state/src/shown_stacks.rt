@@ -9,10 +9,7 @@
 //!   shows the model's, where the place is that of the next instruction (`returns_are_shown`); a frame at a handler
 //!   (`catches_are_shown`), a class that begins to be initialised and one in another phase
 //!   (`initialisations_are_shown`, `phases_are_shown`) are shown.
-//! - Of a call in two steps: both together are `called`, and without the frame on top the stack is the caller's
-//!   (`calls_in_two_steps`); between them it shows the model's new frame over the caller as it was
-//!   (`calls_over_are_shown`). A frame that goes on at a place is the model's at the offset of that place
-//!   (`moves_are_shown`).
+//! - A frame that goes on at a place is the model's at the offset of that place (`moves_are_shown`).
 //!
 //! # Not proved
 //!

@@ -7,8 +7,7 @@
 //!   its method, in each state whose words are those of a well-typed one (`frames_stand`). That instruction finds its
 //!   operands and room for what it leaves (`operands_are_there`). A frame that goes on at a place shows the frame of
 //!   the definitions at the offset of that place (`moves_are_shown`). An event that takes nothing is done where the
-//!   world after it is shown (`free_events_are_done`). `instruction_at` answers the instruction. `replace_operands`
-//!   takes memory only where there are more operands then.
+//!   world after it is shown (`free_events_are_done`). `instruction_at` answers the instruction.
 
 mod standing;
 
