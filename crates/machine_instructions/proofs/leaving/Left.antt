@@ -26,6 +26,17 @@ top_is [] f e = absurd cc
 top_is (Invocation g ∷ stack) f e = ap (λ x. Invocation x ∷ stack) (sym (same_Some f g e))
 top_is (Initialisation class phase ∷ stack) f e = absurd cc
 
+-- there is one frame on top
+pub one_top : (stack : List ShownEntry) (f g : ShownFrame) → IsTopFrame stack (Some f) → IsTopFrame stack (Some g) → f ≡ g
+one_top [] f g e h = absurd cc
+one_top (Invocation x ∷ stack) f g e h = same_Some f g (e ∙ sym h)
+one_top (Initialisation class phase ∷ stack) f g e h = absurd cc
+
+pub not_none : (stack : List ShownEntry) (f : ShownFrame) → IsTopFrame stack (Some f) → IsTopFrame stack None → ⊥
+not_none [] f e h = absurd cc
+not_none (Invocation x ∷ stack) f e h = absurd cc
+not_none (Initialisation class phase ∷ stack) f e h = absurd cc
+
 -- so many operands go, and it stands at another place
 left_with : (from : List ShownEntry) (f : ShownFrame) (count : ℕ) (results : List ℕ) (next : ℕ) → IsTopFrame from (Some f)
     → on_top (moved next) (on_top (with_operands count results) from) ≡ with_top (at_place next (replaced count results f)) from

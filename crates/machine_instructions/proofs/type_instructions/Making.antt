@@ -64,14 +64,6 @@ first_words : (fields : List Member) → replicate (length fields) 0 ≡ words_i
 first_words [] = refl
 first_words (f ∷ fields) = ap (λ l. 0 ∷ l) (first_words fields) ∙ ap (λ w. w ∷ words_in (map (with_first words) fields)) (sym (first_zero (field_declared f.descriptor)))
 
--- ---- a refusal of the heap
-
-unmade_by : (why : AllocRefusal) (told : EventRefusal) → told ≡ of_heap why → (of : ObjectKind) (cells : ℕ) (old new : Heap)
-    → Allocates (Err why) of cells old new → IsUnmade told of cells old new
-unmade_by heap.Objects told is of cells old new told_so = subst (λ r. IsUnmade r of cells old new) (sym is) (heap.Objects, refl, told_so)
-unmade_by heap.Cells told is of cells old new told_so = subst (λ r. IsUnmade r of cells old new) (sym is) (heap.Cells, refl, told_so)
-unmade_by heap.Memory told is of cells old new told_so = subst (λ r. IsUnmade r of cells old new) (sym is) told_so.2
-
 module _ {trees : Program} {p : LinkedProgram} {bounds : Bounds} {inflated : List ℕ} {t : ℕ} {shared : Shared} {stack : List
     ShownEntry} {state : StateOf ℕ} {frame : FrameOf ℕ} {rest : StackOf ℕ} {code : LinkedCode} {site : Site} {meaning : MeaningOf
     ℕ} {instruction : LinkedInstruction} (is : IsRunning trees p bounds inflated t shared stack state frame rest code site meaning

@@ -1,0 +1,20 @@
+-- The frame on top, where a call has gone on.
+use Rattle.std.proofs.Common.{◌≡◌, ℕ, List, [], ◌∷◌, refl, ap, ◌∙◌}
+use Rattle.thread_stacks.specs.Stacks.{ShownEntry, Invocation, Initialisation, IsMore, moved, on_top, with_operands}
+use Rattle.machine_instructions.specs.thread_methods.Moves.{went_on, Grows}
+
+both : (from : List ShownEntry) (count next : ℕ) (results : List ℕ)
+    → on_top (moved next) (on_top (with_operands count results) from) ≡ on_top (went_on count results next) from
+both [] count next results = refl
+both (Invocation g ∷ stack) count next results = refl
+both (Initialisation class phase ∷ stack) count next results = refl
+
+-- its operands first, and then its place
+pub went : (from between to : List ShownEntry) (count next : ℕ) (results : List ℕ) → between ≡ on_top (with_operands count results) from → to ≡ on_top (moved next) between
+    → to ≡ on_top (went_on count results next) from
+went from between to count next results first second = second ∙ ap (on_top (moved next)) first ∙ both from count next results
+
+pub grows : (count : ℕ) (stack : List ShownEntry) → IsMore count stack → Grows count stack
+grows count [] more = more
+grows count (Invocation g ∷ stack) more = more
+grows count (Initialisation class phase ∷ stack) more = more
