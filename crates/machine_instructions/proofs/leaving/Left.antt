@@ -1,6 +1,7 @@
 -- A frame on top that an instruction has left, and the stack then.
 use Rattle.std.proofs.Common.{◌≡◌, ◌<◌, ◌^◌, ◌+◌, ℕ, suc, List, [], ◌∷◌, ◌++◌, Some, None, Result, Ok, Err, length, drop, refl, sym, ap, subst, ◌∙◌}
 use Rattle.std.proofs.lemmas.Option.{same_Some}
+use Rattle.std.specs.Result.{IsErrAnd}
 use Rattle.model.specs.Classes.{Program}
 use Rattle.model.specs.LimitStands.{Bounds}
 use Rattle.model.specs.Sites.{MeaningOf, Site}
@@ -65,10 +66,12 @@ more_is (Invocation g ∷ stack) f count word top more =
 more_is (Initialisation class phase ∷ stack) f count word top more = absurd more
 
 -- memory was wanted, and nothing has changed
-pub kept : (from to : List ShownEntry) (count word : ℕ) → to ≡ from → IsMore count from
-    → LeavesTop (Err refusal.Memory) count (word ∷ []) from to
-kept from to count word same more f top =
-    record { frame = f; is = same ∙ top_is from f top; leaves = (refl, more_is from f count word top more) }
+pub kept : (from to : List ShownEntry) (count word : ℕ) (result : Result Effect EventRefusal) → IsErrAnd result (λ told. told ≡ refusal.Memory)
+    → to ≡ from → IsMore count from → LeavesTop result count (word ∷ []) from to
+kept from to count word (Ok told) e same more = absurd e
+kept from to count word (Err told) e same more =
+    subst (λ r. LeavesTop (Err r) count (word ∷ []) from to) (sym e)
+    (λ f top. record { frame = f; is = same ∙ top_is from f top; leaves = (refl, more_is from f count word top more) })
 
 -- ---- what an instruction does, with the stack that it leaves
 

@@ -10,10 +10,10 @@ goes_on_by [] between to f next top place first second = absurd cc
 goes_on_by (Invocation g ∷ stack) between to f next top place first second =
     let same : f ≡ g = same_Some f g top in
     λ small.
-        second
-        ∙ ap (on_top (moved next)) first
-        ∙ ap (λ n. Invocation (at_place n (replaced 1 [] g)) ∷ stack)
-        (subst (λ (x : ShownFrame). next ≡ x.place + 1) same (place (subst (λ (x : ShownFrame). x.place < 2 ^ 63) (sym same) small)))
+    second
+    ∙ ap (on_top (moved next)) first
+    ∙ ap (λ n. Invocation (at_place n (replaced 1 [] g)) ∷ stack)
+    (subst (λ (x : ShownFrame). next ≡ x.place + 1) same (place (subst (λ (x : ShownFrame). x.place < 2 ^ 63) (sym same) small)))
 goes_on_by (Initialisation class phase ∷ stack) between to f next top place first second = absurd cc
 
 pub stays_by : (from : List ShownEntry) → IsTopFrame from None → GoesOn from from

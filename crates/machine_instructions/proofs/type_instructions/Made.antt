@@ -1,11 +1,13 @@
 -- How the frame on top is left where an object was made, or could not be.
 use Rattle.std.proofs.Common.{◌≡◌, ◌+◌, ◌<◌, ◌≤◌, ◌^◌, ℕ, suc, List, [], ◌∷◌, Some, Result, Ok, Err, length, refl, sym, ap, subst, arith, ◌∙◌}
 use Rattle.std.proofs.lemmas.Option.{same_Some}
+use Rattle.std.specs.Result.{IsErrAnd}
 use Rattle.heap.specs.declared.kind.ObjectKind.{ObjectKind}
 use Rattle.heap.specs.declared.refusal.AllocRefusal.{AllocRefusal}
 use Rattle.heap.specs.declared.refusal.AllocRefusal.TheVariants as heap
 use Rattle.heap.specs.Heap.{Heap, Allocates}
 use Rattle.thread_stacks.specs.Stacks.{ShownFrame, ShownEntry, Invocation, Initialisation, IsTopFrame, at_place, moved, on_top, replaced, topped, topped_words, with_operands, without, with_top}
+use Rattle.machine_state.specs.declared.answers.Effect.{Effect}
 use Rattle.machine_state.specs.declared.answers.Effect.TheVariants as effect
 use Rattle.machine_state.specs.declared.refusals.EventRefusal.{EventRefusal}
 use Rattle.machine_state.specs.declared.refusals.EventRefusal.TheVariants as refusal
@@ -33,10 +35,16 @@ pub not_made : (why : AllocRefusal) (told : EventRefusal) (of : ObjectKind) (cel
 not_made why told of cells count old new from to is told_so same f top =
     record { left = f; is = same ∙ top_is from f top; leaves = (unmade_by why told is of cells old new told_so, refl) }
 
+pub not_made_by : (result : Result Effect EventRefusal) (why : AllocRefusal) (of : ObjectKind) (cells count : ℕ) (old new : Heap) (from to : List ShownEntry)
+    → IsErrAnd result (λ told. told ≡ of_heap why) → Allocates (Err why) of cells old new → to ≡ from → LeavesNewTop result of cells count old new from to
+not_made_by (Ok told) why of cells count old new from to is told_so same = absurd is
+not_made_by (Err told) why of cells count old new from to is told_so same = not_made why told of cells count old new from to is told_so same
+
 -- memory was wanted for its word
-pub no_room : (told : EventRefusal) (of : ObjectKind) (cells count : ℕ) (old : Heap) (from to : List ShownEntry)
-    → told ≡ refusal.Memory → to ≡ from → LeavesNewTop (Err told) of cells count old old from to
-no_room told of cells count old from to is same =
+pub no_room : (result : Result Effect EventRefusal) (of : ObjectKind) (cells count : ℕ) (old : Heap) (from to : List ShownEntry)
+    → IsErrAnd result (λ told. told ≡ refusal.Memory) → to ≡ from → LeavesNewTop result of cells count old old from to
+no_room (Ok told) of cells count old from to is same = absurd is
+no_room (Err told) of cells count old from to is same =
     subst (λ r. LeavesNewTop (Err r) of cells count old old from to) (sym is)
     (λ f top. record { left = f; is = same ∙ top_is from f top; leaves = (refl, refl) })
 

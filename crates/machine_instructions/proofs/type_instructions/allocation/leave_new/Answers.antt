@@ -1,4 +1,4 @@
-use Rattle.std.proofs.Common.{arith}
+use Rattle.std.proofs.Common.{◌+◌, arith}
 use Rattle.machine_instructions.proofs.type_instructions.Made.{made_over, not_made, no_room, unput}
 use Rattle.machine_instructions.proofs.type_instructions.allocation.leave_new.Goals as goal
 
