@@ -10,9 +10,9 @@ ghost use Rattle.machine_state.specs.linked_frames.Frames.{DoesOwn};
 use crate::returns::leaving::{entered_by_top, leave, may_leave};
 use crate::returns::places::next_place_under;
 use linked_code::LinkedProgram;
-use thread_stacks::ThreadStack;
 use machine_state::{Effect, EventRefusal, MachineException, Shared};
 use std::alloc::AllocError;
+use thread_stacks::ThreadStack;
 
 /// What the frame on top returns: the word on top of its operands, or nothing.
 #[inline]
