@@ -1,4 +1,4 @@
-use Rattle.std.proofs.Common.{refl, sym, ◌∙◌}
+use Rattle.std.proofs.Common.{refl, sym, ◌∙◌, Ok}
 use Rattle.thread_stacks.specs.Stacks.{shown_frame}
 use Rattle.linked_code.specs.declared.instruction.LinkedInstruction.TheVariants as linked
 use Rattle.machine_instructions.proofs.leaving.Left.{placed}
@@ -28,7 +28,7 @@ pub returns-then-index-length-clause-ints : goal.returns-then-index-length-claus
 returns-then-index-length-clause-ints c = λ p t frames trees bounds inflated state frame rest code site meaning is.
     let l = is.stands.linked in
     let out = c.leave_nothing.ensures (shown_frame c.in-Some.frame) c.in-Some.ensures in
-    placed is frames c.leave_nothing.result _ c.leave_nothing.new.stack _ out.is
+    placed is frames (Ok c.leave_nothing.result) _ c.leave_nothing.new.stack _ out.is
     (store_done trees p bounds inflated t c.args.shared.now c.args.stack.now state frame rest code site meaning linked.StoreInt is (shown_frame c.in-Some.frame) c.in-Some.ensures frames l.to
     (stores_int trees p bounds inflated t c.args.shared.now c.args.stack.now state frame rest code site meaning linked.StoreInt is l.is)
     c.in-Some-checked_sub.array c.operand-index.result c.operand-word.result
@@ -43,7 +43,7 @@ pub returns-then-index-length-clause-narrow : goal.returns-then-index-length-cla
 returns-then-index-length-clause-narrow c = λ p t frames trees bounds inflated state frame rest code site meaning is.
     let l = is.stands.linked.stores in
     let out = c.leave_nothing.ensures (shown_frame c.in-Some.frame) c.in-Some.ensures in
-    placed is frames c.leave_nothing.result _ c.leave_nothing.new.stack _ out.is
+    placed is frames (Ok c.leave_nothing.result) _ c.leave_nothing.new.stack _ out.is
     (store_done trees p bounds inflated t c.args.shared.now c.args.stack.now state frame rest code site meaning linked.StoreNarrow is (shown_frame c.in-Some.frame) c.in-Some.ensures frames l.to
     (stores_narrow trees p bounds inflated t c.args.shared.now c.args.stack.now state frame rest code site meaning linked.StoreNarrow is is.stands.linked.kind is.stands.linked.narrow l.is)
     c.in-Some-checked_sub.array c.operand-index.result c.operand-word.result

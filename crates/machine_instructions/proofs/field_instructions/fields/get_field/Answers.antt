@@ -1,7 +1,6 @@
 use Rattle.std.proofs.Common.{refl, sym, ap, ◌∙◌}
 use Rattle.heap.specs.Heap.{word_at}
 use Rattle.thread_stacks.specs.Stacks.{shown_frame}
-use Rattle.linked_code.specs.declared.instruction.LinkedInstruction.TheVariants as linked
 use Rattle.machine_instructions.proofs.leaving.Left.{placed}
 use Rattle.machine_instructions.proofs.field_instructions.Referred.{refers, null_is}
 use Rattle.machine_instructions.proofs.field_instructions.Instances.{get_field_of_null, get_field_done}

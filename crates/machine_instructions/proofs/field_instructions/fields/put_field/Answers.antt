@@ -1,7 +1,6 @@
-use Rattle.std.proofs.Common.{refl, sym, ap, ◌∙◌}
+use Rattle.std.proofs.Common.{refl, sym, ap, ◌∙◌, Ok}
 use Rattle.thread_stacks.specs.Stacks.{shown_frame}
 use Rattle.heap.specs.Heap.{put_field}
-use Rattle.machine_instructions.specs.field_instructions.Puts.{put_field_instruction}
 use Rattle.machine_instructions.proofs.leaving.Left.{placed}
 use Rattle.machine_instructions.proofs.field_instructions.Referred.{refers, null_is}
 use Rattle.machine_instructions.proofs.field_instructions.Instances.{put_field_of_null, put_field_done}
@@ -18,7 +17,7 @@ pub returns-in-Some-checked_sub : goal.returns-in-Some-checked_sub
 returns-in-Some-checked_sub c = λ p t frames trees bounds inflated state frame rest code site meaning is.
     let r = c.in-Some-checked_sub.object in
     let out = c.leave_nothing.ensures (shown_frame c.in-Some.frame) c.in-Some.ensures in
-    placed is frames c.leave_nothing.result _ c.leave_nothing.new.stack _ out.is
+    placed is frames (Ok c.leave_nothing.result) _ c.leave_nothing.new.stack _ out.is
     (put_field_done trees p bounds inflated t c.args.shared.now c.args.stack.now state frame rest code site meaning c.args.of c.args.slot is (shown_frame c.in-Some.frame) c.in-Some.ensures frames
     r c.operand-in-Some-checked_sub.result c.kept-word.result
     (sym c.operand.ensures ∙ refers c.operand.result r c.in-Some-checked_sub.ensures)
