@@ -1,7 +1,8 @@
 -- The frame on top at its handler.
-use Rattle.std.proofs.Common.{◌≡◌, ℕ, List, [], ◌∷◌, ◌++◌, length, drop, sym, ap, ◌∙◌, arith}
+use Rattle.std.specs.Prelude.{OnErr}
+use Rattle.std.proofs.Common.{Result, Ok, Err, ◌≡◌, ℕ, List, [], ◌∷◌, length, sym, ap, ◌∙◌, arith}
 use Rattle.std.proofs.Math.ListN.{drop_of_length-le}
-use Rattle.thread_stacks.specs.Stacks.{ShownFrame, ShownEntry, Invocation, caught, moved, on_top, operands_on, replaced, at_place, with_operands}
+use Rattle.thread_stacks.specs.Stacks.{ShownEntry, Invocation, moved, on_top, operands_on, at_place, with_operands}
 use Rattle.machine_threads.specs.pending_exceptions.Caught.{IsCaughtOnTop}
 
 -- its operands go, and it goes on at the handler with the word
@@ -13,3 +14,8 @@ caught_on from between to count handler word all first second shown others is =
     ∙ ap (on_top (moved handler)) first
     ∙ ap (λ xs. on_top (moved handler) (on_top (with_operands count (word ∷ [])) xs)) is
     ∙ ap (λ xs. Invocation (at_place handler (record shown { operands = word ∷ xs })) ∷ others) (drop_of_length-le shown.operands (omega arith))
+
+-- so it is of an error, too
+pub of_error : {T E : Type 0} (result : Result T E) {P : Type 0} → P → OnErr result P
+of_error (Ok done) p = tt
+of_error (Err told) p = p
