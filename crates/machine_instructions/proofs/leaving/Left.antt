@@ -11,6 +11,7 @@ use Rattle.linked_code.specs.declared.instruction.LinkedInstruction.{LinkedInstr
 use Rattle.linked_code.specs.declared.method.LinkedCode.{LinkedCode}
 use Rattle.linked_code.specs.declared.program.LinkedProgram.{LinkedProgram}
 use Rattle.thread_stacks.specs.Stacks.{ShownFrame, ShownEntry, Invocation, Initialisation, IsTopFrame, at_place, moved, on_top, replaced, with_operands, with_top, IsMore}
+use Rattle.thread_stacks.proofs.Found.{top_with}
 use Rattle.machine_state.specs.declared.answers.Effect.{Effect}
 use Rattle.machine_state.specs.declared.answers.Effect.TheVariants as effect
 use Rattle.machine_state.specs.declared.refusals.EventRefusal.{EventRefusal}
@@ -20,23 +21,7 @@ use Rattle.machine_state.specs.Instructions.{Does, instruction_event}
 use Rattle.machine_state.specs.linked_frames.Frames.{IsRunning, event_of}
 use Rattle.machine_instructions.specs.Leaving.{gone_on, Leaves, LeftAs, LeavesTop}
 
--- ---- a stack with a frame on top
-
-pub top_is : (stack : List ShownEntry) (f : ShownFrame) → IsTopFrame stack (Some f) → stack ≡ with_top f stack
-top_is [] f e = absurd cc
-top_is (Invocation g ∷ stack) f e = ap (λ x. Invocation x ∷ stack) (sym (same_Some f g e))
-top_is (Initialisation class phase ∷ stack) f e = absurd cc
-
--- there is one frame on top
-pub one_top : (stack : List ShownEntry) (f g : ShownFrame) → IsTopFrame stack (Some f) → IsTopFrame stack (Some g) → f ≡ g
-one_top [] f g e h = absurd cc
-one_top (Invocation x ∷ stack) f g e h = same_Some f g (e ∙ sym h)
-one_top (Initialisation class phase ∷ stack) f g e h = absurd cc
-
-pub not_none : (stack : List ShownEntry) (f : ShownFrame) → IsTopFrame stack (Some f) → IsTopFrame stack None → ⊥
-not_none [] f e h = absurd cc
-not_none (Invocation x ∷ stack) f e h = absurd cc
-not_none (Initialisation class phase ∷ stack) f e h = absurd cc
+-- ---- it is left
 
 -- so many operands go, and it stands at another place
 left_with : (from : List ShownEntry) (f : ShownFrame) (count : ℕ) (results : List ℕ) (next : ℕ) → IsTopFrame from (Some f)
@@ -44,8 +29,6 @@ left_with : (from : List ShownEntry) (f : ShownFrame) (count : ℕ) (results : L
 left_with [] f count results next e = absurd cc
 left_with (Invocation g ∷ stack) f count results next e = ap (λ x. Invocation (at_place next (replaced count results x)) ∷ stack) (sym (same_Some f g e))
 left_with (Initialisation class phase ∷ stack) f count results next e = absurd cc
-
--- ---- it is left
 
 pub left : (from between to : List ShownEntry) (count next : ℕ) (results : List ℕ)
     → ((f : ShownFrame) → IsTopFrame from (Some f) → f.place < 2 ^ 63 → next ≡ f.place + 1)
@@ -71,7 +54,7 @@ pub kept : (from to : List ShownEntry) (count word : ℕ) (result : Result Effec
 kept from to count word (Ok told) e same more = absurd e
 kept from to count word (Err told) e same more =
     subst (λ r. LeavesTop (Err r) count (word ∷ []) from to) (sym e)
-    (λ f top. record { frame = f; is = same ∙ top_is from f top; leaves = (refl, more_is from f count word top more) })
+    (λ f top. record { frame = f; is = same ∙ top_with from f top; leaves = (refl, more_is from f count word top more) })
 
 -- ---- what an instruction does, with the stack that it leaves
 

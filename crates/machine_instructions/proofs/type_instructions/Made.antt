@@ -14,7 +14,7 @@ use Rattle.machine_state.specs.declared.refusals.EventRefusal.TheVariants as ref
 use Rattle.machine_state.specs.Refusals.{of_heap}
 use Rattle.machine_instructions.specs.Leaving.{gone_on}
 use Rattle.machine_instructions.specs.type_instructions.Leaving.{IsUnmade, LeavesNewTop}
-use Rattle.machine_instructions.proofs.leaving.Left.{top_is}
+use Rattle.thread_stacks.proofs.Found.{top_with}
 
 -- ---- the place behind that of the frame on top
 
@@ -33,7 +33,7 @@ unmade_by heap.Memory told is of cells old new told_so = subst (λ r. IsUnmade r
 pub not_made : (why : AllocRefusal) (told : EventRefusal) (of : ObjectKind) (cells count : ℕ) (old new : Heap) (from to : List ShownEntry)
     → told ≡ of_heap why → Allocates (Err why) of cells old new → to ≡ from → LeavesNewTop (Err told) of cells count old new from to
 not_made why told of cells count old new from to is told_so same f top =
-    record { left = f; is = same ∙ top_is from f top; leaves = (unmade_by why told is of cells old new told_so, refl) }
+    record { left = f; is = same ∙ top_with from f top; leaves = (unmade_by why told is of cells old new told_so, refl) }
 
 pub not_made_by : (result : Result Effect EventRefusal) (why : AllocRefusal) (of : ObjectKind) (cells count : ℕ) (old new : Heap) (from to : List ShownEntry)
     → IsErrAnd result (λ told. told ≡ of_heap why) → Allocates (Err why) of cells old new → to ≡ from → LeavesNewTop result of cells count old new from to
@@ -46,7 +46,7 @@ pub no_room : (result : Result Effect EventRefusal) (of : ObjectKind) (cells cou
 no_room (Ok told) of cells count old from to is same = absurd is
 no_room (Err told) of cells count old from to is same =
     subst (λ r. LeavesNewTop (Err r) of cells count old old from to) (sym is)
-    (λ f top. record { left = f; is = same ∙ top_is from f top; leaves = (refl, refl) })
+    (λ f top. record { left = f; is = same ∙ top_with from f top; leaves = (refl, refl) })
 
 -- ---- its word on top of the others
 

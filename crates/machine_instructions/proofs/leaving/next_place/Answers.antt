@@ -1,6 +1,6 @@
 use Rattle.std.proofs.Common.{◌≡◌, ap, arith}
 use Rattle.thread_stacks.specs.Stacks.{shown_frame}
-use Rattle.machine_instructions.proofs.leaving.Left.{one_top, not_none}
+use Rattle.thread_stacks.proofs.Found.{one_top, not_none}
 use Rattle.machine_instructions.proofs.leaving.next_place.Goals as goal
 
 pub returns-in-Some : goal.returns-in-Some
