@@ -1,5 +1,5 @@
 -- How a thread stands by what it is about, and by what is on top of its stack (own; JVMS 2.10, 5.2, 5.5; JLS 17).
-use Rattle.std.specs.Prelude.{◌≡◌, ℕ, zero, suc, List, [], ◌∷◌, Option, Some, None, Bool, true, false, if◌then◌else◌, slice_get}
+use Rattle.std.specs.Prelude.{◌≡◌, ℕ, zero, suc, List, [], ◌∷◌, Option, Some, None, Bool, true, false, if◌then◌else◌}
 use Rattle.model.specs.Names.{Name, java_lang_throwable, main_of}
 use Rattle.model.specs.ReferenceTypes.{ReferenceType}
 use Rattle.model.specs.Classes.{Program, body_of}
