@@ -1,0 +1,5 @@
+pub mod Pointed
+pub mod Stands
+pub mod Going
+pub mod Words
+pub mod Events

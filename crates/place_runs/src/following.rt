@@ -1,0 +1,95 @@
+//! The words of a schedule with places, followed in a world.
+
+ghost use Rattle.std.specs.Prelude.{◌≡◌, [], None, IfOk};
+ghost use Rattle.model.specs.Schedule.{EntryFits};
+ghost use Rattle.place_texts.specs.Fitting.{Fits};
+ghost use Rattle.place_texts.specs.Places.{Entry, deed_of, deeds_of};
+ghost use Rattle.place_runs.specs.Worlds.{DoesDeed, FollowsDeeds, stop_by};
+
+use code_places::points_of;
+use crate::going_on::{go_on, unless_memory};
+use place_texts::{Deed, PlacedDeed};
+use machine::Stopped;
+use model::{Event, ScheduleEntry};
+use program_runs::worlds::World;
+use std::alloc::{AllocError, Global};
+
+/// Why no more of a schedule with places was done.
+#[derive(Clone, Copy)]
+pub enum Stop {
+    /// All of its words were.
+    Whole,
+    /// This event, the next one, is not enabled, or a limit refuses it.
+    Event(Event),
+    /// The budget was used up within an entry.
+    Budget,
+    /// The budget was used up before the next bytecode of a thread was at a place.
+    Place,
+}
+
+/// Why an event was not done, or its entry not whole.
+fn stop_of(why: Stopped, event: Event, used_up: Stop) -> Stop
+    ensures { result ≡ stop_by why event used_up }
+{
+    match why {
+        Stopped::Most => used_up,
+        Stopped::NotEnabled | Stopped::Refused(_) => Stop::Event(event),
+    }
+}
+
+/// Does the events of an entry. Returns why they weren't all done, where they weren't.
+fn follow_entry(world: &mut World, entry: ScheduleEntry) -> Result<Option<Stop>, AllocError>
+    requires on { world.old.end ≡ None }
+    requires fits { EntryFits entry }
+    ensures { IfOk result (λ stop. DoesDeed stop (Entry entry) world.old world.new) }
+{
+    let (done, why) = world.repeat(entry.event, entry.repeat)?;
+    if done == entry.repeat {
+        return Ok(None);
+    }
+    Ok(Some(stop_of(unless_memory(why)?, entry.event, Stop::Budget)))
+}
+
+/// Does what a word says. Returns why not all of it was done, where it wasn't.
+fn follow_deed(alloc: Global, world: &mut World, deed: &Deed) -> Result<Option<Stop>, AllocError>
+    requires on { world.old.end ≡ None }
+    requires fits { Fits deed.now }
+    ensures { IfOk result (λ stop. DoesDeed stop (deed_of deed.now) world.old world.new) }
+{
+    match deed {
+        Deed::Entry(entry) => follow_entry(world, *entry),
+        Deed::Until(thread, place) => {
+            let points = points_of(alloc, world.verified().linked(), place)?;
+            match go_on(world, *thread, points.as_slice())? {
+                Some(why) => Ok(Some(stop_of(
+                    why,
+                    Event {
+                        thread: *thread,
+                        pick: 0,
+                    },
+                    Stop::Place,
+                ))),
+                None => Ok(None),
+            }
+        }
+    }
+}
+
+/// Does what words say, one after the other, as far as that goes. Returns why no more was done. The only error is a
+/// want of memory.
+pub(crate) fn follow(
+    alloc: Global,
+    world: &mut World,
+    deeds: &[PlacedDeed],
+) -> Result<Stop, AllocError>
+    requires on { world.old.end ≡ None }
+    requires none { world.old.events ≡ [] }
+    ensures { IfOk result (λ stop. FollowsDeeds stop (deeds_of deeds.now) world.old world.new) }
+{
+    'deeds: for placed in deeds {
+        if let Some(stop) = follow_deed(alloc, world, &placed.deed)? {
+            return Ok(stop);
+        }
+    }
+    Ok(Stop::Whole)
+}
