@@ -1,11 +1,18 @@
 -- The points of methods by their numbers.
-use Rattle.std.proofs.Common.{◌≡◌, ◌<◌, ℕ, zero, suc, ◌+◌, List, [], ◌∷◌, ◌++◌, append_assoc, get_or, length, take, refl, sym, ap, subst, ◌∙◌, arith}
-use Rattle.std.proofs.lemmas.List.{append-nil, take_more}
+use Rattle.std.proofs.Common.{◌≡◌, ◌<◌, ℕ, zero, suc, ◌+◌, List, [], ◌∷◌, ◌++◌, Bool, true, false, Option, Some, None, append_assoc, get_or, length, take, refl, sym, ap, subst, ◌∙◌, arith}
+use Rattle.std.specs.Prelude.{◌||◌, slice_get}
+use Rattle.std.specs.Option.{option_map, option_map_or}
+use Rattle.std.specs.List.{list_any}
+use Rattle.std.proofs.lemmas.List.{append-nil, length-take, take_more}
+use Rattle.std.proofs.lemmas.List.Folds.{list_any-append, list_any_at}
 use Rattle.model.specs.Names.{Member}
-use Rattle.model.specs.Classes.{Program}
-use Rattle.code_places.specs.declared.points.Point.{Point}
+use Rattle.model.specs.Classes.{Program, Body}
+use Rattle.model.specs.Classes as classes
+use Rattle.types.specs.declared.method_code.declaration.MethodCode.{MethodCode}
+use Rattle.types.specs.method_code.View.{body_of, member_of, shown}
 use Rattle.place_texts.specs.Places.{PlaceOf}
-use Rattle.code_places.specs.Points.{offsets_of, points_at, points_from}
+use Rattle.code_places.specs.declared.points.Point.{Point}
+use Rattle.code_places.specs.Points.{has_code, names, offsets_in, offsets_of, points_at, points_from}
 
 pub one_method : (trees : Program) (place : PlaceOf) (number : ℕ) (methods : List Member) (m : Member)
     → points_from trees place number (methods ++ m ∷ []) ≡ points_from trees place number methods ++ points_at (number + length methods) (offsets_of trees place m)
@@ -16,3 +23,81 @@ one_method trees place number (first ∷ methods) m =
     let e : suc number + length methods ≡ number + suc (length methods) = omega arith in
     ap (λ l. points_at number (offsets_of trees place first) ++ l) (one_method trees place (suc number) methods m ∙ ap (λ n. points_from trees place (suc number) methods ++ points_at n (offsets_of trees place m)) e)
     ∙ sym (append_assoc (points_at number (offsets_of trees place first)) (points_from trees place (suc number) methods) (points_at (number + suc (length methods)) (offsets_of trees place m)))
+
+-- ---- a number that is one of a method
+
+pub there_is : {A : Type 0} (xs : List A) (i : ℕ) → i < length xs → (x : A) × (slice_get xs i ≡ Some x)
+there_is [] i less = absurd (omega arith)
+there_is (x ∷ xs) zero less = (x, refl)
+there_is (x ∷ xs) (suc i) less = there_is xs i (omega (arith, less))
+
+same_item : {A : Type 0} (xs : List A) (i : ℕ) (x d : A) → slice_get xs i ≡ Some x → get_or xs i d ≡ x
+same_item [] i x d is = absurd cc
+same_item (y ∷ xs) zero x d is = cc
+same_item (y ∷ xs) (suc i) x d is = same_item xs i x d is
+
+taken : {A : Type 0} (xs : List A) (i : ℕ) (x : A) → i < length xs → slice_get xs i ≡ Some x → take (i + 1) xs ≡ take i xs ++ x ∷ []
+taken xs i x less is = take_more xs i x less ∙ ap (λ y. take i xs ++ y ∷ []) (same_item xs i x x is)
+
+-- ---- the method of a number
+
+module _ (trees : Program) (place : PlaceOf) (method : Member) where
+  pub of_none : (found : Option MethodCode) → found ≡ None → option_map shown found ≡ option_map (λ (body : Body). (method, body)) (classes.body_of trees method)
+      → (offsets_of trees place method ≡ []) × (has_code trees place method ≡ false)
+  of_none found none h = by (classes.body_of trees method) refl (ap (option_map shown) (sym none) ∙ h)
+    where
+      by : (o : Option Body) → classes.body_of trees method ≡ o → None ≡ option_map (λ (body : Body). (method, body)) o
+          → (offsets_of trees place method ≡ []) × (has_code trees place method ≡ false)
+      by None is e = (ap (λ (b : Option Body). option_map_or (offsets_in place method) b []) is, ap (λ (b : Option Body). option_map_or (λ (body : Body). names place method) b false) is)
+      by (Some body) is e = absurd cc
+
+  pub of_some : (found : Option MethodCode) (m : MethodCode) → found ≡ Some m
+      → option_map shown found ≡ option_map (λ (body : Body). (method, body)) (classes.body_of trees method)
+      → (offsets_of trees place method ≡ offsets_in place (member_of m) (body_of m)) × (has_code trees place method ≡ names place (member_of m))
+  of_some found m some h = by (classes.body_of trees method) refl (ap (option_map shown) (sym some) ∙ h)
+    where
+      by : (o : Option Body) → classes.body_of trees method ≡ o → Some (shown m) ≡ option_map (λ (body : Body). (method, body)) o
+          → (offsets_of trees place method ≡ offsets_in place (member_of m) (body_of m)) × (has_code trees place method ≡ names place (member_of m))
+      by None is e = absurd cc
+      by (Some body) is e =
+          let both : Some (member_of m, body_of m) ≡ Some (method, body) = e in
+          let same : member_of m ≡ method = first both in
+          let its : body_of m ≡ body = second both in
+          (
+            ap (λ (b : Option Body). option_map_or (offsets_in place method) b []) is ∙ ap (λ (b : Body). offsets_in place method b) (sym its) ∙ ap (λ (x : Member). offsets_in place x (body_of m)) (sym same),
+            ap (λ (b : Option Body). option_map_or (λ (body : Body). names place method) b false) is ∙ ap (names place) (sym same),
+          )
+        where
+          first : Some (member_of m, body_of m) ≡ Some (method, body) → member_of m ≡ method
+          first e = ap (λ (o : Option (Member × Body)). option_map_or (λ (p : Member × Body). p.0) o method) e
+
+          second : Some (member_of m, body_of m) ≡ Some (method, body) → body_of m ≡ body
+          second e = ap (λ (o : Option (Member × Body)). option_map_or (λ (p : Member × Body). p.1) o body) e
+
+-- ---- loops over methods
+
+pub one_more : (trees : Program) (place : PlaceOf) (methods : List Member) (number : ℕ) (points new : List Point) → number < length methods
+    → points ≡ points_from trees place 0 (take number methods)
+    → ((m : Member) → slice_get methods number ≡ Some m → new ≡ points ++ points_at number (offsets_of trees place m))
+    → new ≡ points_from trees place 0 (take (number + 1) methods)
+one_more trees place methods number points new less so_far adds =
+    let it = there_is methods number less in
+    let count : 0 + length (take number methods) ≡ number = omega (arith, length-take number methods, less) in
+    adds it.0 it.1
+    ∙ ap (λ l. l ++ points_at number (offsets_of trees place it.0)) so_far
+    ∙ ap (λ n. points_from trees place 0 (take number methods) ++ points_at n (offsets_of trees place it.0)) (sym count)
+    ∙ sym (one_method trees place 0 (take number methods) it.0)
+    ∙ ap (points_from trees place 0) (sym (taken methods number it.0 less it.1))
+
+pub none_more : (p : Member → Bool) (methods : List Member) (number : ℕ) → number < length methods → list_any p (take number methods) ≡ false
+    → ((m : Member) → slice_get methods number ≡ Some m → false ≡ p m) → list_any p (take (number + 1) methods) ≡ false
+none_more p methods number less none isnt =
+    let it = there_is methods number less in
+    ap (list_any p) (taken methods number it.0 less it.1) ∙ list_any-append p (take number methods) (it.0 ∷ [])
+    ∙ ap (λ b. b || list_any p (it.0 ∷ [])) none ∙ ap (λ b. b || false) (sym (isnt it.0 it.1))
+
+pub some_there : (p : Member → Bool) (methods : List Member) (number : ℕ) → number < length methods
+    → ((m : Member) → slice_get methods number ≡ Some m → true ≡ p m) → true ≡ list_any p methods
+some_there p methods number less is =
+    let it = there_is methods number less in
+    sym (list_any_at p methods number it.0 less (ap p (same_item methods number it.0 it.0 it.1) ∙ sym (is it.0 it.1)))

@@ -6,7 +6,7 @@ use Rattle.std.proofs.lemmas.Grind.{flat_map-append}
 use Rattle.std.proofs.lemmas.List.{append-nil, map-append, take_more, take-map}
 use Rattle.model.specs.Rows.{counting}
 use Rattle.code_places.specs.declared.points.Point.{Point}
-use Rattle.code_places.specs.Lines.{line_offsets, number_at, start_of}
+use Rattle.code_places.specs.Lines.{begins_line, number_at, start_of}
 use Rattle.code_places.specs.Points.{points_at}
 use Rattle.code_places.proofs.Counted.{gathered}
 
@@ -32,22 +32,16 @@ module _ (starts : List Bool) (table : List ℕ) (line : ℕ) (number : ℕ) (ol
       ∙ ap (λ l. old ++ points_at number (flat_map (start_of starts table line) (counting 0 entry) ++ l)) (sym is)
       ∙ ap (λ l. old ++ points_at number l) (sym (gathered (start_of starts table line) entry))
 
-  pub found : (at : ℕ) (offset : ℕ) (is_start : Bool) → number_at table (4 * entry + 4) ≡ at → offset ≡ number_at table (4 * entry + 2)
-      → is_start ≡ slice_index_or starts offset false → (at == line) ≡ true → is_start ≡ true
+  pub found : (offset : ℕ) → offset ≡ number_at table (4 * entry + 2) → begins_line starts table line entry ≡ true
       → (new : List Point) → new ≡ points ++ record { method = number; offset = offset } ∷ []
       → new ≡ old ++ points_at number (flat_map (start_of starts table line) (counting 0 (entry + 1)))
-  found at offset is_start at_is offset_is start_is same starts_there new are =
-      let first : (number_at table (4 * entry + 4) == line) ≡ true = ap (λ n. n == line) at_is ∙ same in
-      let second : slice_index_or starts (number_at table (4 * entry + 2)) false ≡ true =
-      ap (λ n. slice_index_or starts n false) (sym offset_is) ∙ sym start_is ∙ starts_there
-      in
-      let test : ((number_at table (4 * entry + 4) == line) && slice_index_or starts (number_at table (4 * entry + 2)) false) ≡ true = rw (first, second) refl in
+  found offset offset_is test new are =
       let own : start_of starts table line entry ≡ offset ∷ [] =
       ap (λ b. if b then number_at table (4 * entry + 2) ∷ [] else []) test ∙ ap (λ n. n ∷ []) (sym offset_is)
       in
       are ∙ of_entry (offset ∷ []) own
 
-  pub passed : ((number_at table (4 * entry + 4) == line) && slice_index_or starts (number_at table (4 * entry + 2)) false) ≡ false
+  pub passed : begins_line starts table line entry ≡ false
       → points ≡ old ++ points_at number (flat_map (start_of starts table line) (counting 0 (entry + 1)))
   passed test =
       let own : start_of starts table line entry ≡ [] = ap (λ b. if b then number_at table (4 * entry + 2) ∷ [] else []) test in

@@ -19,11 +19,13 @@ number_at bytes at = get_or bytes at 0 * 256 + get_or bytes (at + 1) 0
 abbrev pub line_count : List ℕ → ℕ
 line_count table = if nat_lt (length table) 2 then 0 else min (number_at table 0) ((length table - 2) / 4)
 
--- the offset of an entry, where it is of the line and an instruction begins there; an entry has the offset and the line
+-- an entry, which has an offset and a line, is of this line, and an instruction begins at the offset
+abbrev pub begins_line : (starts : List Bool) (table : List ℕ) (line entry : ℕ) → Bool
+begins_line starts table line entry = (number_at table (4 * entry + 4) == line) && slice_index_or starts (number_at table (4 * entry + 2)) false
+
+-- its offset, where that is so
 abbrev pub start_of : (starts : List Bool) (table : List ℕ) (line entry : ℕ) → List ℕ
-start_of starts table line entry =
-    if (number_at table (4 * entry + 4) == line) && slice_index_or starts (number_at table (4 * entry + 2)) false
-    then number_at table (4 * entry + 2) ∷ [] else []
+start_of starts table line entry = if begins_line starts table line entry then number_at table (4 * entry + 2) ∷ [] else []
 
 abbrev pub line_offsets : (starts : List Bool) (table : List ℕ) (line : ℕ) → List ℕ
 line_offsets starts table line = flat_map (start_of starts table line) (counting 0 (line_count table))

@@ -1,5 +1,5 @@
 -- What a place stands for: offsets of methods (own; JVMS 4.6, 4.7.12, 4.9.1).
-use Rattle.std.specs.Prelude.{ℕ, zero, suc, List, [], ◌∷◌, ◌++◌, Bool, true, false, ◌==◌, ◌&&◌, if◌then◌else◌, is_some, map, slice_index_or}
+use Rattle.std.specs.Prelude.{ℕ, zero, suc, List, [], ◌∷◌, ◌++◌, Bool, true, false, ◌==◌, ◌&&◌, if◌then◌else◌, map, slice_index_or}
 use Rattle.std.specs.Option.{option_map_or}
 use Rattle.std.specs.List.{list_any}
 use Rattle.model.specs.Names.{Name, Member, name_eq}
@@ -27,9 +27,13 @@ abbrev pub offsets_at : Position → Body → List ℕ
 offsets_at (position.Line n) body = offsets_of_line (starts body.code.code) body.pool body.code.attributes n
 offsets_at (position.Offset n) body = if slice_index_or (starts body.code.code) n false then n ∷ [] else []
 
--- the offsets of a method that a place stands for
+-- the offsets that a place stands for of a method with a body
+abbrev pub offsets_in : PlaceOf → Member → Body → List ℕ
+offsets_in place m body = if names place m then offsets_at place.position body else []
+
+-- those of a method; none where it has no code
 abbrev pub offsets_of : Program → PlaceOf → Member → List ℕ
-offsets_of trees place m = if names place m then option_map_or (offsets_at place.position) (body_of trees m) [] else []
+offsets_of trees place m = option_map_or (offsets_in place m) (body_of trees m) []
 
 -- a place stands for this offset of this method
 abbrev pub is_point : Program → PlaceOf → Member → ℕ → Bool
@@ -37,7 +41,7 @@ is_point trees place m offset = list_any (λ o. o == offset) (offsets_of trees p
 
 -- a method is one of those of the place, and has code
 abbrev pub has_code : Program → PlaceOf → Member → Bool
-has_code trees place m = names place m && is_some (body_of trees m)
+has_code trees place m = option_map_or (λ (body : Body). names place m) (body_of trees m) false
 
 -- ---- by numbers
 

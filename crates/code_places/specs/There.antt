@@ -1,5 +1,5 @@
 -- What of a place isn't there (own).
-use Rattle.std.specs.Prelude.{◌≡◌, ℕ, List, [], Option, Some, None, false}
+use Rattle.std.specs.Prelude.{◌≡◌, ℕ, List, [], Option, Some, None, false, codes}
 use Rattle.std.specs.List.{list_any}
 use Rattle.model.specs.Classes.{Program, class_of}
 use Rattle.linked_code.specs.Numbers.{methods_of}
@@ -9,6 +9,12 @@ use Rattle.place_texts.specs.Places.{PlaceOf}
 use Rattle.code_places.specs.declared.there.PlaceFault.{PlaceFault}
 use Rattle.code_places.specs.declared.there.PlaceFault.TheVariants as faults
 use Rattle.code_places.specs.Points.{all_points, has_code}
+
+abbrev pub place_fault_name : PlaceFault → List ℕ
+place_fault_name faults.Class = codes "Class"
+place_fault_name faults.Method = codes "Method"
+place_fault_name faults.Line = codes "Line"
+place_fault_name faults.Offset = codes "Offset"
 
 abbrev pub IsLine : Position → Type 0
 IsLine (position.Line n) = Unit {0}

@@ -5,5 +5,6 @@ mod lines;
 mod points;
 mod there;
 
+pub use lines::line_begun;
 pub use points::{Point, points_of};
 pub use there::{PlaceFault, missing};

@@ -2,7 +2,7 @@
 
 ghost use Rattle.std.specs.Prelude.{◌≡◌, ◌++◌, ◌<◌, ◌≤◌, ◌==◌, ◌+◌, ◌*◌, false, length, map, OnOk, slice_index_or};
 ghost use Rattle.class_tree.specs.View.{code_of, skipped_of};
-ghost use Rattle.code_places.specs.Lines.{is_line_table as names_lines, line_count as count_of, line_offsets as offsets_in, number_at as number_in, offsets_of_line};
+ghost use Rattle.code_places.specs.Lines.{begins_line as line_begins, is_line_table as names_lines, line_count as count_of, line_offsets as offsets_in, number_at as number_in, offsets_of_line};
 ghost use Rattle.code_places.specs.Points.{points_at};
 
 use crate::points::Point;
@@ -38,6 +38,17 @@ fn line_count(table: &[u8]) -> usize
     usize::from(number_at(table, 0)).min((table.len() - 2) / 4)
 }
 
+/// Whether an entry of a table of lines is of this line, and an instruction begins at its offset.
+fn begins_line(starts: &[bool], table: &[u8], line: u16, entry: usize) -> bool
+    requires { 4 * entry + 5 < length table.now }
+    ensures { result ≡ line_begins starts.now table.now line entry }
+{
+    let offset = number_at(table, 4 * entry + 2);
+    let begun = number_at(table, 4 * entry + 4);
+    let is_start = starts.get(usize::from(offset)).copied().unwrap_or(false);
+    begun == line && is_start
+}
+
 /// Adds the offsets at which a table of lines begins a line, where an instruction begins there.
 fn add_from_table(
     points: &mut Vec<Point>,
@@ -50,13 +61,37 @@ fn add_from_table(
         ++ points_at method (offsets_in starts.now table.now line)) }
 {
     'entries: for entry in 0..line_count(table) {
-        let offset = number_at(table, 4 * entry + 2);
-        let is_start = starts.get(usize::from(offset)).copied().unwrap_or(false);
-        if number_at(table, 4 * entry + 4) == line && is_start {
+        if begins_line(starts, table, line, entry) {
+            let offset = number_at(table, 4 * entry + 2);
             points.push(Point { method, offset })?;
         }
     }
     Ok(())
+}
+
+/// The line that a table of lines begins at an offset; of several the last one.
+fn begun_in(table: &[u8], offset: u16) -> Option<u16> {
+    let mut line = None;
+    'entries: for entry in 0..line_count(table) {
+        if number_at(table, 4 * entry + 2) == offset {
+            line = Some(number_at(table, 4 * entry + 4));
+        }
+    }
+    line
+}
+
+/// The line that the class file tells to begin at an offset of a method's code (JVMS 4.7.12), if it tells one; of
+/// several the last one.
+pub fn line_begun(file: &ClassFile, code: &Code, offset: u16) -> Option<u16> {
+    let mut line = None;
+    'attributes: for attribute in &code.attributes {
+        if is_line_table(file, attribute) {
+            if let Some(found) = begun_in(&attribute.bytes, offset) {
+                line = Some(found);
+            }
+        }
+    }
+    line
 }
 
 /// Adds the offsets of a method's code at which a line begins.

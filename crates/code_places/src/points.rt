@@ -7,7 +7,8 @@ ghost use Rattle.linked_code.specs.Numbers.{IsMethodAt, methods_of};
 ghost use Rattle.method_tables.specs.method_links.Numbers.{AreNumbersOf};
 ghost use Rattle.types.specs.method_code.View.{body_of, member_of};
 ghost use Rattle.place_texts.specs.Places.{place_of};
-ghost use Rattle.code_places.specs.Points.{all_points, describes as descriptor_fits, has_code, names as is_named, offsets_at, offsets_of, points_at};
+ghost use Rattle.code_places.specs.Points.{all_points, describes as descriptor_fits, has_code, names as is_named, offsets_at, offsets_in, offsets_of, points_at};
+ghost use Rattle.code_places.specs.Methods.{IsMethodOf};
 
 use crate::lines::add_line;
 use place_texts::{Place, Position};
@@ -36,13 +37,28 @@ fn describes(place: &Place, descriptor: &[u8]) -> bool
 }
 
 /// Whether a place is one of a method.
-fn is_of(place: &Place, class: &[u8], method: &MethodCode<'_>) -> bool
-    requires { class.now ≡ (member_of method.now).class }
+fn is_of(place: &Place, method: &MethodCode<'_>) -> bool
     ensures { result ≡ is_named (place_of place.now) (member_of method.now) }
 {
+    let class = method.set().name_at(method.class());
     class == place.class.as_slice()
         && method.name() == place.method.as_slice()
         && describes(place, method.descriptor())
+}
+
+/// The method of a number, if it has code.
+fn method_of<'a>(
+    linked: &'a Linked,
+    numbers: &MethodNumbers,
+    number: usize,
+) -> Option<MethodCode<'a>>
+    requires { AreNumbersOf linked.now numbers.now }
+    ensures { IsMethodOf linked.now number result }
+{
+    let Some(found) = numbers.place(number) else {
+        return None;
+    };
+    MethodCode::new(linked.hierarchy(), found.class, found.member)
 }
 
 /// Adds the points of a method at a position.
@@ -72,6 +88,23 @@ fn add_points(
     }
 }
 
+/// Adds the points of a method, where the place is one of it.
+fn add_named(
+    alloc: Global,
+    points: &mut Vec<Point>,
+    number: u32,
+    method: &MethodCode<'_>,
+    place: &Place,
+) -> Result<(), AllocError>
+    ensures { OnOk result (points.new.items ≡ points.old.items
+        ++ points_at number (offsets_in (place_of place.now) (member_of method.now) (body_of method.now))) }
+{
+    if !is_of(place, method) {
+        return Ok(());
+    }
+    add_points(alloc, points, number, method, place.position)
+}
+
 /// Adds the points of the method of a number, where the place is one of it.
 fn add_method(
     alloc: Global,
@@ -86,16 +119,10 @@ fn add_method(
         → OnOk result (points.new.items ≡ points.old.items
         ++ points_at number (offsets_of linked.now (place_of place.now) method)) }
 {
-    let Some(found) = numbers.place(number as usize) else {
-        return Ok(());
-    };
-    let Some(method) = MethodCode::new(linked.hierarchy(), found.class, found.member) else {
-        return Ok(());
-    };
-    if !is_of(place, linked.set().name_at(found.class), &method) {
-        return Ok(());
+    match method_of(linked, numbers, number as usize) {
+        Some(method) => add_named(alloc, points, number, &method, place),
+        None => Ok(()),
     }
-    add_points(alloc, points, number, &method, place.position)
 }
 
 /// Whether a place is one of the method of a number, which has code.
@@ -104,13 +131,10 @@ fn is_method(linked: &Linked, numbers: &MethodNumbers, number: usize, place: &Pl
     ensures { (method : Member) → IsMethodAt linked.now number method
         → result ≡ has_code linked.now (place_of place.now) method }
 {
-    let Some(found) = numbers.place(number) else {
-        return false;
-    };
-    let Some(method) = MethodCode::new(linked.hierarchy(), found.class, found.member) else {
-        return false;
-    };
-    is_of(place, linked.set().name_at(found.class), &method)
+    match method_of(linked, numbers, number) {
+        Some(method) => is_of(place, &method),
+        None => false,
+    }
 }
 
 /// Whether a place is one of any method that has code. The only error is a want of memory.

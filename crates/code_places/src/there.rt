@@ -8,6 +8,7 @@ use crate::points::{has_method, points_of};
 use place_texts::{Place, Position};
 use linker::Linked;
 use std::alloc::{AllocError, Global};
+use std::fmt;
 
 /// What of a place isn't there.
 #[derive(Clone, Copy, Debug)]
@@ -20,6 +21,23 @@ pub enum PlaceFault {
     Line,
     /// In no such method an instruction begins at the offset.
     Offset,
+}
+
+/// The name of the fault.
+impl fmt::Display for PlaceFault {
+    ghost use Rattle.std.specs.Prelude.{Some};
+    ghost use Rattle.code_places.specs.There.{place_fault_name};
+
+    ghost output = { λ fault. Some (place_fault_name fault) };
+
+    fn fmt<W: fmt::Write>(&self, f: &mut fmt::Formatter<W>) -> fmt::Result {
+        f.write_str(match self {
+            PlaceFault::Class => "Class",
+            PlaceFault::Method => "Method",
+            PlaceFault::Line => "Line",
+            PlaceFault::Offset => "Offset",
+        })
+    }
 }
 
 /// What of a place isn't there, if anything. The only error is a want of memory.

@@ -277,14 +277,14 @@ pub record AreThenRunValues (rows : List Row) (then_run : ThenRun) : Type 0 wher
 -- the words ask for a run behind the schedule, or for none of it
 abbrev pub IsThenRun : List Row → Option ThenRun → Type 0
 IsThenRun rows (Some then_run) = (is_set (first_of (codes "then-run") rows) ≡ true) × AreThenRunValues rows then_run
-IsThenRun rows None = (is_set (first_of (codes "then-run") rows) ≡ false)
-    × (first_of (codes "budget") rows ≡ None) × (first_of (codes "record") rows ≡ None)
+IsThenRun rows None = (is_set (first_of (codes "then-run") rows) ≡ false) × (first_of (codes "record") rows ≡ None)
 
 -- the values that the words give to `jvm replay`
 pub record AreValues (rows : List Row) (replay : Replay) : Type 0 where
   pub schedule : first_of (codes "schedule") rows ≡ Some (string_bytes replay.schedule)
   pub any_files : replay.any_files ≡ is_set (first_of (codes "any-files") rows)
   pub then_run : IsThenRun rows replay.then_run
+  pub budget : IsNumber 0 4294967295 (first_of (codes "budget") rows) replay.budget
   pub limits : AreLimitNumbers rows replay.limits
   pub main : first_of (codes "main") rows ≡ option_map string_bytes replay.main
   pub files : all_of (codes "files") rows ≡ Some (map string_bytes replay.files.items)

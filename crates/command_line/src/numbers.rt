@@ -40,7 +40,7 @@ pub(crate) const WHOLE_BUDGET: NumberOption = NumberOption {
     name: "budget",
     least: 0,
     most: u32::MAX,
-    help: "How many events there may be, those of the schedule included [default: 10000000]",
+    help: "How many events there may be, those of the schedule included; behind them a place gives up, too [default: 10000000]",
 };
 
 pub(crate) const QUANTUM: NumberOption = NumberOption {

@@ -148,6 +148,7 @@ fn replay_of(alloc: Global, matches: &ArgMatches<'_>) -> Result<Replay, Usage>
 {
     let schedule = required_path_of(alloc, matches, "schedule")?;
     let then_run = then_run_of(alloc, matches)?;
+    let budget = WHOLE_BUDGET.number(alloc, matches)?;
     let limits = limits_of(alloc, matches)?;
     let main = path_of(alloc, matches, "main")?;
     let files = files_of(alloc, matches)?;
@@ -156,6 +157,7 @@ fn replay_of(alloc: Global, matches: &ArgMatches<'_>) -> Result<Replay, Usage>
     Ok(Replay {
         schedule,
         then_run,
+        budget,
         limits,
         main,
         files,
@@ -345,17 +347,17 @@ fn form_of(alloc: Global, matches: &ArgMatches<'_>) -> Result<TraceForm, Usage>
     }
 }
 
-/// How the run goes on where the schedule ends. Its options stand beside `--then-run` alone.
+/// How the run goes on where the schedule ends. `--record` stands beside `--then-run` alone.
 fn then_run_of(alloc: Global, matches: &ArgMatches<'_>) -> Result<Option<ThenRun>, Usage>
     ensures values { IfOk result (IsThenRun (rows_of (found_of matches.now))) }
     ensures none { IfErr result (λ usage. Refuses usage ((then_run : _)
         → IsThenRun (rows_of (found_of matches.now)) then_run → ⊥)) }
 {
-    let budget = WHOLE_BUDGET.number(alloc, matches)?;
     let record = path_of(alloc, matches, "record")?;
     if is_set(matches, "then-run") {
+        let budget = WHOLE_BUDGET.number(alloc, matches)?;
         Ok(Some(ThenRun { budget, record }))
-    } else if budget.is_some() || record.is_some() {
+    } else if record.is_some() {
         Err(Usage::no_then_run(alloc))
     } else {
         Ok(None)

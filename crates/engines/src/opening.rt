@@ -9,20 +9,24 @@ ghost use Rattle.engines.specs.Transcriptions.{IsUnprinted};
 
 use crate::class_files::read_class_files;
 use crate::fault::Fault;
+use crate::place_schedules::{Followed, followed, read_words};
 use crate::recording::{Conditions, limits_of};
 use crate::verification::accepted;
 use model::{DeviceFault, Limits, Source};
 use schedule::schedule_text::read_either;
 use schedule::{Recording, Schedule, ScheduleFault};
 use std::alloc::Global;
+use std::sync::Arc;
 use verifier::Verified;
 
 /// Class files that are accepted, and under what they are to run.
 #[derive(Drop)]
 pub(crate) struct Opened {
     pub(crate) schedule: Schedule,
+    /// Whether the schedule gives up at a place.
+    pub(crate) gives_up: bool,
     pub(crate) files: Vec<Vec<u8>>,
-    pub(crate) verified: Verified,
+    pub(crate) verified: Arc<Verified>,
     pub(crate) limits: Limits,
 }
 
@@ -45,12 +49,15 @@ pub(crate) fn open<S: Source>(
         (S.failures schedule.old + sum_by S.failures files.old)
         (S.failures schedule.new + sum_by S.failures files.new) }
 {
-    let (schedule, recorded) = read_given(alloc, schedule)?;
+    let (words, recorded) = read_words(alloc, schedule)?;
     let files = read_class_files(alloc, files)?;
     let limits = limits_of(&recorded, files.as_slice(), conditions)?;
-    let verified = accepted(alloc, files.as_slice())?;
+    let verified = Arc::new(alloc, accepted(alloc, files.as_slice())?)?;
+    let Followed { schedule, gives_up } =
+        followed(alloc, words, &verified, limits, conditions.budget)?;
     Ok(Opened {
         schedule,
+        gives_up,
         files,
         verified,
         limits,

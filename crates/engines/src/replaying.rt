@@ -9,11 +9,11 @@ ghost use Rattle.engines.specs.Replays.{IsFaulty, IsReplayed, Replays};
 
 use crate::fault::Fault;
 use crate::opening::{Opened, open};
+use crate::place_ends::told;
 use crate::recording::Conditions;
 use crate::status::Status;
 use model::{Sink, Source};
 use program_runs::verified_programs::replay;
-use schedule::report::text;
 use std::alloc::{AllocError, Global};
 
 /// Runs the class files under the schedule, writes the report and answers its status.
@@ -66,6 +66,5 @@ fn replay_of(alloc: Global, opened: &Opened) -> Result<(Vec<u8>, Status), AllocE
         → IsReplayed bytes (map vec_items opened.now.files.items) options told.0.items told.1) }
 {
     let (report, end) = replay(alloc, &opened.verified, &opened.schedule, opened.limits)?;
-    let text = text(alloc, &report, &end)?;
-    Ok((text, Status::of(&report, end)))
+    told(alloc, &report, end, opened.gives_up)
 }

@@ -10,11 +10,11 @@ ghost use Rattle.engines.specs.Traces.{IsTraced, IsUntraced, Traces, TracesFront
 
 use crate::fault::Fault;
 use crate::opening::{Opened, open};
+use crate::place_ends::told;
 use crate::recording::Conditions;
 use crate::status::Status;
 use model::{DeviceFault, Sink, Source};
 use program_runs::traced_runs::{Window, trace};
-use schedule::report::text;
 use std::alloc::Global;
 
 /// Runs the class files under the schedule, writes a line for each event that is to be told, in a summary one for a
@@ -102,7 +102,7 @@ fn trace_of<W: Sink>(
         window,
         output,
     )?;
-    let text = text(alloc, &report, &end)?;
+    let (text, status) = told(alloc, &report, end, opened.gives_up)?;
     output.write_all(text.as_slice())?;
-    Ok(Status::of(&report, end))
+    Ok(status)
 }

@@ -1,5 +1,5 @@
 pub mod Pointed
 pub mod Stands
+pub mod Repeated
 pub mod Going
 pub mod Words
-pub mod Events

@@ -11,5 +11,5 @@ use Rattle.place_runs.specs.Following.{IsFollowed, with_stop}
 -- They are those that the words do in a run of these files, with the one that can't be done, if that is why there are no more.
 pub record AreEventsOf (trees : Program) (limits : Limits) (budget : ℕ) (deeds : List DeedOf) (f : Followed) : Type 0 where
   pub events : List Event
-  pub followed : IsFollowed trees limits budget deeds events f.stop
+  pub followed : IsFollowed trees limits 4294967295 budget deeds events f.stop
   pub are : events_of f.schedule ≡ with_stop events f.stop

@@ -30,55 +30,48 @@ IsPartOf trees frames done (Entry entry) part next =
 IsPartOf trees frames done (Until t place) part next =
     (count : ℕ) × (part ≡ replicate count (plain t)) × IsNotReached trees frames done t place count × (next ≡ plain t)
 
--- a word is that of an entry, or of a place
-abbrev pub IsEntry : DeedOf → Type 0
-IsEntry (Entry entry) = Unit {0}
-IsEntry (Until t place) = ⊥
-
-abbrev pub IsPlace : DeedOf → Type 0
-IsPlace (Entry entry) = ⊥
-IsPlace (Until t place) = Unit {0}
+-- So many events are the most that a run has, or, within a place, the budget.
+abbrev pub AreUsedUp : (most budget : ℕ) → DeedOf → (count : ℕ) → Type 0
+AreUsedUp most budget (Entry entry) count = count ≡ most
+AreUsedUp most budget (Until t place) count = (budget ≤ count) ⊎ (count ≡ most)
 
 -- why a word was not done whole, of which a part was after some events
-abbrev pub StopsIn : Program → Limits → (budget : ℕ) → (done part : List Event) → DeedOf → Event → Stop → Type 0
-StopsIn trees limits budget done part deed next stops.Whole = ⊥
-StopsIn trees limits budget done part deed next (stops.Event event) = (event ≡ next) × (length (done ++ part) < budget) × CannotBeDone trees limits (done ++ part) event
-StopsIn trees limits budget done part deed next stops.Budget = IsEntry deed × (length (done ++ part) ≡ budget)
-StopsIn trees limits budget done part deed next stops.Place = IsPlace deed × (length (done ++ part) ≡ budget)
+abbrev pub StopsIn : Program → Limits → (most budget : ℕ) → (done part : List Event) → DeedOf → Event → Stop → Type 0
+StopsIn trees limits most budget done part deed next stops.Whole = ⊥
+StopsIn trees limits most budget done part deed next (stops.Event event) = (event ≡ next) × (length (done ++ part) < most) × CannotBeDone trees limits (done ++ part) event
+StopsIn trees limits most budget done part deed next stops.UsedUp = AreUsedUp most budget deed (length (done ++ part))
 
 -- a word was done in part, after those before it
-pub record IsStopped (trees : Program) (limits : Limits) (budget : ℕ) (done : List Event) (deed : DeedOf) (events : List Event) (stop : Stop) : Type 0 where
+pub record IsStopped (trees : Program) (limits : Limits) (most budget : ℕ) (done : List Event) (deed : DeedOf) (events : List Event) (stop : Stop) : Type 0 where
   pub part : List Event
   pub next : Event
   pub events_are : events ≡ done ++ part
   pub is_part : IsPartOf trees limits.frames done deed part next
-  pub stops : StopsIn trees limits budget done part deed next stop
+  pub stops : StopsIn trees limits most budget done part deed next stop
 
 -- the words before a word were done whole, and that word in part
-pub record StopsShort (trees : Program) (limits : Limits) (budget : ℕ) (deeds : List DeedOf) (events : List Event) (stop : Stop) : Type 0 where
+pub record StopsShort (trees : Program) (limits : Limits) (most budget : ℕ) (deeds : List DeedOf) (events : List Event) (stop : Stop) : Type 0 where
   pub before : List DeedOf
   pub deed : DeedOf
   pub behind : List DeedOf
   pub deeds_are : deeds ≡ before ++ deed ∷ behind
   pub done : List Event
   pub means : Means trees limits.frames [] before done
-  pub stopped : IsStopped trees limits budget done deed events stop
+  pub stopped : IsStopped trees limits most budget done deed events stop
 
--- All words were done, or some were: these are the events that were done, and this is why there are no more.
-abbrev pub IsFollowed : Program → Limits → (budget : ℕ) → List DeedOf → List Event → Stop → Type 0
-IsFollowed trees limits budget deeds events stop =
-    ((stop ≡ stops.Whole) × Means trees limits.frames [] deeds events) ⊎ StopsShort trees limits budget deeds events stop
+-- All words were done, or some were: these are the events that were done, at most so many, and this is why there are no more.
+abbrev pub IsFollowed : Program → Limits → (most budget : ℕ) → List DeedOf → List Event → Stop → Type 0
+IsFollowed trees limits most budget deeds events stop =
+    ((stop ≡ stops.Whole) × Means trees limits.frames [] deeds events) ⊎ StopsShort trees limits most budget deeds events stop
 
 -- there may be one event more, if one is to be added: there are no more than a schedule may have
 abbrev pub HasRoomFor : Stop → List Event → Type 0
 HasRoomFor stops.Whole events = Unit {0}
 HasRoomFor (stops.Event event) events = length events + 1 < 2 ^ 32
-HasRoomFor stops.Budget events = Unit {0}
-HasRoomFor stops.Place events = Unit {0}
+HasRoomFor stops.UsedUp events = Unit {0}
 
 -- the events with the one that can't be done, if that is why there are no more
 abbrev pub with_stop : List Event → Stop → List Event
 with_stop events stops.Whole = events
 with_stop events (stops.Event event) = events ++ event ∷ []
-with_stop events stops.Budget = events
-with_stop events stops.Place = events
+with_stop events stops.UsedUp = events

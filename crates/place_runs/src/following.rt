@@ -1,12 +1,13 @@
 //! The words of a schedule with places, followed in a world.
 
-ghost use Rattle.std.specs.Prelude.{◌≡◌, [], None, IfOk};
+ghost use Rattle.std.specs.Prelude.{◌≡◌, ℕ, [], None, IfOk};
 ghost use Rattle.model.specs.Schedule.{EntryFits};
 ghost use Rattle.place_texts.specs.Fitting.{Fits};
-ghost use Rattle.place_texts.specs.Places.{Entry, deed_of, deeds_of};
+ghost use Rattle.place_texts.specs.Places.{Entry, PlaceOf, Until, deed_of, deeds_of};
+ghost use Rattle.code_places.specs.Points.{all_points};
 ghost use Rattle.place_runs.specs.Worlds.{DoesDeed, FollowsDeeds, stop_by};
 
-use code_places::points_of;
+use code_places::{Point, points_of};
 use crate::going_on::{go_on, unless_memory};
 use place_texts::{Deed, PlacedDeed};
 use machine::Stopped;
@@ -21,18 +22,17 @@ pub enum Stop {
     Whole,
     /// This event, the next one, is not enabled, or a limit refuses it.
     Event(Event),
-    /// The budget was used up within an entry.
-    Budget,
-    /// The budget was used up before the next bytecode of a thread was at a place.
-    Place,
+    /// The budget was used up before the next bytecode of a thread was at a place; or there were as many events as a
+    /// schedule may have.
+    UsedUp,
 }
 
 /// Why an event was not done, or its entry not whole.
-fn stop_of(why: Stopped, event: Event, used_up: Stop) -> Stop
-    ensures { result ≡ stop_by why event used_up }
+fn stop_of(why: Stopped, event: Event) -> Stop
+    ensures { result ≡ stop_by why event }
 {
     match why {
-        Stopped::Most => used_up,
+        Stopped::Most => Stop::UsedUp,
         Stopped::NotEnabled | Stopped::Refused(_) => Stop::Event(event),
     }
 }
@@ -41,36 +41,51 @@ fn stop_of(why: Stopped, event: Event, used_up: Stop) -> Stop
 fn follow_entry(world: &mut World, entry: ScheduleEntry) -> Result<Option<Stop>, AllocError>
     requires on { world.old.end ≡ None }
     requires fits { EntryFits entry }
-    ensures { IfOk result (λ stop. DoesDeed stop (Entry entry) world.old world.new) }
+    ensures { (budget : ℕ) → IfOk result (λ stop. DoesDeed stop (Entry entry) budget world.old world.new) }
 {
+    // what is known of the world
+    let _ = world.end();
     let (done, why) = world.repeat(entry.event, entry.repeat)?;
     if done == entry.repeat {
         return Ok(None);
     }
-    Ok(Some(stop_of(unless_memory(why)?, entry.event, Stop::Budget)))
+    Ok(Some(stop_of(unless_memory(why)?, entry.event)))
+}
+
+/// Lets a thread go on until its next bytecode is at one of these points. Returns why it didn't come there, where it
+/// didn't.
+fn follow_place(
+    world: &mut World,
+    thread: u16,
+    points: &[Point],
+    budget: u32,
+) -> Result<Option<Stop>, AllocError>
+    requires { world.old.end ≡ None }
+    ensures { (place : PlaceOf) → points.now ≡ all_points world.old.trees place
+        → IfOk result (λ stop. DoesDeed stop (Until thread place) budget world.old world.new) }
+{
+    match go_on(world, thread, points, budget)? {
+        Some(why) => Ok(Some(stop_of(why, Event { thread, pick: 0 }))),
+        None => Ok(None),
+    }
 }
 
 /// Does what a word says. Returns why not all of it was done, where it wasn't.
-fn follow_deed(alloc: Global, world: &mut World, deed: &Deed) -> Result<Option<Stop>, AllocError>
+fn follow_deed(
+    alloc: Global,
+    world: &mut World,
+    deed: &Deed,
+    budget: u32,
+) -> Result<Option<Stop>, AllocError>
     requires on { world.old.end ≡ None }
     requires fits { Fits deed.now }
-    ensures { IfOk result (λ stop. DoesDeed stop (deed_of deed.now) world.old world.new) }
+    ensures { IfOk result (λ stop. DoesDeed stop (deed_of deed.now) budget world.old world.new) }
 {
     match deed {
         Deed::Entry(entry) => follow_entry(world, *entry),
         Deed::Until(thread, place) => {
             let points = points_of(alloc, world.verified().linked(), place)?;
-            match go_on(world, *thread, points.as_slice())? {
-                Some(why) => Ok(Some(stop_of(
-                    why,
-                    Event {
-                        thread: *thread,
-                        pick: 0,
-                    },
-                    Stop::Place,
-                ))),
-                None => Ok(None),
-            }
+            follow_place(world, *thread, points.as_slice(), budget)
         }
     }
 }
@@ -81,13 +96,14 @@ pub(crate) fn follow(
     alloc: Global,
     world: &mut World,
     deeds: &[PlacedDeed],
+    budget: u32,
 ) -> Result<Stop, AllocError>
     requires on { world.old.end ≡ None }
     requires none { world.old.events ≡ [] }
-    ensures { IfOk result (λ stop. FollowsDeeds stop (deeds_of deeds.now) world.old world.new) }
+    ensures { IfOk result (λ stop. FollowsDeeds stop (deeds_of deeds.now) budget world.old world.new) }
 {
     'deeds: for placed in deeds {
-        if let Some(stop) = follow_deed(alloc, world, &placed.deed)? {
+        if let Some(stop) = follow_deed(alloc, world, &placed.deed, budget)? {
             return Ok(stop);
         }
     }

@@ -25,18 +25,24 @@ pub(crate) fn unless_memory(why: Stopped) -> Result<Stopped, AllocError>
 }
 
 /// Does events of a thread, at least one, which pick nothing, until its next bytecode is at one of these points.
-/// Returns why that wasn't reached, where it wasn't: `Most` where the budget is used up. The only error is a want of
-/// memory.
+/// Returns why that wasn't reached, where it wasn't: `Most` where the budget is used up, or all that the world has. The
+/// only error is a want of memory.
 pub(crate) fn go_on(
     world: &mut World,
     thread: u16,
     points: &[Point],
+    budget: u32,
 ) -> Result<Option<Stopped>, AllocError>
     requires { world.old.end ≡ None }
     ensures { (place : PlaceOf) → points.now ≡ all_points world.old.trees place
-        → IfOk result (λ why. GoesOn why thread place world.old world.new) }
+        → IfOk result (λ why. GoesOn why thread place budget world.old world.new) }
 {
     'events: loop {
+        // what is known of the world
+        let _ = world.end();
+        if budget <= world.count() {
+            return Ok(Some(Stopped::Most));
+        }
         let (done, why) = world.repeat(Event { thread, pick: 0 }, 1)?;
         if done == 0 {
             return Ok(Some(unless_memory(why)?));

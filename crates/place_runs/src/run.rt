@@ -38,8 +38,8 @@ fn with_last(mut events: RecordedEvents, stop: Stop) -> Result<RecordedEvents, A
     Ok(events)
 }
 
-/// The events of a schedule with places, over class files that are accepted, under limits, and at most so many. The
-/// only error is a want of memory.
+/// The events of a schedule with places, over class files that are accepted, under limits. A place gives up once so many
+/// events are done. The only error is a want of memory.
 pub fn follow_deeds(
     alloc: Global,
     verified: Arc<Verified>,
@@ -51,8 +51,8 @@ pub fn follow_deeds(
     requires { IsProgramOf (arc_value verified) (arc_value program) }
     ensures { IfOk result (AreEventsOf (arc_value verified) limits budget (deeds_of deeds.now)) }
 {
-    let mut world = World::open_linked(alloc, verified, program, limits, budget)?;
-    let stop = follow(alloc, &mut world, deeds)?;
+    let mut world = World::open_linked(alloc, verified, program, limits, u32::MAX)?;
+    let stop = follow(alloc, &mut world, deeds, budget)?;
     let events = with_last(world.into_events(), stop)?;
     Ok(Followed {
         schedule: events.into_schedule(),

@@ -37,7 +37,7 @@ fn offset_of(program: &LinkedProgram, method: u32, place: usize) -> u16
 }
 
 /// Whether an offset of a method is one of these points.
-fn has_point(points: &[Point], method: u32, offset: u16) -> bool
+pub(crate) fn has_point(points: &[Point], method: u32, offset: u16) -> bool
     ensures { result ≡ has points.now method offset }
 {
     'points: for at in 0..points.len() {
@@ -68,6 +68,20 @@ fn stack_of(shared: &Shared, thread: u16) -> Option<&ThreadStack>
     ensures { option_map (λ s. s.now) result ≡ slice_get shared.now.stacks.items thread }
 {
     shared.stacks.get(usize::from(thread))
+}
+
+/// Where the next bytecode of a thread is; none where it doesn't run, an exception is pending, or no frame is on top.
+pub(crate) fn point_of(machine: &Machine, thread: u16) -> Option<Point> {
+    let shared = machine.shared();
+    let stack = stack_of(shared, thread)?;
+    if !goes_on(&shared.threads, thread) {
+        return None;
+    }
+    let frame = stack.frame()?;
+    Some(Point {
+        method: frame.method,
+        offset: offset_of(machine.program(), frame.method, frame.place),
+    })
 }
 
 /// Whether the next bytecode of a thread is at one of these points: the thread runs, with no exception pending, and the

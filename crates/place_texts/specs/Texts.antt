@@ -1,7 +1,6 @@
 -- Texts with places (own): the words of such a text are entries, and places behind the thread that goes on.
-use Rattle.std.specs.Prelude.{◌≡◌, ◌<◌, ◌^◌, ℕ, List, [], ◌∷◌, ◌++◌, Option, None, codes, decimal, map, unwrap_or}
-use Rattle.model.specs.declared.event.ScheduleEntry.{ScheduleEntry}
-use Rattle.schedule.specs.schedule_text.Text.{SpellsSchedule, text_words}
+use Rattle.std.specs.Prelude.{◌≡◌, ℕ, List, [], ◌∷◌, ◌++◌, None, decimal, unwrap_or}
+use Rattle.schedule.specs.schedule_text.Text.{SpellsSchedule}
 use Rattle.place_texts.specs.declared.place.Position.{Position}
 use Rattle.place_texts.specs.declared.place.Position.TheVariants as position
 use Rattle.place_texts.specs.Fitting.{once}

@@ -93,7 +93,7 @@ fn replayed<'a, F: Folder, W: Sink>(
         (W.contents output.new) fault)) }
     ensures told { TellsFailures (FolderMayFail F.may_fail) result (W.failures output.old) (W.failures output.new) }
 {
-    let mut schedule = schedule_source(folder, options.schedule.as_str());
+    let mut schedule = schedule_source(alloc, folder, options.schedule.as_str());
     let mut sources = sources(alloc, folder, files)?;
     replay_engine(
         alloc,
@@ -112,6 +112,7 @@ fn conditions_of(options: &Replay, given: usize) -> Conditions
         limits: options.limits,
         any_files: options.any_files,
         given,
+        budget: options.budget(),
     }
 }
 
@@ -176,7 +177,7 @@ fn continued<'a, F: Folder, W: Sink>(
         (option_map vec_items file.new) fault)) }
     ensures told { TellsFailures (FolderMayFail F.may_fail) result (W.failures output.old) (W.failures output.new) }
 {
-    let mut schedule = schedule_source(folder, options.schedule.as_str());
+    let mut schedule = schedule_source(alloc, folder, options.schedule.as_str());
     let mut sources = sources(alloc, folder, files)?;
     continue_engine(
         alloc,

@@ -121,6 +121,7 @@ fn conditions_of(options: &Run, given: usize) -> Conditions {
         limits: options.limits,
         any_files: false,
         given,
+        budget: 10_000_000,
     }
 }
 

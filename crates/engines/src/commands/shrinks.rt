@@ -176,7 +176,7 @@ fn shrunk_files<'a, F: Folder, W: Sink>(
         (option_map vec_items made.new.file) fault)) }
     ensures told { TellsFailures (FolderMayFail F.may_fail) result (W.failures output.old) (W.failures output.new) }
 {
-    let mut schedule = schedule_source(folder, options.schedule.as_str());
+    let mut schedule = schedule_source(alloc, folder, options.schedule.as_str());
     let mut sources = sources(alloc, folder, files)?;
     shrink_engine(
         alloc,
@@ -232,6 +232,7 @@ fn conditions_of(options: &Shrink, given: usize) -> Conditions
         limits: options.limits,
         any_files: options.any_files,
         given,
+        budget: options.budget(),
     }
 }
 
@@ -261,6 +262,7 @@ fn found_of(
 {
     let Opened {
         schedule,
+        gives_up: _,
         files,
         verified,
         limits,
@@ -282,7 +284,7 @@ fn found_of(
 /// hasn't got it.
 fn shrunk_over(
     alloc: Global,
-    verified: Verified,
+    verified: Arc<Verified>,
     limits: Limits,
     options: &Shrink,
     wanted: &Wanted,
@@ -292,7 +294,6 @@ fn shrunk_over(
         (Lacks (tries_of verified limits options.now wanted.now)) (events_of schedule.now)) }
 {
     let program = verified_program(alloc, &verified)?;
-    let verified = Arc::new(alloc, verified)?;
     shrunk_by(
         alloc, &verified, &program, limits, options, wanted, schedule,
     )

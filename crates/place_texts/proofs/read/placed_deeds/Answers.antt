@@ -1,5 +1,4 @@
-use Rattle.std.proofs.Common.{sym, subst}
-use Rattle.std.specs.Prelude.{IfSome}
+use Rattle.std.proofs.Common.{subst}
 use Rattle.place_texts.specs.Places.{deed_of}
 use Rattle.place_texts.specs.Texts.{SpellsDeed}
 use Rattle.place_texts.proofs.Spelled.{longer}

@@ -1,10 +1,7 @@
-use Rattle.std.proofs.Common.{◌≡◌, Bool, List, true, false, inr, ◌∙◌, sym, ap, subst}
+use Rattle.std.proofs.Common.{inr, ◌∙◌, sym, ap}
 use Rattle.std.specs.List.{list_any}
-use Rattle.schedule.specs.schedule_text.Text.{text_words}
 use Rattle.place_texts.specs.declared.words.TextWord.{TextWord}
-use Rattle.place_texts.specs.Places.{deeds_of}
-use Rattle.place_texts.specs.Reading.{is_marked, texts}
-use Rattle.place_texts.specs.Texts.{SpellDeeds}
+use Rattle.place_texts.specs.Reading.{is_marked}
 use Rattle.place_texts.proofs.Spelled.{marked_texts}
 use Rattle.place_texts.proofs.read.read_deeds.Goals as goal
 
@@ -18,7 +15,7 @@ returns-in-Ok-clause-marked c =
     sym c.if-not-has_place.false ∙ c.has_place.ensures ∙ ap (list_any (λ (w : TextWord). is_marked w.bytes.items)) c.as_slice.ensures.value ∙ marked_texts c.in_ok-words.words.items
     ∙ ap (list_any is_marked) c.in_ok-words.ensures
 
-pub returns-in-Err-clause-refused : goal.returns-in-Err-clause-refused
-returns-in-Err-clause-refused c =
+pub returns-clause-refused : goal.returns-clause-refused
+returns-clause-refused c =
     inr (sym (ap (list_any is_marked) c.in_ok-words.ensures) ∙ sym (marked_texts c.in_ok-words.words.items) ∙ ap (list_any (λ (w : TextWord). is_marked w.bytes.items)) (sym c.as_slice.ensures.value)
     ∙ sym c.has_place.ensures ∙ c.if-not-has_place.false)

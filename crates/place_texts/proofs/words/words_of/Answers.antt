@@ -1,5 +1,4 @@
-use Rattle.std.proofs.Common.{◌≡◌, ◌≤◌, ◌<◌, ◌+◌, ℕ, List, [], drop, length, arith}
-use Rattle.std.proofs.Math.Seq.{drop-length}
+use Rattle.std.proofs.Common.{drop}
 use Rattle.schedule.specs.schedule_text.Text.{text_words}
 use Rattle.place_texts.specs.Reading.{texts}
 use Rattle.place_texts.proofs.Bytes.{all_read, none_left}
