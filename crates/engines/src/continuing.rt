@@ -1,11 +1,12 @@
 //! A replay that goes on where its schedule ends, over any readers and writers.
 
-ghost use Rattle.std.specs.Prelude.{◌≡◌, ◌+◌, ◌⊎◌, IfOk, IfErr, IsTrue, is_some, map, sum_by, unwrap_or, vec_items};
+ghost use Rattle.std.specs.Prelude.{◌≡◌, ◌+◌, ◌&&◌, ◌⊎◌, ◌<◌, ◌≤◌, ℕ, length, nat_le, IfOk, IfErr, IsTrue, is_some, map, sum_by, unwrap_or, vec_items};
 ghost use Rattle.std.specs.Option.{option_map};
 ghost use Rattle.std.specs.Io.KnownBytes.{Appends};
+ghost use Rattle.std.specs.Arc.{arc_value};
 ghost use Rattle.model.specs.Accepted.{IsAccepted};
 ghost use Rattle.model.specs.Schedule.{events_of};
-ghost use Rattle.engines.specs.Continuations.{Continues, IsContinued, IsUncontinued};
+ghost use Rattle.engines.specs.Continuations.{Continues, IsContinued, IsGivenUp, IsUncontinued};
 ghost use Rattle.engines.specs.Engines.{CountsFailure};
 ghost use Rattle.engines.specs.Opening.{IsAfterFiles, IsOfSchedule, IsOpened};
 
@@ -78,7 +79,9 @@ pub fn continue_engine<S: Source, W: Sink>(
 }
 
 /// Whether a schedule gives up at a place before the budget ends the run.
-fn gives_up_within(opened: &Opened, budget: u32) -> bool {
+fn gives_up_within(opened: &Opened, budget: u32) -> bool
+    ensures { result ≡ (opened.now.gives_up && nat_le (length (events_of opened.now.schedule)) budget) }
+{
     opened.gives_up && opened.schedule.count() <= u64::from(budget)
 }
 
@@ -88,7 +91,17 @@ fn ran_up_to(
     opened: &Opened,
     given: usize,
     is_recorded: bool,
-) -> Result<Outcome, AllocError> {
+) -> Result<Outcome, AllocError>
+    requires { IsAccepted (map vec_items opened.now.files.items) (arc_value opened.now.verified) }
+    ensures run { IfOk result (λ ran. (bytes : _) (options : _) (budget : ℕ)
+        → options.given ≡ given
+        → IsOpened bytes (map vec_items opened.now.files.items) options (arc_value opened.now.verified)
+        (events_of opened.now.schedule) opened.now.limits true
+        → length (events_of opened.now.schedule) ≤ budget
+        → IsGivenUp bytes (map vec_items opened.now.files.items) options budget ran.text.items
+        (option_map vec_items ran.file) ran.status) }
+    ensures asked { IfOk result (λ ran. IsTrue is_recorded → IsTrue (is_some ran.file)) }
+{
     let (report, end) = replay(alloc, &opened.verified, &opened.schedule, opened.limits)?;
     let (text, status) = told(alloc, &report, end, true)?;
     let file = recorded_file(
@@ -113,10 +126,11 @@ fn ran_on(
     budget: u32,
     is_recorded: bool,
 ) -> Result<Outcome, AllocError>
-    requires { IsAccepted (map vec_items files.now) verified }
-    ensures run { IfOk result (λ ran. (bytes : _) (options : _)
+    requires { IsAccepted (map vec_items files.now) (arc_value verified) }
+    ensures run { IfOk result (λ ran. (bytes : _) (options : _) (gives_up : _)
         → options.given ≡ given
-        → IsOpened bytes (map vec_items files.now) options verified (events_of schedule.now) limits
+        → IsOpened bytes (map vec_items files.now) options (arc_value verified) (events_of schedule.now) limits gives_up
+        → (IsTrue gives_up → budget < length (events_of schedule.now))
         → IsContinued bytes (map vec_items files.now) options budget ran.text.items
         (option_map vec_items ran.file) ran.status) }
     ensures asked { IfOk result (λ ran. IsTrue is_recorded → IsTrue (is_some ran.file)) }

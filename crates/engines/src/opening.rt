@@ -1,6 +1,7 @@
 //! What a replay begins with.
 
 ghost use Rattle.std.specs.Prelude.{◌≡◌, ◌+◌, ◌⊎◌, IfOk, IfErr, map, sum_by, vec_items};
+ghost use Rattle.std.specs.Arc.{arc_value};
 ghost use Rattle.model.specs.Schedule.{events_of};
 ghost use Rattle.schedule.specs.schedule_text.Either.{GivesEntries, GivesEvents};
 ghost use Rattle.engines.specs.Engines.{CountsFailure, Reads, ReadsEach};
@@ -40,8 +41,8 @@ pub(crate) fn open<S: Source>(
 ) -> Result<Opened, Fault>
     ensures opened { IfOk result (λ opened. (bytes : _) × Reads (S.remaining schedule.old) bytes
         × ReadsEach (map S.remaining files.old) (map vec_items opened.files.items)
-        × IsOpened bytes (map vec_items opened.files.items) conditions.now opened.verified
-        (events_of opened.schedule) opened.limits) }
+        × IsOpened bytes (map vec_items opened.files.items) conditions.now (arc_value opened.verified)
+        (events_of opened.schedule) opened.limits opened.gives_up) }
     ensures kept { IfErr result (IsKeptBy (S.remaining schedule.old) (map S.remaining files.old) conditions.now) }
     ensures schedule_first { IfErr result (λ fault. IsOfSchedule fault → (files.new ≡ files.old)
         ⊎ IsAfterFiles (S.remaining schedule.old) (map S.remaining files.old) conditions.now fault) }

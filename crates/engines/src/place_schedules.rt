@@ -1,5 +1,14 @@
 //! Schedules with places, as they are given to be run.
 
+ghost use Rattle.std.specs.Prelude.{◌≡◌, ◌⊎◌, IfErr, IfOk};
+ghost use Rattle.std.specs.Arc.{arc_value};
+ghost use Rattle.model.specs.Schedule.{events_of};
+ghost use Rattle.engines.specs.Engines.{CountsFailure, Reads};
+ghost use Rattle.place_texts.specs.Places.{deeds_of, place_of};
+ghost use Rattle.place_texts.specs.Texts.{place_words};
+ghost use Rattle.engines.specs.declared.place_schedules.Words.TheVariants.{Places};
+ghost use Rattle.engines.specs.PlaceWords.{IsMissingIn, IsUnreadWords, SpellsWords, WordsGive};
+
 use crate::fault::Fault;
 use code_places::{PlaceFault, missing};
 use linker::Linked;
@@ -39,7 +48,12 @@ pub struct MissingPlace {
 pub(crate) fn read_words<S: Source>(
     alloc: Global,
     file: &mut S,
-) -> Result<(Words, Option<Recording>), Fault> {
+) -> Result<(Words, Option<Recording>), Fault>
+    ensures read { IfOk result (λ read. (bytes : _) × Reads (S.remaining file.old) bytes
+        × SpellsWords bytes read.1 read.0) }
+    ensures kept { IfErr result (IsUnreadWords (S.remaining file.old)) }
+    ensures counted { CountsFailure result (S.failures file.old) (S.failures file.new) }
+{
     match file.read_all(alloc) {
         Ok(bytes) => words_of(alloc, bytes.as_slice()),
         Err(DeviceFault::Device) => Err(Fault::Device),
@@ -51,7 +65,9 @@ pub(crate) fn read_words<S: Source>(
 pub(crate) fn words_of(
     alloc: Global,
     bytes: &[u8],
-) -> Result<(Words, Option<Recording>), Fault> {
+) -> Result<(Words, Option<Recording>), Fault>
+    ensures { IfOk result (λ read. SpellsWords bytes.now read.1 read.0) }
+{
     match read_either(alloc, bytes) {
         Ok((schedule, recorded)) => Ok((Words::Entries(schedule), recorded)),
         Err(EitherFault::File(fault)) => Err(Fault::Schedule(fault)),
@@ -74,7 +90,10 @@ fn missing_place(
     place: &Place,
     fault: PlaceFault,
     line: u64,
-) -> Result<MissingPlace, AllocError> {
+) -> Result<MissingPlace, AllocError>
+    ensures { IfOk result (λ missing. (missing.fault ≡ fault) × (missing.line ≡ line)
+        × (missing.words.items ≡ place_words (place_of place.now))) }
+{
     let words = place_text(alloc, place)?;
     Ok(MissingPlace { fault, line, words })
 }
@@ -91,7 +110,9 @@ fn check_place(alloc: Global, linked: &Linked, placed: &PlacedDeed) -> Result<()
 }
 
 /// Whether all places of words are there; else the first that isn't.
-fn check_places(alloc: Global, linked: &Linked, deeds: &[PlacedDeed]) -> Result<(), Fault> {
+fn check_places(alloc: Global, linked: &Linked, deeds: &[PlacedDeed]) -> Result<(), Fault>
+    ensures { IfErr result (IsMissingIn linked.now (deeds_of deeds.now)) }
+{
     'deeds: for placed in deeds {
         check_place(alloc, linked, placed)?;
     }
@@ -105,7 +126,12 @@ pub(crate) fn followed(
     verified: &Arc<Verified>,
     limits: Limits,
     budget: u32,
-) -> Result<Followed, Fault> {
+) -> Result<Followed, Fault>
+    ensures gives { IfOk result (λ f. WordsGive words (arc_value verified.now) limits budget
+        (events_of f.schedule) f.gives_up) }
+    ensures missing { IfErr result (λ fault. (deeds : _) → words ≡ Places deeds
+        → IsMissingIn (arc_value verified.now) (deeds_of deeds.items) fault) }
+{
     let deeds = match words {
         Words::Entries(schedule) => {
             return Ok(Followed {

@@ -88,7 +88,7 @@ fn traced<'a, F: Folder, W: Sink>(
 
 /// Under what the schedule is to run.
 fn conditions_of(options: &Trace, given: usize) -> Conditions
-    ensures { result ≡ conditions_of options.now.limits options.now.any_files given }
+    ensures { result ≡ conditions_of options.now.limits options.now.any_files given 10000000 }
 {
     Conditions {
         limits: options.limits,

@@ -226,7 +226,7 @@ pub(crate) fn shrink_engine<S: Source, W: Sink>(
 
 /// Under what the schedule is to run.
 fn conditions_of(options: &Shrink, given: usize) -> Conditions
-    ensures { result ≡ conditions_of options.now.limits options.now.any_files given }
+    ensures { result ≡ conditions_of options.now.limits options.now.any_files given (unwrap_or options.now.budget 10000000) }
 {
     Conditions {
         limits: options.limits,
@@ -252,11 +252,11 @@ fn found_of(
     options: &Shrink,
     wanted: &Wanted,
 ) -> Result<Found, AllocError>
-    requires { IsAccepted (map vec_items opened.files.items) opened.verified }
+    requires { IsAccepted (map vec_items opened.files.items) (arc_value opened.verified) }
     ensures { IfOk result (λ found. (bytes : _)
         → IsOpened bytes (map vec_items opened.files.items)
-        (conditions_of options.now.limits options.now.any_files given) opened.verified (events_of opened.schedule)
-        opened.limits
+        (conditions_of options.now.limits options.now.any_files given (unwrap_or options.now.budget 10000000)) (arc_value opened.verified)
+        (events_of opened.schedule) opened.limits opened.gives_up
         → IsShrunkOf bytes given (map vec_items opened.files.items) options.now wanted.now found.text.items
         (option_map vec_items found.made.file) found.status) }
 {
@@ -290,8 +290,8 @@ fn shrunk_over(
     wanted: &Wanted,
     schedule: &Schedule,
 ) -> Result<Option<Schedule>, AllocError>
-    ensures { IfOk result (IsShrunk (Has (tries_of verified limits options.now wanted.now))
-        (Lacks (tries_of verified limits options.now wanted.now)) (events_of schedule.now)) }
+    ensures { IfOk result (IsShrunk (Has (tries_of (arc_value verified) limits options.now wanted.now))
+        (Lacks (tries_of (arc_value verified) limits options.now wanted.now)) (events_of schedule.now)) }
 {
     let program = verified_program(alloc, &verified)?;
     shrunk_by(
