@@ -1,19 +1,20 @@
 #!/usr/bin/env python3
 """Measures `jvm search` on small programs that race, or that wait for each other.
 
-    bench/races.py [--program PROGRAM] [--states N] [NAME..]
+    bench/races.py [--program PROGRAM] [--states N] [--library] [NAME..]
 
 PROGRAM is the built program [default: crates/jvm/out/jvm, which `rt run` leaves]. A line is printed for each NAME
 [default: all of them]: what the search answers, how many outcomes it lists, how many states it met, at most N [default:
 a million], the seconds of the processor, and the peak of its memory. The sources are those of `lessons/`, `programs/`
-and `bench/races/`; they are compiled by `tools/java-classes`, so a JDK that knows `--release 8` has to be there.
+and `bench/races/`, and with --library those of `library/programs` and `library/tests/searched`, by the names of their
+classes. They are compiled by `tools/java-classes`, so a JDK that knows `--release 8` has to be there.
 """
 
 import argparse
 import pathlib
 import sys
 import tempfile
-from typing import List, Tuple
+from typing import Dict, List, Tuple
 
 sys.dont_write_bytecode = True
 sys.path.insert(0, str(pathlib.Path(__file__).resolve().parent.parent))
@@ -40,6 +41,15 @@ RACES = {
 }
 
 
+LIBRARY = ("library/programs", "library/tests/searched")
+
+
+def programs_of_library() -> Dict[str, str]:
+    """The sources of the library's programs for several threads, by name."""
+    found = (path for folder in LIBRARY for path in sorted((ROOT / folder).glob("*.java")))
+    return {path.stem: str(path.relative_to(ROOT)) for path in found}
+
+
 def searched(program: PathLike, states: int, source: str, folder: str) -> Tuple[List[str], float, int]:
     """What a search prints, the seconds of the processor and the megabytes that it took."""
     ran = measured([program, "search", "--states", states, *compiled([ROOT / source], folder)])
@@ -55,11 +65,15 @@ def main() -> None:
     parser = argparse.ArgumentParser(description=__doc__, formatter_class=argparse.RawDescriptionHelpFormatter)
     parser.add_argument("--program", type=pathlib.Path, default=JVM)
     parser.add_argument("--states", type=int, default=1_000_000)
-    parser.add_argument("names", nargs="*", metavar="NAME", choices=[*RACES, []])
+    parser.add_argument("--library", action="store_true")
+    parser.add_argument("names", nargs="*", metavar="NAME")
     words = parser.parse_args()
-    for name in words.names or RACES:
+    sources = programs_of_library() if words.library else RACES
+    for name in words.names or sources:
+        if name not in sources:
+            parser.error(f"there is no program {name}")
         with tempfile.TemporaryDirectory() as folder:
-            printed, seconds, megabytes = searched(words.program, words.states, RACES[name], folder)
+            printed, seconds, megabytes = searched(words.program, words.states, sources[name], folder)
         answer = printed[-1].removeprefix("search ")
         numbers = f"{count(printed, 'outcomes')} outcomes, {count(printed, 'states')} states"
         print(f"{name}: {answer}, {numbers}, {seconds:.2f} s, {megabytes} MB")

@@ -15,6 +15,8 @@ single    programs of one thread with objects, calls, locks and exceptions: quan
 record    the same, with `--record` over without
 counted   the programs of `local` and `single` by the instructions of the processor for an event, which no other work on
           the machine changes; valgrind has to be there. N doesn't count
+policies  sixteen programs, those of bench/java/whole: the run of a seed, N seeds from 1 on, over quantum 1000; and
+          quantum 1000 over `java -Xint`, each less its start: sums of the processor's seconds, one after the other
 threads   a counter under a lock and a ring of four threads: 1, 2 and 4 workers with quantum 1 and with quantum 1000, as
           nanoseconds of an event by the clock, next to the processor time of `java -Xint` for a call
 """
@@ -23,6 +25,7 @@ import argparse
 import os
 import pathlib
 import re
+import statistics
 import subprocess
 import sys
 import tempfile
@@ -202,7 +205,43 @@ def threads(program: pathlib.Path, times: int) -> None:
                     print(threaded(runs, name, java, workers, quantum, times), flush=True)
 
 
-MEASURES = {"local": local, "single": single, "counted": counted, "threads": threads}
+def seconds_of(command: Command, folder: pathlib.Path) -> float:
+    return ran(command, folder)[0]
+
+
+def ratios(program: pathlib.Path, source: pathlib.Path, times: int) -> Tuple[float, float]:
+    """How long the runs of seeds take over those of quantum 1000, and these over `java -Xint`."""
+    with tempfile.TemporaryDirectory() as temporary:
+        folder = pathlib.Path(temporary)
+        files = [path.name for path in compiled([source], folder)]
+        (folder / "Empty.java").write_text("class Empty { public static void main(String[] words) { } }", "ascii")
+        compiled([folder / "Empty.java"], folder)
+        java = ["java", "-Xint", "-XX:+UseSerialGC", "-cp", "."]
+        sums = [0.0] * 5
+        for seed in range(1, times + 1):
+            commands: List[Command] = [
+                [program, "run", "--seed", seed, *files],
+                [program, "run", "--quantum", 1000, *files],
+                [program, "run", "--budget", 1, "--seed", seed, *files],
+                [*java, source.stem],
+                [*java, "Empty"],
+            ]
+            sums = [old + seconds_of(command, folder) for old, command in zip(sums, commands)]
+    seeds, quantum, start, on_java, java_start = sums
+    return (seeds - start) / (quantum - start), (quantum - start) / (on_java - java_start)
+
+
+def policies(program: pathlib.Path, times: int) -> None:
+    found = []
+    for source in sorted((ROOT / "bench/java/whole").glob("*.java")):
+        over_quantum, over_java = ratios(program, source, times)
+        found.append((over_quantum, over_java))
+        print(f"policies {source.stem}: seeds {over_quantum:.2f} times quantum 1000, that {over_java:.2f} times java")
+    means = [statistics.geometric_mean(column) for column in zip(*found)]
+    print(f"policies, geometric mean: seeds {means[0]:.2f} times quantum 1000, that {means[1]:.2f} times java")
+
+
+MEASURES = {"local": local, "single": single, "counted": counted, "policies": policies, "threads": threads}
 
 
 def main() -> None:

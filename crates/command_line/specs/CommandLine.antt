@@ -118,14 +118,15 @@ with_main app = with_rule (with_limits app) main_option
 abbrev pub with_program : App → App
 with_program app = with_rule (with_main app) alone_flag
 
--- how many workers, how many events in all and in a row, and by which seed and policy
+-- how many workers, how many events in all and in a row, by which seed and policy, and in how many seconds
 abbrev pub with_run_options : App → App
-with_run_options app = with_rule (with_rule (with_rule (with_rule (with_rule app
+with_run_options app = with_rule (with_rule (with_rule (with_rule (with_rule (with_rule app
     (number_option (codes "workers") 1 64))
     (number_option (codes "budget") 0 4294967295))
     (number_option (codes "quantum") 1 4294967295))
     (number_option (codes "seed") 0 18446744073709551615))
-    (path_option (codes "policy"))
+    (path_option (codes "policy")))
+    (number_option (codes "seconds") 1 4294967295)
 
 -- over which seeds, and which outcome is to be found
 abbrev pub with_sweep_options : App → App
@@ -166,12 +167,13 @@ with_form app = with_rule (with_rule (with_rule app (flag (codes "columns"))) (f
 abbrev pub jvm_trace : App
 jvm_trace = with_files (with_program (with_form (with_window (with_schedule (new_app (codes "trace")))))) class_files
 
--- which outcome is to be found, among how many states, in how much memory, and where its schedule is recorded
+-- which outcome is to be found, among how many states, in how much memory and how many seconds, and where its schedule is recorded
 abbrev pub with_search_options : App → App
-with_search_options app = with_rule (with_rule (with_rule (with_rule app
+with_search_options app = with_rule (with_rule (with_rule (with_rule (with_rule app
     goal_option)
     (number_option (codes "states") 0 4294967295))
     (number_option (codes "memory") 0 4294967295))
+    (number_option (codes "seconds") 1 4294967295))
     record_option
 
 abbrev pub jvm_search : App
@@ -259,6 +261,7 @@ pub record AreRunNumbers (rows : List Row) (options : RunOptions) : Type 0 where
 -- the values that the words give to `jvm run`
 pub record AreRunValues (rows : List Row) (run : Run) : Type 0 where
   pub options : AreRunNumbers rows run.options
+  pub seconds : IsNumber 1 4294967295 (first_of (codes "seconds") rows) run.seconds
   pub sweep : IsSweep rows run.sweep
   pub recording : first_of (codes "record") rows ≡ option_map string_bytes run.record
   pub limits : AreLimitNumbers rows run.limits
@@ -321,6 +324,7 @@ pub record AreSearchValues (rows : List Row) (search : Search) : Type 0 where
   pub goal : IsGoal (first_of (codes "for") rows) search.goal
   pub states : IsNumber 0 4294967295 (first_of (codes "states") rows) search.states
   pub memory : IsNumber 0 4294967295 (first_of (codes "memory") rows) search.memory
+  pub seconds : IsNumber 1 4294967295 (first_of (codes "seconds") rows) search.seconds
   pub recording : first_of (codes "record") rows ≡ option_map string_bytes search.record
   pub limits : AreLimitNumbers rows search.limits
   pub main : first_of (codes "main") rows ≡ option_map string_bytes search.main

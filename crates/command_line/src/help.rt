@@ -55,6 +55,8 @@ What it does:
   stand is listed once, with how many runs show it and the first seed. --for ends
   the sweep at the first seed that shows an outcome: deadlock, uncaught,
   output=NUMBERS (what is printed, with commas), or differs=FILE (another text).
+  With --seconds the run ends behind so many, or the sweep behind the run that it
+  is at, and says so: `end seconds`, `sweep gave up: seconds`.
 
 Statuses:
   0  all threads have ended; or a run for each seed is done
@@ -62,7 +64,7 @@ Statuses:
   2  a class file is refused
   3  an event was refused for a limit, or memory was missing
   4  nothing can go on, and a thread hasn't ended
-  5  the budget is used up, and a thread can go on
+  5  the budget or the time is used up, and a thread can go on; or a sweep gave up
   6  the command is wrong, or a file can't be read, or the output not written
 
 Examples:
@@ -128,7 +130,8 @@ Statuses:
   1  a run was found that --for asks for
   2  a class file is refused
   3  memory was missing
-  5  the search gave up: too many states, too much memory, or a limit of a run
+  5  the search gave up: too many states, too much memory or time, or a limit of a
+     run
   6  the command is wrong, or a file can't be read, or the output not written
 
 Example:

@@ -36,6 +36,13 @@ pub(crate) const BUDGET: NumberOption = NumberOption {
     help: "How many events there may be [default: 4294967295]",
 };
 
+pub(crate) const SECONDS: NumberOption = NumberOption {
+    name: "seconds",
+    least: 1,
+    most: u32::MAX,
+    help: "How many seconds it may take",
+};
+
 pub(crate) const WHOLE_BUDGET: NumberOption = NumberOption {
     name: "budget",
     least: 0,

@@ -34,6 +34,8 @@ const USUAL_MEMORY: u32 = 1_000_000_000;
 #[derive(Drop)]
 pub struct Run {
     pub options: RunOptions,
+    /// How many seconds the run may take, or the runs together, and `None` where it takes as many as it takes.
+    pub seconds: Option<u32>,
     /// A run for each of some seeds, where these are asked for.
     pub sweep: Option<SweepOptions>,
     /// The path of the file that the schedule of the run is written to, if any.
@@ -124,6 +126,8 @@ pub struct Search {
     pub states: Option<u32>,
     /// How many bytes the states that are kept may take, and `None` for the usual number.
     pub memory: Option<u32>,
+    /// How many seconds the search may take, and `None` where it takes as many as it takes.
+    pub seconds: Option<u32>,
     /// The path of the file that the schedule that is found is written to, if any.
     pub record: Option<String>,
     pub limits: LimitOptions,

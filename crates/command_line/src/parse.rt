@@ -9,8 +9,8 @@ ghost use Rattle.command_line.specs.Goals.{IsGoal};
 
 use crate::goal::goal_by;
 use crate::numbers::{
-    AS_VERSION, BUDGET, CELLS, FRAMES, FROM, MEMORY, MONITORS, OBJECTS, ONLY, QUANTUM, STATES,
-    THREADS, TO, WHOLE_BUDGET, WORKERS, negative_number,
+    AS_VERSION, BUDGET, CELLS, FRAMES, FROM, MEMORY, MONITORS, OBJECTS, ONLY, QUANTUM, SECONDS,
+    STATES, THREADS, TO, WHOLE_BUDGET, WORKERS, negative_number,
 };
 use crate::options;
 use crate::options::{
@@ -122,6 +122,7 @@ fn run_of(alloc: Global, matches: &ArgMatches<'_>) -> Result<Run, Usage>
         → AreRunValues (rows_of (found_of matches.now)) run → ⊥)) }
 {
     let options = run_options_of(alloc, matches)?;
+    let seconds = SECONDS.number(alloc, matches)?;
     let sweep = sweep_of(alloc, matches)?;
     let record = path_of(alloc, matches, "record")?;
     let limits = limits_of(alloc, matches)?;
@@ -130,6 +131,7 @@ fn run_of(alloc: Global, matches: &ArgMatches<'_>) -> Result<Run, Usage>
     check_files(alloc, matches, &files)?;
     Ok(Run {
         options,
+        seconds,
         sweep,
         record,
         limits,
@@ -206,6 +208,7 @@ fn search_of(alloc: Global, matches: &ArgMatches<'_>) -> Result<Search, Usage>
     let goal = goal_of(alloc, matches)?;
     let states = STATES.number(alloc, matches)?;
     let memory = MEMORY.number(alloc, matches)?;
+    let seconds = SECONDS.number(alloc, matches)?;
     let record = path_of(alloc, matches, "record")?;
     let limits = limits_of(alloc, matches)?;
     let main = path_of(alloc, matches, "main")?;
@@ -216,6 +219,7 @@ fn search_of(alloc: Global, matches: &ArgMatches<'_>) -> Result<Search, Usage>
         goal,
         states,
         memory,
+        seconds,
         record,
         limits,
         main,

@@ -10,8 +10,8 @@ use crate::help::{
     SEARCH_PAGE, SHRINK_PAGE, TRACE_PAGE, VERIFY_PAGE, VERSION,
 };
 use crate::numbers::{
-    AS_VERSION, BUDGET, CELLS, FRAMES, FROM, MEMORY, MONITORS, OBJECTS, ONLY, QUANTUM, STATES,
-    THREADS, TO, WHOLE_BUDGET, WORKERS,
+    AS_VERSION, BUDGET, CELLS, FRAMES, FROM, MEMORY, MONITORS, OBJECTS, ONLY, QUANTUM, SECONDS,
+    STATES, THREADS, TO, WHOLE_BUDGET, WORKERS,
 };
 use crate::run_arguments::{policy_argument, seed_argument};
 use crate::sweep_arguments::seeds_argument;
@@ -77,6 +77,7 @@ fn run_parser<'a>(alloc: Global) -> Result<clap::Command<'a>, AllocError>
     .arg(QUANTUM.argument(alloc))?
     .arg(seed_argument(alloc))?
     .arg(policy_argument(alloc))?
+    .arg(SECONDS.argument(alloc))?
     .arg(seeds_argument(alloc))?
     .arg(goal_argument(alloc))?
     .arg(record_argument(alloc))?;
@@ -152,6 +153,7 @@ fn search_parser<'a>(alloc: Global) -> Result<clap::Command<'a>, AllocError>
     .arg(goal_argument(alloc))?
     .arg(STATES.argument(alloc))?
     .arg(MEMORY.argument(alloc))?
+    .arg(SECONDS.argument(alloc))?
     .arg(record_argument(alloc))?;
     with_files(
         alloc,

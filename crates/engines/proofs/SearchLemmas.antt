@@ -18,10 +18,10 @@ use Rattle.engines.specs.Searches.{IsFileOf, IsUnsearched, SearchesPart}
 use Rattle.engines.specs.declared.fault.Fault.{Fault}
 use Rattle.engines.specs.declared.fault.Fault.TheVariants as faults
 
-module _ (given : ℕ) (lefts : List (Option (List ℕ))) (asked : LimitOptions) (want : Wanted) (most : ℕ) (recorded : Bool) where
+module _ (given : ℕ) (lefts : List (Option (List ℕ))) (asked : LimitOptions) (want : Wanted) (may_stop : Bool) (most : ℕ) (recorded : Bool) where
   -- a class file isn't read, and nothing is written
   pub unread_is_unsearched : (fault : Fault) (held : Option (List ℕ)) (kept : Option (List ℕ)) (file : ℕ) → file < length lefts → IsOfFile file fault
-      → IsUnsearched given lefts asked want most recorded held held kept kept fault
+      → IsUnsearched given lefts asked want may_stop most recorded held held kept kept fault
   unread_is_unsearched faults.Device held kept file within of_file = inl (refl, refl)
   unread_is_unsearched faults.Memory held kept file within of_file = absurd of_file
   unread_is_unsearched (faults.Schedule fault) held kept file within of_file = absurd of_file
@@ -30,7 +30,7 @@ module _ (given : ℕ) (lefts : List (Option (List ℕ))) (asked : LimitOptions)
 
   -- the writing stops
   pub part_is_unsearched : (fault : DeviceFault) (old new : Option (List ℕ)) (kept made : Option (List ℕ))
-      → SearchesPart given lefts asked want most recorded old new kept made → IsUnsearched given lefts asked want most recorded old new kept made (fault_of fault)
+      → SearchesPart given lefts asked want may_stop most recorded old new kept made → IsUnsearched given lefts asked want may_stop most recorded old new kept made (fault_of fault)
   part_is_unsearched devices.Device old new kept made part = part
   part_is_unsearched devices.Memory old new kept made part = part
 

@@ -1,6 +1,6 @@
 -- Why class files are not swept, and what a sweep leaves.
-use Rattle.std.proofs.Common.{◌≡◌, ◌⊎◌, ℕ, ◌<◌, Bool, List, length, Option, Some, None, false, inl, inr, refl, subst, sym}
-use Rattle.std.specs.Prelude.{IfErr, IfOk, Result, Ok, Err}
+use Rattle.std.proofs.Common.{◌≡◌, ◌⊎◌, ℕ, ◌<◌, Bool, List, length, Option, Some, None, inl, inr, refl, subst, sym}
+use Rattle.std.specs.Prelude.{IfErr, IfOk, Result, Ok, Err, is_some}
 use Rattle.std.specs.Io.KnownBytes.{Appends}
 use Rattle.model.specs.declared.device.DeviceFault.{DeviceFault}
 use Rattle.model.specs.declared.device.DeviceFault.TheVariants as devices
@@ -36,33 +36,33 @@ module _ (lefts : List (Option (List ℕ))) (run : Run) (sweep : SweepOptions) (
 -- ---- what is left
 
 module _ (held : Held) (given : ℕ) (lefts : List (Option (List ℕ))) (run : Run) (sweep : SweepOptions) (is : run.sweep ≡ Some sweep) (old new : Option (List ℕ)) (result : Result Status Fault) where
-  done_by : (status : Status) → (want : Wanted) × (text : List ℕ) × IsAskedFor held sweep.goal want × SweepsOver lefts run sweep false want text status × Appends old new text
+  done_by : (status : Status) → (want : Wanted) × (text : List ℕ) × IsAskedFor held sweep.goal want × SweepsOver lefts run sweep (is_some run.seconds) want text status × Appends old new text
       → Leaves (IsRunDoneBy held given lefts run (Some sweep)) old new held held status
   done_by status (want, text, asked, sweeps, written) = (text, None, record { want = want; asked = asked; sweeps = sweeps; recorded = refl }, written, λ path. refl)
 
-  undone_by : (fault : Fault) → ((IsUnable fault × (new ≡ old)) ⊎ ((want : Wanted) × IsAskedFor held sweep.goal want × IsUnswept lefts run sweep false want old new fault))
+  undone_by : (fault : Fault) → ((IsUnable fault × (new ≡ old)) ⊎ ((want : Wanted) × IsAskedFor held sweep.goal want × IsUnswept lefts run sweep (is_some run.seconds) want old new fault))
       → LeavesAt (IsRunUndoneBy held given lefts run (Some sweep) old new) held held fault
   undone_by fault (inl (unable, same)) = (None, inl (unable, same, refl), λ path. refl)
   undone_by fault (inr (want, asked, unswept)) = (None, inr (record { want = want; asked = asked; unswept = unswept; recorded = refl }), λ path. refl)
 
   pub sweep_done : IfOk result (λ status. (want : Wanted) × (text : List ℕ) × IsAskedFor held sweep.goal want
-      × SweepsOver lefts run sweep false want text status × Appends old new text)
+      × SweepsOver lefts run sweep (is_some run.seconds) want text status × Appends old new text)
       → IfOk result (Leaves (IsRunDoneBy held given lefts run run.sweep) old new held held)
   sweep_done done = subst (λ (s : Option SweepOptions). IfOk result (Leaves (IsRunDoneBy held given lefts run s) old new held held)) (sym is) (by result done)
     where
       by : (r : Result Status Fault) → IfOk r (λ status. (want : Wanted) × (text : List ℕ) × IsAskedFor held sweep.goal want
-          × SweepsOver lefts run sweep false want text status × Appends old new text)
+          × SweepsOver lefts run sweep (is_some run.seconds) want text status × Appends old new text)
           → IfOk r (Leaves (IsRunDoneBy held given lefts run (Some sweep)) old new held held)
       by (Ok status) h = done_by status h
       by (Err fault) h = tt
 
   pub sweep_undone : IfErr result (λ fault. (IsUnable fault × (new ≡ old)) ⊎ ((want : Wanted) × IsAskedFor held sweep.goal want
-      × IsUnswept lefts run sweep false want old new fault))
+      × IsUnswept lefts run sweep (is_some run.seconds) want old new fault))
       → IfErr result (LeavesAt (IsRunUndoneBy held given lefts run run.sweep old new) held held)
   sweep_undone undone = subst (λ (s : Option SweepOptions). IfErr result (LeavesAt (IsRunUndoneBy held given lefts run s old new) held held)) (sym is) (by result undone)
     where
       by : (r : Result Status Fault) → IfErr r (λ fault. (IsUnable fault × (new ≡ old)) ⊎ ((want : Wanted) × IsAskedFor held sweep.goal want
-          × IsUnswept lefts run sweep false want old new fault))
+          × IsUnswept lefts run sweep (is_some run.seconds) want old new fault))
           → IfErr r (LeavesAt (IsRunUndoneBy held given lefts run (Some sweep) old new) held held)
       by (Ok status) h = tt
       by (Err fault) h = undone_by fault h

@@ -120,14 +120,14 @@ IsUnrecorded outcome held holds written fault = ((outcome ≡ Err fault) × (IsW
 
 pub record IsRunDone (given : ℕ) (lefts : List (Option (List ℕ))) (run : Run) (text : List ℕ) (written : Written) (status : Status) : Type 0 where
   pub file : Option (List ℕ)
-  pub runs : Runs given lefts run.limits run.options text file status
+  pub runs : Runs given lefts run.limits run.options (is_some run.seconds) text file status
   pub made : IsTrue (is_some run.record) → IsTrue (is_some file)
   pub recorded : written ≡ written_at run.record file
 
 -- what was made may be recorded though the output failed
 pub record IsRunUndone (given : ℕ) (lefts : List (Option (List ℕ))) (run : Run) (old new : Option (List ℕ)) (fault : Fault) (written : Written) : Type 0 where
   pub file : Option (List ℕ)
-  pub unrun : IsUnrun given lefts run.limits run.options old new None file fault
+  pub unrun : IsUnrun given lefts run.limits run.options (is_some run.seconds) old new None file fault
   pub recorded : (written ≡ None) ⊎ (written ≡ written_at run.record file)
 
 -- ---- run over seeds
@@ -136,13 +136,13 @@ pub record IsRunUndone (given : ℕ) (lefts : List (Option (List ℕ))) (run : R
 pub record IsSweepDone (held : Held) (lefts : List (Option (List ℕ))) (run : Run) (sweep : SweepOptions) (text : List ℕ) (written : Written) (status : Status) : Type 0 where
   pub want : Wanted
   pub asked : IsAskedFor held sweep.goal want
-  pub sweeps : SweepsOver lefts run sweep false want text status
+  pub sweeps : SweepsOver lefts run sweep (is_some run.seconds) want text status
   pub recorded : written ≡ None
 
 pub record IsSweepUndone (held : Held) (lefts : List (Option (List ℕ))) (run : Run) (sweep : SweepOptions) (old new : Option (List ℕ)) (fault : Fault) (written : Written) : Type 0 where
   pub want : Wanted
   pub asked : IsAskedFor held sweep.goal want
-  pub unswept : IsUnswept lefts run sweep false want old new fault
+  pub unswept : IsUnswept lefts run sweep (is_some run.seconds) want old new fault
   pub recorded : written ≡ None
 
 -- one run, or one for each of the seeds that are asked for
@@ -211,14 +211,14 @@ pub record IsSearchDone (held : Held) (given : ℕ) (lefts : List (Option (List 
   pub want : Wanted
   pub asked : IsAskedFor held search.goal want
   pub file : Option (List ℕ)
-  pub searches : Searches given lefts search.limits want (most_states search) (is_some search.record) text file status
+  pub searches : Searches given lefts search.limits want (is_some search.seconds) (most_states search) (is_some search.record) text file status
   pub recorded : written ≡ written_at search.record file
 
 pub record IsSearchUndone (held : Held) (given : ℕ) (lefts : List (Option (List ℕ))) (search : Search) (old new : Option (List ℕ)) (fault : Fault) (written : Written) : Type 0 where
   pub want : Wanted
   pub asked : IsAskedFor held search.goal want
   pub file : Option (List ℕ)
-  pub unsearched : IsUnsearched given lefts search.limits want (most_states search) (is_some search.record) old new None file fault
+  pub unsearched : IsUnsearched given lefts search.limits want (is_some search.seconds) (most_states search) (is_some search.record) old new None file fault
   pub recorded : (written ≡ None) ⊎ (written ≡ written_at search.record file)
 
 -- ---- verify and disasm

@@ -22,6 +22,7 @@ pub mod Searches
 pub mod Shrinks
 pub mod Sweeps
 pub mod Statuses
+pub mod Stopped
 pub mod Traces
 pub mod Transcriptions
 pub mod Verifications

@@ -1,6 +1,6 @@
 -- What the engine of runs answers and writes, by the bytes that its devices hold. Where a device says nothing of its bytes,
 -- they are any that it may have handed over.
-use Rattle.std.specs.Prelude.{◌≡◌, ◌⊎◌, ℕ, List, length, Option, Some, IfSome, unwrap_or}
+use Rattle.std.specs.Prelude.{◌≡◌, ◌⊎◌, ℕ, Bool, List, length, Option, Some, IfSome, unwrap_or}
 use Rattle.model.specs.declared.event.Event.{Event}
 use Rattle.model.specs.declared.limits.Limits.{Limits}
 use Rattle.model.specs.declared.report.Report.{Report}
@@ -8,16 +8,18 @@ use Rattle.model.specs.declared.end.End.{End}
 use Rattle.model.specs.Devices.{AppendsFront}
 use Rattle.model.specs.Classes.{Program}
 use Rattle.model.specs.Accepted.{IsAccepted}
-use Rattle.machine.specs.machine_replay.Replays.{text_of}
 use Rattle.schedule.specs.Joined.{RecordedFile}
 use Rattle.program_runs.specs.worlds.Records.{IsRecorded}
+use Rattle.program_runs.specs.worlds.Worlds.{IsSpent}
 use Rattle.command_line.specs.Choices.{AreChosen}
 use Rattle.command_line.specs.declared.options.LimitOptions.{LimitOptions}
 use Rattle.command_line.specs.declared.run_options.RunOptions.{RunOptions}
 use Rattle.engines.specs.Engines.{ReadsEach}
+use Rattle.engines.specs.Policies.{IsRunFor}
 use Rattle.engines.specs.Recordings.{recording_over}
 use Rattle.engines.specs.Refusals.{IsRefused}
 use Rattle.engines.specs.Statuses.{status_of}
+use Rattle.engines.specs.Stopped.{run_text}
 use Rattle.engines.specs.Verifications.{IsUnread}
 use Rattle.engines.specs.declared.fault.Fault.{Fault}
 use Rattle.engines.specs.declared.fault.Fault.TheVariants as faults
@@ -25,10 +27,11 @@ use Rattle.engines.specs.declared.status.Status.{Status}
 
 -- ---- what is written
 
--- The class files are accepted. Workers, or one by its policy, have run their program within the limits and the budget, and this is the text of
--- their report, and its status. The bytes of a file spell the events that were done, in as few entries as they can have, the limits, and the
--- lengths and checksums of the class files, of which the first so many are given, and a library adds the others.
-pub record IsRun (given : ℕ) (files : List (List ℕ)) (asked : LimitOptions) (options : RunOptions) (text : List ℕ) (file : Option (List ℕ))
+-- The class files are accepted. Workers, or one by the policy that is asked for, have run their program within the limits and the budget, or, where
+-- they may be stopped, what was spent of it; and this is the text of their report, and its status. The bytes of a file spell the events that were
+-- done, in as few entries as they can have, the limits, and the lengths and checksums of the class files, of which the first so many are given, and a
+-- library adds the others.
+pub record IsRun (given : ℕ) (files : List (List ℕ)) (asked : LimitOptions) (options : RunOptions) (may_stop : Bool) (text : List ℕ) (file : Option (List ℕ))
     (status : Status) : Type 0 where
   pub trees : Program
   pub accepted : IsAccepted files trees
@@ -37,30 +40,33 @@ pub record IsRun (given : ℕ) (files : List (List ℕ)) (asked : LimitOptions) 
   pub events : List Event
   pub report : Report
   pub end : End
-  pub recorded : IsRecorded trees limits (unwrap_or options.budget 4294967295) events report end
-  pub told : text ≡ text_of report end
+  pub spent : ℕ
+  pub of_budget : IsSpent may_stop (unwrap_or options.budget 4294967295) spent
+  pub recorded : IsRecorded trees limits spent events report end
+  pub as_asked : IsRunFor options.workers options may_stop trees limits (unwrap_or options.budget 4294967295) events end
+  pub told : text ≡ run_text (unwrap_or options.budget 4294967295) report end
   pub ended : status ≡ status_of report.threads.items end
   pub spelled : IfSome file (λ bytes. RecordedFile bytes (Some (recording_over limits given files)) events)
 
 -- the same of what these sources hold
-abbrev pub Runs : (given : ℕ) → List (Option (List ℕ)) → LimitOptions → RunOptions → List ℕ → Option (List ℕ) → Status → Type 0
-Runs given lefts asked options text file status = (files : List (List ℕ)) × ReadsEach lefts files × IsRun given files asked options text file status
+abbrev pub Runs : (given : ℕ) → List (Option (List ℕ)) → LimitOptions → RunOptions → (may_stop : Bool) → List ℕ → Option (List ℕ) → Status → Type 0
+Runs given lefts asked options may_stop text file status = (files : List (List ℕ)) × ReadsEach lefts files × IsRun given files asked options may_stop text file status
 
 -- ---- what is written where there is a fault
 
 -- nothing is written, and no file made; or the file is made, and a front of the text is written
-abbrev pub RunsPart : (given : ℕ) → List (Option (List ℕ)) → LimitOptions → RunOptions → (old new : Option (List ℕ))
+abbrev pub RunsPart : (given : ℕ) → List (Option (List ℕ)) → LimitOptions → RunOptions → (may_stop : Bool) → (old new : Option (List ℕ))
     → (kept made : Option (List ℕ)) → Type 0
-RunsPart given lefts asked options old new kept made = ((new ≡ old) × (made ≡ kept))
-    ⊎ ((text : List ℕ) × (status : Status) × Runs given lefts asked options text made status × AppendsFront old new text)
+RunsPart given lefts asked options may_stop old new kept made = ((new ≡ old) × (made ≡ kept))
+    ⊎ ((text : List ℕ) × (status : Status) × Runs given lefts asked options may_stop text made status × AppendsFront old new text)
 
 -- When a fault is answered, and what is written then.
-abbrev pub IsUnrun : (given : ℕ) → List (Option (List ℕ)) → LimitOptions → RunOptions → (old new : Option (List ℕ))
+abbrev pub IsUnrun : (given : ℕ) → List (Option (List ℕ)) → LimitOptions → RunOptions → (may_stop : Bool) → (old new : Option (List ℕ))
     → (kept made : Option (List ℕ)) → Fault → Type 0
-IsUnrun given lefts asked options old new kept made faults.Device = RunsPart given lefts asked options old new kept made
-IsUnrun given lefts asked options old new kept made faults.Memory = RunsPart given lefts asked options old new kept made
+IsUnrun given lefts asked options may_stop old new kept made faults.Device = RunsPart given lefts asked options may_stop old new kept made
+IsUnrun given lefts asked options may_stop old new kept made faults.Memory = RunsPart given lefts asked options may_stop old new kept made
 -- memory for the reading aside, the class files are refused
-IsUnrun given lefts asked options old new kept made (faults.Refusal refusal) = (new ≡ old) × (made ≡ kept) × (IsUnread (length lefts) refusal
+IsUnrun given lefts asked options may_stop old new kept made (faults.Refusal refusal) = (new ≡ old) × (made ≡ kept) × (IsUnread (length lefts) refusal
     ⊎ ((files : List (List ℕ)) × ReadsEach lefts files × IsRefused files refusal))
-IsUnrun given lefts asked options old new kept made (faults.Schedule fault) = ⊥
-IsUnrun given lefts asked options old new kept made (faults.Text fault) = ⊥
+IsUnrun given lefts asked options may_stop old new kept made (faults.Schedule fault) = ⊥
+IsUnrun given lefts asked options may_stop old new kept made (faults.Text fault) = ⊥

@@ -74,9 +74,14 @@
 //!   - with a status, one text was appended to the report and nothing else, and a file was made where it is asked for
 //!     (`asked`): those of a run of these bytes (`ran`, `IsRun`). The class files are accepted; the limits are those of
 //!     the options; events, report and end are those of a record of their program with these limits and this budget
-//!     (`IsRecorded` of `worlds`); the text is the report's, the status is its own; and the file spells the events, the
-//!     limits and what is recorded of the class files: the lengths and checksums of those that are given, and the
-//!     checksum of those that the library adds (`recording_over`);
+//!     (`IsRecorded` of `worlds`), or, with `--seconds`, with what was spent of it (`IsSpent`); the text says `end seconds`
+//!     where less was (`run_text`). Without workers they are those of the policy that is asked for, by the seed or the
+//!     quantum of the options (`as_asked`, `IsRunFor`, with `IsRunBy` of `policies`): of `mixed` and `rotation` all that
+//!     `events_by` says, or a front of them where the end says that memory was wanted, or with `--seconds` where it was
+//!     stopped;
+//!   - the text is the report's, the status is its own; and the file spells the events, the limits and what is recorded
+//!     of the class files: the lengths and checksums of those that are given, and the checksum of those that the library
+//!     adds (`recording_over`);
 //!   - with a refusal nothing was written, and it is one that linking or verification may give of these bytes; with
 //!     `memory` or `device` nothing was written or made, or the file was made and a beginning of the text was written
 //!     (`faulty`, `IsUnrun`);
@@ -88,6 +93,8 @@
 //! - `policy_for`, by which a run without workers gives turns: it is the policy that the options ask for, with the seed
 //!   or the quantum of these, or the usual quantum, or a seed of 32 bits (`IsAskedFor`). No clause says where a seed
 //!   that is drawn comes from, nor that it is told.
+//! - `Until`, by which `--seconds` stops a run, a search or a sweep: it is over only where so many are asked for, and the
+//!   `Deadline` says that they have passed (`is_late`). No clause says when a clock does.
 //! - `verify_engine`, over any readers and writer:
 //!   - with a status, which is 0, the files are accepted, and what is told of them was appended and nothing else
 //!     (`verified`): how many are given, how many the library adds, and its classes in whose place files have their own
@@ -122,7 +129,7 @@
 //! - Tested in `engine_tests`: devices that fail at each of their calls, and files that can't be read or written.
 //! - Shown by cases alone: the places of refusals that `linker` doesn't promise; the texts of usage faults; that what
 //!   threads are about is told of the schedule of the very run; that runs come to an end, and their replays to the same
-//!   report; that workers, quantum, policy and seed are heeded, which no clause of a run says.
+//!   report; that workers and their quantum are heeded, and the seed of `random`, which no clause of a run says.
 //! - Shown by `tools/try-files` alone: what stands in a file of the system after a failure, and what its links and
 //!   pipes get.
 #![tactic(auto)]
@@ -133,6 +140,7 @@ mod command_files;
 mod commands;
 mod complaint;
 mod continuing;
+mod deadline;
 mod device;
 mod differing_files;
 mod explaining;
@@ -158,6 +166,7 @@ mod running;
 mod searching;
 mod seeds;
 mod status;
+mod stopped_runs;
 mod sweep_runs;
 mod system_folder;
 mod telling;
@@ -169,6 +178,7 @@ mod watched;
 pub use command_line::{LimitOptions, RunOptions, Usage};
 pub use complaint::Complaint;
 pub use continuing::continue_engine;
+pub use deadline::Deadline;
 pub use device::Counted;
 pub use explaining::{Failures, explain_complaint};
 pub use explanation::Explanation;

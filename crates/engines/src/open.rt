@@ -1,5 +1,6 @@
 //! Where nothing is told of a run or a search while it goes on.
 
+use crate::deadline::Deadline;
 use crate::seeds::Seeds;
 use program_runs::workers::Gate;
 use search::Progress;
@@ -9,15 +10,42 @@ use search::Progress;
 pub struct Open;
 
 impl Gate for Open {
+    ghost use Rattle.std.specs.Prelude.{false};
+
+    ghost may_stop = { λ _. false };
+
     fn burst_begins(&self, _thread: u16) {}
 
     fn burst_ends(&self, _thread: u16) {}
 
     fn turn_ends(&self, _events: u32) {}
+
+    fn is_over(&self) -> bool {
+        false
+    }
 }
 
 impl Progress for Open {
+    ghost use Rattle.std.specs.Prelude.{false};
+
+    ghost may_stop = { λ _. false };
+
     fn states_met(&self, _states: u32) {}
+
+    fn is_over(&self) -> bool {
+        false
+    }
+}
+
+/// No time passes.
+impl Deadline for Open {
+    ghost use Rattle.std.specs.Prelude.{false};
+
+    ghost may_pass = { λ _ _. false };
+
+    fn has_passed(&self, _seconds: u32) -> bool {
+        false
+    }
 }
 
 /// The seed is 1, and nobody is told.

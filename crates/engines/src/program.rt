@@ -14,6 +14,7 @@ use crate::commands::{
     disasm, replay, run as run_command, schedule, search, shrink, trace, unread, verify,
 };
 use crate::complaint::Complaint;
+use crate::deadline::Deadline;
 use crate::explanation::Explanation;
 use crate::fault::Fault;
 use crate::handed::{Handed, handed_files};
@@ -41,7 +42,7 @@ use std::thread::Threads;
 pub fn run<
     'a,
     R: Threads + Wait + Sync,
-    G: Gate + Progress + Seeds + Sync,
+    G: Gate + Progress + Seeds + Deadline + Sync,
     F: Folder,
     I: Source,
     W: Sink,
@@ -119,7 +120,7 @@ fn write_help<W: Sink>(alloc: Global, usage: &Usage, output: &mut W) -> Result<(
 fn done<
     'a,
     R: Threads + Wait + Sync,
-    G: Gate + Progress + Seeds + Sync,
+    G: Gate + Progress + Seeds + Deadline + Sync,
     F: Folder,
     I: Source,
     W: Sink,
@@ -179,7 +180,7 @@ fn done<
 /// Does what a command says, over these files, of which the first so many are given.
 fn done_over<
     R: Threads + Wait + Sync,
-    G: Gate + Progress + Seeds + Sync,
+    G: Gate + Progress + Seeds + Deadline + Sync,
     F: Folder,
     I: Source,
     W: Sink,

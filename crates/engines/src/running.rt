@@ -6,18 +6,21 @@ ghost use Rattle.std.specs.Io.KnownBytes.{Appends};
 ghost use Rattle.model.specs.Accepted.{IsAccepted};
 ghost use Rattle.model.specs.Schedule.{events_of};
 ghost use Rattle.machine.specs.machine_replay.Replays.{text_of};
-ghost use Rattle.program_runs.specs.worlds.Records.{IsRecordOf};
+ghost use Rattle.program_runs.specs.worlds.Records.{IsRecordWithin};
 ghost use Rattle.engines.specs.Engines.{CountsFailure};
+ghost use Rattle.engines.specs.Policies.{IsRunFor};
 ghost use Rattle.engines.specs.Statuses.{status_of};
 ghost use Rattle.engines.specs.Runs.{IsRun, IsUnrun, Runs};
 ghost use Rattle.engines.specs.Recordings.{recording_over};
 ghost use Rattle.schedule.specs.Joined.{RecordedFile};
 
 use crate::class_files::read_class_files;
+use crate::deadline::{Deadline, Until};
 use crate::fault::Fault;
 use crate::recording::recording_over;
 use crate::seeds::{Seeds, policy_for};
 use crate::status::Status;
+use crate::stopped_runs::unless_stopped;
 use crate::verification::accepted;
 use command_line::Run;
 use model::{End, Limits, Report, Sink, Source};
@@ -39,7 +42,7 @@ use verifier::Verified;
 ///
 /// A fault of the class files is answered before anything runs, and nothing is written or made then; nor is anything
 /// after a want of memory in the run. The file is there before the report is written.
-pub fn run_engine<R: Threads + Wait + Sync, G: Gate + Seeds + Sync, S: Source, W: Sink>(
+pub fn run_engine<R: Threads + Wait + Sync, G: Gate + Seeds + Deadline + Sync, S: Source, W: Sink>(
     rt: &R,
     alloc: Global,
     gate: &G,
@@ -51,13 +54,13 @@ pub fn run_engine<R: Threads + Wait + Sync, G: Gate + Seeds + Sync, S: Source, W
 ) -> Result<Status, Fault>
     // The report of a run is written, and nothing else; and the file is that of its schedule.
     ensures ran { IfOk result (λ status. (text : _)
-        × Runs given (map S.remaining files.old) options.now.limits options.now.options text
-        (option_map vec_items file.new) status
+        × Runs given (map S.remaining files.old) options.now.limits options.now.options
+        (is_some options.now.seconds) text (option_map vec_items file.new) status
         × Appends (W.contents report.old) (W.contents report.new) text) }
     ensures asked { IfOk result (λ _. IsTrue (is_some options.now.record) → IsTrue (is_some file.new)) }
     ensures faulty { IfErr result (IsUnrun given (map S.remaining files.old) options.now.limits options.now.options
-        (W.contents report.old) (W.contents report.new) (option_map vec_items file.old)
-        (option_map vec_items file.new)) }
+        (is_some options.now.seconds) (W.contents report.old) (W.contents report.new)
+        (option_map vec_items file.old) (option_map vec_items file.new)) }
     ensures counted { CountsFailure result
         (sum_by S.failures files.old + W.failures report.old)
         (sum_by S.failures files.new + W.failures report.new) }
@@ -80,7 +83,7 @@ pub(crate) struct Outcome {
 }
 
 /// Runs accepted class files, and makes what is to be written.
-fn ran<R: Threads + Wait + Sync, G: Gate + Seeds + Sync>(
+fn ran<R: Threads + Wait + Sync, G: Gate + Seeds + Deadline + Sync>(
     rt: &R,
     alloc: Global,
     gate: &G,
@@ -91,12 +94,12 @@ fn ran<R: Threads + Wait + Sync, G: Gate + Seeds + Sync>(
 ) -> Result<Outcome, AllocError>
     requires { IsAccepted (map vec_items files.now) verified }
     ensures run { IfOk result (λ ran. IsRun given (map vec_items files.now) options.now.limits options.now.options
-        ran.text.items (option_map vec_items ran.file) ran.status) }
+        (is_some options.now.seconds) ran.text.items (option_map vec_items ran.file) ran.status) }
     ensures asked { IfOk result (λ ran. IsTrue (is_some options.now.record) → IsTrue (is_some ran.file)) }
 {
     let limits = options.limits.limits();
     let recorded = recorded_run(rt, alloc, gate, verified, limits, options)?;
-    outcome_of(
+    let outcome = outcome_of(
         alloc,
         files,
         given,
@@ -105,7 +108,9 @@ fn ran<R: Threads + Wait + Sync, G: Gate + Seeds + Sync>(
         recorded.end,
         &recorded.schedule,
         options.record.is_some(),
-    )
+    )?;
+    let budget = options.options.budget();
+    unless_stopped(alloc, outcome, &recorded.report, recorded.end, budget)
 }
 
 /// What a run of the class files says that came to this report and this end, by this schedule.
@@ -153,7 +158,7 @@ fn told_file(
 }
 
 /// The record of a run of accepted class files.
-fn recorded_run<R: Threads + Wait + Sync, G: Gate + Seeds + Sync>(
+fn recorded_run<R: Threads + Wait + Sync, G: Gate + Seeds + Deadline + Sync>(
     rt: &R,
     alloc: Global,
     gate: &G,
@@ -161,9 +166,17 @@ fn recorded_run<R: Threads + Wait + Sync, G: Gate + Seeds + Sync>(
     limits: Limits,
     options: &Run,
 ) -> Result<Recorded, AllocError>
-    ensures { IfOk result (IsRecordOf verified limits (unwrap_or options.now.options.budget 4294967295)) }
+    ensures recorded { IfOk result (IsRecordWithin (is_some options.now.seconds) verified limits
+        (unwrap_or options.now.options.budget 4294967295)) }
+    ensures as_asked { IfOk result (λ r. IsRunFor options.now.options.workers options.now.options
+        (is_some options.now.seconds) verified limits (unwrap_or options.now.options.budget 4294967295)
+        (events_of r.schedule) r.end) }
 {
     let verified = Arc::new(alloc, verified)?;
+    let until = Until {
+        gate,
+        seconds: options.seconds,
+    };
     let asked = &options.options;
     let budget = asked.budget();
     match asked.workers() {
@@ -175,11 +188,11 @@ fn recorded_run<R: Threads + Wait + Sync, G: Gate + Seeds + Sync>(
             budget,
             workers as usize,
             asked.workers_quantum(),
-            gate,
+            &until,
         ),
         None => {
             let policy = policy_for(gate, asked, options.quiet);
-            run_by_policy(alloc, verified, limits, budget, policy, gate)
+            run_by_policy(alloc, verified, limits, budget, policy, &until)
         }
     }
 }

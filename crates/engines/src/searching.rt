@@ -44,13 +44,12 @@ pub fn search_engine<P: Progress, S: Source, W: Sink>(
     // What can come of the class files is written, or a run whose outcome is wanted, and nothing else; and the file
     // is that of the run's schedule, where it is asked for.
     ensures searched { IfOk result (λ status. (text : _)
-        × Searches given (map S.remaining files.old) options.now.limits wanted.now (most_states options.now)
-        (is_some options.now.record)
-        text (option_map vec_items file.new) status
+        × Searches given (map S.remaining files.old) options.now.limits wanted.now (P.may_stop progress.now)
+        (most_states options.now) (is_some options.now.record) text (option_map vec_items file.new) status
         × Appends (W.contents report.old) (W.contents report.new) text) }
     ensures faulty { IfErr result
-        (IsUnsearched given (map S.remaining files.old) options.now.limits wanted.now (most_states options.now)
-        (is_some options.now.record) (W.contents report.old) (W.contents report.new)
+        (IsUnsearched given (map S.remaining files.old) options.now.limits wanted.now (P.may_stop progress.now)
+        (most_states options.now) (is_some options.now.record) (W.contents report.old) (W.contents report.new)
         (option_map vec_items file.old) (option_map vec_items file.new)) }
     ensures counted { CountsFailure result
         (sum_by S.failures files.old + W.failures report.old)
@@ -77,8 +76,8 @@ fn searched<P: Progress>(
 ) -> Result<Outcome, AllocError>
     requires { IsAccepted (map vec_items files.now) verified }
     ensures { IfOk result (λ searched.
-        IsSearched given (map vec_items files.now) options.now.limits wanted.now (most_states options.now)
-        (is_some options.now.record) searched.text.items (option_map vec_items searched.file) searched.status) }
+        IsSearched given (map vec_items files.now) options.now.limits wanted.now (P.may_stop progress.now)
+        (most_states options.now) (is_some options.now.record) searched.text.items (option_map vec_items searched.file) searched.status) }
 {
     search_of(alloc, progress, &verified, files, given, options, wanted)
 }
@@ -95,8 +94,8 @@ fn search_of<P: Progress>(
 ) -> Result<Outcome, AllocError>
     requires { IsAccepted (map vec_items files.now) verified.now }
     ensures { IfOk result (λ searched.
-        IsSearched given (map vec_items files.now) options.now.limits wanted.now (most_states options.now)
-        (is_some options.now.record) searched.text.items (option_map vec_items searched.file) searched.status) }
+        IsSearched given (map vec_items files.now) options.now.limits wanted.now (P.may_stop progress.now)
+        (most_states options.now) (is_some options.now.record) searched.text.items (option_map vec_items searched.file) searched.status) }
 {
     let limits = options.limits.limits();
     let program = verified_program(alloc, verified)?;

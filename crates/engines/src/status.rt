@@ -25,7 +25,7 @@ pub enum Status {
     Stopped,
     /// No thread can go on, and some haven't ended.
     Stuck,
-    /// The schedule is used up, or the budget, and some thread can go on. Of a search or a sweep: it gave up.
+    /// The schedule is used up, or the budget or the time, and some thread can go on. Of a search or a sweep: it gave up.
     UsedUp,
     /// The command line is no command, or a device failed.
     Unusable,

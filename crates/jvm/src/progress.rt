@@ -1,6 +1,6 @@
 //! What a terminal shows of a run or a search that takes more than a second.
 
-use engines::{Gate, Seeds};
+use engines::{Deadline, Gate, Seeds};
 use std::io;
 use std::io::Write;
 use std::random::RandomSource;
@@ -15,7 +15,9 @@ const BETWEEN: u32 = 1024;
 #[derive(Drop)]
 pub struct Progress<'a, R> {
     rt: &'a R,
-    /// When the run or the search began, where there is something to tell.
+    /// When the command began, where the clock can be read.
+    begun: Option<Instant>,
+    /// The same, where there is something to tell.
     start: Option<Instant>,
     /// How many times so many were done or met when the clock was looked at.
     looks: AtomicU64,
@@ -27,13 +29,11 @@ impl<'a, R: Clock + Eprint> Progress<'a, R> {
     /// The progress of a run or a search that begins now. Nothing is told unless it is wanted, and the clock can be
     /// read.
     pub fn new(rt: &'a R, is_wanted: bool) -> Progress<'a, R> {
-        let start = if is_wanted {
-            Instant::now(rt).ok()
-        } else {
-            None
-        };
+        let begun = Instant::now(rt).ok();
+        let start = if is_wanted { begun } else { None };
         Progress {
             rt,
+            begun,
             start,
             looks: AtomicU64::new(0),
             seconds: AtomicU64::new(0),
@@ -69,6 +69,10 @@ impl<'a, R: Clock + Eprint> Progress<'a, R> {
 }
 
 impl<R: Clock + Eprint> Gate for Progress<'_, R> {
+    ghost use Rattle.std.specs.Prelude.{false};
+
+    ghost may_stop = { λ _. false };
+
     fn burst_begins(&self, _thread: u16) {}
 
     fn burst_ends(&self, _thread: u16) {}
@@ -76,11 +80,40 @@ impl<R: Clock + Eprint> Gate for Progress<'_, R> {
     fn turn_ends(&self, events: u32) {
         self.look(events, "events");
     }
+
+    fn is_over(&self) -> bool {
+        false
+    }
 }
 
 impl<R: Clock + Eprint> engines::Progress for Progress<'_, R> {
+    ghost use Rattle.std.specs.Prelude.{false};
+
+    ghost may_stop = { λ _. false };
+
     fn states_met(&self, states: u32) {
         self.look(states, "states");
+    }
+
+    fn is_over(&self) -> bool {
+        false
+    }
+}
+
+/// Where the clock can't be read, no time passes.
+impl<R: Clock + Eprint> Deadline for Progress<'_, R> {
+    ghost use Rattle.std.specs.Prelude.{true};
+
+    ghost may_pass = { λ _ _. true };
+
+    fn has_passed(&self, seconds: u32) -> bool {
+        let Some(begun) = self.begun else {
+            return false;
+        };
+        match begun.elapsed(self.rt) {
+            Ok(passed) => passed.as_secs() >= u64::from(seconds),
+            Err(_) => false,
+        }
     }
 }
 

@@ -1,5 +1,5 @@
 -- A search whose states have all been visited is whole.
-use Rattle.std.proofs.Common.{◌≡◌, ℕ, suc, ◌+◌, ◌<◌, ◌≤◌, List, [], length, sym, ap, subst, refl, arith}
+use Rattle.std.proofs.Common.{◌≡◌, ℕ, suc, ◌+◌, ◌<◌, ◌≤◌, Bool, List, [], length, sym, ap, subst, refl, arith}
 use Rattle.std.proofs.lemmas.Option.{none-some, slice_get_within}
 use Rattle.model.specs.declared.event.ScheduleEntry.{ScheduleEntry}
 use Rattle.model.specs.declared.limits.Limits.{Limits}
@@ -92,9 +92,9 @@ module _ (trees : Program) (limits : Limits) (want : Wanted) (p : LinkedProgram)
   none_visited_in program =
       subst (λ (x : StatesOf). HasVisited trees x.limits want x [] 0) (sym s_is) (none_visited trees limits want p program)
 
-  pub says_in : (most states told : ℕ) → told ≡ states → (v : Verdict) → Says trees s.limits want most states v → Says trees limits want most told v
-  says_in most states told is v says =
-      subst (λ n. Says trees limits want most n v) (sym is) (subst (λ l. Says trees l want most states v) (ap (λ (x : StatesOf). x.limits) s_is) says)
+  pub says_in : (may_stop : Bool) (most states told : ℕ) → told ≡ states → (v : Verdict) → Says trees s.limits want may_stop most states v → Says trees limits want may_stop most told v
+  says_in may_stop most states told is v says =
+      subst (λ n. Says trees limits want may_stop most n v) (sym is) (subst (λ l. Says trees l want may_stop most states v) (ap (λ (x : StatesOf). x.limits) s_is) says)
 
   -- the opening state is one
   pub one_in : (most : ℕ) → 1 ≤ most → length s.schedules ≤ most

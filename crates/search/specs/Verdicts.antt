@@ -1,5 +1,5 @@
 -- What a search over all schedules answers (own; JLS 17).
-use Rattle.std.specs.Prelude.{◌≡◌, ℕ, List, IsTrue, length}
+use Rattle.std.specs.Prelude.{◌≡◌, ◌⊎◌, ℕ, Bool, List, IsTrue, length}
 use Rattle.model.specs.declared.event.Event.{Event}
 use Rattle.model.specs.declared.event.ScheduleEntry.{ScheduleEntry}
 use Rattle.model.specs.declared.limits.Limits.{Limits}
@@ -35,8 +35,8 @@ pub record IsComplete (trees : Program) (limits : Limits) (want : Wanted) (state
   pub count : length schedules ≡ states
   pub met : HasMetAll trees limits.frames schedules outcomes
 
--- what is said where so many states may be met, and so many were; of runs that never end nothing is
-abbrev pub Says : Program → Limits → Wanted → (most states : ℕ) → Verdict → Type 0
-Says trees limits want most states (verdict.Found schedule) = IsFoundBy trees limits want schedule
-Says trees limits want most states (verdict.Complete outcomes) = IsComplete trees limits want states outcomes
-Says trees limits want most states verdict.GaveUp = GivesUp trees limits most states
+-- what is said where so many states may be met, and so many were, by a search that may be stopped; of runs that never end nothing is
+abbrev pub Says : Program → Limits → Wanted → (may_stop : Bool) → (most states : ℕ) → Verdict → Type 0
+Says trees limits want may_stop most states (verdict.Found schedule) = IsFoundBy trees limits want schedule
+Says trees limits want may_stop most states (verdict.Complete outcomes) = IsComplete trees limits want states outcomes
+Says trees limits want may_stop most states verdict.GaveUp = IsTrue may_stop ⊎ GivesUp trees limits most states

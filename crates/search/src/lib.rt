@@ -6,7 +6,8 @@
 //!   states: *Found* is a schedule, in entries that are joined, whose events lead to a state in which no thread may
 //!   step, with an outcome that is wanted, and no limit stood at any of them; *Complete* has the outcomes of all runs
 //!   that end, and no other, and none is wanted; *GaveUp* comes only where as many states were met as may be, or some
-//!   run can't be gone on with (`Says`, `GivesUp`). Of runs that never end nothing is said.
+//!   run can't be gone on with, or where the progress said that the search is over (`Says`, `GivesUp`, `may_stop` of
+//!   `Progress`). Of runs that never end nothing is said.
 //! - The number of states that is told is at most the number that may be met, if that is at least 1 (`few`); of
 //!   *Complete* it is that of schedules among which the search is whole (`HasMetAll`). `states_within` is a 128th of
 //!   the bytes.
@@ -27,6 +28,8 @@
 //!   `is_found` (`ListsOr`).
 //! - `event-itself-is-left-out`: an entry has the local events alone, and not the one before them; refused by `repeat`
 //!   of `GoesPast`, of `go_past`.
+//! - `gives-up-unasked`: a search gives up though it isn't over; refused by `Says`: `may_stop` of `Progress` follows from
+//!   the answer of `is_over` alone.
 //! - Planted by `rt plant`: 18 functions, 4 untried; 33 bodies judged, 0 not judged, 0 not run; proved 10: the real
 //!   one; two that give up at once, which may be (docs/THEOREM.md); six of the index of states and one that finds no
 //!   local event, which cost states.

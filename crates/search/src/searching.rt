@@ -144,7 +144,8 @@ fn visit_all<P: Progress>(
 ) -> Result<Verdict, AllocError>
     requires visited { HasVisited classes.now states.old.limits wanted.now states.old [] 0 }
     requires few { 1 ≤ most → length states.old.schedules ≤ most }
-    ensures says { IfOk result (Says classes.now states.old.limits wanted.now most (length states.new.schedules)) }
+    ensures says { IfOk result (Says classes.now states.old.limits wanted.now (P.may_stop progress.now) most
+        (length states.new.schedules)) }
     ensures few { IfOk result (λ _. 1 ≤ most → length states.new.schedules ≤ most) }
 {
     searches_are_whole();
@@ -155,6 +156,9 @@ fn visit_all<P: Progress>(
             return Ok(Verdict::Complete(outcomes));
         }
         progress.states_met(states.len());
+        if progress.is_over() {
+            return Ok(Verdict::GaveUp);
+        }
         match visit_state(alloc, classes, wanted, states, &mut outcomes, number, most)? {
             Visit::Visited => {}
             Visit::Found(schedule) => return Ok(Verdict::Found(schedule)),
@@ -181,7 +185,8 @@ pub fn search<P: Progress>(
     most: u32,
 ) -> Result<Searched, AllocError>
     requires { IsProgramOf classes.now (arc_value program) }
-    ensures says { IfOk result (λ s. Says classes.now limits wanted.now most s.states s.verdict) }
+    ensures says { IfOk result (λ s. Says classes.now limits wanted.now (P.may_stop progress.now) most s.states
+        s.verdict) }
     ensures few { IfOk result (λ s. 1 ≤ most → s.states ≤ most) }
 {
     let mut states = States::new(alloc, program, limits)?;

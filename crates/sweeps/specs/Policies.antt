@@ -1,11 +1,12 @@
 -- Policies that go by a seed (own).
-use Rattle.std.specs.Prelude.{ℕ, List, codes}
+use Rattle.std.specs.Prelude.{ℕ, false, List, codes}
 use Rattle.model.specs.declared.end.End.{End}
 use Rattle.model.specs.declared.end.End.TheVariants as ends
 use Rattle.model.specs.declared.end.RunCause.{RunCause}
 use Rattle.model.specs.declared.end.RunCause.TheVariants as causes
 use Rattle.model.specs.declared.limits.Limits.{Limits}
 use Rattle.model.specs.Classes.{Program}
+use Rattle.model.specs.Schedule.{events_of}
 use Rattle.program_runs.specs.policies.PolicyTurns.{IsRunBy}
 use Rattle.program_runs.specs.worlds.Records.{IsRecordOf}
 use Rattle.program_runs.specs.declared.worlds.records.Recorded.{Recorded}
@@ -48,5 +49,5 @@ pub record RunsBy : Type 0 where
 -- the run with a seed, by the policy, which has not ended for want of memory
 pub record IsRunWith (by : RunsBy) (seed : ℕ) (r : Recorded) : Type 0 where
   pub recorded : IsRecordOf by.trees by.limits by.budget r
-  pub by_policy : IsRunBy (with_seed by.policy seed) by.trees by.limits by.budget r
+  pub by_policy : IsRunBy (with_seed by.policy seed) false by.trees by.limits by.budget (events_of r.schedule) r.end
   pub no_want : WantsMemory r.end → ⊥

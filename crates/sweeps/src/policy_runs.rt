@@ -49,11 +49,19 @@ impl SeededPolicy {
 struct Unwatched;
 
 impl Gate for Unwatched {
+    ghost use Rattle.std.specs.Prelude.{false};
+
+    ghost may_stop = { λ _. false };
+
     fn burst_begins(&self, _thread: u16) {}
 
     fn burst_ends(&self, _thread: u16) {}
 
     fn turn_ends(&self, _events: u32) {}
+
+    fn is_over(&self) -> bool {
+        false
+    }
 }
 
 /// Runs of verified class files by a policy, under limits and with a budget of events for each.

@@ -10,6 +10,7 @@ ghost use Rattle.engines.specs.Runs.{IsUnrun, Runs};
 
 use crate::commands::seed_sweeps::sweep_files;
 use crate::commands::storing::{recorded, try_record};
+use crate::deadline::Deadline;
 use crate::explanation::Explanation;
 use crate::fault::Fault;
 use crate::going_on::how_to_go_on;
@@ -28,7 +29,7 @@ use std::sync::Wait;
 use std::thread::Threads;
 
 /// `run`: once, or for each of the seeds that are asked for.
-pub(crate) fn run<R: Threads + Wait + Sync, G: Gate + Seeds + Sync, F: Folder, W: Sink>(
+pub(crate) fn run<R: Threads + Wait + Sync, G: Gate + Seeds + Deadline + Sync, F: Folder, W: Sink>(
     rt: &R,
     alloc: Global,
     gate: &G,
@@ -50,7 +51,7 @@ pub(crate) fn run<R: Threads + Wait + Sync, G: Gate + Seeds + Sync, F: Folder, W
     ensures told { TellsFailures (FolderMayFail F.may_fail) result (W.failures output.old) (W.failures output.new) }
 {
     match &options.sweep {
-        Some(sweep) => sweep_files(alloc, folder, files, options, sweep, output),
+        Some(sweep) => sweep_files(alloc, gate, folder, files, options, sweep, output),
         None => run_files(
             rt,
             alloc,
@@ -66,7 +67,7 @@ pub(crate) fn run<R: Threads + Wait + Sync, G: Gate + Seeds + Sync, F: Folder, W
 }
 
 /// `run`, once.
-fn run_files<R: Threads + Wait + Sync, G: Gate + Seeds + Sync, F: Folder, W: Sink>(
+fn run_files<R: Threads + Wait + Sync, G: Gate + Seeds + Deadline + Sync, F: Folder, W: Sink>(
     rt: &R,
     alloc: Global,
     gate: &G,
@@ -126,7 +127,7 @@ fn conditions_of(options: &Run, given: usize) -> Conditions {
 }
 
 /// Runs the class files of a folder, writes the report, and makes the schedule file.
-fn ran<R: Threads + Wait + Sync, G: Gate + Seeds + Sync, F: Folder, W: Sink>(
+fn ran<R: Threads + Wait + Sync, G: Gate + Seeds + Deadline + Sync, F: Folder, W: Sink>(
     rt: &R,
     alloc: Global,
     gate: &G,
@@ -139,12 +140,12 @@ fn ran<R: Threads + Wait + Sync, G: Gate + Seeds + Sync, F: Folder, W: Sink>(
 ) -> Result<Status, Fault>
     ensures ran { IfOk result (λ status. (text : _)
         × Runs given (known (map vec_items files.now)) options.now.limits options.now.options
-        text (option_map vec_items file.new) status
+        (is_some options.now.seconds) text (option_map vec_items file.new) status
         × Appends (W.contents output.old) (W.contents output.new) text) }
     ensures asked { IfOk result (λ _. IsTrue (is_some options.now.record) → IsTrue (is_some file.new)) }
     ensures faulty { IfErr result (IsUnrun given (known (map vec_items files.now))
-        options.now.limits options.now.options (W.contents output.old) (W.contents output.new)
-        (option_map vec_items file.old) (option_map vec_items file.new)) }
+        options.now.limits options.now.options (is_some options.now.seconds) (W.contents output.old)
+        (W.contents output.new) (option_map vec_items file.old) (option_map vec_items file.new)) }
     ensures told { TellsFailures (FolderMayFail F.may_fail) result (W.failures output.old) (W.failures output.new) }
 {
     let mut sources = sources(alloc, folder, files)?;

@@ -13,6 +13,7 @@ ghost use Rattle.engines.specs.Searches.{IsUnsearched, Searches, most_states};
 
 use crate::commands::outcome_texts::text_of_file;
 use crate::commands::storing::{recorded, try_record};
+use crate::deadline::{Deadline, Until};
 use crate::explanation::Explanation;
 use crate::fault::Fault;
 use crate::named_file::{source, sources};
@@ -26,7 +27,7 @@ use search::run_outcomes::{Wanted, printed_lines};
 use std::alloc::Global;
 
 /// `search`.
-pub(crate) fn search<P: Progress, F: Folder, W: Sink>(
+pub(crate) fn search<P: Progress + Deadline, F: Folder, W: Sink>(
     alloc: Global,
     progress: &P,
     folder: &mut F,
@@ -63,7 +64,7 @@ pub(crate) fn search<P: Progress, F: Folder, W: Sink>(
 }
 
 /// A search for an outcome.
-fn search_for<P: Progress, F: Folder, W: Sink>(
+fn search_for<P: Progress + Deadline, F: Folder, W: Sink>(
     alloc: Global,
     progress: &P,
     folder: &mut F,
@@ -92,7 +93,7 @@ fn search_for<P: Progress, F: Folder, W: Sink>(
 }
 
 /// Searches the class files of a folder, writes what comes of it, and makes the schedule file.
-fn searched<P: Progress, F: Folder, W: Sink>(
+fn searched<P: Progress + Deadline, F: Folder, W: Sink>(
     alloc: Global,
     progress: &P,
     folder: &F,
@@ -105,19 +106,23 @@ fn searched<P: Progress, F: Folder, W: Sink>(
 ) -> Result<Status, Fault>
     ensures searched { IfOk result (λ status. (text : _)
         × Searches given (known (map vec_items files.now)) options.now.limits wanted.now
-        (most_states options.now)
-        (is_some options.now.record) text (option_map vec_items file.new) status
+        (is_some options.now.seconds) (most_states options.now) (is_some options.now.record) text
+        (option_map vec_items file.new) status
         × Appends (W.contents output.old) (W.contents output.new) text) }
     ensures faulty { IfErr result (IsUnsearched given (known (map vec_items files.now))
-        options.now.limits wanted.now (most_states options.now) (is_some options.now.record) (W.contents output.old)
-        (W.contents output.new)
+        options.now.limits wanted.now (is_some options.now.seconds) (most_states options.now)
+        (is_some options.now.record) (W.contents output.old) (W.contents output.new)
         (option_map vec_items file.old) (option_map vec_items file.new)) }
     ensures told { TellsFailures (FolderMayFail F.may_fail) result (W.failures output.old) (W.failures output.new) }
 {
+    let until = Until {
+        gate: progress,
+        seconds: options.seconds,
+    };
     let mut sources = sources(alloc, folder, files)?;
     search_engine(
         alloc,
-        progress,
+        &until,
         sources.as_mut_slice(),
         given,
         options,

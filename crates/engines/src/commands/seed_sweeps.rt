@@ -1,6 +1,6 @@
 //! `run` over seeds.
 
-ghost use Rattle.std.specs.Prelude.{◌≡◌, ◌⊎◌, IfErr, IfOk, false, map, vec_items};
+ghost use Rattle.std.specs.Prelude.{◌≡◌, ◌⊎◌, IfErr, IfOk, is_some, map, vec_items};
 ghost use Rattle.std.specs.Io.KnownBytes.{Appends};
 ghost use Rattle.engines.specs.Devices.{IsUnable};
 ghost use Rattle.engines.specs.Failures.{FolderMayFail, TellsFailures};
@@ -9,6 +9,7 @@ ghost use Rattle.engines.specs.Goals.{IsAskedFor};
 ghost use Rattle.engines.specs.Sweeps.{IsUnswept, SweepsOver};
 
 use crate::commands::searches::wanted_by;
+use crate::deadline::{Deadline, Until};
 use crate::fault::Fault;
 use crate::named_file::sources;
 use crate::status::Status;
@@ -18,26 +19,11 @@ use model::Sink;
 use program_files::Folder;
 use search::run_outcomes::Wanted;
 use std::alloc::Global;
-use sweeps::Watch;
-
-/// Never stops a sweep.
-struct Unstopped;
-
-impl Watch for Unstopped {
-    ghost use Rattle.std.specs.Prelude.{false};
-
-    ghost may_stop = { λ _. false };
-
-    fn runs_done(&self, _runs: u128) {}
-
-    fn is_over(&self) -> bool {
-        false
-    }
-}
 
 /// Sweeps over the seeds that are asked for.
-pub(crate) fn sweep_files<F: Folder, W: Sink>(
+pub(crate) fn sweep_files<D: Deadline, F: Folder, W: Sink>(
     alloc: Global,
+    deadline: &D,
     folder: &F,
     files: &[Vec<u8>],
     options: &Run,
@@ -46,22 +32,25 @@ pub(crate) fn sweep_files<F: Folder, W: Sink>(
 ) -> Result<Status, Fault>
     ensures swept { IfOk result (λ status. (want : _) × (text : _)
         × IsAskedFor (F.held folder.now) sweep.now.goal want
-        × SweepsOver (known (map vec_items files.now)) options.now sweep.now false want text
+        × SweepsOver (known (map vec_items files.now)) options.now sweep.now (is_some options.now.seconds) want text
         status
         × Appends (W.contents output.old) (W.contents output.new) text) }
     ensures faulty { IfErr result (λ fault. (IsUnable fault × (W.contents output.new ≡ W.contents output.old))
         ⊎ ((want : _) × IsAskedFor (F.held folder.now) sweep.now.goal want
-        × IsUnswept (known (map vec_items files.now)) options.now sweep.now false want
+        × IsUnswept (known (map vec_items files.now)) options.now sweep.now (is_some options.now.seconds) want
         (W.contents output.old) (W.contents output.new) fault)) }
     ensures told { TellsFailures (FolderMayFail F.may_fail) result (W.failures output.old) (W.failures output.new) }
 {
     let wanted = wanted_by(alloc, folder, &sweep.goal)?;
-    sweep_for(alloc, folder, files, options, sweep, &wanted, output)
+    sweep_for(
+        alloc, deadline, folder, files, options, sweep, &wanted, output,
+    )
 }
 
 /// Sweeps for an outcome.
-fn sweep_for<F: Folder, W: Sink>(
+fn sweep_for<D: Deadline, F: Folder, W: Sink>(
     alloc: Global,
+    deadline: &D,
     folder: &F,
     files: &[Vec<u8>],
     options: &Run,
@@ -70,18 +59,22 @@ fn sweep_for<F: Folder, W: Sink>(
     output: &mut W,
 ) -> Result<Status, Fault>
     ensures swept { IfOk result (λ status. (text : _)
-        × SweepsOver (known (map vec_items files.now)) options.now sweep.now false wanted.now
+        × SweepsOver (known (map vec_items files.now)) options.now sweep.now (is_some options.now.seconds) wanted.now
         text status
         × Appends (W.contents output.old) (W.contents output.new) text) }
     ensures faulty { IfErr result
-        (IsUnswept (known (map vec_items files.now)) options.now sweep.now false wanted.now
+        (IsUnswept (known (map vec_items files.now)) options.now sweep.now (is_some options.now.seconds) wanted.now
         (W.contents output.old) (W.contents output.new)) }
     ensures told { TellsFailures (FolderMayFail F.may_fail) result (W.failures output.old) (W.failures output.new) }
 {
+    let watch = Until {
+        gate: deadline,
+        seconds: options.seconds,
+    };
     let mut sources = sources(alloc, folder, files)?;
     sweep_engine(
         alloc,
-        &Unstopped,
+        &watch,
         sources.as_mut_slice(),
         options,
         sweep,

@@ -27,7 +27,7 @@ use Rattle.machine.specs.Tops.{plain}
 use Rattle.machine.specs.schedule_runs.Done.{OfNext, EndsBy}
 use Rattle.machine.proofs.machine_replay.Replayed.{refused_for}
 use Rattle.program_runs.specs.worlds.Turns.{MayStep, MayNone, IsFound, AreIdle, IsNext}
-use Rattle.program_runs.specs.worlds.Worlds.{WorldOf, Holds, EndFits, HasRepeated, TakesTurn, stopped_end}
+use Rattle.program_runs.specs.worlds.Worlds.{WorldOf, Holds, EndFits, HasRepeated, Stops, TakesTurn, stopped_end}
 
 -- ---- options, tests
 
@@ -143,6 +143,11 @@ module _ (reported : AreReportsOfWords) (w : WorldOf) (holds : Holds w) where
   pub ends_by_budget : (from t : ℕ) → IsFound m from (Some t) → length w.events ≡ w.budget → Holds (record w { end = Some ends.Budget })
   ends_by_budget from t found all = record { files = holds.files; done = holds.done; within = holds.within; fits = (all, not_quiet from t found) }
 
+  -- the budget is what is used up of it
+  pub ends_where_stopped : (from t : ℕ) → IsFound m from (Some t) → (b : ℕ) → b ≡ length w.events → Holds (record w { budget = b; end = Some ends.Budget })
+  ends_where_stopped from t found b used =
+      record { files = holds.files; done = holds.done; within = omega (arith, used); fits = (sym used, not_quiet from t found) }
+
   module _ (from t : ℕ) (found : IsFound m from (Some t)) (other : length w.events ≡ w.budget → ⊥) (i : ℕ) (count : i ≡ length w.events) where
     below : i < w.budget
     below = omega (arith, holds.within, other, count)
@@ -239,3 +244,7 @@ module _ (reported : AreReportsOfWords) (w : WorldOf) (holds : Holds w) where
 pub turn_at : (from most : ℕ) (result : Option ℕ) (w old new : WorldOf) → old ≡ w → TakesTurn from most w.end result w new
     → TakesTurn from most old.end result old new
 turn_at from most result w old new same is = subst (λ (x : WorldOf). TakesTurn from most x.end result x new) (sym same) is
+
+-- no thread may go on, and nothing is stopped
+pub none_stops : (w now : WorldOf) → w ≡ now → w.end ≡ None → IsFound w.machine 0 None → Stops now.end now now
+none_stops w now same on found = subst (λ (x : WorldOf). Stops x.end x x) same (subst (λ o. Stops o w w) (sym on) (inl (found, refl)))

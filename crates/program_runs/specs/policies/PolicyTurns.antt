@@ -8,14 +8,12 @@ use Rattle.model.specs.declared.limits.Limits.{Limits}
 use Rattle.model.specs.Classes.{Program}
 use Rattle.model.specs.LimitStands.{bounds_of}
 use Rattle.model.specs.Run.{may_step}
-use Rattle.model.specs.Schedule.{events_of}
 use Rattle.machine_state.specs.declared.refusals.EventRefusal.TheVariants as refusal
 use Rattle.machine_state.specs.Refusals.{cause_of}
 use Rattle.machine.specs.declared.machine.Stopped.{Stopped}
 use Rattle.machine.specs.declared.machine.Stopped.TheVariants as stopped
 use Rattle.program_runs.specs.declared.policies.policy.Policy.{Policy}
 use Rattle.program_runs.specs.declared.policies.policy.Policy.TheVariants as policy
-use Rattle.program_runs.specs.declared.worlds.records.Recorded.{Recorded}
 use Rattle.program_runs.specs.policies.Runs.{can_do, events_by}
 use Rattle.program_runs.specs.worlds.Worlds.{WorldOf, Holds, IsOfSame}
 
@@ -80,27 +78,33 @@ turn_end (stopped.Refused told) count done = if done == 0 then Some (ends.Refuse
 
 -- ---- a run
 
--- all these events are there, and an end; or a front of them, where memory was wanted
-pub record HasRunThrough (all : List Event) (w : WorldOf) : Type 0 where
+-- the end behind a front of the events that there are to do: memory was wanted, or the run was stopped
+abbrev pub IsEarly : (may_stop : Bool) → End → Type 0
+IsEarly may_stop end = IsForMemory end ⊎ (IsTrue may_stop × (end ≡ ends.Budget))
+
+-- all these events are there, and an end; or a front of them, where that is early
+pub record HasRunThrough (may_stop : Bool) (all : List Event) (w : WorldOf) : Type 0 where
   pub end : End
   pub is : w.end ≡ Some end
   pub left : List Event
   pub front : all ≡ w.events ++ left
-  pub whole : (left ≡ []) ⊎ IsForMemory end
+  pub whole : (left ≡ []) ⊎ IsEarly may_stop end
 
--- the record of a run by a policy: the events are those of the policy, or a front of them, where the end says that memory was wanted
-pub record IsRunOf (by : Policy) (trees : Program) (limits : Limits) (budget : ℕ) (r : Recorded) : Type 0 where
+-- a run by a policy came to these events and this end: they are those of the policy, or a front of them, where the end is early
+pub record IsRunOf (by : Policy) (may_stop : Bool) (trees : Program) (limits : Limits) (budget : ℕ) (events : List Event) (end : End) : Type 0 where
   pub left : List Event
-  pub front : events_by by trees (bounds_of limits) budget ≡ events_of r.schedule ++ left
-  pub whole : (left ≡ []) ⊎ IsForMemory r.end
+  pub front : events_by by trees (bounds_of limits) budget ≡ events ++ left
+  pub whole : (left ≡ []) ⊎ IsEarly may_stop end
 
 -- of a policy whose schedule is proved: of random, nothing
-abbrev pub RunsThrough : Policy → (old new : WorldOf) → Type 0
-RunsThrough (policy.Mixed seed) old new = HasRunThrough (events_by (policy.Mixed seed) old.trees (bounds_of old.machine.limits) old.budget) new
-RunsThrough (policy.Random seed) old new = Unit {0}
-RunsThrough (policy.Rotation quantum) old new = HasRunThrough (events_by (policy.Rotation quantum) old.trees (bounds_of old.machine.limits) old.budget) new
+abbrev pub RunsThrough : Policy → (may_stop : Bool) → (old new : WorldOf) → Type 0
+RunsThrough (policy.Mixed seed) may_stop old new =
+    HasRunThrough may_stop (events_by (policy.Mixed seed) old.trees (bounds_of old.machine.limits) old.budget) new
+RunsThrough (policy.Random seed) may_stop old new = Unit {0}
+RunsThrough (policy.Rotation quantum) may_stop old new =
+    HasRunThrough may_stop (events_by (policy.Rotation quantum) old.trees (bounds_of old.machine.limits) old.budget) new
 
-abbrev pub IsRunBy : Policy → Program → Limits → (budget : ℕ) → Recorded → Type 0
-IsRunBy (policy.Mixed seed) trees limits budget r = IsRunOf (policy.Mixed seed) trees limits budget r
-IsRunBy (policy.Random seed) trees limits budget r = Unit {0}
-IsRunBy (policy.Rotation quantum) trees limits budget r = IsRunOf (policy.Rotation quantum) trees limits budget r
+abbrev pub IsRunBy : Policy → (may_stop : Bool) → Program → Limits → (budget : ℕ) → List Event → End → Type 0
+IsRunBy (policy.Mixed seed) may_stop trees limits budget events end = IsRunOf (policy.Mixed seed) may_stop trees limits budget events end
+IsRunBy (policy.Random seed) may_stop trees limits budget events end = Unit {0}
+IsRunBy (policy.Rotation quantum) may_stop trees limits budget events end = IsRunOf (policy.Rotation quantum) may_stop trees limits budget events end

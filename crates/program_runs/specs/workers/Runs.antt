@@ -5,13 +5,13 @@ use Rattle.model.specs.declared.limits.Limits.{Limits}
 use Rattle.model.specs.Classes.{Program}
 use Rattle.program_runs.specs.declared.worlds.commits.ThreadBurst.{ThreadBurst}
 use Rattle.program_runs.specs.worlds.Commits.{CanCommit, IsCommitted, IsStill}
-use Rattle.program_runs.specs.worlds.Worlds.{WorldOf}
+use Rattle.program_runs.specs.worlds.Worlds.{WorldOf, IsSpent}
 
--- a world is of class files with these trees, under these limits and with this budget
-pub record IsWorldOf (trees : Program) (limits : Limits) (budget : ℕ) (w : WorldOf) : Type 0 where
+-- a world is of class files with these trees, under these limits and with this budget, or what is spent of it
+pub record IsWorldOf (trees : Program) (limits : Limits) (budget : ℕ) (may_stop : Bool) (w : WorldOf) : Type 0 where
   pub trees_are : w.trees ≡ trees
   pub limits_are : w.machine.limits ≡ limits
-  pub budget_is : w.budget ≡ budget
+  pub budget_is : IsSpent may_stop budget w.budget
 
 -- A burst is committed, which has steps. Or nothing has changed: there is none, or it has no step, or it can't be committed.
 abbrev pub TakesOver : Bool → (old : WorldOf) → Option ThreadBurst → (new : WorldOf) → Type 0

@@ -1,5 +1,5 @@
 -- What a run that has ended is recorded as (own; JVMS 2.5, 2.6; JLS 17).
-use Rattle.std.specs.Prelude.{◌≡◌, ◌≤◌, ◌++◌, ℕ, List, [], ◌∷◌, Some, length, map, IsTrue}
+use Rattle.std.specs.Prelude.{◌≡◌, ◌≤◌, ◌++◌, ℕ, Bool, List, [], ◌∷◌, Some, length, map, IsTrue}
 use Rattle.std.specs.Arc.{arc_value}
 use Rattle.model.specs.declared.end.End.{End}
 use Rattle.model.specs.declared.event.Event.{Event}
@@ -15,7 +15,7 @@ use Rattle.model.specs.State.{State}
 use Rattle.machine.specs.machine_replay.Replays.{AreOperandsFound, text_of}
 use Rattle.schedule.specs.Joined.{AreJoined}
 use Rattle.program_runs.specs.declared.worlds.records.Recorded.{Recorded}
-use Rattle.program_runs.specs.worlds.Worlds.{WorldOf, EndFits}
+use Rattle.program_runs.specs.worlds.Worlds.{WorldOf, EndFits, IsSpent}
 
 -- The events lead to a state, and at none of them a limit stood; they are no more than the budget. The report is their meaning, and
 -- the end says why they are no more. Neither one of the events nor any that could be the next one meets an operand of a wrong kind.
@@ -34,6 +34,10 @@ pub record IsRecorded (trees : Program) (limits : Limits) (budget : ℕ) (events
 -- the record of a run of these class files, under these limits and with this budget: its events are in as few entries as they can be
 abbrev pub IsRecordOf : Program → Limits → (budget : ℕ) → Recorded → Type 0
 IsRecordOf trees limits budget r = (arc_value r.verified ≡ trees) × (r.limits ≡ limits) × AreJoined r.schedule × IsRecorded trees limits budget (events_of r.schedule) r.report r.end
+
+-- the same of a run that may be stopped: it is the record of one with what is spent of the budget
+abbrev pub IsRecordWithin : (may_stop : Bool) → Program → Limits → (budget : ℕ) → Recorded → Type 0
+IsRecordWithin may_stop trees limits budget r = (spent : ℕ) × IsSpent may_stop budget spent × IsRecordOf trees limits spent r
 
 -- where a world had an end, the record has that end and its events
 abbrev pub Keeps : WorldOf → Recorded → Type 0

@@ -1,5 +1,5 @@
 -- A world (own; JVMS 2.6; JLS 17): what has been done, and why no more.
-use Rattle.std.specs.Prelude.{◌≡◌, ◌<◌, ◌≤◌, ◌-◌, ◌++◌, ℕ, List, [], Option, Some, None, IsTrue, IsFalse, length, replicate, min}
+use Rattle.std.specs.Prelude.{◌≡◌, ◌⊎◌, ◌<◌, ◌≤◌, Bool, ◌-◌, ◌++◌, ℕ, List, [], Option, Some, None, IsTrue, IsFalse, length, replicate, min}
 use Rattle.model.specs.declared.end.End.{End}
 use Rattle.model.specs.declared.end.End.TheVariants as ends
 use Rattle.model.specs.declared.event.Event.{Event}
@@ -16,7 +16,7 @@ use Rattle.machine.specs.declared.machine.Stopped.{Stopped}
 use Rattle.machine.specs.declared.machine.Stopped.TheVariants as stopped
 use Rattle.machine.specs.machine_replay.Replays.{IsRefusedFor}
 use Rattle.machine.specs.schedule_runs.Done.{HasDone, HasGone}
-use Rattle.program_runs.specs.worlds.Turns.{IsNext}
+use Rattle.program_runs.specs.worlds.Turns.{IsFound, IsNext}
 
 -- the trees of its class files, how many events it may do, those that it has done, its machine, and why it does no more
 pub record WorldOf : Type 0 where
@@ -62,6 +62,30 @@ pub record IsOfSame (old new : WorldOf) : Type 0 where
   pub trees : new.trees ≡ old.trees
   pub budget : new.budget ≡ old.budget
   pub limits : new.machine.limits ≡ old.machine.limits
+
+-- of a budget so much is spent: all of it, or, where a run may be stopped, no more than that
+abbrev pub IsSpent : (may_stop : Bool) → (budget spent : ℕ) → Type 0
+IsSpent may_stop budget spent = (spent ≡ budget) ⊎ (IsTrue may_stop × (spent ≤ budget))
+
+-- files and limits stay, and the budget, unless the run may be stopped
+pub record IsOfLess (may_stop : Bool) (old new : WorldOf) : Type 0 where
+  pub trees : new.trees ≡ old.trees
+  pub budget : IsSpent may_stop old.budget new.budget
+  pub limits : new.machine.limits ≡ old.machine.limits
+
+-- a run is stopped: its budget is used up by the events that it has done
+abbrev pub stopped_world : WorldOf → WorldOf
+stopped_world w = record w { budget = length w.events; end = Some ends.Budget }
+
+-- it is, unless it has an end, or no thread has an event that is enabled
+abbrev pub Stops : (end : Option End) → (old new : WorldOf) → Type 0
+Stops (Some end) old new = new ≡ old
+Stops None old new = (IsFound old.machine 0 None × (new ≡ old)) ⊎ ((length old.events ≤ old.budget) × (new ≡ stopped_world old))
+
+-- a run that may be stopped is, where it has no end; or nothing changes
+abbrev pub StopsFor : (may_stop : Bool) → (old new : WorldOf) → Type 0
+StopsFor may_stop old new =
+    (new ≡ old) ⊎ (IsTrue may_stop × (old.end ≡ None) × (length old.events ≤ old.budget) × (new ≡ stopped_world old))
 
 -- So often an event was done and recorded, of as many times as were asked for and the budget has left, and no more for this reason.
 pub record HasRepeated (event : Event) (most n : ℕ) (why : Stopped) (old new : WorldOf) : Type 0 where

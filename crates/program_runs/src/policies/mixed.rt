@@ -6,10 +6,11 @@ ghost use Rattle.program_runs.specs.declared.policies.policy.Policy.TheVariants.
 ghost use Rattle.program_runs.specs.policies.Keeping.{drawn_pick, kept_by, turn_for};
 ghost use Rattle.program_runs.specs.policies.PolicyTurns.{DoesTurn, HasRunThrough};
 ghost use Rattle.program_runs.specs.policies.Runs.{events_by, length_of, mixed_of, mixed_turn};
-ghost use Rattle.program_runs.specs.worlds.Worlds.{IsOfSame};
+ghost use Rattle.program_runs.specs.worlds.Worlds.{IsOfLess};
 
 use crate::policies::draws::{below, pick_below};
 use crate::policies::picked_turns::give_turn;
+use crate::policies::stopping::behind_turn;
 use crate::policies::turn_lengths::{Turn, TurnLengths};
 use crate::policies::turn_order::{Direction, next_thread};
 use crate::policies::waiters::waiting;
@@ -102,12 +103,13 @@ impl Mixed {
     }
 }
 
-/// Does turns until there is an end. The gate is told how many events are done. The only error is a want of memory.
+/// Does turns until there is an end. The gate is told how many events are done, and may stop the run behind a turn. The
+/// only error is a want of memory.
 pub(crate) fn run_mixed<G: Gate>(world: &mut World, seed: u64, gate: &G) -> Result<(), AllocError>
     requires on { world.old.end ≡ None }
     requires none { world.old.events ≡ [] }
-    ensures same { OnOk result (IsOfSame world.old world.new) }
-    ensures through { OnOk result (HasRunThrough (events_by (by_seed seed) world.old.trees
+    ensures same { OnOk result (IsOfLess (G.may_stop gate.now) world.old world.new) }
+    ensures through { OnOk result (HasRunThrough (G.may_stop gate.now) (events_by (by_seed seed) world.old.trees
         (bounds_of world.old.machine.limits) world.old.budget) world.new) }
 {
     let mut mixed = Mixed::from_seed(seed);
@@ -116,7 +118,7 @@ pub(crate) fn run_mixed<G: Gate>(world: &mut World, seed: u64, gate: &G) -> Resu
             return Ok(());
         }
         mixed.take_turn(world)?;
-        gate.turn_ends(world.count());
+        behind_turn(world, gate);
     }
     let _ = world.end();
     Ok(())

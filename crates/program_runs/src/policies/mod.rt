@@ -4,11 +4,15 @@
 //! # Proved
 //!
 //! - `run_by_policy`, for each policy, memory aside: it is the record of a run of these files, under these limits and
-//!   with this budget, as `worlds` says it. So the report and the end are those of the schedule that is recorded. The
-//!   same of `run_linked`, which is handed the linked program of the files (`IsProgramOf`).
+//!   with this budget, as `worlds` says it (`IsRecordWithin`). So the report and the end are those of the schedule that
+//!   is recorded. The same of `run_linked`, which is handed the linked program of the files (`IsProgramOf`).
+//! - A run is stopped only where its gate says that it is over: `may_stop` of `Gate`, of which nothing is known but that
+//!   `is_over` answers so. It ends behind a turn then, where a thread may go on, as with a budget of the events that it
+//!   has done.
 //! - `events_by` of `specs/policies/Runs` defines the schedule of a seed, over the definitions alone. `run_by_policy`
 //!   and `run_linked` do its events, of `mixed` and `rotation`: the record has all of them, or a front of them where its
-//!   end says that memory was wanted (`IsRunOf`). So the same seed takes the same ones, where memory is there.
+//!   end says that memory was wanted, or the run was stopped (`IsRunOf`). So the same seed takes the same ones, where
+//!   memory is there.
 //! - `events_by` computes: `schedules_of_seeds` has words of two seeds, and events of runs by each policy over a program
 //!   of two threads, as the documents have them and as `oracle/seeds.py` makes them (`SeedExamples`).
 //! - `Policy::has_turns` tells whether each turn is of one event at least, which `run_by_policy` asks for. Where that
@@ -31,6 +35,7 @@ mod policy;
 mod random;
 mod rotation;
 mod seeds;
+mod stopping;
 mod turn_lengths;
 mod turn_order;
 mod waiters;

@@ -2,11 +2,12 @@
 
 ghost use Rattle.std.specs.Prelude.{◌≡◌, ◌↔◌, [], None, IfOk, IsTrue, OnOk};
 ghost use Rattle.std.specs.Arc.{arc_value};
+ghost use Rattle.model.specs.Schedule.{events_of};
 ghost use Rattle.machine.specs.Machines.{IsProgramOf};
 ghost use Rattle.program_runs.specs.policies.Policies.{HasTurns};
 ghost use Rattle.program_runs.specs.policies.PolicyTurns.{IsRunBy, RunsThrough};
-ghost use Rattle.program_runs.specs.worlds.Records.{IsRecordOf};
-ghost use Rattle.program_runs.specs.worlds.Worlds.{IsOfSame};
+ghost use Rattle.program_runs.specs.worlds.Records.{IsRecordWithin};
+ghost use Rattle.program_runs.specs.worlds.Worlds.{IsOfLess};
 
 use crate::policies::mixed::run_mixed;
 use crate::policies::random::run_random;
@@ -52,8 +53,8 @@ fn take_turns<G: Gate>(world: &mut World, policy: Policy, gate: &G) -> Result<()
     requires turns { HasTurns policy }
     requires on { world.old.end ≡ None }
     requires none { world.old.events ≡ [] }
-    ensures same { OnOk result (IsOfSame world.old world.new) }
-    ensures through { OnOk result (RunsThrough policy world.old world.new) }
+    ensures same { OnOk result (IsOfLess (G.may_stop gate.now) world.old world.new) }
+    ensures through { OnOk result (RunsThrough policy (G.may_stop gate.now) world.old world.new) }
 {
     match policy {
         Policy::Mixed { seed } => run_mixed(world, seed, gate),
@@ -66,8 +67,8 @@ fn take_turns<G: Gate>(world: &mut World, policy: Policy, gate: &G) -> Result<()
 }
 
 /// Runs verified class files by a policy until there is an end (JVMS 2.5, 2.6, 5.5, chapter 6; JLS 17), and records
-/// the events that were done. The gate is told how many there are, at the end of each turn. The only error is a want
-/// of memory.
+/// the events that were done. The gate is told how many there are, at the end of each turn, and may stop
+/// the run behind one. The only error is a want of memory.
 pub fn run_by_policy<G: Gate>(
     alloc: Global,
     verified: Arc<Verified>,
@@ -77,8 +78,9 @@ pub fn run_by_policy<G: Gate>(
     gate: &G,
 ) -> Result<Recorded, AllocError>
     requires { HasTurns policy }
-    ensures recorded { IfOk result (IsRecordOf (arc_value verified) limits budget) }
-    ensures by_policy { IfOk result (IsRunBy policy (arc_value verified) limits budget) }
+    ensures recorded { IfOk result (IsRecordWithin (G.may_stop gate.now) (arc_value verified) limits budget) }
+    ensures by_policy { IfOk result (λ r. IsRunBy policy (G.may_stop gate.now) (arc_value verified) limits budget
+        (events_of r.schedule) r.end) }
 {
     let program = verified_program(alloc, &verified)?;
     run_linked(alloc, verified, program, limits, budget, policy, gate)
@@ -96,8 +98,9 @@ pub fn run_linked<G: Gate>(
 ) -> Result<Recorded, AllocError>
     requires turns { HasTurns policy }
     requires linked { IsProgramOf (arc_value verified) (arc_value program) }
-    ensures recorded { IfOk result (IsRecordOf (arc_value verified) limits budget) }
-    ensures by_policy { IfOk result (IsRunBy policy (arc_value verified) limits budget) }
+    ensures recorded { IfOk result (IsRecordWithin (G.may_stop gate.now) (arc_value verified) limits budget) }
+    ensures by_policy { IfOk result (λ r. IsRunBy policy (G.may_stop gate.now) (arc_value verified) limits budget
+        (events_of r.schedule) r.end) }
 {
     let mut world = World::open_linked(alloc, verified, program, limits, budget)?;
     take_turns(&mut world, policy, gate)?;

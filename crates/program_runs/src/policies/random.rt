@@ -2,10 +2,11 @@
 
 ghost use Rattle.std.specs.Prelude.{◌≡◌, ◌≤◌, None, IfSome, OnOk};
 ghost use Rattle.program_runs.specs.worlds.Turns.{MayGo};
-ghost use Rattle.program_runs.specs.worlds.Worlds.{IsOfSame};
+ghost use Rattle.program_runs.specs.worlds.Worlds.{IsOfLess, IsOfSame};
 
 use crate::policies::draws::{below, pick_below};
 use crate::policies::picked_turns::give_turn;
+use crate::policies::stopping::behind_turn;
 use crate::policies::waiters::waiters_to_pick;
 use crate::workers::Gate;
 use crate::worlds::{World, enabled_at, enabled_count};
@@ -40,9 +41,10 @@ fn take_turn(world: &mut World, random: &mut Xoshiro256PlusPlus) -> Result<(), A
     give_turn(world, thread, pick, 1)
 }
 
-/// Does events until there is an end. The gate is told how many are done. The only error is a want of memory.
+/// Does events until there is an end. The gate is told how many are done, and may stop the run behind each. The only
+/// error is a want of memory.
 pub(crate) fn run_random<G: Gate>(world: &mut World, seed: u64, gate: &G) -> Result<(), AllocError>
-    ensures { OnOk result (IsOfSame world.old world.new) }
+    ensures { OnOk result (IsOfLess (G.may_stop gate.now) world.old world.new) }
 {
     let mut random = Xoshiro256PlusPlus::seed_from_u64(seed);
     'turns: for _ in 0..=world.budget() {
@@ -50,7 +52,7 @@ pub(crate) fn run_random<G: Gate>(world: &mut World, seed: u64, gate: &G) -> Res
             break;
         }
         take_turn(world, &mut random)?;
-        gate.turn_ends(world.count());
+        behind_turn(world, gate);
     }
     Ok(())
 }

@@ -5,8 +5,9 @@ ghost use Rattle.model.specs.LimitStands.{bounds_of};
 ghost use Rattle.program_runs.specs.declared.policies.policy.Policy.TheVariants.{Rotation as rotation};
 ghost use Rattle.program_runs.specs.policies.PolicyTurns.{DoesTurn, HasRunThrough};
 ghost use Rattle.program_runs.specs.policies.Runs.{events_by, rotation_turn};
-ghost use Rattle.program_runs.specs.worlds.Worlds.{IsOfSame};
+ghost use Rattle.program_runs.specs.worlds.Worlds.{IsOfLess};
 
+use crate::policies::stopping::behind_turn;
 use crate::policies::turn_order::{Direction, next_thread};
 use crate::workers::Gate;
 use crate::worlds::World;
@@ -33,13 +34,14 @@ fn take_turn(world: &mut World, last: Option<u16>, quantum: u32) -> Option<u16>
 }
 
 /// Does turns of up to so many events until there is an end: the next one is that of the first thread behind the one
-/// of the last, in rotation, that has an event which is enabled. The gate is told how many events are done.
+/// of the last, in rotation, that has an event which is enabled. The gate is told how many events are done, and may
+/// stop the run behind a turn.
 pub(crate) fn run_rotation<G: Gate>(world: &mut World, quantum: u32, gate: &G)
     requires some { 1 ≤ quantum }
     requires on { world.old.end ≡ None }
     requires none { world.old.events ≡ [] }
-    ensures same { IsOfSame world.old world.new }
-    ensures through { HasRunThrough (events_by (rotation quantum) world.old.trees
+    ensures same { IsOfLess (G.may_stop gate.now) world.old world.new }
+    ensures through { HasRunThrough (G.may_stop gate.now) (events_by (rotation quantum) world.old.trees
         (bounds_of world.old.machine.limits) world.old.budget) world.new }
 {
     let mut last = None;
@@ -48,7 +50,7 @@ pub(crate) fn run_rotation<G: Gate>(world: &mut World, quantum: u32, gate: &G)
             return;
         }
         last = take_turn(world, last, quantum);
-        gate.turn_ends(world.count());
+        behind_turn(world, gate);
     }
     let _ = world.end();
 }

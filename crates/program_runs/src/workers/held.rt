@@ -1,6 +1,6 @@
 //! A world that workers share under a lock.
 
-ghost use Rattle.std.specs.Prelude.{◌≡◌, ◌≤◌, ℕ, [], length, IfOk, IfErr};
+ghost use Rattle.std.specs.Prelude.{◌≡◌, ◌≤◌, ℕ, Bool, IsTrue, [], false, length, IfOk, IfErr};
 ghost use Rattle.model.specs.Classes.{Program};
 ghost use Rattle.model.specs.declared.limits.Limits.{Limits};
 ghost use Rattle.program_runs.specs.worlds.Commits.{ChecksOut};
@@ -11,13 +11,15 @@ use crate::worlds::{Commit, ThreadBurst, World};
 use std::alloc::{AllocError, Global};
 use std::marker::{Brand, Model, PhantomData};
 
-/// What a run is of: class files, limits and a budget. Each run picks its own.
+/// What a run is of: class files, limits and a budget, and whether it may be stopped. Each run picks its own.
 pub trait Given {
     ghost trees: { Program };
 
     ghost limits: { Limits };
 
     ghost budget: { ℕ };
+
+    ghost may_stop: { Bool };
 }
 
 impl Given for Brand {
@@ -26,6 +28,8 @@ impl Given for Brand {
     ghost limits = { some_limits };
 
     ghost budget = { 0 };
+
+    ghost may_stop = { false };
 }
 
 /// A world of the class files, the limits and the budget that are given.
@@ -43,13 +47,13 @@ impl<J: Given> Model for Held<J> {
 
     ghost view = { λ h. h.world };
 
-    ghost invariant = { λ h. IsWorldOf J.trees J.limits J.budget h.world };
+    ghost invariant = { λ h. IsWorldOf J.trees J.limits J.budget J.may_stop h.world };
 }
 
 impl<J: Given> Held<J> {
     /// Holds a world.
     pub fn new(world: World) -> Held<J>
-        requires { IsWorldOf J.trees J.limits J.budget world }
+        requires { IsWorldOf J.trees J.limits J.budget J.may_stop world }
         ensures { result ≡ world }
     {
         Held {
@@ -65,6 +69,13 @@ impl<J: Given> Held<J> {
         ensures { IfOk result (ChecksOut self.now.machine from) }
     {
         self.world.check_out(alloc, from)
+    }
+
+    /// Does no more events than it has done, from now on.
+    pub fn stop(&mut self)
+        requires { IsTrue J.may_stop }
+    {
+        self.world.stop();
     }
 
     /// Takes a burst over. Tells whether it did: it doesn't where there is none, where it has no step, and where it
@@ -105,7 +116,7 @@ impl<J: Given> Held<J> {
     /// The world.
     pub fn into_world(self) -> World
         ensures same { result ≡ self }
-        ensures of { IsWorldOf J.trees J.limits J.budget result }
+        ensures of { IsWorldOf J.trees J.limits J.budget J.may_stop result }
     {
         self.world
     }

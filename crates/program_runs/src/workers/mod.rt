@@ -2,7 +2,7 @@
 //!
 //! # Proved
 //!
-//! - `run_workers` (`IsRecordOf`), for all accepted files, limits and budgets, any number of workers and any quantum:
+//! - `run_workers` (`IsRecordWithin`), for all accepted files, limits and budgets, any number of workers and any quantum:
 //!   where the workers end and there is memory, the record names the class files and the limits that were handed in;
 //!   the printed numbers and the threads of its report are those of the state to which `run` leads by its events, at
 //!   none of which a limit stood; they are no more than the budget; and the text of the report is their `meaning` with
@@ -11,12 +11,14 @@
 //!   - `Budget`: the events are as many as the budget, and some thread has one more that is enabled;
 //!   - `Refused`: they are fewer; some event is enabled, and the limit that is told stands at it, or there was no
 //!     memory for it.
+//! - Where the gate says that the run is over (`may_stop` of `Gate`), the budget is what was spent of it; else it is the
+//!   one that was handed in (`IsSpent`).
 //! - No clause joins this with that of `replay`, but by both of them a replay of what is recorded, over the same files
 //!   and under the same limits, can only stop before its end for want of memory, and has the report of the run. Where
 //!   the run ended with `Budget` it ends with `Schedule`.
 //! - The workers share a world under one lock. What is known when they have ended is what its type keeps whenever the
-//!   lock is free (`Holds`), and that its files, limits and budget are those that were given (`IsWorldOf`). No rule
-//!   over atomics is used.
+//!   lock is free (`Holds`), and that its files and limits are those that were given, and its budget, unless the run is
+//!   stopped (`IsWorldOf`). No rule over atomics is used.
 //! - Of what a worker does to the world while it holds the lock: `take_over` commits a burst that has steps exactly
 //!   where it can be committed, and else changes nothing, memory aside (`TakesOver`); `shared_steps` takes a turn
 //!   (`TakesTurn`).

@@ -1,8 +1,8 @@
 //! What a worker does: bursts and turns, until the run has an end.
 
-ghost use Rattle.std.specs.Prelude.{◌≤◌, IfOk};
+ghost use Rattle.std.specs.Prelude.{◌≤◌, IfOk, IsTrue};
 ghost use Rattle.std.specs.Arc.{arc_value};
-ghost use Rattle.program_runs.specs.worlds.Records.{IsRecordOf};
+ghost use Rattle.program_runs.specs.worlds.Records.{IsRecordWithin};
 ghost use Rattle.program_runs.specs.workers.Runs.{IsWorldOf};
 
 use crate::workers::gate::Gate;
@@ -77,7 +77,8 @@ fn work<J: Given, R: Wait, G: Gate>(
     gate: &G,
     quantum: u32,
 )
-    requires { 1 ≤ quantum }
+    requires some { 1 ≤ quantum }
+    requires stops { IsTrue (G.may_stop gate.now) → IsTrue J.may_stop }
 {
     let mut next_burst = 0u16;
     let mut next_events = 0u16;
@@ -92,6 +93,9 @@ fn work<J: Given, R: Wait, G: Gate>(
         }
         let (turn, events) = take_turn(rt, held, out, next_events, quantum);
         gate.turn_ends(events);
+        if gate.is_over() {
+            held.lock(rt).stop();
+        }
         match turn {
             Turn::Burst => {}
             Turn::Events(thread) => next_events = thread.wrapping_add(1),
@@ -110,8 +114,9 @@ fn run_world<J: Given + Send + Sync, R: Threads + Wait + Sync, G: Gate + Sync>(
     gate: &G,
 ) -> Result<World, AllocError>
     requires some { 1 ≤ quantum }
-    requires of { IsWorldOf J.trees J.limits J.budget world }
-    ensures { IfOk result (IsWorldOf J.trees J.limits J.budget) }
+    requires of { IsWorldOf J.trees J.limits J.budget J.may_stop world }
+    requires stops { IsTrue (G.may_stop gate.now) → IsTrue J.may_stop }
+    ensures { IfOk result (IsWorldOf J.trees J.limits J.budget J.may_stop) }
 {
     let held = Mutex::new(Held::<J>::new(world));
     let shared = &held;
@@ -140,7 +145,7 @@ pub fn run_workers<R: Threads + Wait + Sync, G: Gate + Sync>(
 ) -> Result<Recorded, AllocError>
     requires some { 1 ≤ quantum }
     requires few { workers ≤ 64 }
-    ensures { IfOk result (IsRecordOf (arc_value verified) limits budget) }
+    ensures { IfOk result (IsRecordWithin (G.may_stop gate.now) (arc_value verified) limits budget) }
 {
     let world = World::open(alloc, verified, limits, budget)?;
     let ended = run_world::<Brand, R, G>(rt, alloc, world, workers, quantum, gate)?;

@@ -20,6 +20,8 @@
 //!   stay.
 //! - `turn` (`DoesTurn`) does the events of a turn of a thread as the definition has them (`with_turn`), and `event` one
 //!   event where it can be done (`can_do`). Where none can be done an end is set; and where memory is wanted.
+//! - `stop` (`Stops`): where there is no end, and some thread has an event that is enabled, the budget is used up by the
+//!   events that were done, and the end says so. Else nothing changes.
 //! - `check_out` (`ChecksOut`), memory aside: nothing changes, and it gives a burst of no step of the first thread in
 //!   rotation that runs with no exception pending and has a frame of a method on top, with that frame; none only where
 //!   no thread is so.
@@ -54,6 +56,7 @@
 mod commits;
 mod records;
 mod sharing;
+mod stopping;
 mod thread_turns;
 mod turns;
 mod world;

@@ -1,5 +1,5 @@
 //! Tests of the engines: over devices that fail, of which no clause says that they do, nor at which of their calls;
-//! and of seeds that are drawn.
+//! of seeds that are drawn; and of runs and searches that are stopped.
 
 #[cfg(test)]
 mod devices;
@@ -7,3 +7,5 @@ mod devices;
 mod failures;
 #[cfg(test)]
 mod seeds;
+#[cfg(test)]
+mod stopped;

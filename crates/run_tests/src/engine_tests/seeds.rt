@@ -1,7 +1,7 @@
 //! Which seeds are drawn, and when they are told: no clause says so.
 
 use crate::engine_tests::devices::{FailingFolder, File};
-use engines::{Complaint, Counted, Explanation, Gate, Progress, Seeds, Status, run};
+use engines::{Complaint, Counted, Deadline, Explanation, Gate, Progress, Seeds, Status, run};
 use made_files::class_builder::PRINTS_SEVEN;
 use std::alloc::{AllocError, Global};
 use std::sync::Wait;
@@ -29,6 +29,10 @@ impl Watch {
 }
 
 impl Gate for Watch {
+    ghost use Rattle.std.specs.Prelude.{false};
+
+    ghost may_stop = { λ _. false };
+
     fn burst_begins(&self, _thread: u16) {}
 
     fn burst_ends(&self, _thread: u16) {}
@@ -38,10 +42,32 @@ impl Gate for Watch {
             self.note(4);
         }
     }
+
+    fn is_over(&self) -> bool {
+        false
+    }
 }
 
 impl Progress for Watch {
+    ghost use Rattle.std.specs.Prelude.{false};
+
+    ghost may_stop = { λ _. false };
+
     fn states_met(&self, _states: u32) {}
+
+    fn is_over(&self) -> bool {
+        false
+    }
+}
+
+impl Deadline for Watch {
+    ghost use Rattle.std.specs.Prelude.{false};
+
+    ghost may_pass = { λ _ _. false };
+
+    fn has_passed(&self, _seconds: u32) -> bool {
+        false
+    }
 }
 
 impl Seeds for Watch {

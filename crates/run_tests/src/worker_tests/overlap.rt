@@ -43,6 +43,10 @@ impl Pair {
 }
 
 impl Gate for Pair {
+    ghost use Rattle.std.specs.Prelude.{false};
+
+    ghost may_stop = { λ _. false };
+
     fn burst_begins(&self, thread: u16) {
         if thread != 1 && thread != 2 {
             return;
@@ -61,6 +65,10 @@ impl Gate for Pair {
     fn burst_ends(&self, _thread: u16) {}
 
     fn turn_ends(&self, _events: u32) {}
+
+    fn is_over(&self) -> bool {
+        false
+    }
 }
 
 #[test]

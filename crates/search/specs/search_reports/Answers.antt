@@ -1,5 +1,5 @@
 -- What a search over all schedules answers, with the report of the run that it finds (own; JLS 17).
-use Rattle.std.specs.Prelude.{◌≡◌, ℕ, List, Some}
+use Rattle.std.specs.Prelude.{◌≡◌, ◌⊎◌, ℕ, Bool, List, Some, IsTrue}
 use Rattle.model.specs.declared.end.End.TheVariants as ends
 use Rattle.model.specs.declared.event.Event.{Event}
 use Rattle.model.specs.declared.limits.Limits.{Limits}
@@ -21,12 +21,12 @@ IsReportOf trees frames events r = meaning trees frames events ends.Quiet ≡ So
 
 -- Found: the schedule is that of a run whose outcome is wanted, and the report is the run's. Complete: these are the outcomes of all
 -- runs that end, and none is wanted. Of runs that never end nothing is said. A search gives up only where so many states are met as may be,
--- or where some run can't be gone on with.
-abbrev pub Answers : Program → Limits → Wanted → (most states : ℕ) → Answer → Type 0
-Answers trees limits want most states (answer.Found schedule r) = IsFoundBy trees limits want schedule × IsReportOf trees limits.frames (events_of schedule) r
-Answers trees limits want most states (answer.Complete outcomes) = IsComplete trees limits want states outcomes
-Answers trees limits want most states answer.GaveUp = GivesUp trees limits most states
+-- or where some run can't be gone on with, or where it may be stopped.
+abbrev pub Answers : Program → Limits → Wanted → (may_stop : Bool) → (most states : ℕ) → Answer → Type 0
+Answers trees limits want may_stop most states (answer.Found schedule r) = IsFoundBy trees limits want schedule × IsReportOf trees limits.frames (events_of schedule) r
+Answers trees limits want may_stop most states (answer.Complete outcomes) = IsComplete trees limits want states outcomes
+Answers trees limits want may_stop most states answer.GaveUp = IsTrue may_stop ⊎ GivesUp trees limits most states
 
 -- if this is what the search says, whatever was wanted, and however many states may be met and were, that answers it
 abbrev pub IsAnswerTo : Program → Limits → Verdict → Answer → Type 0
-IsAnswerTo trees limits v a = (want : Wanted) (most states : ℕ) → Says trees limits want most states v → Answers trees limits want most states a
+IsAnswerTo trees limits v a = (want : Wanted) (may_stop : Bool) (most states : ℕ) → Says trees limits want may_stop most states v → Answers trees limits want may_stop most states a

@@ -67,7 +67,8 @@ pub fn search_report<P: Progress>(
     most: u32,
 ) -> Result<SearchReport, AllocError>
     requires { IsProgramOf classes.now (arc_value program) }
-    ensures answers { IfOk result (λ r. Answers classes.now limits wanted.now most r.states r.answer) }
+    ensures answers { IfOk result (λ r. Answers classes.now limits wanted.now (P.may_stop progress.now) most r.states
+        r.answer) }
     ensures few { IfOk result (λ r. 1 ≤ most → r.states ≤ most) }
 {
     let searched_program = Arc::try_clone(&program)?;

@@ -18,6 +18,7 @@ returns-in_err-check_files-clause-none c =
 pub returns-clause-values : goal.returns-clause-values
 returns-clause-values c = record {
   options = c.in_ok-options.ensures.numbers;
+  seconds = c.in_ok-seconds.ensures.number;
   sweep = c.in_ok-sweep.ensures.sweep;
   recording = c.in_ok-record.ensures;
   limits = c.in_ok-limits.ensures.limits;

@@ -32,6 +32,7 @@ returns-clause-values c = record {
   goal = c.in_ok-goal.ensures.goal;
   states = c.in_ok-states.ensures.number;
   memory = c.in_ok-memory.ensures.number;
+  seconds = c.in_ok-seconds.ensures.number;
   recording = c.in_ok-record.ensures;
   limits = c.in_ok-limits.ensures.limits;
   main = c.in_ok-main.ensures;

@@ -21,7 +21,7 @@ pub returns : goal.returns
 returns g c =
     let found = c.in_ok-searched.searched in
     let most = c.most_states-most.ensures in
-    let answers = subst (λ (t : Program). Answers t c.limits-limits.result c.args.wanted.now c.most_states-most.result found.states found.answer) (c.set-classes.ensures.same ∙ c.linked.ensures.same) c.in_ok-searched.ensures.answers in
+    let answers = subst (λ (t : Program). Answers t c.limits-limits.result c.args.wanted.now (g.P.Progress.may_stop c.args.progress.now) c.most_states-most.result found.states found.answer) (c.set-classes.ensures.same ∙ c.linked.ensures.same) c.in_ok-searched.ensures.answers in
     record {
       trees = c.args.verified.now;
       accepted = c.requires;
@@ -29,7 +29,7 @@ returns g c =
       chosen = c.limits-limits.ensures;
       answer = found.answer;
       states = found.states;
-      answers = subst (λ m. Answers c.args.verified.now c.limits-limits.result c.args.wanted.now m found.states found.answer) most answers;
+      answers = subst (λ m. Answers c.args.verified.now c.limits-limits.result c.args.wanted.now (g.P.Progress.may_stop c.args.progress.now) m found.states found.answer) most answers;
       few = subst (λ m. 1 ≤ m → found.states ≤ m) most c.in_ok-searched.ensures.few;
       told = c.in_ok-text.ensures;
       spelled = subst (λ recorded. IsFileOf (recording_over c.limits-limits.result c.args.given (map vec_items c.args.files.now)) recorded found.answer (option_map vec_items c.in_ok-file.file)) c.is_some-is_recorded.ensures c.in_ok-file.ensures;

@@ -12,4 +12,4 @@ visit_all-requires-clause-few g c =
 
 pub returns-clause-says : goal.returns-clause-says
 returns-clause-says g c =
-    says_in c.args.classes.now c.args.limits c.args.wanted.now (arc_value c.args.program) c.in_ok-states.states c.in_ok-states.ensures c.args.most _ c.len.result c.len.ensures c.in_ok-verdict.verdict c.in_ok-verdict.ensures.says
+    says_in c.args.classes.now c.args.limits c.args.wanted.now (arc_value c.args.program) c.in_ok-states.states c.in_ok-states.ensures (g.P.Progress.may_stop c.args.progress.now) c.args.most _ c.len.result c.len.ensures c.in_ok-verdict.verdict c.in_ok-verdict.ensures.says
