@@ -4,6 +4,7 @@ use Rattle.std.specs.Prelude.{IsTrue, IsFalse}
 use Rattle.std.proofs.lemmas.Bool.{cases_eq}
 use Rattle.std.proofs.Math.Nat.{min-le_right}
 use Rattle.std.proofs.lemmas.List.{append-nil, append_assoc, replicate-append-replicate}
+use Rattle.model.specs.declared.end.End.{End}
 use Rattle.model.specs.declared.event.Event.{Event}
 use Rattle.model.specs.declared.limits.Limits.{Limits}
 use Rattle.model.specs.Classes.{Program}
@@ -32,6 +33,24 @@ pub record Going (t : ℕ) (place : PlaceOf) (first w : WorldOf) : Type 0 where
   pub count : ℕ
   pub done : w.events ≡ first.events ++ replicate count (plain t)
   pub not_yet : IsNotReached first.trees first.machine.limits.frames first.events t place count
+
+-- ---- fewer events are left
+
+falls_within : (t n : ℕ) (why : Stopped) (w new : WorldOf) → HasRepeated (plain t) 1 n why w new → (n ≡ 0 → ⊥)
+    → new.budget - length new.events < w.budget - length w.events
+falls_within t n why w new r some =
+    omega (arith, some, many (plain t) 1 n why w new r, within (plain t) 1 n why w new r, r.asked_is, min-le_right 1 (w.budget - length w.events), r.same.budget)
+
+pub falls : (t n : ℕ) (why : Stopped) (w new : WorldOf) → RepeatsWithin (plain t) 1 w.end (n, why) w new → (n ≡ 0 → ⊥)
+    → new.budget - length new.events < w.budget - length w.events
+falls t n why w new repeats some = by w.end refl
+  where
+    by : (o : Option End) → w.end ≡ o → new.budget - length new.events < w.budget - length w.events
+    by None is = falls_within t n why w new (subst (λ (o : Option End). RepeatsWithin (plain t) 1 o (n, why) w new) is repeats) some
+    by (Some end) is =
+        let ended : RepeatsWithin (plain t) 1 (Some end) (n, why) w new = subst (λ (o : Option End). RepeatsWithin (plain t) 1 o (n, why) w new) is repeats in
+        let both : (n, why) ≡ (0, stopped.Most) = ended.0 in
+        absurd (some (ap (λ (p : ℕ × Stopped). p.0) both))
 
 -- the budget is used up
 pub gives_up : (t : ℕ) (place : PlaceOf) (budget : ℕ) (first w : WorldOf) → Going t place first w → budget ≤ length w.events
@@ -74,9 +93,6 @@ module _ (t : ℕ) (place : PlaceOf) (first w : WorldOf) (so_far : Going t place
       of_most budget stopped.Most h = inr h
       of_most budget stopped.NotEnabled h = h
       of_most budget (stopped.Refused told) h = h
-
-  pub falls : (n ≡ 0 → ⊥) → new.budget - length new.events < w.budget - length w.events
-  falls some = omega (arith, some, many (plain t) 1 n why w new r, within (plain t) 1 n why w new r, r.asked_is, min-le_right 1 (w.budget - length w.events), r.same.budget)
 
   module _ (some : n ≡ 0 → ⊥) (points : List Point) (are : points ≡ all_points first.trees place) (b : Bool) (shown : IsShownAt new.machine t points b) where
     once : n ≡ 1

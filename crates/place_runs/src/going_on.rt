@@ -40,14 +40,17 @@ pub(crate) fn go_on(
     'events: loop {
         // what is known of the world
         let _ = world.end();
-        if budget <= world.count() {
+        let count = world.count();
+        if budget <= count {
             return Ok(Some(Stopped::Most));
         }
         let (done, why) = world.repeat(Event { thread, pick: 0 }, 1)?;
         if done == 0 {
-            return Ok(Some(unless_memory(why)?));
+            let told = unless_memory(why)?;
+            return Ok(Some(told));
         }
-        if stands_at(world.machine(), thread, points) {
+        let is_there = stands_at(world.machine(), thread, points);
+        if is_there {
             return Ok(None);
         }
     }
