@@ -13,8 +13,9 @@ returns c =
     let quantum = with_argument _ _ _ _ _ budget c.argument-3.ensures.rule c.argument-3.ensures.local c.in_ok-arg-3.ensures in
     let seed = with_argument _ _ _ _ _ quantum c.seed_argument.ensures.rule c.seed_argument.ensures.local c.in_ok-arg-4.ensures in
     let policy = with_argument _ _ _ _ _ seed c.policy_argument.ensures.rule c.policy_argument.ensures.local c.in_ok-arg-5.ensures in
-    let seeds = with_argument _ _ _ _ _ policy c.seeds_argument.ensures.rule c.seeds_argument.ensures.local c.in_ok-arg-6.ensures in
-    let wanted = with_argument _ _ _ _ _ seeds c.goal_argument.ensures.rule c.goal_argument.ensures.local c.in_ok-arg-7.ensures in
+    let seconds = with_argument _ _ _ _ _ policy c.argument-4.ensures.rule c.argument-4.ensures.local c.in_ok-arg-6.ensures in
+    let seeds = with_argument _ _ _ _ _ seconds c.seeds_argument.ensures.rule c.seeds_argument.ensures.local c.in_ok-arg-7.ensures in
+    let wanted = with_argument _ _ _ _ _ seeds c.goal_argument.ensures.rule c.goal_argument.ensures.local c.in_ok-arg-8.ensures in
     let recording = with_argument _ _ _ _ _ wanted c.record_argument.ensures.rule c.record_argument.ensures.local c.in_ok-run.ensures in
     let limited = c.in_ok-with_program.ensures.app ∙ ap with_program recording.0 in
     IfOk-weaker c.with_files.result _ _ (λ whole is. (is.0 ∙ ap₂ with_files limited c.files_argument.ensures.rule, is.1))
