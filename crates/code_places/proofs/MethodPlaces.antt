@@ -24,7 +24,7 @@ use Rattle.types.proofs.method_code.Firsts.{method_there}
 use Rattle.types.proofs.method_code.Rights.{method_right, class_right, classes_right}
 use Rattle.method_tables.specs.method_links.Methods.{member_of, member_at, methods_of}
 use Rattle.method_tables.specs.method_links.Methods as method_links
-use Rattle.code_places.specs.Methods.{IsMethodOf}
+use Rattle.code_places.specs.Methods.{IsMethodOf, with_body}
 
 -- ---- the place of a number
 
@@ -94,22 +94,27 @@ module _ (files : Program) (linked : IsLinked files) (place : MemberPlace) (meth
   its_body = ap (classes.body_of files) (sym t.is) ∙ own_body
 
   its_code : shown_at files place.class place.member
-      ≡ option_map (λ (code : CodeTree). (member_of t.file tree, with_pool t.file.pool code)) (code_in tree.parts)
+      ≡ option_map (λ (code : CodeTree). with_body (member_of t.file tree) (with_pool t.file.pool code)) (code_in tree.parts)
   its_code =
       ap (option_and_then (λ (f : FileTree). option_and_then (shown_in f) (slice_get f.methods place.member))) t.class_is
       ∙ ap (option_and_then (shown_in t.file)) t.tree_is
 
-  paired : (code : Option CodeTree) → option_map (λ (code : CodeTree). (member_of t.file tree, with_pool t.file.pool code)) code
-      ≡ option_map (λ (body : Body). (method, body)) (option_map (with_pool t.file.pool) code)
+  paired : (code : Option CodeTree) → option_map (λ (code : CodeTree). with_body (member_of t.file tree) (with_pool t.file.pool code)) code
+      ≡ option_map (with_body method) (option_map (with_pool t.file.pool) code)
   paired None = refl
-  paired (Some code) = ap (λ (m : Member). Some (m, with_pool t.file.pool code)) t.is
+  paired (Some code) = ap (λ (m : Member). Some (with_body m (with_pool t.file.pool code))) t.is
 
   is_its : (found : Option MethodCode) → option_map shown found ≡ shown_at files place.class place.member
-      → option_map shown found ≡ option_map (λ (body : Body). (method, body)) (classes.body_of files method)
-  is_its found e = e ∙ its_code ∙ paired (code_in tree.parts) ∙ ap (option_map (λ (body : Body). (method, body))) (sym its_body)
+      → option_map shown found ≡ option_map (with_body method) (classes.body_of files method)
+  is_its found e = e ∙ its_code ∙ paired (code_in tree.parts) ∙ ap (option_map (with_body method)) (sym its_body)
 
 pub found_there : (files : Program) → IsLinked files → (number : ℕ) (place : MemberPlace)
     → option_map (member_at files) (Some place) ≡ option_map (λ (m : Member). Some m) (slice_get (methods_of files) number)
     → (found : Option MethodCode) → option_map shown found ≡ shown_at files place.class place.member
     → IsMethodOf files number found
 found_there files linked number place e found is method at = is_its files linked place method (there files place method (placed files number place e method at)) found is
+
+-- ---- how many there are
+
+pub counted_methods : (files : Program) (count : ℕ) → count ≡ length (methods_of files) → count ≡ length (linked_code.methods_of files)
+counted_methods files count is = is ∙ ap length (same_methods files)

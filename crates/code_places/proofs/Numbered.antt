@@ -12,6 +12,7 @@ use Rattle.types.specs.declared.method_code.declaration.MethodCode.{MethodCode}
 use Rattle.types.specs.method_code.View.{body_of, member_of, shown}
 use Rattle.place_texts.specs.Places.{PlaceOf}
 use Rattle.code_places.specs.declared.points.Point.{Point}
+use Rattle.code_places.specs.Methods.{with_body}
 use Rattle.code_places.specs.Points.{has_code, names, offsets_in, offsets_of, points_at, points_from}
 
 pub one_method : (trees : Program) (place : PlaceOf) (number : ℕ) (methods : List Member) (m : Member)
@@ -41,38 +42,51 @@ taken xs i x less is = take_more xs i x less ∙ ap (λ y. take i xs ++ y ∷ []
 
 -- ---- the method of a number
 
+abbrev of_pair : Option (Member × Body) → Member × Body → Member × Body
+of_pair None default = default
+of_pair (Some pair) default = pair
+
+first_same : (a b : Member) (c d : Body) → Some (with_body a c) ≡ Some (with_body b d) → a ≡ b
+first_same a b c d e = ap (λ (o : Option (Member × Body)). (of_pair o (with_body b d)).0) e
+
+second_same : (a b : Member) (c d : Body) → Some (with_body a c) ≡ Some (with_body b d) → c ≡ d
+second_same a b c d e = ap (λ (o : Option (Member × Body)). (of_pair o (with_body b d)).1) e
+
+pub record SaysOf (trees : Program) (place : PlaceOf) (method : Member) (offsets : List ℕ) (is_its : Bool) : Type 0 where
+  pub its_offsets : offsets_of trees place method ≡ offsets
+  pub its_code : has_code trees place method ≡ is_its
+
 module _ (trees : Program) (place : PlaceOf) (method : Member) where
-  pub of_none : (found : Option MethodCode) → found ≡ None → option_map shown found ≡ option_map (λ (body : Body). (method, body)) (classes.body_of trees method)
-      → (offsets_of trees place method ≡ []) × (has_code trees place method ≡ false)
-  of_none found none h = by (classes.body_of trees method) refl (ap (option_map shown) (sym none) ∙ h)
-    where
-      by : (o : Option Body) → classes.body_of trees method ≡ o → None ≡ option_map (λ (body : Body). (method, body)) o
-          → (offsets_of trees place method ≡ []) × (has_code trees place method ≡ false)
-      by None is e = (ap (λ (b : Option Body). option_map_or (offsets_in place method) b []) is, ap (λ (b : Option Body). option_map_or (λ (body : Body). names place method) b false) is)
-      by (Some body) is e = absurd cc
+  abbrev Says : List ℕ → Bool → Type 0
+  Says offsets is_its = SaysOf trees place method offsets is_its
 
-  pub of_some : (found : Option MethodCode) (m : MethodCode) → found ≡ Some m
-      → option_map shown found ≡ option_map (λ (body : Body). (method, body)) (classes.body_of trees method)
-      → (offsets_of trees place method ≡ offsets_in place (member_of m) (body_of m)) × (has_code trees place method ≡ names place (member_of m))
-  of_some found m some h = by (classes.body_of trees method) refl (ap (option_map shown) (sym some) ∙ h)
-    where
-      by : (o : Option Body) → classes.body_of trees method ≡ o → Some (shown m) ≡ option_map (λ (body : Body). (method, body)) o
-          → (offsets_of trees place method ≡ offsets_in place (member_of m) (body_of m)) × (has_code trees place method ≡ names place (member_of m))
-      by None is e = absurd cc
-      by (Some body) is e =
-          let both : Some (member_of m, body_of m) ≡ Some (method, body) = e in
-          let same : member_of m ≡ method = first both in
-          let its : body_of m ≡ body = second both in
-          (
-            ap (λ (b : Option Body). option_map_or (offsets_in place method) b []) is ∙ ap (λ (b : Body). offsets_in place method b) (sym its) ∙ ap (λ (x : Member). offsets_in place x (body_of m)) (sym same),
-            ap (λ (b : Option Body). option_map_or (λ (body : Body). names place method) b false) is ∙ ap (names place) (sym same),
-          )
-        where
-          first : Some (member_of m, body_of m) ≡ Some (method, body) → member_of m ≡ method
-          first e = ap (λ (o : Option (Member × Body)). option_map_or (λ (p : Member × Body). p.0) o method) e
+  without : (o : Option Body) → classes.body_of trees method ≡ o → None ≡ option_map (with_body method) o → Says [] false
+  without None is e =
+      record {
+        its_offsets = ap (λ (b : Option Body). option_map_or (offsets_in place method) b []) is;
+        its_code = ap (λ (b : Option Body). option_map_or (λ (body : Body). names place method) b false) is;
+      }
+  without (Some body) is e = absurd cc
 
-          second : Some (member_of m, body_of m) ≡ Some (method, body) → body_of m ≡ body
-          second e = ap (λ (o : Option (Member × Body)). option_map_or (λ (p : Member × Body). p.1) o body) e
+  within : (m : MethodCode) (o : Option Body) → classes.body_of trees method ≡ o → Some (with_body (member_of m) (body_of m)) ≡ option_map (with_body method) o
+      → Says (offsets_in place (member_of m) (body_of m)) (names place (member_of m))
+  within m None is e = absurd cc
+  within m (Some body) is e =
+      let same : member_of m ≡ method = first_same (member_of m) method (body_of m) body e in
+      let its : body_of m ≡ body = second_same (member_of m) method (body_of m) body e in
+      record {
+        its_offsets =
+            ap (λ (b : Option Body). option_map_or (offsets_in place method) b []) is ∙ ap (λ (b : Body). offsets_in place method b) (sym its)
+            ∙ ap (λ (x : Member). offsets_in place x (body_of m)) (sym same);
+        its_code = ap (λ (b : Option Body). option_map_or (λ (body : Body). names place method) b false) is ∙ ap (names place) (sym same);
+      }
+
+  pub of_none : (found : Option MethodCode) → found ≡ None → option_map shown found ≡ option_map (with_body method) (classes.body_of trees method) → Says [] false
+  of_none found none h = without (classes.body_of trees method) refl (sym (ap (option_map shown) none) ∙ h)
+
+  pub of_some : (found : Option MethodCode) (m : MethodCode) → found ≡ Some m → option_map shown found ≡ option_map (with_body method) (classes.body_of trees method)
+      → Says (offsets_in place (member_of m) (body_of m)) (names place (member_of m))
+  of_some found m some h = within m (classes.body_of trees method) refl (sym (ap (option_map shown) some) ∙ h)
 
 -- ---- loops over methods
 

@@ -8,7 +8,11 @@ use Rattle.linked_code.specs.Numbers.{IsMethodAt}
 use Rattle.types.specs.declared.method_code.declaration.MethodCode.{MethodCode}
 use Rattle.types.specs.method_code.View.{shown}
 
+-- a method with its body
+abbrev pub with_body : Member → Body → Member × Body
+with_body method body = (method, body)
+
 -- the method of a number, if it has code, with that
 abbrev pub IsMethodOf : Program → ℕ → Option MethodCode → Type 0
 IsMethodOf trees number found =
-    (method : Member) → IsMethodAt trees number method → option_map shown found ≡ option_map (λ (body : Body). (method, body)) (classes.body_of trees method)
+    (method : Member) → IsMethodAt trees number method → option_map shown found ≡ option_map (with_body method) (classes.body_of trees method)

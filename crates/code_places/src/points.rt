@@ -158,10 +158,10 @@ pub fn points_of(alloc: Global, linked: &Linked, place: &Place) -> Result<Vec<Po
     let numbers = MethodNumbers::new(alloc, linked.set())?;
     let mut points = Vec::new(alloc);
     'methods: for number in 0..numbers.count() {
-        let Ok(number) = u32::try_from(number) else {
+        let Ok(id) = u32::try_from(number) else {
             return Err(AllocError);
         };
-        add_method(alloc, &mut points, linked, &numbers, number, place)?;
+        add_method(alloc, &mut points, linked, &numbers, id, place)?;
     }
     Ok(points)
 }

@@ -13,8 +13,9 @@ use crate::explanation::Explanation;
 use crate::fault::Fault;
 use crate::main_hints::add_mains;
 use crate::named_file::is_given_word;
+use crate::place_schedules::explain_place;
 use command_line::{Command, Goal, Usage, command};
-use explanations::refusal_explanations::{explain, explain_place, explain_schedule, explain_text};
+use explanations::refusal_explanations::{explain, explain_schedule, explain_text};
 use library_files::LibraryClass;
 use link_conditions::refusal::RefusalKind;
 use program_files::{Folder, first_unlisted, given_paths};
@@ -224,8 +225,7 @@ fn line_of<F: Folder>(
         }
         Fault::Place(missing) => {
             let name = schedule.unwrap_or(STANDARD_INPUT);
-            let words = missing.words.as_slice();
-            Ok(Some(explain_place(alloc, name, missing.line, words, missing.fault)?))
+            Ok(Some(explain_place(alloc, name, missing)?))
         }
         Fault::Refusal(refusal) => {
             let Ok(paths) = command_files(alloc, folder, command) else {

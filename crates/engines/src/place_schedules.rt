@@ -156,3 +156,25 @@ pub(crate) fn followed(
         schedule: run.schedule,
     })
 }
+
+/// The line, without its end, that tells which place isn't there of the schedule of a name: by its words, and the line in
+/// which it stands.
+pub(crate) fn explain_place(
+    alloc: Global,
+    name: &str,
+    missing: &MissingPlace,
+) -> Result<Vec<u8>, AllocError> {
+    let told = match missing.fault {
+        PlaceFault::Class => ": there is no class of this name",
+        PlaceFault::Method => ": the class has no method with code of this name",
+        PlaceFault::Line =>
+            ": no instruction begins that line, as far as the class file tells its lines",
+        PlaceFault::Offset => ": no instruction begins at that offset",
+    };
+    let line = missing.line;
+    let head = format!(in alloc; "{name}: line {line}: ")?;
+    let mut text = Vec::from_slice(alloc, head.as_bytes())?;
+    text.extend_from_slice(missing.words.as_slice())?;
+    text.extend_from_slice(told.as_bytes())?;
+    Ok(text)
+}

@@ -13,4 +13,4 @@ mod unresolved;
 
 pub use advice::GivenFile;
 pub use class_files::explain;
-pub use schedule_file::{explain_difference, explain_place, explain_schedule, explain_text};
+pub use schedule_file::{explain_difference, explain_schedule, explain_text};

@@ -1,7 +1,6 @@
 //! What is wrong with a file that is no schedule file, and with a text that spells no schedule.
 
 use advice::words::Line;
-use code_places::PlaceFault;
 use schedule::schedule_text::TextFault;
 use schedule::{Difference, ScheduleFault};
 use std::alloc::{AllocError, Global};
@@ -95,27 +94,4 @@ pub fn explain_text(alloc: Global, name: &str, fault: TextFault) -> Result<Vec<u
         TextFault::OutOfMemory => format!(in alloc; "{name}: there is no memory for it"),
     };
     Ok(told?.into_bytes())
-}
-
-/// The line, without its end, that tells which place isn't there of the schedule of a name, by its words and the line in
-/// which it stands.
-pub fn explain_place(
-    alloc: Global,
-    name: &str,
-    line: u64,
-    place: &[u8],
-    fault: PlaceFault,
-) -> Result<Vec<u8>, AllocError> {
-    let told = match fault {
-        PlaceFault::Class => ": there is no class of this name",
-        PlaceFault::Method => ": the class has no method with code of this name",
-        PlaceFault::Line =>
-            ": no instruction begins that line, as far as the class file tells its lines",
-        PlaceFault::Offset => ": no instruction begins at that offset",
-    };
-    let head = format!(in alloc; "{name}: line {line}: ")?;
-    let mut text = Vec::from_slice(alloc, head.as_bytes())?;
-    text.extend_from_slice(place)?;
-    text.extend_from_slice(told.as_bytes())?;
-    Ok(text)
 }
