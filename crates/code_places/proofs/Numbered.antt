@@ -115,3 +115,9 @@ pub some_there : (p : Member → Bool) (methods : List Member) (number : ℕ) �
 some_there p methods number less is =
     let it = there_is methods number less in
     sym (list_any_at p methods number it.0 less (ap p (same_item methods number it.0 it.0 it.1) ∙ sym (is it.0 it.1)))
+
+pub adds_by : (offsets : Member → List ℕ) (methods : List Member) (id number : ℕ) → id ≡ number → (points new : List Point)
+    → ((m : Member) → slice_get methods id ≡ Some m → new ≡ points ++ points_at id (offsets m))
+    → (m : Member) → slice_get methods number ≡ Some m → new ≡ points ++ points_at number (offsets m)
+adds_by offsets methods id number same points new adds =
+    subst (λ n. (m : Member) → slice_get methods n ≡ Some m → new ≡ points ++ points_at n (offsets m)) same adds

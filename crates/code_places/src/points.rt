@@ -11,11 +11,11 @@ ghost use Rattle.code_places.specs.Points.{all_points, describes as descriptor_f
 ghost use Rattle.code_places.specs.Methods.{IsMethodOf};
 
 use crate::lines::add_line;
-use place_texts::{Place, Position};
 use classfile::Code;
 use linker::Linked;
 use method_tables::method_links::MethodNumbers;
 use opcodes::starts;
+use place_texts::{Place, Position};
 use std::alloc::{AllocError, Global};
 use types::method_code::MethodCode;
 
@@ -75,7 +75,14 @@ fn add_points(
     let code: &Code = method.code();
     let starts = starts(alloc, &code.code)?;
     match position {
-        Position::Line(line) => add_line(points, number, method.file(), code, line, starts.as_slice()),
+        Position::Line(line) => add_line(
+            points,
+            number,
+            method.file(),
+            code,
+            line,
+            starts.as_slice(),
+        ),
         Position::Offset(offset) => {
             if starts.get(usize::from(offset)).copied().unwrap_or(false) {
                 points.push(Point {

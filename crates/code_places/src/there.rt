@@ -5,8 +5,8 @@ ghost use Rattle.place_texts.specs.Places.{place_of};
 ghost use Rattle.code_places.specs.There.{Misses};
 
 use crate::points::{has_method, points_of};
-use place_texts::{Place, Position};
 use linker::Linked;
+use place_texts::{Place, Position};
 use std::alloc::{AllocError, Global};
 use std::fmt;
 
@@ -48,9 +48,9 @@ pub fn missing(
 ) -> Result<Option<PlaceFault>, AllocError>
     ensures { IfOk result (Misses linked.now (place_of place.now)) }
 {
-    if linked.set().place_of(&place.class).is_none() {
+    let Some(_class) = linked.set().class_of(&place.class) else {
         return Ok(Some(PlaceFault::Class));
-    }
+    };
     if !has_method(alloc, linked, place)? {
         return Ok(Some(PlaceFault::Method));
     }

@@ -1,4 +1,6 @@
-use Rattle.std.proofs.Common.{◌≡◌, ◌<◌, ap, length, sym, subst, ◌∙◌, arith}
+use Rattle.std.proofs.Common.{◌≡◌, ◌<◌, ap, length, sym, subst, take, ◌∙◌, arith}
+use Rattle.std.specs.List.{list_any}
+use Rattle.std.proofs.lemmas.List.{take_all}
 use Rattle.linked_code.specs.Numbers.{methods_of}
 use Rattle.method_tables.specs.method_links.Numbers.{AreNumbersOf}
 use Rattle.place_texts.specs.Places.{place_of}
@@ -20,3 +22,10 @@ methods-preserved c =
     let count = counted_methods trees c.count-number-end.result (c.count-number-end.ensures.methods trees (subst (λ t. AreNumbersOf t c.in_ok-numbers.numbers) c.set.ensures.same c.in_ok-numbers.ensures)) in
     let less : c.methods.number < length (methods_of trees) = omega (arith, count, c.methods-test.true) in
     none_more (has_code trees (place_of c.args.place.now)) (methods_of trees) c.methods.number less c.methods.invariant (λ m at. sym c.if-is_method.false ∙ c.is_method.ensures m at)
+
+pub returns : goal.returns
+returns c =
+    let trees = c.args.linked.now in
+    let count = counted_methods trees c.count-number-end.result (c.count-number-end.ensures.methods trees (subst (λ t. AreNumbersOf t c.in_ok-numbers.numbers) c.set.ensures.same c.in_ok-numbers.ensures)) in
+    let all : take c.methods.number (methods_of trees) ≡ methods_of trees = take_all (methods_of trees) c.methods.number (omega (arith, count, c.methods-test.false)) in
+    sym (ap (list_any (has_code trees (place_of c.args.place.now))) (sym all) ∙ c.methods.invariant)

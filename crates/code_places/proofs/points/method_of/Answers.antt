@@ -1,4 +1,4 @@
-use Rattle.std.proofs.Common.{ap, ◌∙◌}
+use Rattle.std.proofs.Common.{None, ap, ◌∙◌}
 use Rattle.types.specs.method_code.View.{shown_at}
 use Rattle.code_places.proofs.MethodPlaces.{found_there, no_place}
 use Rattle.code_places.proofs.points.method_of.Goals as goal
@@ -9,4 +9,4 @@ returns c =
     (c.new.ensures.value ∙ ap (λ files. shown_at files c.in-Some.found.class c.in-Some.found.member) c.hierarchy.ensures.same)
 
 pub returns-in_default : goal.returns-in_default
-returns-in_default c = ?
+returns-in_default c = no_place c.args.linked.now c.args.number (c.in_default.ensures.method c.args.linked.now c.requires) None
