@@ -4,3 +4,4 @@ pub mod Following
 pub mod Shown
 pub mod Worlds
 pub mod Followed
+pub mod Placing

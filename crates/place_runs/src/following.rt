@@ -49,7 +49,9 @@ fn follow_entry(world: &mut World, entry: ScheduleEntry) -> Result<Option<Stop>,
     if done == entry.repeat {
         return Ok(None);
     }
-    Ok(Some(stop_of(unless_memory(why)?, entry.event)))
+    let told = unless_memory(why)?;
+    let stop = stop_of(told, entry.event);
+    Ok(Some(stop))
 }
 
 /// Lets a thread go on until its next bytecode is at one of these points. Returns why it didn't come there, where it
@@ -65,7 +67,10 @@ fn follow_place(
         → IfOk result (λ stop. DoesDeed stop (Until thread place) budget world.old world.new) }
 {
     match go_on(world, thread, points, budget)? {
-        Some(why) => Ok(Some(stop_of(why, Event { thread, pick: 0 }))),
+        Some(why) => {
+            let stop = stop_of(why, Event { thread, pick: 0 });
+            Ok(Some(stop))
+        }
         None => Ok(None),
     }
 }

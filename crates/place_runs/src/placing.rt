@@ -1,5 +1,14 @@
 //! Schedules that are written with places.
 
+ghost use Rattle.std.specs.Prelude.{◌≡◌, IfOk, IfSome, IsTrue};
+ghost use Rattle.std.specs.Arc.{arc_value};
+ghost use Rattle.model.specs.Schedule.{events_of};
+ghost use Rattle.schedule.specs.schedule_text.Text.{text_words};
+ghost use Rattle.machine.specs.Machines.{IsProgramOf};
+ghost use Rattle.place_texts.specs.Places.{deeds_of};
+ghost use Rattle.place_texts.specs.Texts.{SpellDeeds};
+ghost use Rattle.place_runs.specs.Placing.{IsPlacedText};
+
 use crate::following::Stop;
 use crate::names::place_at;
 use crate::run::follow_deeds;
@@ -100,7 +109,9 @@ fn words_of(alloc: Global, world: &mut World, schedule: &Schedule) -> Result<Vec
 }
 
 /// Whether two schedules have the same entries.
-fn are_same(one: &Schedule, other: &Schedule) -> bool {
+fn are_same(one: &Schedule, other: &Schedule) -> bool
+    ensures { IsTrue result → one.now ≡ other.now }
+{
     if one.len() != other.len() {
         return false;
     }
@@ -114,7 +125,9 @@ fn are_same(one: &Schedule, other: &Schedule) -> bool {
 }
 
 /// The words of a text with places; none where it has none.
-fn read_back(alloc: Global, text: &[u8]) -> Result<Option<Vec<PlacedDeed>>, AllocError> {
+fn read_back(alloc: Global, text: &[u8]) -> Result<Option<Vec<PlacedDeed>>, AllocError>
+    ensures { IfOk result (λ found. IfSome found (λ deeds. SpellDeeds (text_words text.now) (deeds_of deeds.items))) }
+{
     match read_deeds(alloc, text) {
         Ok(deeds) => Ok(deeds),
         Err(TextFault::OutOfMemory) => Err(AllocError),
@@ -130,7 +143,11 @@ pub fn placed_text(
     program: &Arc<LinkedProgram>,
     schedule: &Schedule,
     limits: Limits,
-) -> Result<Option<Vec<u8>>, AllocError> {
+) -> Result<Option<Vec<u8>>, AllocError>
+    requires { IsProgramOf (arc_value verified.now) (arc_value program.now) }
+    ensures { IfOk result (λ text. IfSome text (λ t.
+        IsPlacedText (arc_value verified.now) limits (events_of schedule.now) t.items)) }
+{
     let joined = schedule.joined(alloc)?;
     let mut world =
         World::open_linked(alloc, verified.clone()?, program.clone()?, limits, u32::MAX)?;
@@ -147,8 +164,11 @@ pub fn placed_text(
         limits,
         u32::MAX,
     )?;
-    match run.stop {
-        Stop::Whole if are_same(&run.schedule, &joined) => Ok(Some(text)),
-        _ => Ok(None),
+    let is_whole = matches!(run.stop, Stop::Whole);
+    let is_same = are_same(&run.schedule, &joined);
+    if is_whole && is_same {
+        Ok(Some(text))
+    } else {
+        Ok(None)
     }
 }

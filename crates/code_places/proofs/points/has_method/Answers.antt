@@ -27,5 +27,5 @@ pub returns : goal.returns
 returns c =
     let trees = c.args.linked.now in
     let count = counted_methods trees c.count-number-end.result (c.count-number-end.ensures.methods trees (subst (λ t. AreNumbersOf t c.in_ok-numbers.numbers) c.set.ensures.same c.in_ok-numbers.ensures)) in
-    let all : take c.methods.number (methods_of trees) ≡ methods_of trees = take_all (methods_of trees) c.methods.number (omega (arith, count, c.methods-test.false)) in
+    let all : take c.methods.number (methods_of trees) ≡ methods_of trees = take_all c.methods.number (methods_of trees) (omega (arith, count, c.methods-test.false)) in
     sym (ap (list_any (has_code trees (place_of c.args.place.now))) (sym all) ∙ c.methods.invariant)

@@ -8,4 +8,4 @@ deeds-init c = begins c.args.world.now c.requires.on c.requires.none
 
 pub returns : goal.returns
 returns c =
-    all_done c.args.deeds.now c.args.budget c.args.world.now c.deeds.world (take c.deeds.placed-index c.args.deeds.now) (take_all c.args.deeds.now c.deeds.placed-index (omega (arith, c.deeds-test.false))) c.deeds.invariant
+    all_done c.args.deeds.now c.args.budget c.args.world.now c.deeds.world (take c.deeds.placed-index c.args.deeds.now) (take_all c.deeds.placed-index c.args.deeds.now (omega (arith, c.deeds-test.false))) c.deeds.invariant
