@@ -15,7 +15,7 @@ use Rattle.machine.specs.declared.machine.Stopped.TheVariants as stopped
 use Rattle.machine.specs.Tops.{plain}
 use Rattle.program_runs.specs.continued_runs.Following.{WantsMemory}
 use Rattle.program_runs.specs.worlds.Worlds.{WorldOf, IsOfSame, HasRepeated, RepeatsWithin}
-use Rattle.program_runs.proofs.continued_runs.Passing.{joined}
+use Rattle.place_runs.proofs.Kept.{joined}
 use Rattle.place_texts.specs.Places.{PlaceOf, Until}
 use Rattle.code_places.specs.declared.points.Point.{Point}
 use Rattle.code_places.specs.Points.{all_points}

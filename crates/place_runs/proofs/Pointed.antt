@@ -2,7 +2,7 @@
 use Rattle.std.proofs.Common.{◌≡◌, ◌<◌, ℕ, zero, suc, ◌+◌, List, [], ◌∷◌, ◌++◌, Bool, true, false, Option, Some, None, refl, sym, ap, subst, ◌∙◌, arith}
 use Rattle.std.specs.Prelude.{◌==◌, ◌&&◌, ◌||◌, slice_get}
 use Rattle.std.specs.List.{list_any}
-use Rattle.std.proofs.lemmas.Bool.{cases_eq}
+use Rattle.std.proofs.lemmas.Bool.{eq-eqb, eqb-true}
 use Rattle.std.proofs.lemmas.List.Folds.{list_any-append}
 use Rattle.model.specs.Names.{Member}
 use Rattle.model.specs.Classes.{Program}
@@ -13,13 +13,20 @@ use Rattle.code_places.specs.Points.{all_points, is_point, offsets_of, points_at
 use Rattle.place_runs.specs.Shown.{has_point}
 
 same_number : (n : ℕ) → (n == n) ≡ true
-same_number n = omega arith
+same_number n = eq-eqb n n refl
+
+differ : (a b : ℕ) → (a ≡ b → ⊥) → (a == b) ≡ false
+differ a b h = by (a == b) refl
+  where
+    by : (t : Bool) → (a == b) ≡ t → (a == b) ≡ false
+    by true e = absurd (h (eqb-true a b e))
+    by false e = e
 
 other_number : (a b : ℕ) → a < b → (b == a) ≡ false
-other_number a b less = omega arith
+other_number a b less = differ b a (λ same. omega (arith, less, same))
 
 greater_number : (a b : ℕ) → a < b → (a == b) ≡ false
-greater_number a b less = omega arith
+greater_number a b less = differ a b (λ same. omega (arith, less, same))
 
 -- ---- the points of one method
 
@@ -73,4 +80,6 @@ module _ (trees : Program) (place : PlaceOf) (offset : ℕ) where
 
   pub pointed : (number : ℕ) (method : Member) → IsMethodAt trees number method
       → has_point (all_points trees place) number offset ≡ is_point trees place method offset
-  pointed number method at = there zero number (methods_of trees) method at
+  pointed number method at =
+      let count : 0 + number ≡ number = omega arith in
+      ap (λ n. has_point (all_points trees place) n offset) (sym count) ∙ there 0 number (methods_of trees) method at

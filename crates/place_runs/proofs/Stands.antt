@@ -20,7 +20,7 @@ use Rattle.machine.specs.Machines.{MachineOf}
 use Rattle.machine.specs.schedule_runs.Done.{HasDone}
 use Rattle.machine.specs.top_frames.Tops.{GoesOnIf}
 use Rattle.program_runs.specs.traced_runs.Traces.{stack_at}
-use Rattle.program_runs.proofs.traced_runs.Seen.{stack_of_words}
+use Rattle.place_runs.proofs.Kept.{stack_of_words}
 use Rattle.place_texts.specs.Places.{PlaceOf}
 use Rattle.code_places.specs.declared.points.Point.{Point}
 use Rattle.code_places.specs.Points.{all_points, is_point}

@@ -11,7 +11,7 @@ use Rattle.machine.specs.declared.machine.Stopped.TheVariants as stopped
 use Rattle.machine.specs.Tops.{plain}
 use Rattle.program_runs.specs.continued_runs.Following.{WantsMemory}
 use Rattle.program_runs.specs.worlds.Worlds.{WorldOf, IsNew, IsOfSame, HasRepeated, RepeatsWithin}
-use Rattle.program_runs.proofs.continued_runs.Passing.{joined}
+use Rattle.place_runs.proofs.Kept.{joined}
 use Rattle.place_texts.specs.declared.place.PlacedDeed.{PlacedDeed}
 use Rattle.place_texts.specs.Places.{PlaceOf, DeedOf, Entry, Until, deed_of, deeds_of}
 use Rattle.place_texts.specs.Texts.{SpellDeeds}

@@ -108,6 +108,15 @@ fn words_of(alloc: Global, world: &mut World, schedule: &Schedule) -> Result<Vec
     Ok(words)
 }
 
+/// Whether two entries are the same.
+fn is_same(one: ScheduleEntry, other: ScheduleEntry) -> bool
+    ensures { IsTrue result → one ≡ other }
+{
+    one.event.thread == other.event.thread
+        && one.event.pick == other.event.pick
+        && one.repeat == other.repeat
+}
+
 /// Whether two schedules have the same entries.
 fn are_same(one: &Schedule, other: &Schedule) -> bool
     ensures { IsTrue result → one.now ≡ other.now }
@@ -116,8 +125,7 @@ fn are_same(one: &Schedule, other: &Schedule) -> bool
         return false;
     }
     'entries: for at in 0..one.len() {
-        let (left, right) = (one.entry(at), other.entry(at));
-        if left.event != right.event || left.repeat != right.repeat {
+        if !is_same(one.entry(at), other.entry(at)) {
             return false;
         }
     }
