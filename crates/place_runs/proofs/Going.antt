@@ -128,7 +128,7 @@ module _ (t : ℕ) (place : PlaceOf) (first w : WorldOf) (so_far : Going t place
         }
       where
         here : IsNotAt first.trees first.machine.limits.frames (first.events ++ replicate (so_far.count + 1) (plain t)) t place
-        here = (r.gone.done.run.lead.state, led, subst IsFalse (is) (subst IsFalse (sym not_there) tt))
+        here = (r.gone.done.run.lead.state, led, sym is ∙ not_there)
 
         by : (k : ℕ) → 1 ≤ k → k ≤ so_far.count + 1 → (k ≡ so_far.count + 1) ⊎ (k ≡ so_far.count + 1 → ⊥)
             → IsNotAt first.trees first.machine.limits.frames (first.events ++ replicate k (plain t)) t place
@@ -145,7 +145,7 @@ module _ (t : ℕ) (place : PlaceOf) (first w : WorldOf) (so_far : Going t place
           done = events_are;
           comes = record {
             some = omega arith;
-            reached = (r.gone.done.run.lead.state, led, subst IsTrue (is) (subst IsTrue (sym there) tt));
+            reached = (r.gone.done.run.lead.state, led, sym is ∙ there);
             first = λ k least less. so_far.not_yet k least (omega (arith, less));
           };
         }

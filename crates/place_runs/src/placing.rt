@@ -125,7 +125,9 @@ fn are_same(one: &Schedule, other: &Schedule) -> bool
         return false;
     }
     'entries: for at in 0..one.len() {
-        if !is_same(one.entry(at), other.entry(at)) {
+        let left = one.entry(at);
+        let right = other.entry(at);
+        if !is_same(left, right) {
             return false;
         }
     }

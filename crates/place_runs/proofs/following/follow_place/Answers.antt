@@ -8,9 +8,9 @@ pub returns-in-Some : goal.returns-in-Some
 returns-in-Some c = λ place. λ are.
     subst (λ s. DoesDeed (Some s) (Until c.args.thread place) c.args.budget c.args.world.now c.go_on.new.world) (sym c.stop_of-stop.ensures)
     (place_stops c.args.thread place c.args.budget c.args.world.now c.go_on.new.world c.in-Some.why
-    (subst (λ o. GoesOn o c.args.thread place c.args.budget c.args.world.now c.go_on.new.world) c.in-Some.is (c.in_ok-go_on.ensures place are)))
+    (subst (λ o. GoesOn o c.args.thread place c.args.budget c.args.world.now c.go_on.new.world) c.in-Some.is (c.in_ok-why.ensures place are)))
 
 pub returns-in-None : goal.returns-in-None
 returns-in-None c = λ place. λ are.
     place_done c.args.thread place c.args.budget c.args.world.now c.go_on.new.world
-    (subst (λ o. GoesOn o c.args.thread place c.args.budget c.args.world.now c.go_on.new.world) c.in-None.is (c.in_ok-go_on.ensures place are))
+    (subst (λ o. GoesOn o c.args.thread place c.args.budget c.args.world.now c.go_on.new.world) c.in-None.is (c.in_ok-why.ensures place are))

@@ -6,14 +6,14 @@ use Rattle.place_runs.proofs.going_on.go_on.Goals as goal
 pub events-init : goal.events-init
 events-init c = λ place. λ are. begins c.args.thread place c.args.world.now c.requires
 
-pub returns-then-budget-le-count : goal.returns-then-budget-le-count
-returns-then-budget-le-count c = λ place. λ are.
-    gives_up c.args.thread place c.args.budget c.args.world.now c.events.world (c.events.invariant place are) (omega (arith, c.if-budget-le-count.true, c.count-count.ensures))
+pub returns-then-budget-count : goal.returns-then-budget-count
+returns-then-budget-count c = λ place. λ are.
+    gives_up c.args.thread place c.args.budget c.args.world.now c.events.world (c.events.invariant place are) (omega (arith, c.if-budget-count.true, c.count-count.ensures))
 
 pub returns-then-done-eq0 : goal.returns-then-done-eq0
 returns-then-done-eq0 c = λ place. λ are.
     stops c.args.thread place c.args.world.now c.events.world (c.events.invariant place are) c.in_ok-done.done c.in_ok-done.why c.repeat.new.self c.in_ok-done.ensures.done
-    c.args.budget c.end.ensures.holds.within c.if-done-eq0.true c.in_ok-told.told c.in_ok-told.ensures.0 c.in_ok-told.ensures.1
+    c.args.budget c.end.ensures.holds.within c.if-done-eq0.true c.in_ok-told.told c.in_ok-told.ensures.same.0 c.in_ok-told.ensures.same.1
 
 pub returns-then-is_there : goal.returns-then-is_there
 returns-then-is_there c = λ place. λ are.

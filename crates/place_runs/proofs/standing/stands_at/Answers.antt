@@ -40,4 +40,4 @@ returns-else-goes_on c = λ files. λ trees. λ done. λ has. λ place. λ are.
     let going = subst (λ (shared : Shared). GoesOnIf b shared.threads.threads t) same c.goes_on-goes_on.ensures in
     let top_at = subst (λ p. IsTopAt p points stack top) (c.deref.ensures ∙ c.program.ensures) c.is_on_top-is_there.ensures in
     let top_if = subst (λ (o : Option (List ShownEntry)). IsTopIf m.program points o top) (sym at) top_at in
-    sym (ap (λ x. x && top) c.if-goes_on.false) ∙ stands m t points files trees done has place are b top going top_if
+    c.if-goes_on.false ∙ sym (ap (λ x. x && top) c.if-goes_on.false) ∙ stands m t points files trees done has place are b top going top_if
