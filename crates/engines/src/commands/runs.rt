@@ -27,9 +27,15 @@ use program_runs::workers::Gate;
 use std::alloc::Global;
 use std::sync::Wait;
 use std::thread::Threads;
+use sweeps::Watch;
 
 /// `run`: once, or for each of the seeds that are asked for.
-pub(crate) fn run<R: Threads + Wait + Sync, G: Gate + Seeds + Deadline + Sync, F: Folder, W: Sink>(
+pub(crate) fn run<
+    R: Threads + Wait + Sync,
+    G: Gate + Seeds + Deadline + Watch + Sync,
+    F: Folder,
+    W: Sink,
+>(
     rt: &R,
     alloc: Global,
     gate: &G,

@@ -19,11 +19,12 @@ use model::Sink;
 use program_files::Folder;
 use search::run_outcomes::Wanted;
 use std::alloc::Global;
+use sweeps::Watch;
 
 /// Sweeps over the seeds that are asked for.
-pub(crate) fn sweep_files<D: Deadline, F: Folder, W: Sink>(
+pub(crate) fn sweep_files<G: Watch + Deadline, F: Folder, W: Sink>(
     alloc: Global,
-    deadline: &D,
+    gate: &G,
     folder: &F,
     files: &[Vec<u8>],
     options: &Run,
@@ -42,15 +43,13 @@ pub(crate) fn sweep_files<D: Deadline, F: Folder, W: Sink>(
     ensures told { TellsFailures (FolderMayFail F.may_fail) result (W.failures output.old) (W.failures output.new) }
 {
     let wanted = wanted_by(alloc, folder, &sweep.goal)?;
-    sweep_for(
-        alloc, deadline, folder, files, options, sweep, &wanted, output,
-    )
+    sweep_for(alloc, gate, folder, files, options, sweep, &wanted, output)
 }
 
 /// Sweeps for an outcome.
-fn sweep_for<D: Deadline, F: Folder, W: Sink>(
+fn sweep_for<G: Watch + Deadline, F: Folder, W: Sink>(
     alloc: Global,
-    deadline: &D,
+    gate: &G,
     folder: &F,
     files: &[Vec<u8>],
     options: &Run,
@@ -68,7 +67,7 @@ fn sweep_for<D: Deadline, F: Folder, W: Sink>(
     ensures told { TellsFailures (FolderMayFail F.may_fail) result (W.failures output.old) (W.failures output.new) }
 {
     let watch = Until {
-        gate: deadline,
+        gate,
         seconds: options.seconds,
     };
     let mut sources = sources(alloc, folder, files)?;
