@@ -249,6 +249,11 @@ pub record AreLimitNumbers (rows : List Row) (limits : LimitOptions) : Type 0 wh
 abbrev pub is_set : Option Text → Bool
 is_set text = option_map_or (λ text. bytes_eq text (codes "true")) text false
 
+-- this is so, unless the words name seeds: of a sweep the workers are cores, and go with any policy
+abbrev pub UnlessSweep : (seeds : Option Text) → Type 0 → Type 0
+UnlessSweep (Some word) P = Unit {0}
+UnlessSweep None P = P
+
 -- who gives the threads turns, and up to how many events, by the words of a run
 pub record AreRunNumbers (rows : List Row) (options : RunOptions) : Type 0 where
   pub workers : IsNumber 1 64 (first_of (codes "workers") rows) options.workers
@@ -256,7 +261,7 @@ pub record AreRunNumbers (rows : List Row) (options : RunOptions) : Type 0 where
   pub quantum : IsNumber 1 4294967295 (first_of (codes "quantum") rows) options.quantum
   pub seed : IsNumber 0 18446744073709551615 (first_of (codes "seed") rows) options.seed
   pub policy : IsPolicy (first_of (codes "policy") rows) options.policy
-  pub together : GoTogether options.workers options.quantum options.seed options.policy
+  pub together : UnlessSweep (first_of (codes "seeds") rows) (GoTogether options.workers options.quantum options.seed options.policy)
 
 -- the values that the words give to `jvm run`
 pub record AreRunValues (rows : List Row) (run : Run) : Type 0 where

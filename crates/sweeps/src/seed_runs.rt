@@ -1,6 +1,6 @@
 //! Runs by seeds.
 
-ghost use Rattle.std.specs.Prelude.{ℕ, IfOk};
+ghost use Rattle.std.specs.Prelude.{◌≡◌, ℕ, IfOk};
 ghost use Rattle.program_runs.specs.declared.worlds.records.Recorded.{Recorded};
 
 use program_runs::worlds::Recorded;
@@ -10,7 +10,8 @@ use std::alloc::{AllocError, Global};
 pub trait SeedRuns {
     ghost is_run: { Self → ℕ → Recorded → Type 0 };
 
-    /// The run with a seed. The only error is a want of memory.
-    fn run(&self, alloc: Global, seed: u64) -> Result<Recorded, AllocError>
-        ensures { IfOk result (is_run self.now seed) };
+    /// The run with a seed, each time for another one. The only error is a want of memory.
+    fn run(&mut self, alloc: Global, seed: u64) -> Result<Recorded, AllocError>
+        ensures is { IfOk result (is_run self.old seed) }
+        ensures same { is_run self.new ≡ is_run self.old };
 }

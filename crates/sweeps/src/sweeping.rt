@@ -33,13 +33,14 @@ pub struct SweepReport {
 /// Does the run of a seed, and counts it. Answers whether it shows what is wanted. The only error is a want of memory.
 fn run_seed<S: SeedRuns>(
     alloc: Global,
-    runs: &S,
+    runs: &mut S,
     wanted: &Wanted,
     tally: &mut Tally,
     seed: u64,
 ) -> Result<bool, AllocError>
     requires { tally.old.runs < 2 ^ 64 }
-    ensures { IfOk result (λ found. HasRun (S.is_run runs.now) wanted.now seed found tally.old tally.new) }
+    ensures has_run { IfOk result (λ found. HasRun (S.is_run runs.old) wanted.now seed found tally.old tally.new) }
+    ensures same { IfOk result (λ _. S.is_run runs.new ≡ S.is_run runs.old) }
 {
     let ran = Ran::of(runs.run(alloc, seed)?);
     let is_wanted = ran.shown.is_wanted(alloc, wanted)?;
@@ -51,14 +52,14 @@ fn run_seed<S: SeedRuns>(
 /// stopped. The only error is a want of memory.
 pub fn sweep<S: SeedRuns, W: Watch>(
     alloc: Global,
-    runs: &S,
+    runs: &mut S,
     watch: &W,
     wanted: &Wanted,
     first: u64,
     last: u64,
 ) -> Result<SweepReport, AllocError>
     requires { first ≤ last }
-    ensures { IfOk result (Sweeps (S.is_run runs.now) (W.may_stop watch.now) wanted.now first last) }
+    ensures { IfOk result (Sweeps (S.is_run runs.old) (W.may_stop watch.now) wanted.now first last) }
 {
     let mut tally = Tally::new(alloc);
     'seeds: for seed in first..last {

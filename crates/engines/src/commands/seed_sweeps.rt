@@ -19,10 +19,13 @@ use model::Sink;
 use program_files::Folder;
 use search::run_outcomes::Wanted;
 use std::alloc::Global;
+use std::sync::Wait;
+use std::thread::Threads;
 use sweeps::Watch;
 
 /// Sweeps over the seeds that are asked for.
-pub(crate) fn sweep_files<G: Watch + Deadline, F: Folder, W: Sink>(
+pub(crate) fn sweep_files<R: Threads + Wait + Sync, G: Watch + Deadline, F: Folder, W: Sink>(
+    rt: &R,
     alloc: Global,
     gate: &G,
     folder: &F,
@@ -43,11 +46,14 @@ pub(crate) fn sweep_files<G: Watch + Deadline, F: Folder, W: Sink>(
     ensures told { TellsFailures (FolderMayFail F.may_fail) result (W.failures output.old) (W.failures output.new) }
 {
     let wanted = wanted_by(alloc, folder, &sweep.goal)?;
-    sweep_for(alloc, gate, folder, files, options, sweep, &wanted, output)
+    sweep_for(
+        rt, alloc, gate, folder, files, options, sweep, &wanted, output,
+    )
 }
 
 /// Sweeps for an outcome.
-fn sweep_for<G: Watch + Deadline, F: Folder, W: Sink>(
+fn sweep_for<R: Threads + Wait + Sync, G: Watch + Deadline, F: Folder, W: Sink>(
+    rt: &R,
     alloc: Global,
     gate: &G,
     folder: &F,
@@ -72,6 +78,7 @@ fn sweep_for<G: Watch + Deadline, F: Folder, W: Sink>(
     };
     let mut sources = sources(alloc, folder, files)?;
     sweep_engine(
+        rt,
         alloc,
         &watch,
         sources.as_mut_slice(),
