@@ -26,7 +26,7 @@ pub(crate) const WORKERS: NumberOption = NumberOption {
     name: "workers",
     least: 1,
     most: 64,
-    help: "How many workers run the threads side by side, by no policy",
+    help: "How many workers run the threads side by side, by no policy; with --seeds the runs",
 };
 
 pub(crate) const BUDGET: NumberOption = NumberOption {
