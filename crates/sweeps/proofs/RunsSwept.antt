@@ -74,6 +74,10 @@ module _ (IsRun : ℕ → Recorded → Type 0) (want : Wanted) (seed : ℕ) (old
     lacks = λ it shows. let is_so : b ≡ true = wanted.1 (subst (IsShownWanted want) (sym shown) shows) in let bad : true ≡ false = sym is_so ∙ it in cc;
   }
 
+-- what is a run by one is one by another that is the same
+pub has_run_by : (P Q : ℕ → Recorded → Type 0) → P ≡ Q → {want : Wanted} {seed : ℕ} {b : Bool} {old new : TallyOf} → HasRun P want seed b old new → HasRun Q want seed b old new
+has_run_by P Q same {want} {seed} {b} {old} {new} h = subst (λ (p : ℕ → Recorded → Type 0). HasRun p want seed b old new) same h
+
 -- ---- what a sweep comes to
 
 module _ (IsRun : ℕ → Recorded → Type 0) (may_stop : Bool) (want : Wanted) (first last seed : ℕ) (old new : TallyOf) (h : HasSwept IsRun want first seed old)

@@ -1,7 +1,7 @@
 //! Runs that are done side by side, ahead of those that are asked for.
 
-ghost use Rattle.std.specs.Prelude.{◌≡◌, ◌≤◌, ◌+◌, ◌^◌, IfOk, OnOk};
-ghost use Rattle.sweeps.specs.Ahead.{AreRunsFrom};
+ghost use Rattle.std.specs.Prelude.{◌≡◌, ◌≤◌, ◌+◌, ◌^◌, IfOk, vec_len};
+ghost use Rattle.sweeps.specs.Ahead.{AreRunsOf};
 
 use crate::policy_runs::PolicyRuns;
 use crate::seed_runs::SeedRuns;
@@ -22,7 +22,7 @@ pub struct SideBySide<'a, R> {
     last: u64,
     /// The seed of the run that is next.
     next: u64,
-    /// The run with that seed at the end, and those with the seeds behind it before, as far as they are done.
+    /// The run with that seed, and those with the seeds behind it, as far as they are done.
     ahead: Vec<Result<Recorded, AllocError>>,
 }
 
@@ -70,18 +70,6 @@ impl<'a, R: Threads + Wait + Sync> SideBySide<'a, R> {
             1
         }
     }
-
-    /// Does the runs of the next seeds, from one on. The only error is a want of memory, and nothing has changed.
-    fn do_ahead(&mut self, alloc: Global, seed: u64) -> Result<(), AllocError>
-        ensures { OnOk result (self.new ≡ self.old) }
-    {
-        let count = self.count(seed);
-        let mut done = runs_from(self.rt, alloc, &self.runs, seed, count)?;
-        done.reverse();
-        self.next = seed;
-        self.ahead = done;
-        Ok(())
-    }
 }
 
 /// Does the runs of so many seeds, from one on, side by side. The only error is a want of memory for the work itself.
@@ -93,7 +81,8 @@ fn runs_from<R: Threads + Wait + Sync>(
     count: usize,
 ) -> Result<Vec<Result<Recorded, AllocError>>, AllocError>
     requires { seed + count ≤ 2 ^ 64 }
-    ensures { IfOk result (λ done. AreRunsFrom runs.now seed count done.items) }
+    ensures count { IfOk result (λ done. vec_len done ≡ count) }
+    ensures each { IfOk result (λ done. AreRunsOf runs.now seed done.items) }
 {
     thread::map_indices(
         rt,
@@ -110,16 +99,14 @@ impl<R: Threads + Wait + Sync> SeedRuns for SideBySide<'_, R> {
 
     fn run(&mut self, alloc: Global, seed: u64) -> Result<Recorded, AllocError> {
         if self.next != seed || self.ahead.is_empty() {
-            self.do_ahead(alloc, seed)?;
+            let count = self.count(seed);
+            self.ahead = runs_from(self.rt, alloc, &self.runs, seed, count)?;
+            self.next = seed;
         }
-        match self.ahead.pop() {
-            Some(run) => {
-                if !self.ahead.is_empty() {
-                    self.next = seed + 1;
-                }
-                run
-            }
-            None => self.runs.run_of(alloc, seed),
+        let run = self.ahead.remove(0);
+        if !self.ahead.is_empty() {
+            self.next = seed + 1;
         }
+        run
     }
 }
