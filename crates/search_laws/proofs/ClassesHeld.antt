@@ -23,6 +23,7 @@ use Rattle.model.specs.Tree.{Entry, FieldTree, FileTree}
 use Rattle.model.specs.Types.{is_object_of}
 use Rattle.model.specs.Worlds.{thread_at, with_thread, with_begun, with_pending, with_caught, with_status, with_interrupted, with_static, put_value, allocated, object_at, class_of_object, is_owner, may_enter, with_entry, entry_cost, with_exit, with_monitors, is_done}
 use Rattle.run_laws.proofs.laws.Operations.{OfMeaning}
+use Rattle.search_laws.specs.Lengths.{KeepsLengths}
 use Rattle.search_laws.proofs.Spares.{SparesMonitors, Spares, itself, threads_aside, with_object_made, entry_spares, exit_spares, relock_spares, all_leave, OutcomeSpares, DoesSpare, meaning_spares}
 
 -- the classes that the stack initialises, the top first
@@ -41,6 +42,7 @@ pub data ClassChange (v : ℕ) (world : World) (old : StackOf Value) (p : PartOf
 
 pub record IsEffect (v : ℕ) (world : World) (old : StackOf Value) (p : PartOf Value) : Type 0 where
   pub monitors : SparesMonitors v world.monitors p.world.monitors
+  pub lengths : KeepsLengths world.heap p.world.heap
   pub change : ClassChange v world old p
 
 abbrev pub OnEffect : ℕ → World → StackOf Value → SteppedOf (PartOf Value) → Type 0
@@ -66,42 +68,40 @@ returned_same files results (Initialisation class phase ∷ stack) = refl
 -- ---- constants of a class
 
 module _ (files : Program) where
+  -- but for static fields and statuses
+  record IsBeside (world after : World) (classes : List (Name × ClassStatus)) : Type 0 where
+    classes_are : after.classes ≡ classes
+    monitors : after.monitors ≡ world.monitors
+    heap : after.heap ≡ world.heap
+
   constant_same : (class : Name) (pool : List Entry) (world : World) (field : FieldTree)
-      → ((with_constant values files class pool world field).classes ≡ world.classes)
-      × ((with_constant values files class pool world field).monitors ≡ world.monitors)
+      → IsBeside world (with_constant values files class pool world field) world.classes
   constant_same class pool world field = by (constant_value values files pool field)
     where
       by : (o : Option Value)
-          → ((option_map_or (λ value. with_static world (field_member class pool field) (put_value values (field_member class pool field) value)) o world).classes
-          ≡ world.classes)
-          × ((option_map_or (λ value. with_static world (field_member class pool field) (put_value values (field_member class pool field) value)) o world).monitors
-          ≡ world.monitors)
-      by None = (refl, refl)
-      by (Some value) = (refl, refl)
+          → IsBeside world (option_map_or (λ value. with_static world (field_member class pool field) (put_value values (field_member class pool field) value)) o world) world.classes
+      by None = record { classes_are = refl; monitors = refl; heap = refl }
+      by (Some value) = record { classes_are = refl; monitors = refl; heap = refl }
 
   constants_same : (class : Name) (pool : List Entry) (world : World) (fields : List FieldTree)
-      → ((with_constants values files class pool world fields).classes ≡ world.classes)
-      × ((with_constants values files class pool world fields).monitors ≡ world.monitors)
-  constants_same class pool world [] = (refl, refl)
+      → IsBeside world (with_constants values files class pool world fields) world.classes
+  constants_same class pool world [] = record { classes_are = refl; monitors = refl; heap = refl }
   constants_same class pool world (field ∷ fields) =
       let rest = constants_same class pool (with_constant values files class pool world field) fields in
       let one = constant_same class pool world field in
-      (rest.0 ∙ one.0, rest.1 ∙ one.1)
+      record { classes_are = rest.classes_are ∙ one.classes_are; monitors = rest.monitors ∙ one.monitors; heap = rest.heap ∙ one.heap }
 
   begun_same : (v : ℕ) (class : Name) (world : World)
-      → ((with_class_begun values files v class world).classes ≡ with_status_in class (InProgress v) world.classes)
-      × ((with_class_begun values files v class world).monitors ≡ world.monitors)
+      → IsBeside world (with_class_begun values files v class world) (with_status_in class (InProgress v) world.classes)
   begun_same v class world = by (class_of files class)
     where
       by : (o : Option FileTree)
-          → ((option_map_or (λ (file : FileTree). with_constants values files class file.pool (with_class_status world class (InProgress v)) file.fields) o
-          (with_class_status world class (InProgress v))).classes
-          ≡ with_status_in class (InProgress v) world.classes)
-          × ((option_map_or (λ (file : FileTree). with_constants values files class file.pool (with_class_status world class (InProgress v)) file.fields) o
-          (with_class_status world class (InProgress v))).monitors
-          ≡ world.monitors)
-      by None = (refl, refl)
-      by (Some file) = constants_same class file.pool (with_class_status world class (InProgress v)) file.fields
+          → IsBeside world (option_map_or (λ (file : FileTree). with_constants values files class file.pool (with_class_status world class (InProgress v)) file.fields) o (with_class_status world class (InProgress v)))
+          (with_status_in class (InProgress v) world.classes)
+      by None = record { classes_are = refl; monitors = refl; heap = refl }
+      by (Some file) =
+          let x = constants_same class file.pool (with_class_status world class (InProgress v)) file.fields in
+          record { classes_are = x.classes_are; monitors = x.monitors; heap = x.heap }
 
 module _ (v : ℕ) (world : World) (old : StackOf Value) where
   abbrev Effect : SteppedOf (PartOf Value) → Type 0
@@ -119,7 +119,7 @@ module _ (v : ℕ) (world : World) (old : StackOf Value) where
   either_effect false x y h g = g
 
   kept : (after : World) (stack : StackOf Value) → Spares v world after → Same stack → IsEffect v world old (part after stack)
-  kept after stack s e = record { monitors = s.monitors; change = Kept s.classes e }
+  kept after stack s e = record { monitors = s.monitors; lengths = s.lengths; change = Kept s.classes e }
 
   -- ---- exceptions, calls and returns
 
@@ -165,8 +165,9 @@ module _ (v : ℕ) (world : World) (old : StackOf Value) where
   begun_effect files class stack new e =
       let b = begun_same files v class world in
       record {
-        monitors = subst (SparesMonitors v world.monitors) (sym b.1) self.monitors;
-        change = Begun class new b.0 (ap (λ l. class ∷ l) e);
+        monitors = subst (SparesMonitors v world.monitors) (sym b.monitors) self.monitors;
+        lengths = subst (KeepsLengths world.heap) (sym b.heap) self.lengths;
+        change = Begun class new b.classes_are (ap (λ l. class ∷ l) e);
       }
 
   needing_effect : (files : Program) (class : Name) (look : Look) (stack : StackOf Value) (x : SteppedOf (PartOf Value))
@@ -241,7 +242,7 @@ module _ (v : ℕ) (world : World) (files : Program) (frames : ℕ) where
           let next : StackOf Value = Initialisation class End ∷ stack in
           pushed_effect v world (Initialisation class Super ∷ stack) frames world world next next (frame_with values (initialiser_of class) [] None body) (itself v world) (itself v world) refl refl
   initialisation_effect class End stack =
-      record { monitors = (itself v world).monitors; change = Left class Initialised refl refl }
+      record { monitors = (itself v world).monitors; lengths = (itself v world).lengths; change = Left class Initialised refl refl }
 
   begun_spares : Spares v world (with_begun world v)
   begun_spares = threads_aside v world world (with_begun world v).threads (itself v world)
@@ -268,11 +269,12 @@ module _ (v : ℕ) (world : World) (files : Program) (frames : ℕ) where
 
   failed_effect : (b : Bool) (class : Name) (phase : Phase) (stack : StackOf Value)
       → OnEffect v world (Initialisation class phase ∷ stack) (failed v b (with_class_status world class Erroneous) stack)
-  failed_effect true class phase stack = record { monitors = (itself v world).monitors; change = Left class Erroneous refl refl }
+  failed_effect true class phase stack = record { monitors = (itself v world).monitors; lengths = (itself v world).lengths; change = Left class Erroneous refl refl }
   failed_effect false class phase stack =
       let after = with_class_status world class Erroneous in
       record {
         monitors = (with_object_made v after after (Instance (exception_class ExceptionInInitializer) []) (itself v after)).monitors;
+        lengths = (with_object_made v after after (Instance (exception_class ExceptionInInitializer) []) (itself v after)).lengths;
         change = Left class Erroneous refl refl;
       }
 

@@ -18,8 +18,10 @@ use Rattle.model.specs.Worlds.{thread_at}
 use Rattle.run_laws.proofs.laws.Classes.{names_same}
 use Rattle.run_laws.proofs.typed_runs.Threads.{get_set_at, get_set_other}
 use Rattle.search_laws.specs.KeptStates.{IsReached}
+use Rattle.search_laws.specs.Lengths.{KeepsLengths, AreLengthsKept}
 use Rattle.search_laws.proofs.ClassesHeld.{initialising, ClassChange, Kept, Begun, Left, IsEffect, OnEffect, event_effect, end_spares}
 use Rattle.search_laws.proofs.Events.{IsDone, done_of, state_with}
+use Rattle.search_laws.proofs.Lengths.{lengths_on}
 use Rattle.search_laws.proofs.Runs.{first_of}
 
 -- ---- the list of statuses
@@ -255,6 +257,7 @@ module _ (trees : Program) (frames : ℕ) (state next : State) (event : Event) (
       let s = end_spares u d.left.world d.left.stack in
       record {
         monitors = λ t object ne own. s.monitors t object ne (before_end.monitors t object ne own);
+        lengths = lengths_on state.world.heap d.left.world.heap (end_of u d.left.world d.left.stack).heap before_end.lengths s.lengths;
         change = by before_end.change s.classes;
       }
     where
@@ -263,6 +266,10 @@ module _ (trees : Program) (frames : ℕ) (state next : State) (event : Event) (
       by (Kept c q) s = Kept (s ∙ c) q
       by (Begun class new c q) s = Begun class new (s ∙ c) q
       by (Left class status c q) s = Left class status (s ∙ c) q
+
+  -- arrays keep their lengths
+  pub lengths_next : KeepsLengths state.world.heap next.world.heap
+  lengths_next = subst (λ (z : State). KeepsLengths state.world.heap z.world.heap) d.is_next effect.lengths
 
   module _ (h : AreClassesHeld state) where
     own : Holds state.world.classes u (initialising d.stack)
@@ -309,3 +316,6 @@ module _ (trees : Program) (frames : ℕ) where
   -- in each state of a run
   pub reached_held : (state : State) → IsReached trees frames state → AreClassesHeld state
   reached_held state r = held_run r.0 (opening values trees) state (opened_held trees) r.1
+
+pub lengths_kept : AreLengthsKept
+lengths_kept files frames state next event e = lengths_next files frames state next event e

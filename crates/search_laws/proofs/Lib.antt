@@ -7,6 +7,7 @@ pub mod Events
 pub mod Ends
 pub mod Bounded
 pub mod OwnEvents
+pub mod Lengths
 pub mod Owners
 pub mod Spares
 pub mod ClassesHeld

@@ -29,6 +29,8 @@ use Rattle.search_laws.specs.OwnEvents.{StandsAs, IsOwnEvent, IsFreeOf, AreOwnEv
 use Rattle.search_laws.specs.Preemptions.{LeavesEnabled}
 use Rattle.search_laws.specs.Verdicts.{IsWholeSearch, AreListed}
 use Rattle.search_laws.proofs.Events.{does, done_of, changed}
+use Rattle.search_laws.proofs.ClassesKept.{lengths_next}
+use Rattle.search_laws.proofs.Lengths.{lengths_same, lengths_on}
 use Rattle.search_laws.proofs.Runs.{made_of, first_of, begun}
 use Rattle.search_laws.proofs.SameWords.{answer_of, typed}
 use Rattle.search_laws.proofs.Verdicts.{outcome_met}
@@ -82,7 +84,11 @@ module _ (trees : Program) (frames : ℕ) (state : State) (t : ℕ) (old own : S
 module _ (files : List (List ℕ)) (trees : Program) (accepted : IsAccepted files trees) (frames : ℕ) where
   pub left_alone_self : (state : State) (t : ℕ) → StandsAs state t state
   left_alone_self state t =
-      record { alone = record { stack = refl; status = refl; pending = refl }; types = record { keeps = λ r type e. e } }
+      record {
+        alone = record { stack = refl; status = refl; pending = refl };
+        types = record { keeps = λ r type e. e };
+        lengths = lengths_same state.world.heap;
+      }
 
   module _ (before : State) (t : ℕ) (old : StackOf Value) (there : slice_get before.stacks t ≡ Some old) (runs : (thread_at before.world t).status ≡ Running) where
     pub stands_on : (state next : State) (event : Event) → IsWellTyped trees state → StandsAs before t state → (t ≡ event.thread → ⊥)
@@ -94,6 +100,7 @@ module _ (files : List (List ℕ)) (trees : Program) (accepted : IsAccepted file
         record {
           alone = record { stack = k.stack ∙ s.alone.stack; status = k.status ∙ s.alone.status; pending = k.pending ∙ s.alone.pending };
           types = record { keeps = λ r type q. c.extends.keeps r type (s.types.keeps r type q) };
+          lengths = lengths_on before.world.heap state.world.heap next.world.heap s.lengths (lengths_next trees frames state next event e);
         }
 
   module _ (before : State) (t : ℕ) (own : StackOf Value) (o : IsOwnEvent trees frames before t own) where

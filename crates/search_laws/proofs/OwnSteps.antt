@@ -1,10 +1,10 @@
--- Calls, returns and casts that are a thread's own.
-use Rattle.std.proofs.Common.{◌≡◌, ℕ, List, [], ◌∷◌, ◌++◌, map, reverse, nat_lt, Bool, true, false, ◌&&◌, ◌==◌, if◌then◌else◌, Option, Some, None, option_map, refl, sym, ap, ◌∙◌, subst}
+-- Calls, returns, and questions of an object that are a thread's own.
+use Rattle.std.proofs.Common.{◌≡◌, ℕ, List, [], ◌∷◌, ◌++◌, map, length, reverse, nat_lt, Bool, true, false, ◌&&◌, ◌==◌, if◌then◌else◌, Option, Some, None, option_map, refl, sym, ap, ◌∙◌, subst}
 use Rattle.std.specs.Prelude.{is_none, unwrap_or, slice_get}
-use Rattle.std.specs.Option.{option_and_then}
+use Rattle.std.specs.Option.{option_map_or, option_and_then}
 use Rattle.std.proofs.lemmas.Bool.{false≢true}
 use Rattle.std.proofs.lemmas.List.{length-map, length-reverse}
-use Rattle.std.proofs.lemmas.Option.{same_Some, none-some, slice_get-map}
+use Rattle.std.proofs.lemmas.Option.{same_Some, none-some, get_or_from_slice_get, slice_get-map}
 use Rattle.model.specs.declared.event.Event.{Event}
 use Rattle.model.specs.declared.instr.Instr.{Instr}
 use Rattle.model.specs.declared.instr.Instr.TheVariants as instr
@@ -20,19 +20,19 @@ use Rattle.model.specs.DescribedTypes.{declared_want, made_type, parameters_decl
 use Rattle.model.specs.Frames.{frame_count, frame_with, entered_by, at_offset, at_call}
 use Rattle.model.specs.Meanings.{meaning_of}
 use Rattle.model.specs.Names.{Name, Member}
-use Rattle.model.specs.Objects.{cast}
+use Rattle.model.specs.Objects.{any_object, cast, instance_bit}
 use Rattle.model.specs.Opening.{class_reference}
 use Rattle.model.specs.Operands.{Slots, values, under}
-use Rattle.model.specs.Outcomes.{OutcomeOf, Goes, Raises, Throws, Interrupts, Calls, Returns, Waits, Free, StackOverflow}
+use Rattle.model.specs.Outcomes.{OutcomeOf, Goes, Raises, Throws, Interrupts, Calls, Returns, Waits, Free, StackOverflow, not_null}
 use Rattle.model.specs.Pool.{integers_of}
 use Rattle.model.specs.ReferenceTypes.{ReferenceType, ClassType, is_subtype}
 use Rattle.model.specs.Rows.{Row, local_row}
-use Rattle.model.specs.Sites.{MeaningOf, Site, site_at, operand, referent, int_operand}
+use Rattle.model.specs.Sites.{MeaningOf, Site, site_at, operand, referent, int_operand, pushing}
 use Rattle.model.specs.State.{ObjectOf, type_of, types_of, ThreadStatus, Running, Waiting, Relock, Ended, Frame, Invocation, Initialisation, StackOf, World, State}
 use Rattle.model.specs.Step.{Next, part, enabled_if, entering, raised, leaving, returned, become, ops_of, step}
-use Rattle.model.specs.Types.{value_meets, is_object_of, is_object_below, is_value_below, is_value_of}
+use Rattle.model.specs.Types.{AReference, AnArray, is_array_type, value_meets, is_object_of, is_object_below, is_value_below, is_value_of}
 use Rattle.model.specs.WellTyped.{Extends, IsWellTyped}
-use Rattle.model.specs.Worlds.{thread_at, is_owner, object_at}
+use Rattle.model.specs.Worlds.{elements_of, no_object, thread_at, is_owner, object_at}
 use Rattle.run_laws.specs.interleavings.Local.{is_going, with_stack}
 use Rattle.run_laws.specs.laws.Steps.{Rooted}
 use Rattle.run_laws.proofs.laws.LinkedOf.{linked_of}
@@ -40,9 +40,10 @@ use Rattle.run_laws.proofs.laws.Lists.{Pairwise, get_last}
 use Rattle.run_laws.proofs.laws.Operations.{Operation, OfRow, GetSystemOut, GetStatic, PutStatic, GetField, PutField, Println, CallVirtual, CallConstructor, CallSpecial, CallStatic, CallInterface, Return, LoadClass, LoadString, New, NewArray, NewReferenceArray, ArrayLength, LoadElement, StoreElement, CheckCast, InstanceOf, Throw, MonitorEnter, MonitorExit, operation, OfMeaning, each_meaning}
 use Rattle.run_laws.proofs.word_runs.WordMeanings.{Kinded, wanted_at}
 use Rattle.search_laws.specs.Alone.{next_event}
+use Rattle.search_laws.specs.Lengths.{KeepsLengths}
 use Rattle.search_laws.specs.OwnEvents.{StandsAs, IsOwnEvent}
 use Rattle.search_laws.specs.OwnedMonitors.{IsAt}
-use Rattle.search_laws.specs.OwnSteps.{is_cast, if_left, own_outcome, own_meant, own_at, own_in, own_stack, next_own, AreOwnStepsOwn}
+use Rattle.search_laws.specs.OwnSteps.{is_query, if_left, own_outcome, own_meant, own_at, own_in, own_stack, next_own, AreOwnStepsOwn}
 use Rattle.search_laws.proofs.Callees.{same_class}
 use Rattle.search_laws.proofs.Instructed.{IsLeft, found, put, done_at, step_at, put_left, only_zero}
 use Rattle.search_laws.proofs.Operands.{kinded}
@@ -57,21 +58,25 @@ left_of [] own e = not_some own e
 left_of (entry ∷ stack) own e =
     let same = same_Some (entry ∷ stack) own e in (same, record { entry = entry; rest = stack; is = sym same })
 
-instance_kept : (files : Program) (before after : List ReferenceType) → Extends before after → (type : ReferenceType) (v : Value)
-    → is_value_of files before type v ≡ true → is_value_of files after type v ≡ true
-instance_kept files before after x type value.Unset e = e
-instance_kept files before after x type (value.Int bits) e = e
-instance_kept files before after x type value.Null e = e
-instance_kept files before after x type (value.Reference r) e = by (slice_get before r) refl e
+-- the answer stays of what is there
+instance_same : (files : Program) (before after : List ReferenceType) → Extends before after → (type want : ReferenceType) (v : Value)
+    → is_value_below files before want v ≡ true → is_value_of files after type v ≡ is_value_of files before type v
+instance_same files before after x type want value.Unset h = refl
+instance_same files before after x type want (value.Int bits) h = refl
+instance_same files before after x type want value.Null h = refl
+instance_same files before after x type want (value.Reference r) h = by (slice_get before r) refl h
   where
-    by : (o : Option ReferenceType) → slice_get before r ≡ o → is_object_of files type o ≡ true → is_object_of files type (slice_get after r) ≡ true
+    by : (o : Option ReferenceType) → slice_get before r ≡ o → is_object_below files want o ≡ true
+        → is_object_of files type (slice_get after r) ≡ is_object_of files type (slice_get before r)
     by None q k = absurd (false≢true k)
-    by (Some t) q k = ap (is_object_of files type) (x.keeps r t q) ∙ k
+    by (Some t) q k = ap (is_object_of files type) (x.keeps r t q ∙ sym q)
 
-row_no_cast : (integers : List (Option ℕ)) (code : List ℕ) (at next : ℕ) (i : Instr) (row : Row) → local_row integers code at next i ≡ Some row
-    → is_cast i ≡ false
-row_no_cast integers code at next (instr.CheckCast index) row e = absurd (none-some row e)
-row_no_cast integers code at next other row e = refl
+row_no_query : (integers : List (Option ℕ)) (code : List ℕ) (at next : ℕ) (i : Instr) (row : Row) → local_row integers code at next i ≡ Some row
+    → is_query i ≡ false
+row_no_query integers code at next (instr.CheckCast index) row e = absurd (none-some row e)
+row_no_query integers code at next (instr.InstanceOf index) row e = absurd (none-some row e)
+row_no_query integers code at next instr.ArrayLength row e = absurd (none-some row e)
+row_no_query integers code at next other row e = refl
 
 module _ (files : Program) (frames t : ℕ) (frame : Frame) (stack own : StackOf Value) where
   abbrev whole : StackOf Value
@@ -116,12 +121,12 @@ module _ (files : Program) (frames t : ℕ) (frame : Frame) (stack own : StackOf
       by None e = let x = left_of (returned files results stack) own e in (ap (λ k. Next Free (part world k)) x.0, x.1)
       by (Some object) e = not_some own e
 
-  module _ (site : Site) (before after : World) (extends : Extends (types_of before.heap) (types_of after.heap)) (ops rest : List Value) where
+  module _ (site : Site) (before after : World) (extends : Extends (types_of before.heap) (types_of after.heap)) (lengths : KeepsLengths before.heap after.heap) (ops rest : List Value) where
     abbrev slots : Slots Value
     slots = frame.place.slots
 
     abbrev is : Bool
-    is = is_cast site.instr
+    is = is_query site.instr
 
     abbrev first : Event
     first = next_event t
@@ -134,24 +139,63 @@ module _ (files : Program) (frames t : ℕ) (frame : Frame) (stack own : StackOf
     abbrev Steady : MeaningOf Value → Type 0
     Steady m = Kinded files (types_of before.heap) m.wants ops → Own is (m.does first before slots ops rest) → IsSteady m
 
-    no_cast : (i : Instr) → site.instr ≡ i → is_cast i ≡ false → is ≡ false
-    no_cast i e n = ap is_cast e ∙ n
+    no_query : (i : Instr) → site.instr ≡ i → is_query i ≡ false → is ≡ false
+    no_query i e n = ap is_query e ∙ n
 
     plain_steady : (m : MeaningOf Value) → is ≡ false → IsPlain (m.does first before slots ops rest) → Steady m
     plain_steady m n h q e = plain_own is (m.does first before slots ops rest) h n e
 
-    -- ---- casts
+    -- ---- questions
 
-    cast_becomes : (b after_b : Bool) (next : ℕ) (v : Value) → is ≡ true → (b ≡ true → after_b ≡ true) → Own is (cast b next v before slots rest)
+    answer_becomes : (next : ℕ) (x y : Value) → is ≡ true → y ≡ x → Own is (pushing next (x ∷ []) before slots rest)
+        → Becomes after (pushing next (y ∷ []) after slots rest)
+    answer_becomes next x y c k e =
+        let to = Invocation (at_offset frame next (record { locals = slots.locals; stack = x ∷ rest })) ∷ stack in
+        let same = same_Some to own (sym (ap (λ (b : Bool). if b then Some to else None) c) ∙ e) in
+        let passes : Becomes after (pushing next (x ∷ []) after slots rest) =
+        record { becomes = ap (λ s. Next Free (part after s)) same; left = record { entry = Invocation (at_offset frame next (record { locals = slots.locals; stack = x ∷ rest })); rest = stack; is = sym same } }
+        in
+        subst (λ z. Becomes after (pushing next (z ∷ []) after slots rest)) (sym k) passes
+
+    cast_becomes : (b after_b : Bool) (next : ℕ) (v : Value) → is ≡ true → after_b ≡ b → Own is (cast b next v before slots rest)
         → Becomes after (cast after_b next v after slots rest)
     cast_becomes false after_b next v c k e = not_some own e
     cast_becomes true after_b next v c k e =
-        let to = Invocation (at_offset frame next (record { locals = slots.locals; stack = v ∷ rest })) ∷ stack in
-        let same = same_Some to own (sym (ap (λ (b : Bool). if b then Some to else None) c) ∙ e) in
-        let passes : Becomes after (cast true next v after slots rest) =
-        record { becomes = ap (λ s. Next Free (part after s)) same; left = record { entry = Invocation (at_offset frame next (record { locals = slots.locals; stack = v ∷ rest })); rest = stack; is = sym same } }
-        in
-        subst (λ b. Becomes after (cast b next v after slots rest)) (sym (k refl)) passes
+        subst (λ b. Becomes after (cast b next v after slots rest)) (sym k) (answer_becomes next v v c refl e)
+
+    -- ---- what is there
+
+    there_of : (test : ReferenceType → Bool) (r : ℕ) → option_map_or test (slice_get (types_of before.heap) r) false ≡ true
+        → (o : ObjectOf Value) × (slice_get before.heap r ≡ Some o)
+    there_of test r h = by (slice_get before.heap r) refl (sym (ap (λ o. option_map_or test o false) (slice_get-map type_of before.heap r)) ∙ h)
+      where
+        by : (o : Option (ObjectOf Value)) → slice_get before.heap r ≡ o → option_map_or test (option_map type_of (slice_get before.heap r)) false ≡ true
+            → (o : ObjectOf Value) × (slice_get before.heap r ≡ Some o)
+        by None k z = absurd (false≢true (sym (ap (λ o. option_map_or test (option_map type_of o) false) k) ∙ z))
+        by (Some object) k z = (object, k)
+
+    array_there : (v : Value) → value_meets files (types_of before.heap) AnArray v ≡ true → (r : ℕ) → values.referent v ≡ Some r
+        → (o : ObjectOf Value) × (slice_get before.heap r ≡ Some o)
+    array_there value.Unset h r e = absurd (none-some r e)
+    array_there (value.Int bits) h r e = absurd (none-some r e)
+    array_there value.Null h r e = absurd (none-some r e)
+    array_there (value.Reference x) h r e =
+        let same = same_Some x r e in subst (λ k. (o : ObjectOf Value) × (slice_get before.heap k ≡ Some o)) same (there_of is_array_type x h)
+
+    length_same : (r : ℕ) (o : ObjectOf Value) → slice_get before.heap r ≡ Some o
+        → length (elements_of (object_at after r)) ≡ length (elements_of (object_at before r))
+    length_same r o e =
+        let x = lengths r o e in
+        ap (λ (z : ObjectOf Value). length (elements_of z)) (get_or_from_slice_get after.heap r x.0 no_object x.1.0)
+        ∙ (x.1.1 ∙ sym (ap (λ (z : ObjectOf Value). length (elements_of z)) (get_or_from_slice_get before.heap r o no_object e)))
+
+    length_becomes : (o : Option ℕ) → is ≡ true → ((r : ℕ) → o ≡ Some r → (object : ObjectOf Value) × (slice_get before.heap r ≡ Some object))
+        → Own is (not_null o (λ r. pushing site.next (values.int (length (elements_of (object_at before r))) ∷ []) before slots rest))
+        → Becomes after (not_null o (λ r. pushing site.next (values.int (length (elements_of (object_at after r))) ∷ []) after slots rest))
+    length_becomes None c there e = not_some own e
+    length_becomes (Some r) c there e =
+        let x = there r refl in
+        answer_becomes site.next (values.int (length (elements_of (object_at before r)))) (values.int (length (elements_of (object_at after r)))) c (ap values.int (length_same r x.0 x.1)) e
 
     -- ---- calls
 
@@ -239,55 +283,68 @@ module _ (files : Program) (frames t : ℕ) (frame : Frame) (stack own : StackOf
 
     steady : (o : Operation files site) → Steady (operation values files site o)
     steady (OfRow row e) =
-        plain_at (OfRow row e) (row_no_cast (integers_of site.body.pool) site.body.code.code site.offset site.next site.instr row e) (row_plain files site first before slots ops rest row)
-    steady (GetSystemOut index i) = plain_at (GetSystemOut index i) (no_cast _ i refl) tt
-    steady (GetStatic f) = plain_at (GetStatic f) (no_cast _ f.instruction refl) tt
-    steady (PutStatic f) = plain_at (PutStatic f) (no_cast _ f.instruction refl) tt
-    steady (GetField f) = plain_at (GetField f) (no_cast _ f.instruction refl) (null_plain (referent values ops 0) _ (λ r. tt))
-    steady (PutField f) = plain_at (PutField f) (no_cast _ f.instruction refl) (null_plain (referent values ops 1) _ (λ r. tt))
-    steady (Println call e) = plain_at (Println call e) (no_cast _ call.instruction refl) (null_plain (referent values ops 1) _ (λ r. tt))
+        plain_at (OfRow row e) (row_no_query (integers_of site.body.pool) site.body.code.code site.offset site.next site.instr row e) (row_plain files site first before slots ops rest row)
+    steady (GetSystemOut index i) = plain_at (GetSystemOut index i) (no_query _ i refl) tt
+    steady (GetStatic f) = plain_at (GetStatic f) (no_query _ f.instruction refl) tt
+    steady (PutStatic f) = plain_at (PutStatic f) (no_query _ f.instruction refl) tt
+    steady (GetField f) = plain_at (GetField f) (no_query _ f.instruction refl) (null_plain (referent values ops 0) _ (λ r. tt))
+    steady (PutField f) = plain_at (PutField f) (no_query _ f.instruction refl) (null_plain (referent values ops 1) _ (λ r. tt))
+    steady (Println call e) = plain_at (Println call e) (no_query _ call.instruction refl) (null_plain (referent values ops 1) _ (λ r. tt))
     steady (CallVirtual call e m) = λ q own.
-        let c = called_steady (no_cast _ call.instruction refl) m.method (λ world r. selected files (its_class world r) m.method)
+        let c = called_steady (no_query _ call.instruction refl) m.method (λ world r. selected files (its_class world r) m.method)
         (λ r k. ap (λ c. selected files c m.method) (same_class before after r (type_same m.method call.named.class q r k))) own in
         record { becomes = c.becomes; may = c.may }
     steady (CallConstructor call e passes) = λ q own.
-        let c = called_steady (no_cast _ call.instruction refl) call.named (λ world r. Runs call.named) (λ r k. refl) own in
+        let c = called_steady (no_query _ call.instruction refl) call.named (λ world r. Runs call.named) (λ r k. refl) own in
         record { becomes = c.becomes; may = c.may }
     steady (CallSpecial call e m) = λ q own.
-        let c = called_steady (no_cast _ call.instruction refl) m.method (λ world r. selected files (special_class files site.method.class call.named.class) m.method) (λ r k. refl) own in
+        let c = called_steady (no_query _ call.instruction refl) m.method (λ world r. selected files (special_class files site.method.class call.named.class) m.method) (λ r k. refl) own in
         record { becomes = c.becomes; may = c.may }
     steady (CallStatic index i m) = λ q own.
-        let c = called (no_cast _ i refl) (class_reference files m.method.class) (Runs m.method) own in record { becomes = c.becomes; may = c.may }
+        let c = called (no_query _ i refl) (class_reference files m.method.class) (Runs m.method) own in record { becomes = c.becomes; may = c.may }
     steady (CallInterface call m) = λ q own.
         let choose : World → ℕ → Chosen = λ world r. if_implements (is_subtype files (type_of (object_at world r)) (ClassType call.named.class)) (selected files (its_class world r) m.method) in
-        let c = called_steady (no_cast _ call.instruction refl) m.method choose
+        let c = called_steady (no_query _ call.instruction refl) m.method choose
         (λ r k.
         let same = type_same m.method call.named.class q r k in
         ap (λ t. if_implements (is_subtype files t (ClassType call.named.class)) (selected files (its_class after r) m.method)) same
         ∙ ap (λ c. if_implements (is_subtype files (type_of (object_at before r)) (ClassType call.named.class)) (selected files c m.method)) (same_class before after r same)) own in
         record { becomes = c.becomes; may = c.may }
     steady (Return kind i) = return_steady kind
-    steady (LoadClass constant file e) = plain_at (LoadClass constant file e) (no_cast _ constant.instruction refl) tt
-    steady (LoadString constant) = plain_at (LoadString constant) (no_cast _ constant.instruction refl) tt
-    steady (New class file e) = plain_at (New class file e) (no_cast _ class.instruction refl) tt
-    steady (NewArray code of i e) = plain_at (NewArray code of i e) (no_cast _ i refl) (array_plain (is_negative (int_operand values ops 0)) site.next (int_operand values ops 0) _ _ before slots rest)
-    steady (NewReferenceArray class) = plain_at (NewReferenceArray class) (no_cast _ class.instruction refl) (array_plain (is_negative (int_operand values ops 0)) site.next (int_operand values ops 0) _ _ before slots rest)
-    steady (ArrayLength i) = plain_at (ArrayLength i) (no_cast _ i refl) (null_plain (referent values ops 0) _ (λ r. tt))
-    steady (LoadElement kind i) = plain_at (LoadElement kind i) (no_cast _ i refl) (load_plain files site first before slots ops rest kind)
-    steady (StoreElement kind i) = plain_at (StoreElement kind i) (no_cast _ i refl) (store_plain files site first before slots ops rest kind)
+    steady (LoadClass constant file e) = plain_at (LoadClass constant file e) (no_query _ constant.instruction refl) tt
+    steady (LoadString constant) = plain_at (LoadString constant) (no_query _ constant.instruction refl) tt
+    steady (New class file e) = plain_at (New class file e) (no_query _ class.instruction refl) tt
+    steady (NewArray code of i e) = plain_at (NewArray code of i e) (no_query _ i refl) (array_plain (is_negative (int_operand values ops 0)) site.next (int_operand values ops 0) _ _ before slots rest)
+    steady (NewReferenceArray class) = plain_at (NewReferenceArray class) (no_query _ class.instruction refl) (array_plain (is_negative (int_operand values ops 0)) site.next (int_operand values ops 0) _ _ before slots rest)
+    steady (ArrayLength i) = λ q own.
+        let v = operand values ops 0 in
+        let meets = wanted_at (value_meets files (types_of before.heap)) (AnArray ∷ []) ops 0 AnArray value.Unset q refl in
+        record { becomes = length_becomes (referent values ops 0) (ap is_query i) (array_there v meets) own; may = λ pick. refl }
+    steady (LoadElement kind i) = plain_at (LoadElement kind i) (no_query _ i refl) (load_plain files site first before slots ops rest kind)
+    steady (StoreElement kind i) = plain_at (StoreElement kind i) (no_query _ i refl) (store_plain files site first before slots ops rest kind)
     steady (CheckCast class) = λ q own.
         let type = type_named class.name in
         let v = operand values ops 0 in
+        let meets = wanted_at (value_meets files (types_of before.heap)) (AReference any_object ∷ []) ops 0 (AReference any_object) value.Unset q refl in
         record {
-          becomes = cast_becomes (values.is_instance files (types_of before.heap) type v) (values.is_instance files (types_of after.heap) type v) site.next v (ap is_cast class.instruction)
-              (instance_kept files (types_of before.heap) (types_of after.heap) extends type v) own;
+          becomes = cast_becomes (values.is_instance files (types_of before.heap) type v) (values.is_instance files (types_of after.heap) type v) site.next v (ap is_query class.instruction)
+              (instance_same files (types_of before.heap) (types_of after.heap) extends type any_object v meets) own;
           may = λ pick. refl;
         }
-    steady (InstanceOf class) = plain_at (InstanceOf class) (no_cast _ class.instruction refl) tt
-    steady (Throw i) = plain_at (Throw i) (no_cast _ i refl) (null_plain (referent values ops 0) (λ r. Throws r) (λ r. tt))
-    steady (MonitorEnter i) = plain_at (MonitorEnter i) (no_cast _ i refl) (null_plain (referent values ops 0) _ (λ r. tt))
+    steady (InstanceOf class) = λ q own.
+        let type = type_named class.name in
+        let v = operand values ops 0 in
+        let meets = wanted_at (value_meets files (types_of before.heap)) (AReference any_object ∷ []) ops 0 (AReference any_object) value.Unset q refl in
+        let same = instance_same files (types_of before.heap) (types_of after.heap) extends type any_object v meets in
+        let answer : Bool → Value = λ b. values.int (instance_bit (referent values ops 0) b) in
+        record {
+          becomes = answer_becomes site.next (answer (values.is_instance files (types_of before.heap) type v)) (answer (values.is_instance files (types_of after.heap) type v)) (ap is_query class.instruction) (ap answer same) own;
+          may = λ pick. refl;
+        }
+    steady (Throw i) = plain_at (Throw i) (no_query _ i refl) (null_plain (referent values ops 0) (λ r. Throws r) (λ r. tt))
+    steady (MonitorEnter i) = plain_at (MonitorEnter i) (no_query _ i refl) (null_plain (referent values ops 0) _ (λ r. tt))
     steady (MonitorExit i) =
-        plain_at (MonitorExit i) (no_cast _ i refl) (null_plain (referent values ops 0) _ (λ r. left_plain (is_owner before t r) site.next t r before slots rest))
+        plain_at (MonitorExit i) (no_query _ i refl) (null_plain (referent values ops 0) _ (λ r. left_plain (is_owner before t r) site.next t r before slots rest))
 
     meaning_steady : OfMeaning Steady (meaning_of values files site)
     meaning_steady = each_meaning values files site Steady steady
@@ -297,7 +354,7 @@ module _ (files : Program) (frames t : ℕ) (frame : Frame) (stack own : StackOf
 record IsNextOwn (files : Program) (frames : ℕ) (state : State) (t : ℕ) (own : StackOf Value) : Type 0 where
   at : IsAt files state t
   looks : at.meaning.looks ≡ None
-  does : own_outcome files frames at.frame at.stack (is_cast at.site.instr)
+  does : own_outcome files frames at.frame at.stack (is_query at.site.instr)
       (at.meaning.does (next_event t) state.world at.frame.place.slots (ops_of values at.meaning at.frame.place.slots) (under at.meaning.wants at.frame.place.slots))
       ≡ Some own
 
@@ -321,7 +378,7 @@ module _ (files : Program) (frames : ℕ) (state : State) (t : ℕ) (own : Stack
     by_meaning frame stack there body b site s (Some meaning) m e = by (is_none meaning.looks) refl e
       where
         by : (k : Bool) → is_none meaning.looks ≡ k
-            → (if k then own_outcome files frames frame stack (is_cast site.instr) (meaning.does (next_event t) state.world frame.place.slots (ops_of values meaning frame.place.slots) (under meaning.wants frame.place.slots)) else None) ≡ Some own
+            → (if k then own_outcome files frames frame stack (is_query site.instr) (meaning.does (next_event t) state.world frame.place.slots (ops_of values meaning frame.place.slots) (under meaning.wants frame.place.slots)) else None) ≡ Some own
             → IsNextOwn files frames state t own
         by true q x =
             record {
@@ -386,10 +443,10 @@ module _ (files : Program) (rooted : Rooted files) (frames : ℕ) (state : State
   rest_now = under at.meaning.wants at.frame.place.slots
 
   steady_at : (later : State) → (s : StandsAs state t later)
-      → IsSteady files frames t at.frame at.stack own at.site state.world later.world s.types ops_now rest_now at.meaning
+      → IsSteady files frames t at.frame at.stack own at.site state.world later.world s.types s.lengths ops_now rest_now at.meaning
   steady_at later s =
-      let table = subst (OfMeaning (Steady files frames t at.frame at.stack own at.site state.world later.world s.types ops_now rest_now)) at.means
-      (meaning_steady files frames t at.frame at.stack own at.site state.world later.world s.types ops_now rest_now) in
+      let table = subst (OfMeaning (Steady files frames t at.frame at.stack own at.site state.world later.world s.types s.lengths ops_now rest_now)) at.means
+      (meaning_steady files frames t at.frame at.stack own at.site state.world later.world s.types s.lengths ops_now rest_now) in
       table (kinded files (types_of state.world.heap) at.meaning.wants at.body.code.max_stack at.frame.place.slots (found files rooted frames state t at state h at.there at.status at.pending)) n.does
 
   goes_now : (later : State) → IsWellTyped files later → StandsAs state t later → step files frames later (next_event t) ≡ Some (with_stack later t own)

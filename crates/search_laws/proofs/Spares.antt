@@ -1,7 +1,7 @@
 -- What an instruction of a thread leaves to the others: the monitors that they own, and the initialisation of classes.
 use Rattle.std.proofs.Common.{◌≡◌, ℕ, zero, suc, List, [], ◌∷◌, Bool, true, false, if◌then◌else◌, Option, Some, None, refl, sym, ap, ◌∙◌, subst}
 use Rattle.std.specs.List.{remove}
-use Rattle.std.specs.Prelude.{◌+◌, ◌-◌, ◌++◌, slice_get, slice_set, unwrap_or, is_some}
+use Rattle.std.specs.Prelude.{length, ◌+◌, ◌-◌, ◌++◌, slice_get, slice_set, unwrap_or, is_some}
 use Rattle.std.proofs.lemmas.Bool.{false≢true}
 use Rattle.model.specs.declared.event.Event.{Event}
 use Rattle.model.specs.declared.instr.ArrayKind.{ArrayKind}
@@ -17,7 +17,7 @@ use Rattle.model.specs.MonitorMeanings.{left, monitor_exit_meaning}
 use Rattle.model.specs.Meanings.{local_meaning, meaning_of}
 use Rattle.model.specs.Monitors as monitors
 use Rattle.model.specs.Monitors.{Answered, unlocked, owns, monitor_at, as_owner, as_entrant, owned, answers_done, at_object, released, relock_from}
-use Rattle.model.specs.Names.{Member}
+use Rattle.model.specs.Names.{Member, thread_target}
 use Rattle.model.specs.Objects.{cast}
 use Rattle.model.specs.Opening.{class_reference}
 use Rattle.model.specs.Operands.{Slots, values}
@@ -26,8 +26,10 @@ use Rattle.model.specs.Rows.{Row, after_row, row_target}
 use Rattle.model.specs.Sites.{MeaningOf, Site, operand, referent, int_operand, pushing}
 use Rattle.model.specs.State.{ObjectOf, Monitor, Waiter, WakeCause, Notified, ThreadStatus, Running, Waiting, Relock, Ended, Thread, World}
 use Rattle.model.specs.declared.monitor_answer.MonitorAnswer.TheVariants.{Held, NotOwner}
-use Rattle.model.specs.Worlds.{thread_at, with_monitors, with_entry, with_exit, is_owner, object_at, all_woken, woken, waiters_of, thread_of, is_alive, allocated}
+use Rattle.model.specs.Worlds.{thread_at, with_monitors, with_entry, with_exit, is_owner, object_at, all_woken, woken, waiters_of, thread_of, is_alive, allocated, elements_of, put_value, with_element, with_field, with_object}
 use Rattle.run_laws.proofs.laws.Operations.{Operation, OfRow, GetSystemOut, GetStatic, PutStatic, GetField, PutField, Println, CallVirtual, CallConstructor, CallSpecial, CallStatic, CallInterface, Return, LoadClass, LoadString, New, NewArray, NewReferenceArray, ArrayLength, LoadElement, StoreElement, CheckCast, InstanceOf, Throw, MonitorEnter, MonitorExit, operation, OfMeaning, each_meaning}
+use Rattle.search_laws.specs.Lengths.{KeepsLengths}
+use Rattle.search_laws.proofs.Lengths.{lengths_same, lengths_on, lengths_more, lengths_set, field_lengths, element_lengths}
 use Rattle.search_laws.proofs.Owners.{owner_is, differs}
 
 -- whoever else owns a monitor owns it still
@@ -38,6 +40,7 @@ SparesMonitors v before after =
 pub record Spares (v : ℕ) (before after : World) : Type 0 where
   pub monitors : SparesMonitors v before.monitors after.monitors
   pub classes : after.classes ≡ before.classes
+  pub lengths : KeepsLengths before.heap after.heap
 
 -- ---- a monitor
 
@@ -98,21 +101,32 @@ module _ (v : ℕ) where
             set_at world.monitors object o (call (monitor_at world.monitors object)).after (λ m. owns u m.owner ≡ true) h
             (λ e. leaves (monitor_at world.monitors object) u ne (ap (λ k. owns u (monitor_at world.monitors k).owner) e ∙ h));
         classes = s.classes;
+        lengths = s.lengths;
       }
 
   -- ---- a world
 
   pub itself : (world : World) → Spares v world world
-  itself world = record { monitors = λ u o ne own. own; classes = refl }
+  itself world = record { monitors = λ u o ne own. own; classes = refl; lengths = lengths_same world.heap }
 
   -- the threads have no part in it
   pub threads_aside : (before world : World) (threads : List Thread) → Spares v before world
       → Spares v before (record world { threads = threads })
-  threads_aside before world threads s = record { monitors = s.monitors; classes = s.classes }
+  threads_aside before world threads s = record { monitors = s.monitors; classes = s.classes; lengths = s.lengths }
 
   pub with_object_made : (before world : World) (object : ObjectOf Value) → Spares v before world → Spares v before (allocated world object)
   with_object_made before world object s =
-      record { monitors = λ u o ne own. added world.monitors o u (s.monitors u o ne own); classes = s.classes }
+      record {
+        monitors = λ u o ne own. added world.monitors o u (s.monitors u o ne own);
+        classes = s.classes;
+        lengths = lengths_on before.heap world.heap (world.heap ++ object ∷ []) s.lengths (lengths_more world.heap object);
+      }
+
+  -- an object has as many elements as before
+  with_object_set : (world : World) (r : ℕ) (object : ObjectOf Value) → length (elements_of object) ≡ length (elements_of (object_at world r))
+      → Spares v world (with_object world r object)
+  with_object_set world r object same =
+      record { monitors = λ u o ne own. own; classes = refl; lengths = lengths_set world.heap r object same }
 
   pub entry_spares : (before world : World) (r : ℕ) → Spares v before world → Spares v before (with_entry world v r)
   entry_spares before world r s = called before world r (monitors.monitor_enter v) enter_leaves s
@@ -208,7 +222,7 @@ module _ (v : ℕ) where
         by : (o : Option Waiter)
             → Spares v world (notified_one (with_monitors world (monitors.notify object v pick world.monitors)) object o)
         by None = one
-        by (Some w) = record { monitors = one.monitors; classes = one.classes }
+        by (Some w) = record { monitors = one.monitors; classes = one.classes; lengths = one.lengths }
 
     notified_all_ok : (object : ℕ) → Spares v world (notified_all world v object)
     notified_all_ok object =
@@ -216,11 +230,11 @@ module _ (v : ℕ) where
         (called world world object (monitors.monitor_notify_all v) (owner_leaves (λ m. record m { waiters = [] })) same_ok)
 
     interrupted_ok : (t : ℕ) (status : ThreadStatus) → Spares v world (interrupted_in world t status)
-    interrupted_ok t Running = record { monitors = same_ok.monitors; classes = refl }
+    interrupted_ok t Running = record { monitors = same_ok.monitors; classes = refl; lengths = same_ok.lengths }
     interrupted_ok t (Waiting object count) =
         let s = called world world object (monitors.monitor_interrupt t) (λ m u ne own. own) same_ok in
-        record { monitors = s.monitors; classes = s.classes }
-    interrupted_ok t (Relock object count cause) = record { monitors = same_ok.monitors; classes = refl }
+        record { monitors = s.monitors; classes = s.classes; lengths = s.lengths }
+    interrupted_ok t (Relock object count cause) = record { monitors = same_ok.monitors; classes = refl; lengths = same_ok.lengths }
     interrupted_ok t (Ended exception) = same_ok
 
     interrupted_on_ok : (o : Option ℕ) → Spares v world (interrupted_on world o)
@@ -230,7 +244,7 @@ module _ (v : ℕ) where
     start_ok : (started : Bool) (next object : ℕ) (slots : Slots Value) (rest : List Value)
         → Ok (start_by started next object world slots rest)
     start_ok true next object slots rest = tt
-    start_ok false next object slots rest = record { monitors = same_ok.monitors; classes = refl }
+    start_ok false next object slots rest = record { monitors = same_ok.monitors; classes = refl; lengths = same_ok.lengths }
 
     join_ok : (alive : Bool) (next : ℕ) (slots : Slots Value) (rest : List Value) → Ok (join_by alive next world slots rest)
     join_ok true next slots rest = tt
@@ -240,7 +254,9 @@ module _ (v : ℕ) where
       built_in_ok : (method : BuiltInMethod) (next : ℕ) (slots : Slots Value) (ops rest : List Value)
           → Ok (built_in_does values method next event world slots ops rest)
       built_in_ok Construct next slots ops rest = same_ok
-      built_in_ok ConstructWithTarget next slots ops rest = record { monitors = same_ok.monitors; classes = refl }
+      built_in_ok ConstructWithTarget next slots ops rest =
+          let object = object_at world (object_of values ops 1) in
+          with_object_set world (object_of values ops 1) (with_field thread_target (operand values ops 0) object) (field_lengths thread_target (operand values ops 0) object)
       built_in_ok ObjectWait next slots ops rest =
           let object = object_of values ops 0 in
           subst (λ t. Ok (wait_by (is_owner world t object) (thread_at world t).interrupted t object world rest)) (sym is)
@@ -255,12 +271,12 @@ module _ (v : ℕ) where
       built_in_ok ThreadStart next slots ops rest = start_ok (is_some (thread_of world (object_of values ops 0))) next (object_of values ops 0) slots rest
       built_in_ok ThreadInterrupt next slots ops rest = interrupted_on_ok (thread_of world (object_of values ops 0))
       built_in_ok ThreadIsInterrupted next slots ops rest = same_ok
-      built_in_ok ThreadInterrupted next slots ops rest = record { monitors = same_ok.monitors; classes = refl }
+      built_in_ok ThreadInterrupted next slots ops rest = record { monitors = same_ok.monitors; classes = refl; lengths = same_ok.lengths }
       built_in_ok ThreadYield next slots ops rest = same_ok
       built_in_ok ThreadCurrentThread next slots ops rest = same_ok
       built_in_ok ThreadJoin next slots ops rest = join_ok (is_alive world (object_of values ops 0)) next slots rest
       built_in_ok ThreadIsAlive next slots ops rest = same_ok
-      built_in_ok PrintStreamPrintln next slots ops rest = record { monitors = same_ok.monitors; classes = refl }
+      built_in_ok PrintStreamPrintln next slots ops rest = record { monitors = same_ok.monitors; classes = refl; lengths = same_ok.lengths }
 
       -- ---- the table
 
@@ -291,12 +307,15 @@ module _ (v : ℕ) where
             (stored next world r (int_operand values ops 1) (kept_by values (object_at world r) (operand values ops 0)) slots rest)))
         stored_ok next =
             not_null_ok (referent values ops 2) _
-            (λ r. index_ok (in_range world r (int_operand values ops 1)) _ (record { monitors = same_ok.monitors; classes = refl }))
+            (λ r. index_ok (in_range world r (int_operand values ops 1)) _
+            (with_object_set world r (with_element (int_operand values ops 1) (kept_by values (object_at world r) (operand values ops 0)) (object_at world r))
+            (element_lengths (int_operand values ops 1) (kept_by values (object_at world r) (operand values ops 0)) (object_at world r))))
 
         stored_reference_ok : Ok ((store_reference_meaning values files site).does event world slots ops rest)
         stored_reference_ok =
             not_null_ok (referent values ops 2) _
-            (λ r. index_ok (in_range world r (int_operand values ops 1)) _ (storable_ok (may_stand_in values files world (object_at world r) (operand values ops 0)) _ (record { monitors = same_ok.monitors; classes = refl })))
+            (λ r. index_ok (in_range world r (int_operand values ops 1)) _ (storable_ok (may_stand_in values files world (object_at world r) (operand values ops 0)) _
+            (with_object_set world r (with_element (int_operand values ops 1) (operand values ops 0) (object_at world r)) (element_lengths (int_operand values ops 1) (operand values ops 0) (object_at world r)))))
 
         load_ok : (kind : ArrayKind) → Ok ((load_of values files site kind).does event world slots ops rest)
         load_ok array_kind.Int = loaded_ok site.next (values.int 0)
@@ -330,10 +349,12 @@ module _ (v : ℕ) where
         operation_ok (OfRow row e) = row_ok row
         operation_ok (GetSystemOut index i) = same_ok
         operation_ok (GetStatic f) = same_ok
-        operation_ok (PutStatic f) = record { monitors = same_ok.monitors; classes = refl }
+        operation_ok (PutStatic f) = record { monitors = same_ok.monitors; classes = refl; lengths = same_ok.lengths }
         operation_ok (GetField f) = not_null_ok (referent values ops 0) _ (λ r. same_ok)
-        operation_ok (PutField f) = not_null_ok (referent values ops 1) _ (λ r. record { monitors = same_ok.monitors; classes = refl })
-        operation_ok (Println call e) = not_null_ok (referent values ops 1) _ (λ r. record { monitors = same_ok.monitors; classes = refl })
+        operation_ok (PutField f) =
+            not_null_ok (referent values ops 1) _
+            (λ r. with_object_set world r (with_field f.field (put_value values f.field (operand values ops 0)) (object_at world r)) (field_lengths f.field (put_value values f.field (operand values ops 0)) (object_at world r)))
+        operation_ok (Println call e) = not_null_ok (referent values ops 1) _ (λ r. record { monitors = same_ok.monitors; classes = refl; lengths = same_ok.lengths })
         operation_ok (CallVirtual call e m) = call_ok m.method _
         operation_ok (CallConstructor call e passes) = call_ok call.named _
         operation_ok (CallSpecial call e m) = call_ok m.method _

@@ -3,6 +3,7 @@ pub mod KeptStates
 pub mod Verdicts
 pub mod Ends
 pub mod Preemptions
+pub mod Lengths
 pub mod OwnEvents
 pub mod Waits
 pub mod OwnSteps

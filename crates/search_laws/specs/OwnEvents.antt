@@ -16,13 +16,15 @@ use Rattle.run_laws.specs.interleavings.Statements.{IsLeftAlone}
 use Rattle.run_laws.specs.searches.Searches.{IsWhole}
 use Rattle.search_laws.specs.Alone.{passing, next_event, IsAlone, HaveSameWords}
 use Rattle.search_laws.specs.KeptStates.{Graph}
+use Rattle.search_laws.specs.Lengths.{KeepsLengths}
 use Rattle.search_laws.specs.Preemptions.{LeavesEnabled}
 use Rattle.search_laws.specs.Verdicts.{IsWholeSearch, AreListed}
 
--- the thread stands as it stood, and the objects that were there are there
+-- the thread stands as it stood, and the objects that were there are there, with their types and lengths
 pub record StandsAs (before : State) (t : ℕ) (after : State) : Type 0 where
   pub alone : IsLeftAlone before after t
   pub types : Extends (types_of before.world.heap) (types_of after.world.heap)
+  pub lengths : KeepsLengths before.world.heap after.world.heap
 
 -- Wherever the thread, which runs, stands as here, it has one event, which leaves it this stack, and all else as it is.
 pub record IsOwnEvent (files : Program) (frames : ℕ) (state : State) (t : ℕ) (own : StackOf Value) : Type 0 where

@@ -1,4 +1,5 @@
--- Calls, returns and casts that are a thread's own (JVMS 6.5): they throw nothing, begin no class, and enter and leave no monitor.
+-- Calls, returns, and questions of an object that are a thread's own (JVMS 6.5): they throw nothing, begin no class, and enter and
+-- leave no monitor.
 use Rattle.std.specs.Prelude.{◌≡◌, ℕ, nat_lt, List, [], ◌∷◌, Option, Some, None, Bool, true, false, ◌&&◌, if◌then◌else◌, is_none, slice_get}
 use Rattle.std.specs.Option.{option_and_then}
 use Rattle.model.specs.declared.instr.Instr.{Instr}
@@ -19,33 +20,36 @@ use Rattle.run_laws.specs.interleavings.Local.{is_going}
 use Rattle.search_laws.specs.Alone.{next_event}
 use Rattle.search_laws.specs.OwnEvents.{IsOwnEvent}
 
-abbrev pub is_cast : Instr → Bool
-is_cast (instr.CheckCast index) = true
-is_cast other = false
+-- they ask for what stays: of which type an object is, and how many elements an array has
+abbrev pub is_query : Instr → Bool
+is_query (instr.CheckCast index) = true
+is_query (instr.InstanceOf index) = true
+is_query instr.ArrayLength = true
+is_query other = false
 
 -- the stack of a thread that goes on
 abbrev pub if_left : StackOf Value → Option (StackOf Value)
 if_left [] = None
 if_left (entry ∷ stack) = Some (entry ∷ stack)
 
--- The stack after a cast that passes, a call of a method that is not synchronized, where the limit lets it, or the return from one.
+-- The stack after a question that throws nothing, a call of a method that is not synchronized, where the limit lets it, or the return from one.
 abbrev pub own_outcome : Program → ℕ → Frame → StackOf Value → Bool → OutcomeOf Value → Option (StackOf Value)
-own_outcome files frames frame stack cast (Goes cost world slots to) = if cast then Some (Invocation (at_offset frame to slots) ∷ stack) else None
-own_outcome files frames frame stack cast (Calls callee rest) =
+own_outcome files frames frame stack query (Goes cost world slots to) = if query then Some (Invocation (at_offset frame to slots) ∷ stack) else None
+own_outcome files frames frame stack query (Calls callee rest) =
     if nat_lt (frame_count (Invocation frame ∷ stack)) frames && is_none callee.entered
     then Some (Invocation callee ∷ Invocation (at_call frame rest) ∷ stack)
     else None
-own_outcome files frames frame stack cast (Returns world results) = if is_none frame.entered then if_left (returned files results stack) else None
-own_outcome files frames frame stack cast (Raises fault) = None
-own_outcome files frames frame stack cast (Throws exception) = None
-own_outcome files frames frame stack cast Interrupts = None
-own_outcome files frames frame stack cast (Waits cost world rest) = None
+own_outcome files frames frame stack query (Returns world results) = if is_none frame.entered then if_left (returned files results stack) else None
+own_outcome files frames frame stack query (Raises fault) = None
+own_outcome files frames frame stack query (Throws exception) = None
+own_outcome files frames frame stack query Interrupts = None
+own_outcome files frames frame stack query (Waits cost world rest) = None
 
 -- where no class comes first
 abbrev pub own_meant : Program → ℕ → ℕ → World → Frame → StackOf Value → Site → MeaningOf Value → Option (StackOf Value)
 own_meant files frames t world frame stack site meaning =
     if is_none meaning.looks
-    then own_outcome files frames frame stack (is_cast site.instr)
+    then own_outcome files frames frame stack (is_query site.instr)
     (meaning.does (next_event t) world frame.place.slots (ops_of values meaning frame.place.slots) (under meaning.wants frame.place.slots))
     else None
 

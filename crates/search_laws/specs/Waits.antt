@@ -2,8 +2,10 @@
 -- initialises (JVMS 5.5).
 use Rattle.std.specs.Prelude.{◌≡◌, ℕ, zero, suc, nat_lt, List, [], ◌∷◌, Option, Some, None, if◌then◌else◌, slice_get, IsTrue}
 use Rattle.std.specs.Option.{option_map, option_and_then}
+use Rattle.model.specs.declared.event.Event.{Event}
 use Rattle.model.specs.declared.instr.Instr.{Instr}
 use Rattle.model.specs.declared.instr.Instr.TheVariants as instr
+use Rattle.model.specs.Accepted.{IsAccepted}
 use Rattle.model.specs.Classes.{Program, Body, body_of}
 use Rattle.model.specs.ClassInitialisation.{Look, IsReady, IsNew, IsHeld, HasFailed, look_by, status_of}
 use Rattle.model.specs.Frames.{entered_by, frame_count}
@@ -13,10 +15,12 @@ use Rattle.model.specs.Names.{Name, Member, main_of, thread_run}
 use Rattle.model.specs.Opening.{class_reference}
 use Rattle.model.specs.Operands.{Carrier, values, under}
 use Rattle.model.specs.Outcomes.{OutcomeOf, Goes, Raises, Throws, Interrupts, Calls, Returns, Waits}
+use Rattle.model.specs.Run.{run_from}
 use Rattle.model.specs.Sites.{MeaningOf, Site, site_at, referent}
 use Rattle.model.specs.State.{InProgress, ThreadStatus, Running, Waiting, Relock, Ended, FrameOf, Super, End, Invocation, Initialisation, StackOf, WorldOf, World, StateOf, State}
-use Rattle.model.specs.Step.{ops_of, before, initial_class}
+use Rattle.model.specs.Step.{ops_of, before, initial_class, step}
 use Rattle.model.specs.Worlds.{thread_at, object_at, class_of_object, is_owner}
+use Rattle.search_laws.specs.Alone.{AreOfOthers}
 use Rattle.search_laws.specs.KeptStates.{IsReached}
 use Rattle.search_laws.specs.Verdicts.{OfWholeSearches, IsMet}
 
@@ -123,3 +127,21 @@ abbrev pub AreCirclesMet : Type 0
 AreCirclesMet = OfWholeSearches (λ files frames conflict graph.
     (t : ℕ) (threads : List ℕ) (state : State) → IsReached files frames state → IsCircle files frames t threads state
     → IsMet graph (IsCircle files frames t threads))
+
+-- a circle stays, whatever events follow, and its first thread has none (as any of its threads can be taken for the first)
+abbrev pub AreCirclesForEver : Type 0
+AreCirclesForEver =
+    (files : List (List ℕ)) (trees : Program) → IsAccepted files trees → (frames : ℕ) (state : State) → IsReached trees frames state
+    → (t : ℕ) (threads : List ℕ) → IsCircle trees frames t threads state
+    → (events : List Event) (later : State) → run_from trees frames state events ≡ Some later
+    → IsCircle trees frames t threads later
+    × ((pick : ℕ) (next : State) → step trees frames later (record { thread = t; pick = pick }) ≡ Some next → ⊥)
+
+-- a thread that waits for another one waits for it still, and has no event, until that one has
+abbrev pub AreWaitersHeldBack : Type 0
+AreWaitersHeldBack =
+    (files : List (List ℕ)) (trees : Program) → IsAccepted files trees → (frames : ℕ) (state : State) → IsReached trees frames state
+    → (t u : ℕ) → WaitsFor trees frames t u state
+    → (others : List Event) (later : State) → AreOfOthers u others → run_from trees frames state others ≡ Some later
+    → WaitsFor trees frames t u later
+    × ((pick : ℕ) (next : State) → step trees frames later (record { thread = t; pick = pick }) ≡ Some next → ⊥)

@@ -15,11 +15,12 @@
 //! - Well-typed states with the same words are bisimilar: an event leads from both to such states, with the same
 //!   threads that may step and the same outcome so far (`states_with_the_same_words_are_bisimilar`). What is alone in a
 //!   state is alone behind each event of another thread (`what_is_alone_stays`).
+//! - Each event leaves each object there, and each array as many elements as it had (`arrays_keep_their_lengths`).
 //! - An event is its thread's own (`IsOwnEvent`) where it changes the thread's stack alone, to the same one wherever the
 //!   thread stands as here. An own event, of a thread that is in no conflict where it stands so, is alone, and leaves it
 //!   to each other thread whether it may step (`own_events_are_alone`). A local event is its thread's own
 //!   (`local_events_are_own`). So are the call of an instance method that is not synchronized, the return from a method
-//!   that is not, and a cast that passes (`own_steps_are_own`).
+//!   that is not, a cast that passes, a test of a type, and the length of an array (`own_steps_are_own`).
 //! - A monitorexit of a monitor that the thread owns, a monitorenter of one, and the return from a synchronized method
 //!   whose monitor it owns, but for its first method, are alone (`events_on_owned_monitors_are_alone`).
 //!
@@ -29,6 +30,7 @@
 //!   fields that the others can't put.
 
 ghost use Rattle.search_laws.specs.Alone.{AreSameWordsBisimilar, DoesAloneStay};
+ghost use Rattle.search_laws.specs.Lengths.{AreLengthsKept};
 ghost use Rattle.search_laws.specs.OwnEvents.{AreLocalEventsOwn, AreOwnEventsAlone};
 ghost use Rattle.search_laws.specs.OwnSteps.{AreOwnStepsOwn};
 ghost use Rattle.search_laws.specs.OwnedMonitors.{AreOwnedMonitorsAlone};
@@ -43,6 +45,11 @@ pub fn what_is_alone_stays()
     ensures holds { DoesAloneStay }
 {}
 
+/// Each event leaves each object there, and each array as many elements as it had.
+pub fn arrays_keep_their_lengths()
+    ensures holds { AreLengthsKept }
+{}
+
 /// A thread's own event is alone, and leaves it to the other threads whether they may step.
 pub fn own_events_are_alone()
     ensures holds { AreOwnEventsAlone }
@@ -53,8 +60,8 @@ pub fn local_events_are_own()
     ensures holds { AreLocalEventsOwn }
 {}
 
-/// The call of an instance method, the return from a method, neither synchronized, and a cast that passes, are their
-/// thread's own.
+/// The call of an instance method, the return from a method, neither synchronized, a cast that passes, a test of a
+/// type, and the length of an array are their thread's own.
 pub fn own_steps_are_own()
     ensures holds { AreOwnStepsOwn }
 {}

@@ -18,6 +18,8 @@
 //!   monitor that the next one owns or a class that it initialises (`circles_are_met`); two threads in conflict, where
 //!   events of others keep the conflict (`conflicts_are_met`); and whatever a test tells that events keep and words
 //!   tell (`what_lasts_is_met`).
+//! - A circle stays, whatever events follow, and no thread of it has an event (`circles_stay_for_ever`). A thread that
+//!   waits for another one waits for it, and has no event, until that one has (`waiting_threads_are_held_back`).
 //! - A state is endless where no run from it ends. A kept state is, if all to which edges lead from it are expanded and
 //!   none is quiet (`traps_are_endless`). If all kept states are expanded, and each edge is one of events, a run to an
 //!   endless state has a kept state from which no edges lead to a quiet one (`endless_states_are_trapped`).
@@ -32,7 +34,7 @@
 ghost use Rattle.search_laws.specs.Ends.{AreExceptionsMet, AreStuckMet};
 ghost use Rattle.search_laws.specs.OwnEvents.{AreSearchesWhole};
 ghost use Rattle.search_laws.specs.Verdicts.{AreAllFollowed, AreConflictsMet, AreEndlessTrapped, AreOutcomesMet, AreRunsFollowed, AreTrapsEndless, IsLastingMet};
-ghost use Rattle.search_laws.specs.Waits.{AreCirclesMet};
+ghost use Rattle.search_laws.specs.Waits.{AreCirclesForEver, AreCirclesMet, AreWaitersHeldBack};
 
 /// From where all is expanded to which edges lead, each run is followed, past events that are alone, to one of those.
 pub fn runs_are_followed()
@@ -67,6 +69,16 @@ pub fn stuck_threads_are_met()
 /// Where threads wait in a circle in a state of some run, they do in a kept one.
 pub fn circles_are_met()
     ensures holds { AreCirclesMet }
+{}
+
+/// A circle stays for ever, and its threads have no event.
+pub fn circles_stay_for_ever()
+    ensures holds { AreCirclesForEver }
+{}
+
+/// A thread that waits for another one has no event until that one has.
+pub fn waiting_threads_are_held_back()
+    ensures holds { AreWaitersHeldBack }
 {}
 
 /// Where two threads are in conflict in a state of some run, they are in a kept one.

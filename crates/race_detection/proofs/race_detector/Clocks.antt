@@ -1,13 +1,12 @@
 -- The clocks of a detector after one more step.
-use Rattle.std.proofs.Common.{◌≡◌, refl, sym, ◌∙◌, ap, subst, ℕ, suc, ◌+◌, ◌<◌, ◌≤◌, ◌⊎◌, inl, inr, List, [], ◌∷◌, ◌++◌, length, max, arith, length-append}
-use Rattle.std.specs.Prelude.{Option, Some, None, slice_get, Bool, true, false, ◌==◌, ◌↔◌, IsTrue, IsFalse}
+use Rattle.std.proofs.Common.{◌≡◌, sym, ◌∙◌, ap, subst, ℕ, ◌+◌, ◌<◌, ◌≤◌, ◌⊎◌, inl, inr, List, [], ◌∷◌, length, arith, length-append}
+use Rattle.std.specs.Prelude.{Some, None, slice_get, ◌↔◌, IsFalse}
 use Rattle.std.proofs.lemmas.Option.{slice_get_within}
 use Rattle.std.proofs.lemmas.Bool.Decides.{eqb_tells, leb_tells}
 use Rattle.data_races.proofs.Order.{at_next, with_next}
-use Rattle.race_detection.specs.declared.run_steps.Action.{Action}
 use Rattle.race_detection.specs.declared.run_steps.Step.{Step}
-use Rattle.race_detection.specs.run_steps.Synchronization.{left_by, finds, takes}
-use Rattle.race_detection.specs.vector_clocks.Times.{time_in, AreSameTimes, IsRaised, IsStamped, IsReset}
+use Rattle.race_detection.specs.run_steps.Synchronization.{left_by, takes}
+use Rattle.race_detection.specs.vector_clocks.Times.{time_in, AreSameTimes, IsRaised, IsStamped}
 use Rattle.race_detection.specs.race_detector.Watched.{IsKnownTo, IsLeftAt}
 use Rattle.race_detection.proofs.race_detector.Known.{IsFoundBy, known_below, left_below, known_longer, known_else, known_itself, known_own, found_known, known_cases, left_cases, left_stays, left_new}
 

@@ -1,13 +1,12 @@
 -- The last accesses of a detector after one more step.
-use Rattle.std.proofs.Common.{◌≡◌, refl, sym, ◌∙◌, ap, subst, ℕ, suc, ◌+◌, ◌<◌, ◌≤◌, ◌⊎◌, inl, inr, List, [], ◌∷◌, ◌++◌, length, arith}
-use Rattle.std.specs.Prelude.{Option, Some, None, slice_get}
+use Rattle.std.proofs.Common.{◌≡◌, sym, ◌∙◌, ap, subst, ◌<◌, inl, inr, List, [], ◌∷◌, length, arith}
+use Rattle.std.specs.Prelude.{Some, slice_get}
 use Rattle.std.proofs.lemmas.Option.{slice_get_within}
-use Rattle.std.proofs.lemmas.Bool.Decides.{eqb_tells}
 use Rattle.data_races.proofs.Order.{get_left, get_seam, at_next, with_next}
 use Rattle.race_detection.specs.declared.run_steps.Action.{Action}
 use Rattle.race_detection.specs.declared.run_steps.Step.{Step}
 use Rattle.race_detection.specs.declared.last_accesses.Access.{Access}
-use Rattle.race_detection.specs.last_accesses.Accesses.{Has, IsKept}
+use Rattle.race_detection.specs.last_accesses.Accesses.{IsKept}
 use Rattle.race_detection.specs.race_detector.Watched.{AreLast, step_with}
 
 module _ (run : List Step) (s : Step) (action : Action) where

@@ -1,9 +1,9 @@
 -- What one more step changes of what threads know and of what is left at places.
-use Rattle.std.proofs.Common.{◌≡◌, refl, sym, ◌∙◌, ap, subst, ℕ, suc, ◌+◌, ◌<◌, ◌≤◌, ◌⊎◌, inl, inr, List, [], ◌∷◌, ◌++◌, length, arith}
-use Rattle.std.specs.Prelude.{Option, Some, None, slice_get, Bool, true, false, ◌==◌, IsTrue, IsFalse}
+use Rattle.std.proofs.Common.{◌≡◌, refl, sym, ◌∙◌, ap, subst, ℕ, ◌<◌, ◌≤◌, ◌⊎◌, inl, inr, List, [], ◌∷◌, length, arith}
+use Rattle.std.specs.Prelude.{Option, Some, None, slice_get, IsTrue, IsFalse}
 use Rattle.std.proofs.lemmas.Option.{slice_get_within}
 use Rattle.std.proofs.lemmas.Bool.{eqb-true, eq-eqb}
-use Rattle.data_races.specs.HappensBefore.{Pair, IsProgramOrdered, SynchronizesWith, HappensBefore}
+use Rattle.data_races.specs.HappensBefore.{Pair, HappensBefore}
 use Rattle.data_races.proofs.Order.{get_left, get_seam, at_next, onwards, Precedes, with_next, within, longer, to_last, last_by}
 use Rattle.race_detection.specs.declared.run_steps.Action.{Action}
 use Rattle.race_detection.specs.declared.run_steps.Step.{Step}

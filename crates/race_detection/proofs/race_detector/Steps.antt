@@ -1,6 +1,6 @@
 -- One more step, by its action: the detector watches the longer run, and what it tells is right.
-use Rattle.std.proofs.Common.{◌≡◌, refl, sym, ◌∙◌, ap, subst, ℕ, ◌+◌, ◌<◌, ◌≤◌, inl, inr, List, [], ◌∷◌, ◌++◌, length, max, arith}
-use Rattle.std.specs.Prelude.{Option, Some, None, slice_get, slice_index_or, Bool, true, false, ◌==◌, ◌↔◌, IsTrue, IsFalse}
+use Rattle.std.proofs.Common.{◌≡◌, refl, sym, ◌∙◌, ap, subst, ℕ, ◌+◌, ◌<◌, ◌≤◌, inl, inr, List, [], length, max, arith}
+use Rattle.std.specs.Prelude.{Option, None, slice_index_or, true, false, ◌↔◌, IsFalse}
 use Rattle.std.specs.Option.{option_map, option_or}
 use Rattle.std.proofs.lemmas.Bool.{eq-eqb}
 use Rattle.std.proofs.lemmas.Bool.Decides.{eqb_tells}
@@ -12,7 +12,7 @@ use Rattle.race_detection.specs.declared.last_accesses.Access.{Access}
 use Rattle.race_detection.specs.run_steps.Synchronization.{left_by, finds, takes}
 use Rattle.race_detection.specs.vector_clocks.Times.{time_in, AreSameTimes, IsRaised, IsStamped, IsReset}
 use Rattle.race_detection.specs.last_accesses.Accesses.{AccessesOf, accesses_at, AreSameAccesses, IsFirstUnknown, IsReadKept, IsWriteKept}
-use Rattle.race_detection.specs.race_detector.Watched.{DetectorOf, IsKnownTo, IsLeftAt, Watches, Tells, step_with}
+use Rattle.race_detection.specs.race_detector.Watched.{DetectorOf, IsLeftAt, Watches, Tells, step_with}
 use Rattle.race_detection.proofs.race_detector.Known.{IsFoundBy}
 use Rattle.race_detection.proofs.race_detector.Clocks.{ShowUntaken, AreBounded}
 use Rattle.race_detection.proofs.race_detector.Told.{ConflictsWithNone, acquire_alone, release_alone, clear_alone, tells_nothing, told_read, told_write}

@@ -1,20 +1,20 @@
 -- What a detector tells of one more step.
-use Rattle.std.proofs.Common.{◌≡◌, refl, sym, ◌∙◌, ap, subst, ℕ, suc, ◌+◌, ◌<◌, ◌≤◌, ◌⊎◌, inl, inr, List, [], ◌∷◌, ◌++◌, length, arith}
-use Rattle.std.specs.Prelude.{Option, Some, None, slice_get, slice_index_or, Bool, true, false, not, ◌&&◌, ◌||◌, ◌==◌, IsTrue, IsFalse}
+use Rattle.std.proofs.Common.{◌≡◌, refl, sym, ◌∙◌, ap, subst, ℕ, ◌<◌, ◌≤◌, ◌⊎◌, inl, inr, List, [], ◌∷◌, length, arith}
+use Rattle.std.specs.Prelude.{Option, Some, None, slice_get, slice_index_or, Bool, true, false, not, ◌&&◌, ◌||◌, ◌==◌, IsTrue}
 use Rattle.std.specs.Option.{option_map, option_or}
 use Rattle.std.proofs.lemmas.Option.{slice_get_within}
 use Rattle.std.proofs.lemmas.Bool.{eqb-true, eq-eqb}
 use Rattle.std.proofs.lemmas.Bool.Decides.{eqb_tells}
-use Rattle.data_races.specs.HappensBefore.{Pair, HappensBefore, IsRace}
-use Rattle.data_races.proofs.Order.{get_left, get_seam, at_next, with_next}
+use Rattle.data_races.specs.HappensBefore.{Pair, HappensBefore}
+use Rattle.data_races.proofs.Order.{get_left, get_seam, with_next}
 use Rattle.race_detection.specs.declared.run_steps.Action.{Action}
 use Rattle.race_detection.specs.declared.run_steps.Action.TheVariants.{Read, Write, Acquire, Release, Clear}
 use Rattle.race_detection.specs.declared.run_steps.Step.{Step}
 use Rattle.race_detection.specs.declared.last_accesses.Access.{Access}
-use Rattle.race_detection.specs.last_accesses.Accesses.{Has, IsUnknown, IsFirstUnknown}
-use Rattle.race_detection.specs.run_steps.Synchronization.{finds, conflicts, is_read, is_write, step_order}
+use Rattle.race_detection.specs.last_accesses.Accesses.{Has, IsFirstUnknown}
+use Rattle.race_detection.specs.run_steps.Synchronization.{conflicts, step_order}
 use Rattle.race_detection.specs.vector_clocks.Times.{time_in}
-use Rattle.race_detection.specs.race_detector.Watched.{IsKnownTo, AreLast, step_with, Tells}
+use Rattle.race_detection.specs.race_detector.Watched.{AreLast, step_with, Tells}
 use Rattle.race_detection.proofs.race_detector.Known.{IsFoundBy, known_before, before_cases}
 use Rattle.race_detection.proofs.race_detector.Clocks.{ShowKnown, lt_or_le}
 

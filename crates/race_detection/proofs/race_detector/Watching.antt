@@ -1,17 +1,17 @@
 -- A detector after one more step watches the longer run.
-use Rattle.std.proofs.Common.{◌≡◌, refl, sym, ◌∙◌, ap, subst, ℕ, suc, ◌+◌, ◌<◌, ◌≤◌, ◌⊎◌, inl, inr, List, [], ◌∷◌, ◌++◌, length, max, arith}
-use Rattle.std.specs.Prelude.{Option, Some, None, Result, Ok, Err, slice_get, slice_index_or, Bool, true, false, ◌==◌, ◌↔◌, IsTrue, IsFalse}
+use Rattle.std.proofs.Common.{◌≡◌, refl, sym, ◌∙◌, ap, subst, ℕ, ◌+◌, ◌<◌, ◌≤◌, inl, inr, List, length, arith}
+use Rattle.std.specs.Prelude.{Option, Some, None, Result, Err, slice_get, true, false, ◌==◌, ◌↔◌, IsTrue, IsFalse}
 use Rattle.std.proofs.lemmas.Bool.Decides.{eqb_tells}
 use Rattle.std.proofs.lemmas.Bool.{eqb-true, eq-eqb}
 use Rattle.data_races.proofs.Order.{with_next}
 use Rattle.race_detection.specs.declared.run_steps.Action.{Action}
-use Rattle.race_detection.specs.declared.run_steps.Action.TheVariants.{Read, Write, Acquire, Release, Clear}
+use Rattle.race_detection.specs.declared.run_steps.Action.TheVariants.{Read, Write, Acquire}
 use Rattle.race_detection.specs.declared.run_steps.Step.{Step}
 use Rattle.race_detection.specs.declared.last_accesses.Access.{Access}
-use Rattle.race_detection.specs.run_steps.Synchronization.{left_by, finds, takes, step_order}
-use Rattle.race_detection.specs.vector_clocks.Times.{time_in, AreSameTimes, IsRaised, IsStamped, IsReset}
-use Rattle.race_detection.specs.last_accesses.Accesses.{Has, IsKept, AccessesOf, accesses_at, AreSameAccesses, IsReadKept, IsWriteKept}
-use Rattle.race_detection.specs.race_detector.Watched.{DetectorOf, accesses_of, IsKnownTo, IsLeftAt, AreLast, Watches, Tells, IsTold, IsWatching}
+use Rattle.race_detection.specs.run_steps.Synchronization.{left_by, finds, takes}
+use Rattle.race_detection.specs.vector_clocks.Times.{time_in, AreSameTimes, IsRaised, IsStamped}
+use Rattle.race_detection.specs.last_accesses.Accesses.{IsKept, AccessesOf, AreSameAccesses, IsReadKept, IsWriteKept}
+use Rattle.race_detection.specs.race_detector.Watched.{DetectorOf, accesses_of, IsKnownTo, IsLeftAt, AreLast, Watches, IsTold, IsWatching}
 use Rattle.race_detection.proofs.race_detector.Known.{IsFoundBy}
 use Rattle.race_detection.proofs.race_detector.Clocks.{ShowKnown, ShowLeft, AreBounded, length_next, same_raised, raised_bounded, more_bounded, threads_next, ShowUntaken, places_untaken, places_left, places_left_bounded}
 use Rattle.race_detection.proofs.race_detector.Kept.{last_stays, last_kept}

@@ -1,5 +1,5 @@
 -- The last accesses of a variable by each thread that accessed it.
-use Rattle.std.specs.Prelude.{◌≡◌, ℕ, ◌<◌, ◌≤◌, ◌⊎◌, List, [], Option, Some, None, Result, Ok, Err, slice_get, slice_index, slice_index_or}
+use Rattle.std.specs.Prelude.{◌≡◌, ℕ, ◌≤◌, ◌⊎◌, List, [], Option, Some, None, Result, Ok, Err, slice_get, slice_index, slice_index_or}
 use Rattle.race_detection.specs.declared.last_accesses.Access.{Access}
 
 -- x stands in the list

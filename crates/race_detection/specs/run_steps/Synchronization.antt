@@ -1,9 +1,9 @@
 -- What orders the steps of a run, and which of them conflict (JLS 17.4).
-use Rattle.std.specs.Prelude.{ℕ, List, Option, Some, None, Bool, false, not, ◌&&◌, ◌||◌, ◌==◌}
+use Rattle.std.specs.Prelude.{ℕ, Option, Some, None, Bool, false, not, ◌&&◌, ◌||◌, ◌==◌}
 use Rattle.race_detection.specs.declared.run_steps.Action.{Action}
 use Rattle.race_detection.specs.declared.run_steps.Action.TheVariants.{Read, Write, Acquire, Release, Clear}
 use Rattle.race_detection.specs.declared.run_steps.Step.{Step}
-use Rattle.data_races.specs.HappensBefore.{Relations, IsRace}
+use Rattle.data_races.specs.HappensBefore.{Relations}
 
 -- the place where an action leaves something
 abbrev pub left_by : Action → Option ℕ

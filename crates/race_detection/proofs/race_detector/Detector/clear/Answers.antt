@@ -1,4 +1,4 @@
-use Rattle.std.proofs.Common.{◌≡◌, refl, sym, ◌∙◌, subst, ℕ, List}
+use Rattle.std.proofs.Common.{refl, sym, subst, ℕ, List}
 use Rattle.std.proofs.lemmas.Result.{err_from_is_err_and}
 use Rattle.race_detection.specs.vector_clocks.Times.{time_in, IsRaised}
 use Rattle.race_detection.specs.race_detector.Watched.{DetectorOf, Watches}

@@ -1,4 +1,4 @@
-use Rattle.std.proofs.Common.{◌≡◌, refl, sym, ◌∙◌, subst, ℕ, List}
+use Rattle.std.proofs.Common.{refl, sym, subst}
 use Rattle.std.proofs.lemmas.Result.{err_from_is_err_and}
 use Rattle.race_detection.specs.declared.last_accesses.Access.{Access}
 use Rattle.race_detection.specs.last_accesses.Accesses.{IsReadKept}

@@ -1,4 +1,4 @@
-use Rattle.std.proofs.Common.{◌≡◌, ℕ, ◌≤◌, ◌+◌, ◌-◌, length, get_or, vec_len}
+use Rattle.std.proofs.Common.{◌≡◌, ℕ, ◌≤◌, ◌-◌, length, get_or, vec_len}
 use Rattle.race_detection.proofs.vector_clocks.Clock.grow.Given as goal
 
 abbrev pub invariant-room : goal.invariant-room
