@@ -105,8 +105,8 @@ fn swept_over<R: Threads + Wait + Sync, P: Watch>(
     let runs = PolicyRuns::new(verified, program, limits, budget, policy);
     let seeds = sweep.seeds;
     let workers = options.options.workers().unwrap_or(1);
-    let mut runs = SideBySide::new(rt, alloc, runs, workers, seeds.last);
-    let swept = sweeps::sweep(alloc, &mut runs, watch, wanted, seeds.first, seeds.last)?;
+    let mut runs = SideBySide::new(alloc, runs, workers, seeds.last);
+    let swept = sweeps::sweep(rt, alloc, &mut runs, watch, wanted, seeds.first, seeds.last)?;
     let words = repeat_words(alloc, options, sweep)?;
     let text = sweep_text(alloc, &swept, policy, words.as_str())?;
     let status = Status::of_sweep(swept.end);

@@ -74,9 +74,9 @@ module _ (IsRun : ℕ → Recorded → Type 0) (want : Wanted) (seed : ℕ) (old
     lacks = λ it shows. let is_so : b ≡ true = wanted.1 (subst (IsShownWanted want) (sym shown) shows) in let bad : true ≡ false = sym is_so ∙ it in cc;
   }
 
--- what is a run by one is one by another that is the same
-pub has_run_by : (P Q : ℕ → Recorded → Type 0) → P ≡ Q → {want : Wanted} {seed : ℕ} {b : Bool} {old new : TallyOf} → HasRun P want seed b old new → HasRun Q want seed b old new
-has_run_by P Q same {want} {seed} {b} {old} {new} h = subst (λ (p : ℕ → Recorded → Type 0). HasRun p want seed b old new) same h
+-- what is a run in the one sense is one in the other
+pub has_run_by : (P Q : ℕ → Recorded → Type 0) → ((seed : ℕ) (r : Recorded) → P seed r → Q seed r) → {want : Wanted} {seed : ℕ} {b : Bool} {old new : TallyOf} → HasRun P want seed b old new → HasRun Q want seed b old new
+has_run_by P Q stays {want} {seed} {b} {old} {new} h = record { run = h.run; is = stays seed h.run h.is; counted = h.counted; shows = h.shows; lacks = h.lacks }
 
 -- ---- what a sweep comes to
 

@@ -1,6 +1,6 @@
 -- Runs that are done ahead (own).
 use Rattle.std.specs.Prelude.{◌≤◌, ◌<◌, ◌+◌, ◌^◌, ℕ, List, IfOk, Result, length, slice_index_or}
-use Rattle.core.specs.declared.alloc.AllocError.{AllocError}
+use Rattle.std.specs.declared.alloc.AllocError.{AllocError}
 use Rattle.program_runs.specs.declared.worlds.records.Recorded.{Recorded}
 use Rattle.sweeps.specs.Policies.{IsRunWith, RunsBy}
 

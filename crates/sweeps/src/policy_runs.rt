@@ -13,7 +13,8 @@ use program_runs::workers::Gate;
 use program_runs::worlds::Recorded;
 use std::alloc::{AllocError, Global};
 use std::marker::Model;
-use std::sync::Arc;
+use std::sync::{Arc, Wait};
+use std::thread::Threads;
 use verifier::Verified;
 
 /// A policy that goes by a seed.
@@ -143,7 +144,12 @@ impl SeedRuns for PolicyRuns<'_> {
 
     ghost is_run = { IsRunWith };
 
-    fn run(&mut self, alloc: Global, seed: u64) -> Result<Recorded, AllocError> {
+    fn run<R: Threads + Wait + Sync>(
+        &mut self,
+        _rt: &R,
+        alloc: Global,
+        seed: u64,
+    ) -> Result<Recorded, AllocError> {
         self.run_of(alloc, seed)
     }
 }

@@ -1,7 +1,7 @@
 //! Runs that are done side by side, ahead of those that are asked for.
 
-ghost use Rattle.std.specs.Prelude.{◌≡◌, ◌≤◌, ◌+◌, ◌^◌, IfOk, vec_len};
-ghost use Rattle.sweeps.specs.Ahead.{AreRunsOf};
+ghost use Rattle.std.specs.Prelude.{◌≡◌, ◌≤◌, ◌+◌, ◌^◌, IfOk, OnErr, OnOk, vec_len};
+ghost use Rattle.sweeps.specs.Ahead.{AreAhead, AreRunsOf};
 
 use crate::policy_runs::PolicyRuns;
 use crate::seed_runs::SeedRuns;
@@ -12,10 +12,12 @@ use std::sync::Wait;
 use std::thread;
 use std::thread::Threads;
 
+/// A run, or a want of memory in it.
+type Tried = Result<Recorded, AllocError>;
+
 /// Runs by a policy of which so many are done at a time, one to each worker. What comes of a run doesn't depend on it.
 #[derive(Drop)]
-pub struct SideBySide<'a, R> {
-    rt: &'a R,
+pub struct SideBySide<'a> {
     runs: PolicyRuns<'a>,
     workers: u32,
     /// The last seed for which there is to be a run.
@@ -23,10 +25,10 @@ pub struct SideBySide<'a, R> {
     /// The seed of the run that is next.
     next: u64,
     /// The run with that seed, and those with the seeds behind it, as far as they are done.
-    ahead: Vec<Result<Recorded, AllocError>>,
+    ahead: Vec<Tried>,
 }
 
-impl<'a, R> Model for SideBySide<'a, R> {
+impl<'a> Model for SideBySide<'a> {
     ghost use Rattle.sweeps.specs.Policies.{RunsBy};
     ghost use Rattle.sweeps.specs.Ahead.{AreAhead};
 
@@ -37,19 +39,12 @@ impl<'a, R> Model for SideBySide<'a, R> {
     ghost invariant = { λ s. AreAhead s.runs s.next s.ahead.items };
 }
 
-impl<'a, R: Threads + Wait + Sync> SideBySide<'a, R> {
+impl<'a> SideBySide<'a> {
     /// Runs of which none is done.
-    pub fn new(
-        rt: &'a R,
-        alloc: Global,
-        runs: PolicyRuns<'a>,
-        workers: u32,
-        last: u64,
-    ) -> SideBySide<'a, R>
-        ensures { result ≡ runs }
+    pub fn new(alloc: Global, runs: PolicyRuns<'a>, workers: u32, last: u64) -> SideBySide<'a>
+        ensures { result ≡ runs.entry }
     {
         SideBySide {
-            rt,
             runs,
             workers,
             last,
@@ -79,7 +74,7 @@ fn runs_from<R: Threads + Wait + Sync>(
     runs: &PolicyRuns<'_>,
     seed: u64,
     count: usize,
-) -> Result<Vec<Result<Recorded, AllocError>>, AllocError>
+) -> Result<Vec<Tried>, AllocError>
     requires { seed + count ≤ 2 ^ 64 }
     ensures count { IfOk result (λ done. vec_len done ≡ count) }
     ensures each { IfOk result (λ done. AreRunsOf runs.now seed done.items) }
@@ -92,17 +87,52 @@ fn runs_from<R: Threads + Wait + Sync>(
     )
 }
 
-impl<R: Threads + Wait + Sync> SeedRuns for SideBySide<'_, R> {
+/// Does the runs of so many seeds, from one on, unless the runs that are done begin with that one. The only error is a
+/// want of memory, and nothing has changed.
+fn fill<R: Threads + Wait + Sync>(
+    rt: &R,
+    alloc: Global,
+    runs: &PolicyRuns<'_>,
+    ahead: &mut Vec<Tried>,
+    next: u64,
+    seed: u64,
+    count: usize,
+) -> Result<(), AllocError>
+    requires are { AreAhead runs.now next ahead.old.items }
+    requires some { 1 ≤ count }
+    requires few { seed + count ≤ 2 ^ 64 }
+    ensures are { OnOk result (AreAhead runs.now seed ahead.new.items) }
+    ensures some { OnOk result (1 ≤ vec_len ahead.new) }
+    ensures still { OnErr result (ahead.new.items ≡ ahead.old.items) }
+{
+    if next != seed || ahead.is_empty() {
+        *ahead = runs_from(rt, alloc, runs, seed, count)?;
+    }
+    Ok(())
+}
+
+impl SeedRuns for SideBySide<'_> {
     ghost use Rattle.sweeps.specs.Policies.{IsRunWith};
 
     ghost is_run = { IsRunWith };
 
-    fn run(&mut self, alloc: Global, seed: u64) -> Result<Recorded, AllocError> {
-        if self.next != seed || self.ahead.is_empty() {
-            let count = self.count(seed);
-            self.ahead = runs_from(self.rt, alloc, &self.runs, seed, count)?;
-            self.next = seed;
-        }
+    fn run<R: Threads + Wait + Sync>(
+        &mut self,
+        rt: &R,
+        alloc: Global,
+        seed: u64,
+    ) -> Result<Recorded, AllocError> {
+        let count = self.count(seed);
+        fill(
+            rt,
+            alloc,
+            &self.runs,
+            &mut self.ahead,
+            self.next,
+            seed,
+            count,
+        )?;
+        self.next = seed;
         let run = self.ahead.remove(0);
         if !self.ahead.is_empty() {
             self.next = seed + 1;

@@ -9,6 +9,8 @@ use crate::tallies::Tally;
 use crate::watch::Watch;
 use search::run_outcomes::Wanted;
 use std::alloc::{AllocError, Global};
+use std::sync::Wait;
+use std::thread::Threads;
 
 /// Why a sweep has come to an end.
 #[derive(Clone, Copy, Debug, PartialEq, Eq)]
@@ -31,7 +33,8 @@ pub struct SweepReport {
 }
 
 /// Does the run of a seed, and counts it. Answers whether it shows what is wanted. The only error is a want of memory.
-fn run_seed<S: SeedRuns>(
+fn run_seed<R: Threads + Wait + Sync, S: SeedRuns>(
+    rt: &R,
     alloc: Global,
     runs: &mut S,
     wanted: &Wanted,
@@ -40,9 +43,9 @@ fn run_seed<S: SeedRuns>(
 ) -> Result<bool, AllocError>
     requires { tally.old.runs < 2 ^ 64 }
     ensures has_run { IfOk result (λ found. HasRun (S.is_run runs.old) wanted.now seed found tally.old tally.new) }
-    ensures same { IfOk result (λ _. S.is_run runs.new ≡ S.is_run runs.old) }
+    ensures same { (other : _) (r : _) → S.is_run runs.new other r → S.is_run runs.old other r }
 {
-    let ran = Ran::of(runs.run(alloc, seed)?);
+    let ran = Ran::of(runs.run(rt, alloc, seed)?);
     let is_wanted = ran.shown.is_wanted(alloc, wanted)?;
     tally.add(ran, seed)?;
     Ok(is_wanted)
@@ -50,7 +53,8 @@ fn run_seed<S: SeedRuns>(
 
 /// Does a run for each seed from one up to another, in this order, until one shows what is wanted, or the sweep is
 /// stopped. The only error is a want of memory.
-pub fn sweep<S: SeedRuns, W: Watch>(
+pub fn sweep<R: Threads + Wait + Sync, S: SeedRuns, W: Watch>(
+    rt: &R,
     alloc: Global,
     runs: &mut S,
     watch: &W,
@@ -63,7 +67,7 @@ pub fn sweep<S: SeedRuns, W: Watch>(
 {
     let mut tally = Tally::new(alloc);
     'seeds: for seed in first..last {
-        let is_wanted = run_seed(alloc, runs, wanted, &mut tally, seed)?;
+        let is_wanted = run_seed(rt, alloc, runs, wanted, &mut tally, seed)?;
         watch.runs_done(tally.runs());
         if is_wanted {
             let end = SweepEnd::Found;
@@ -74,7 +78,7 @@ pub fn sweep<S: SeedRuns, W: Watch>(
             return Ok(SweepReport { first, tally, end });
         }
     }
-    let is_wanted = run_seed(alloc, runs, wanted, &mut tally, last)?;
+    let is_wanted = run_seed(rt, alloc, runs, wanted, &mut tally, last)?;
     watch.runs_done(tally.runs());
     let end = last_end(is_wanted);
     Ok(SweepReport { first, tally, end })

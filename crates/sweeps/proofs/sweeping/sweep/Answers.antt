@@ -1,16 +1,16 @@
-use Rattle.std.proofs.Common.{◌≡◌, ◌≤◌, ◌<◌, ◌^◌, ◌∙◌, arith, refl, subst}
+use Rattle.std.proofs.Common.{◌≡◌, ◌≤◌, ◌<◌, ◌^◌, arith, refl, subst}
 use Rattle.sweeps.proofs.RunsSwept.{HasSwept, begins, few_runs, found_by, gave_up_by, has_run_by, last_by, swept_on}
 use Rattle.sweeps.proofs.sweeping.sweep.Goals as goal
 
 pub seeds-init : goal.seeds-init
-seeds-init g c = (begins _ _ _ _ c.new-tally.ensures, refl)
+seeds-init g c = (begins _ _ _ _ c.new-tally.ensures, λ seed r is. is)
 
 pub run_seed-requires : goal.run_seed-requires
 run_seed-requires g c = few_runs _ _ _ c.seeds.seed _ c.seeds.invariant.0 (omega (arith, c.ranges.last.fits, c.seeds-test.true))
 
 pub seeds-preserved : goal.seeds-preserved
 seeds-preserved g c =
-    (swept_on _ (g.W.Watch.may_stop c.args.watch.now) _ c.args.first c.args.last c.seeds.seed _ _ c.seeds.invariant.0 _ (has_run_by _ _ c.seeds.invariant.1 c.in_ok-is_wanted.ensures.has_run) c.if-is_wanted.false, c.in_ok-is_wanted.ensures.same ∙ c.seeds.invariant.1)
+    (swept_on _ (g.W.Watch.may_stop c.args.watch.now) _ c.args.first c.args.last c.seeds.seed _ _ c.seeds.invariant.0 _ (has_run_by _ _ c.seeds.invariant.1 c.in_ok-is_wanted.ensures.has_run) c.if-is_wanted.false, λ seed r is. c.seeds.invariant.1 seed r (c.run_seed.ensures.same seed r is))
 
 pub returns-then-is_wanted : goal.returns-then-is_wanted
 returns-then-is_wanted g c =
