@@ -5,7 +5,6 @@ ghost use Rattle.std.specs.Arc.{arc_value};
 ghost use Rattle.machine.specs.Machines.{IsProgramOf};
 ghost use Rattle.sweeps.specs.Policies.{IsRunWith, WantsMemory, name_of, with_seed};
 
-use crate::seed_runs::SeedRuns;
 use linked_code::LinkedProgram;
 use model::{End, Limits, RunCause};
 use program_runs::policies::{Policy, run_linked};
@@ -13,8 +12,7 @@ use program_runs::workers::Gate;
 use program_runs::worlds::Recorded;
 use std::alloc::{AllocError, Global};
 use std::marker::Model;
-use std::sync::{Arc, Wait};
-use std::thread::Threads;
+use std::sync::Arc;
 use verifier::Verified;
 
 /// A policy that goes by a seed.
@@ -136,20 +134,5 @@ impl PolicyRuns<'_> {
             policy,
             &Unwatched,
         )?)
-    }
-}
-
-impl SeedRuns for PolicyRuns<'_> {
-    ghost use Rattle.sweeps.specs.Policies.{IsRunWith};
-
-    ghost is_run = { IsRunWith };
-
-    fn run<R: Threads + Wait + Sync>(
-        &mut self,
-        _rt: &R,
-        alloc: Global,
-        seed: u64,
-    ) -> Result<Recorded, AllocError> {
-        self.run_of(alloc, seed)
     }
 }

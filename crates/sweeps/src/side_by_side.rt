@@ -1,10 +1,10 @@
 //! Runs that are done side by side, ahead of those that are asked for.
 
-ghost use Rattle.std.specs.Prelude.{◌≡◌, ◌≤◌, ◌+◌, ◌^◌, IfOk, OnErr, OnOk, vec_len};
+ghost use Rattle.std.specs.Prelude.{◌≡◌, ◌≤◌, ◌+◌, ◌^◌, IfOk, OnErr, OnOk, length, vec_len};
 ghost use Rattle.sweeps.specs.Ahead.{AreAhead, AreRunsOf};
+ghost use Rattle.sweeps.specs.Policies.{IsRunWith};
 
 use crate::policy_runs::PolicyRuns;
-use crate::seed_runs::SeedRuns;
 use program_runs::worlds::Recorded;
 use std::alloc::{AllocError, Global};
 use std::marker::Model;
@@ -102,7 +102,7 @@ fn fill<R: Threads + Wait + Sync>(
     requires some { 1 ≤ count }
     requires few { seed + count ≤ 2 ^ 64 }
     ensures are { OnOk result (AreAhead runs.now seed ahead.new.items) }
-    ensures some { OnOk result (1 ≤ vec_len ahead.new) }
+    ensures some { OnOk result (1 ≤ length ahead.new.items) }
     ensures still { OnErr result (ahead.new.items ≡ ahead.old.items) }
 {
     if next != seed || ahead.is_empty() {
@@ -111,17 +111,17 @@ fn fill<R: Threads + Wait + Sync>(
     Ok(())
 }
 
-impl SeedRuns for SideBySide<'_> {
-    ghost use Rattle.sweeps.specs.Policies.{IsRunWith};
-
-    ghost is_run = { IsRunWith };
-
-    fn run<R: Threads + Wait + Sync>(
+impl SideBySide<'_> {
+    /// The run with a seed. The only error is a want of memory.
+    pub fn run<R: Threads + Wait + Sync>(
         &mut self,
         rt: &R,
         alloc: Global,
         seed: u64,
-    ) -> Result<Recorded, AllocError> {
+    ) -> Result<Recorded, AllocError>
+        ensures is { IfOk result (IsRunWith self.old seed) }
+        ensures same { self.new ≡ self.old }
+    {
         let count = self.count(seed);
         fill(
             rt,

@@ -1,10 +1,11 @@
 //! The sweep.
 
 ghost use Rattle.std.specs.Prelude.{◌≡◌, ◌<◌, ◌≤◌, ◌^◌, IfOk};
+ghost use Rattle.sweeps.specs.Policies.{IsRunWith};
 ghost use Rattle.sweeps.specs.Sweeps.{HasRun, Sweeps, last_end};
 
-use crate::seed_runs::SeedRuns;
 use crate::shown::Ran;
+use crate::side_by_side::SideBySide;
 use crate::tallies::Tally;
 use crate::watch::Watch;
 use search::run_outcomes::Wanted;
@@ -33,17 +34,17 @@ pub struct SweepReport {
 }
 
 /// Does the run of a seed, and counts it. Answers whether it shows what is wanted. The only error is a want of memory.
-fn run_seed<R: Threads + Wait + Sync, S: SeedRuns>(
+fn run_seed<R: Threads + Wait + Sync>(
     rt: &R,
     alloc: Global,
-    runs: &mut S,
+    runs: &mut SideBySide<'_>,
     wanted: &Wanted,
     tally: &mut Tally,
     seed: u64,
 ) -> Result<bool, AllocError>
-    requires { tally.old.runs < 2 ^ 64 }
-    ensures has_run { IfOk result (λ found. HasRun (S.is_run runs.old) wanted.now seed found tally.old tally.new) }
-    ensures same { (other : _) (r : _) → S.is_run runs.new other r → S.is_run runs.old other r }
+    requires few { tally.old.runs < 2 ^ 64 }
+    ensures has_run { IfOk result (λ found. HasRun (IsRunWith runs.old) wanted.now seed found tally.old tally.new) }
+    ensures same { runs.new ≡ runs.old }
 {
     let ran = Ran::of(runs.run(rt, alloc, seed)?);
     let is_wanted = ran.shown.is_wanted(alloc, wanted)?;
@@ -53,17 +54,17 @@ fn run_seed<R: Threads + Wait + Sync, S: SeedRuns>(
 
 /// Does a run for each seed from one up to another, in this order, until one shows what is wanted, or the sweep is
 /// stopped. The only error is a want of memory.
-pub fn sweep<R: Threads + Wait + Sync, S: SeedRuns, W: Watch>(
+pub fn sweep<R: Threads + Wait + Sync, W: Watch>(
     rt: &R,
     alloc: Global,
-    runs: &mut S,
+    runs: &mut SideBySide<'_>,
     watch: &W,
     wanted: &Wanted,
     first: u64,
     last: u64,
 ) -> Result<SweepReport, AllocError>
     requires { first ≤ last }
-    ensures { IfOk result (Sweeps (S.is_run runs.old) (W.may_stop watch.now) wanted.now first last) }
+    ensures { IfOk result (Sweeps (IsRunWith runs.old) (W.may_stop watch.now) wanted.now first last) }
 {
     let mut tally = Tally::new(alloc);
     'seeds: for seed in first..last {
