@@ -1,5 +1,6 @@
 -- The words of a run have one number and one policy for each option.
 use Rattle.std.proofs.Common.{◌≡◌, ◌∙◌, ℕ, List, Option, None, Some, ap, sym, refl, subst, codes, true, false}
+use Rattle.std.specs.Prelude.{MatchOption}
 use Rattle.std.proofs.lemmas.Bool.{true≢false}
 use Rattle.std.specs.Str.{bytes_eq}
 use Rattle.clap.specs.Words.{Row, Text, first_of}
@@ -55,3 +56,11 @@ clashing rows workers quantum seed policy of_workers of_quantum of_seed of_polic
     (subst (λ number. UnlessSweep (first_of (codes "seeds") rows) (GoTogether options.workers number seed policy)) same_quantum
     (subst (λ number. UnlessSweep (first_of (codes "seeds") rows) (GoTogether options.workers options.quantum number policy)) same_seed
     (subst (λ name. UnlessSweep (first_of (codes "seeds") rows) (GoTogether options.workers options.quantum options.seed name)) same_policy are.together))))
+
+-- of a sweep nothing clashes
+pub none_of_sweep : (seeds : Option Text) (word : Text) (P : Type 0) → seeds ≡ Some word → UnlessSweep seeds P
+none_of_sweep seeds word P is = subst (λ o. UnlessSweep o P) (sym is) tt
+
+-- without one it is as it is told
+pub told_of_run : (seeds : Option Text) (P : Type 0) {A : Type 0} (o : Option A) → seeds ≡ None → MatchOption o P (λ _. P → ⊥) → MatchOption o (UnlessSweep seeds P) (λ _. UnlessSweep seeds P → ⊥)
+told_of_run seeds P o is told = subst (λ (s : Option Text). MatchOption o (UnlessSweep s P) (λ _. UnlessSweep s P → ⊥)) (sym is) told
