@@ -1,7 +1,7 @@
 //! Where the words of objects lie, among the cells of all objects.
 
-ghost use Rattle.std.specs.Prelude.{◌≡◌, ◌+◌, ◌<◌, ◌≤◌, [], ◌∷◌, ◌++◌, OnOk, OnErr, IfSome, IfNone, length, replicate, slice_get, option_map};
-ghost use Rattle.heap.specs.Heap.{with_lock, word_at, put_field};
+ghost use Rattle.std.specs.Prelude.{◌≡◌, ◌+◌, ◌<◌, ◌≤◌, [], ◌∷◌, ◌++◌, OnOk, OnErr, IfSome, IfNone, length, replicate, slice_get, slice_range, option_map};
+ghost use Rattle.heap.specs.Heap.{with_lock, words_at, word_at, put_field};
 ghost use Rattle.heap.specs.Layout.{AreLaid, IsPlace, start_at, entry_kind, objects_of};
 
 use crate::kind::ObjectKind;
@@ -108,6 +108,53 @@ pub fn add(
     monitors.add()?;
     table.push_reserved(Entry { kind, start });
     match cells.resize(start + count, 0) {
+        Ok(()) => Ok(()),
+        Err(_) => unreachable!(),
+    }
+}
+
+/// The words of this object; none of one that is not there.
+#[inline]
+pub fn words<'a>(table: &[Entry], cells: &'a [u32], object: u32) -> &'a [u32]
+    requires { AreLaid table.now (length cells.now) }
+    ensures { result.now ≡ words_at (objects_of table.now cells.now) object }
+{
+    let first = start(table, cells, object as usize);
+    let next = start(table, cells, object as usize + 1);
+    part(cells, first, next)
+}
+
+/// The cells from a place up to another.
+#[inline]
+fn part(cells: &[u32], first: usize, next: usize) -> &[u32]
+    requires up { first ≤ next }
+    requires within { next ≤ length cells.now }
+    ensures { result.now ≡ slice_range cells.now first next }
+{
+    &cells[first..next]
+}
+
+/// One more object, with these words; without memory nothing changes.
+pub fn add_words(
+    table: &mut Vec<Entry>,
+    cells: &mut Vec<u32>,
+    monitors: &mut Monitors,
+    kind: ObjectKind,
+    words: &[u32],
+) -> Result<(), AllocError>
+    ensures entry { OnOk result (table.new.items
+        ≡ table.old.items ++ record { kind = kind; start = length cells.old.items } ∷ []) }
+    ensures words { OnOk result (cells.new.items ≡ cells.old.items ++ words.now) }
+    ensures monitor { OnOk result (monitors.new ≡ with_lock monitors.old) }
+    ensures err { OnErr result ((table.new.items ≡ table.old.items) × (cells.new.items ≡ cells.old.items)
+        × (monitors.new ≡ monitors.old)) }
+{
+    let start = cells.len();
+    cells.reserve(words.len())?;
+    table.reserve(1)?;
+    monitors.add()?;
+    table.push_reserved(Entry { kind, start });
+    match cells.extend_from_slice(words) {
         Ok(()) => Ok(()),
         Err(_) => unreachable!(),
     }

@@ -8,9 +8,20 @@ use crate::met_states::{higher_picks_are_left, met_states_are_kept, other_thread
 use crate::states::States;
 use machine::Machine;
 use machine_state::Answer;
+use kept_states::Numbered;
 use model::Event;
 use std::alloc::{AllocError, Global};
-use std::mem;
+
+/// What became of a state from which events were tried.
+#[derive(Clone, Copy)]
+pub(crate) enum Expanded {
+    /// No event is enabled.
+    Quiet,
+    /// The states to which events lead were added.
+    Moved,
+    /// There would be more states than so many, a limit forbids an event, or each of the first 65,535 picks is enabled.
+    GaveUp,
+}
 
 /// Adds the state to which an event led from a state, and takes the machine that did the event back to that one.
 /// Answers false where there would be more states than so many. The only error is a want of memory.
@@ -18,91 +29,73 @@ fn meet(
     alloc: Global,
     states: &mut States,
     number: u32,
+    state: &Numbered,
     event: Event,
-    machine: &mut Machine,
+    machine: Machine,
     most: u32,
-) -> Result<bool, AllocError>
-    requires number { number < length states.old.schedules }
-    requires has_gone { HasGoneFrom states.old number event machine.old }
-    ensures { IfOk result
-        (GrowsTo (λ s. IsMetFrom s number event × IsInState s number machine.new) most states.old states.new) }
-{
-    let entry = go_past(alloc, machine, event)?;
-    let again = states.machine(number)?;
-    let after = mem::replace(machine, again);
-    states.add(number, entry, after, most)
+) -> Result<(bool, Machine), AllocError> {
+    let mut machine = machine;
+    let entry = go_past(alloc, &mut machine, event)?;
+    let added = states.add(number, state, entry, &machine, most)?;
+    Ok((added, states.again(machine, state)?))
 }
 
 /// Adds the states to which the events of a thread lead from a state, in which this machine is, and is again at the
-/// end. Answers false where it gives up: there would be more states than so many, a limit forbids an event, or each
-/// of the first 65,535 picks is enabled. The only error is a want of memory.
+/// end.
 fn expand_thread(
     alloc: Global,
     states: &mut States,
     number: u32,
+    state: &Numbered,
     thread: u16,
-    machine: &mut Machine,
+    machine: Machine,
     most: u32,
-) -> Result<bool, AllocError>
-    requires number { number < length states.old.schedules }
-    requires is_in { IsInState states.old number machine.old }
-    ensures { IfOk result
-        (GrowsTo (λ s. AreMetByThread s number thread × IsInState s number machine.new) most states.old states.new) }
-{
+) -> Result<(Expanded, Machine), AllocError> {
     higher_picks_are_left();
     met_states_are_kept();
+    let mut machine = machine;
+    let mut moved = Expanded::Quiet;
     'picks: for pick in 0..u16::MAX {
         let event = Event { thread, pick };
-        match go_on(machine, event)? {
+        match go_on(&mut machine, event)? {
             Some(Answer::Done) => {
-                if !meet(alloc, states, number, event, machine, most)? {
-                    return Ok(false);
+                let (added, again) = meet(alloc, states, number, state, event, machine, most)?;
+                machine = again;
+                moved = Expanded::Moved;
+                if !added {
+                    return Ok((Expanded::GaveUp, machine));
                 }
             }
-            Some(Answer::NotEnabled) => return Ok(true),
-            None => return Ok(false),
+            Some(Answer::NotEnabled) => return Ok((moved, machine)),
+            None => return Ok((Expanded::GaveUp, machine)),
         }
     }
-    Ok(false)
+    Ok((Expanded::GaveUp, machine))
 }
 
-/// Adds the states to which the events of the first threads lead from a state, in which this machine is, of so many
-/// threads. Answers false where it gives up.
-fn expand_threads(
-    alloc: Global,
-    states: &mut States,
-    number: u32,
-    threads: u16,
-    machine: &mut Machine,
-    most: u32,
-) -> Result<bool, AllocError>
-    requires number { number < length states.old.schedules }
-    requires is_in { IsInState states.old number machine.old }
-    ensures { IfOk result (GrowsTo (λ s. AreMetByThreads s number threads) most states.old states.new) }
-{
-    met_states_are_kept();
-    'threads: for thread in 0..threads {
-        if !expand_thread(alloc, states, number, thread, machine, most)? {
-            return Ok(false);
-        }
-    }
-    Ok(true)
-}
-
-/// Adds the states to which events lead from a state, in which this machine is. Answers false where it gives up.
+/// Adds the states to which events lead from a state, in which this machine is, and is again at the end, unless it
+/// gives up.
 pub(crate) fn expand(
     alloc: Global,
     states: &mut States,
     number: u32,
+    state: &Numbered,
     machine: Machine,
     most: u32,
-) -> Result<bool, AllocError>
-    requires number { number < length states.old.schedules }
-    requires is_in { IsInState states.old number machine }
-    ensures { IfOk result (GrowsTo (λ s. AreAllMet s number) most states.old states.new) }
-{
+) -> Result<(Expanded, Machine), AllocError> {
     other_threads_are_left();
+    met_states_are_kept();
     let mut machine = machine;
+    let mut expanded = Expanded::Quiet;
     let threads = machine.shared().threads.len() as u16;
-    expand_threads(alloc, states, number, threads, &mut machine, most)
+    'threads: for thread in 0..threads {
+        let (moved, again) = expand_thread(alloc, states, number, state, thread, machine, most)?;
+        machine = again;
+        match moved {
+            Expanded::GaveUp => return Ok((Expanded::GaveUp, machine)),
+            Expanded::Moved => expanded = Expanded::Moved,
+            Expanded::Quiet => {}
+        }
+    }
+    Ok((expanded, machine))
 }

@@ -7,7 +7,7 @@ ghost use Rattle.search.specs.Machines.{TellsOutcome};
 ghost use Rattle.search.specs.Verdicts.{Says};
 ghost use Rattle.search.specs.Visits.{HasVisited, Visits, ListsAt, ListsOr};
 
-use crate::expanding::expand;
+use crate::expanding::{Expanded, expand};
 use crate::machines::outcome_of;
 use crate::met_states::{met_states_are_kept, searches_are_whole};
 use crate::progress::Progress;
@@ -85,27 +85,10 @@ fn is_found_at(
     is_found(alloc, wanted, outcomes, outcome)
 }
 
-/// Lists the outcome of a state, if there is one. Answers a machine in that state, or none where the outcome is wanted.
-fn listed_at(
-    alloc: Global,
-    classes: &ClassSet,
-    wanted: &Wanted,
-    states: &States,
-    outcomes: &mut Outcomes,
-    number: u32,
-) -> Result<Option<Machine>, AllocError>
-    requires { number < length states.now.schedules }
-    ensures { IfOk result (λ found. ListsAt classes.now wanted.now states.now number found outcomes.old outcomes.new) }
-{
-    let machine = states.machine(number)?;
-    if is_found_at(alloc, classes, wanted, outcomes, &machine)? {
-        Ok(None)
-    } else {
-        Ok(Some(machine))
-    }
-}
+/// What a visit comes to, and the machine that visited.
+type Visited = (Visit, Machine);
 
-/// Visits the state of a number, all below which have been visited. The classes are those of the files.
+/// Visits the state of a number, all below which have been visited, by a machine. The classes are those of the files.
 fn visit_state(
     alloc: Global,
     classes: &ClassSet,
@@ -113,8 +96,9 @@ fn visit_state(
     states: &mut States,
     outcomes: &mut Outcomes,
     number: u32,
+    machine: Machine,
     most: u32,
-) -> Result<Visit, AllocError>
+) -> Result<Visited, AllocError>
     requires visited { HasVisited classes.now states.old.limits wanted.now states.old outcomes.old number }
     requires number { number < length states.old.schedules }
     ensures visits { IfOk result (λ v.
@@ -122,15 +106,19 @@ fn visit_state(
     ensures few { IfOk result (λ _. length states.old.schedules ≤ most → length states.new.schedules ≤ most) }
 {
     met_states_are_kept();
-    let Some(machine) = listed_at(alloc, classes, wanted, states, outcomes, number)? else {
-        let schedule = states.schedule(number)?;
-        return Ok(Visit::Found(schedule.joined(alloc)?));
-    };
-    if expand(alloc, states, number, machine, most)? {
-        Ok(Visit::Visited)
-    } else {
-        Ok(Visit::GaveUp)
+    let state = states.state(number)?;
+    let machine = states.again(machine, &state)?;
+    let (expanded, machine) = expand(alloc, states, number, &state, machine, most)?;
+    match expanded {
+        Expanded::Moved => return Ok((Visit::Visited, machine)),
+        Expanded::GaveUp => return Ok((Visit::GaveUp, machine)),
+        Expanded::Quiet => {}
     }
+    if is_found_at(alloc, classes, wanted, outcomes, &machine)? {
+        let schedule = states.schedule(number)?;
+        return Ok((Visit::Found(schedule.joined(alloc)?), machine));
+    }
+    Ok((Visit::Visited, machine))
 }
 
 /// Visits states from the opening state on, up to so many, and tells how far it has come.
@@ -150,12 +138,24 @@ fn visit_all<P: Progress>(
     searches_are_whole();
     searches_are_complete();
     let mut outcomes = Outcomes::new(alloc);
+    let mut machine = states.opening()?;
     'states: for number in 0..most {
         if number >= states.len() {
             return Ok(Verdict::Complete(outcomes));
         }
         progress.states_met(states.len());
-        match visit_state(alloc, classes, wanted, states, &mut outcomes, number, most)? {
+        let (visit, again) = visit_state(
+            alloc,
+            classes,
+            wanted,
+            states,
+            &mut outcomes,
+            number,
+            machine,
+            most,
+        )?;
+        machine = again;
+        match visit {
             Visit::Visited => {}
             Visit::Found(schedule) => return Ok(Verdict::Found(schedule)),
             Visit::GaveUp => return Ok(Verdict::GaveUp),

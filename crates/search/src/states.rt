@@ -6,12 +6,11 @@ ghost use Rattle.model.specs.Schedule.{EntryFits, events_of};
 ghost use Rattle.machine.specs.Machines.{IsOfAccepted};
 ghost use Rattle.search.specs.States.{one_state, IsSchedule, IsInState, IsMetFrom, GrowsTo, IsLocalFrom, IsAfter, IsPushed};
 
-use crate::machines::{at_schedule, do_more, opened};
-use crate::met_states::{alike_states_are_met, new_states_are_met};
-use crate::state_index::{StateIndex, hash_of};
+use crate::machines::opened;
+use crate::met_states::new_states_are_met;
+use kept_states::{KeptStates, Numbered, copied};
 use linked_code::LinkedProgram;
 use machine::Machine;
-use machine_state::same_states::are_alike;
 use model::{Limits, ScheduleEntry};
 use schedule::Schedule;
 use schedule::schedule_tree::ScheduleTree;
@@ -39,7 +38,7 @@ pub(crate) struct States {
     program: Arc<LinkedProgram>,
     limits: Limits,
     tree: ScheduleTree,
-    index: StateIndex,
+    kept: KeptStates,
 }
 
 impl Model for States {
@@ -53,34 +52,22 @@ impl Model for States {
 
     ghost view = { λ s. record { program = arc_value s.program; limits = s.limits; schedules = map events_of s.tree } };
 
-    ghost invariant = { λ s. IsOfAccepted (arc_value s.program) × (s.index ≤ length s.tree) };
+    ghost invariant = { λ s. IsOfAccepted (arc_value s.program) × (1 ≤ length s.tree) };
 }
 
-/// The hash of the opening state.
-fn opening_hash(
+/// The opening state alone.
+fn first_kept(
     alloc: Global,
     program: &Arc<LinkedProgram>,
     limits: Limits,
-) -> Result<u64, AllocError>
+) -> Result<KeptStates, AllocError>
     requires { IsOfAccepted (arc_value program.now) }
 {
     let machine = opened(alloc, Arc::try_clone(program)?, limits)?;
-    Ok(hash_of(machine.shared()))
-}
-
-/// The opening state alone, by its hash.
-fn first_index(
-    alloc: Global,
-    program: &Arc<LinkedProgram>,
-    limits: Limits,
-) -> Result<StateIndex, AllocError>
-    requires { IsOfAccepted (arc_value program.now) }
-    ensures { IfOk result (λ index. index ≡ 1) }
-{
-    let hash = opening_hash(alloc, program, limits)?;
-    let mut index = StateIndex::new(alloc)?;
-    index.push(hash)?;
-    Ok(index)
+    let mut kept = KeptStates::new(alloc)?;
+    kept.write(machine.shared(), None)?;
+    kept.push(machine.shared())?;
+    Ok(kept)
 }
 
 impl States {
@@ -93,13 +80,13 @@ impl States {
         requires { IsOfAccepted (arc_value program) }
         ensures { IfOk result (λ s. s ≡ one_state (arc_value program) limits) }
     {
-        let index = first_index(alloc, &program, limits)?;
+        let kept = first_kept(alloc, &program, limits)?;
         Ok(States {
             alloc,
             program,
             limits,
             tree: ScheduleTree::new(alloc),
-            index,
+            kept,
         })
     }
 
@@ -118,92 +105,25 @@ impl States {
         self.tree.schedule(number)
     }
 
-    /// A machine in a state. The only error is a want of memory.
-    pub(crate) fn machine(&self, number: u32) -> Result<Machine, AllocError>
+    /// A state. The only error is a want of memory.
+    pub(crate) fn state(&self, number: u32) -> Result<Numbered, AllocError>
         requires { number < length self.now.schedules }
+    {
+        self.kept.read(number)
+    }
+
+    /// A machine before any event. The only error is a want of memory.
+    pub(crate) fn opening(&self) -> Result<Machine, AllocError> {
+        opened(self.alloc, Arc::try_clone(&self.program)?, self.limits)
+    }
+
+    /// A machine in a state, in the room of another one. The only error is a want of memory.
+    pub(crate) fn again(&self, machine: Machine, state: &Numbered) -> Result<Machine, AllocError>
         ensures { IfOk result (IsInState self.now number) }
     {
-        let schedule = self.schedule(number)?;
-        at_schedule(
-            self.alloc,
-            Arc::try_clone(&self.program)?,
-            self.limits,
-            &schedule,
-        )
-    }
-
-    /// A machine in the state to which an entry leads from a state, whose events were done there before, so that the
-    /// only error is a want of memory.
-    fn machine_after(&self, number: u32, entry: ScheduleEntry) -> Result<Machine, AllocError>
-        requires { number < length self.now.schedules }
-        ensures { IfOk result (IsAfter self.now number entry) }
-    {
-        let mut machine = self.machine(number)?;
-        do_more(&mut machine, entry.event, entry.repeat)?;
-        Ok(machine)
-    }
-
-    /// Whether an entry leads from a state to one that was met. This machine is in the state to which it leads.
-    fn leads_to(
-        &self,
-        number: u32,
-        entry: ScheduleEntry,
-        machine: Machine,
-        met: u32,
-    ) -> Result<bool, AllocError>
-        requires local { IsLocalFrom self.now number entry }
-        requires is_after { IsAfter self.now number entry machine }
-        requires met { met < length self.now.schedules }
-        ensures { IfOk result (λ b. IsTrue b → IsMetFrom self.now number entry.event) }
-    {
-        alike_states_are_met();
-        let other = self.machine(met)?;
-        Ok(are_alike(machine.into_shared(), other.into_shared()))
-    }
-
-    /// Whether the state to which an entry leads from a state was met. This machine is in that state, which has this
-    /// hash.
-    fn is_met(
-        &self,
-        number: u32,
-        entry: ScheduleEntry,
-        machine: Machine,
-        hash: u64,
-    ) -> Result<bool, AllocError>
-        requires number { number < length self.now.schedules }
-        requires local { IsLocalFrom self.now number entry }
-        requires is_after { IsAfter self.now number entry machine }
-        ensures { IfOk result (λ b. IsTrue b → IsMetFrom self.now number entry.event) }
-    {
-        let Some(last) = self.index.last(hash) else {
-            return Ok(false);
-        };
-        if self.leads_to(number, entry, machine, last)? {
-            return Ok(true);
-        }
-        let mut candidate = self.index.before(last, hash);
-        'candidates: for _ in 0..self.len() {
-            let Some(met) = candidate else {
-                return Ok(false);
-            };
-            let machine = self.machine_after(number, entry)?;
-            if self.leads_to(number, entry, machine, met)? {
-                return Ok(true);
-            }
-            candidate = self.index.before(met, hash);
-        }
-        Ok(false)
-    }
-
-    /// Adds the schedule that goes on from that of a state by an entry.
-    fn push(&mut self, number: u32, entry: ScheduleEntry, hash: u64) -> Result<(), AllocError>
-        requires number { number < length self.old.schedules }
-        requires room { length self.old.schedules + 1 < 2 ^ 32 }
-        requires fits { EntryFits entry }
-        ensures { OnOk result (IsPushed number entry self.old self.new) }
-    {
-        self.tree.push(number, entry)?;
-        self.index.push(hash)
+        let (program, shared) = machine.into_parts();
+        let shared = copied(self.alloc, shared, &state.shared)?;
+        Ok(Machine::resume(self.alloc, program, self.limits, shared))
     }
 
     /// Adds the state to which an entry leads from a state, and in which this machine is, unless it was met. Answers
@@ -211,8 +131,9 @@ impl States {
     pub(crate) fn add(
         &mut self,
         number: u32,
+        state: &Numbered,
         entry: ScheduleEntry,
-        machine: Machine,
+        machine: &Machine,
         most: u32,
     ) -> Result<bool, AllocError>
         requires number { number < length self.old.schedules }
@@ -221,14 +142,15 @@ impl States {
         ensures { IfOk result (GrowsTo (λ s. IsMetFrom s number entry.event) most self.old self.new) }
     {
         new_states_are_met();
-        let hash = hash_of(machine.shared());
-        if self.is_met(number, entry, machine, hash)? {
+        self.kept.write(machine.shared(), Some(state))?;
+        if self.kept.find().is_some() {
             return Ok(true);
         }
         if self.len() >= most {
             return Ok(false);
         }
-        self.push(number, entry, hash)?;
+        self.tree.push(number, entry)?;
+        self.kept.push(machine.shared())?;
         Ok(true)
     }
 }

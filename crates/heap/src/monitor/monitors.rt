@@ -93,6 +93,31 @@ impl Monitors {
         Ok(())
     }
 
+    /// At most so many locks become fat.
+    pub fn limit(&self) -> u32
+        ensures { result ≡ self.now.limit }
+    {
+        self.limit
+    }
+
+    /// What other monitors are, in the room of these. The only error is a want of memory.
+    pub fn copied(self, other: &Monitors) -> Result<Monitors, AllocError>
+        ensures { IfOk result (λ monitors. monitors ≡ other.now) }
+    {
+        let Monitors {
+            mut words,
+            table,
+            limit: _limit,
+        } = self;
+        words.clear();
+        words.extend_from_slice(other.words.as_slice())?;
+        Ok(Monitors {
+            words,
+            table: table.copied(&other.table)?,
+            limit: other.limit,
+        })
+    }
+
     /// How many objects have a monitor here.
     pub fn len(&self) -> usize
         ensures { result ≡ length self.now.monitors }

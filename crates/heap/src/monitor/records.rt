@@ -93,6 +93,33 @@ impl Records {
         self.listings.len()
     }
 
+    /// What other records are.
+    pub fn copied(self, other: &Records) -> Result<Records, AllocError>
+        ensures { IfOk result (λ records. records ≡ other.now) }
+    {
+        if self.len() == 0 && other.len() == 0 {
+            return Ok(self);
+        }
+        let mut copy = Records::new(self.alloc);
+        'records: for index in 0..other.len() {
+            copy.add_like(other, index as u32)?;
+        }
+        Ok(copy)
+    }
+
+    /// One more record, like one of others.
+    fn add_like(&mut self, other: &Records, index: u32) -> Result<(), AllocError>
+        requires { index < length other.now }
+        ensures ok { OnOk result (self.new ≡ self.old ++ monitor_at other.now index ∷ []) }
+    {
+        let at = self.len() as u32;
+        self.add(other.owner(index), other.count(index))?;
+        'waiters: for pick in 0..other.waiter_count(index) {
+            self.join(at, other.member(index, pick))?;
+        }
+        Ok(())
+    }
+
     pub fn owner(&self, index: u32) -> Option<u16>
         requires { index < length self.now }
         ensures { result ≡ (monitor_at self.now index).owner }

@@ -77,6 +77,16 @@ impl Table {
         self.records.len()
     }
 
+    /// What another table is, in the room of this one.
+    pub fn copied(self, other: &Table) -> Result<Table, AllocError>
+        ensures { IfOk result (λ table. table ≡ other.now) }
+    {
+        let Table { records } = self;
+        Ok(Table {
+            records: records.copied(&other.records)?,
+        })
+    }
+
     /// One more monitor that a thread has entered so often, with an empty wait set.
     pub fn add_owned(&mut self, owner: u16, count: u32) -> Result<(), AllocError>
         ensures ok { OnOk result (self.new ≡ self.old ++ owned unlocked owner count ∷ []) }
