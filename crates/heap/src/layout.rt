@@ -1,6 +1,6 @@
 //! Where the words of objects lie, among the cells of all objects.
 
-ghost use Rattle.std.specs.Prelude.{◌≡◌, ◌+◌, ◌<◌, ◌≤◌, [], ◌∷◌, ◌++◌, OnOk, OnErr, IfSome, IfNone, length, replicate, slice_get, slice_range, option_map};
+ghost use Rattle.std.specs.Prelude.{◌≡◌, ◌+◌, ◌<◌, ◌≤◌, [], ◌∷◌, ◌++◌, OnOk, OnErr, IfSome, IfNone, IsTrue, length, replicate, slice_get, slice_range, option_map};
 ghost use Rattle.heap.specs.Heap.{with_lock, words_at, word_at, put_field};
 ghost use Rattle.heap.specs.Layout.{AreLaid, IsPlace, start_at, entry_kind, objects_of};
 
@@ -157,5 +157,49 @@ pub fn add_words(
     match cells.extend_from_slice(words) {
         Ok(()) => Ok(()),
         Err(_) => unreachable!(),
+    }
+}
+
+/// Whether these are the same words.
+#[inline]
+fn are_same(one: &[u32], other: &[u32]) -> bool
+    ensures { IsTrue result → one.now ≡ other.now }
+{
+    let count = one.len();
+    if other.len() != count {
+        return false;
+    }
+    'words: for place in 0..count {
+        if one[place] != other[place] {
+            return false;
+        }
+    }
+    true
+}
+
+/// Whether an object is the same in two lists of objects, in both of which it is.
+#[inline]
+pub fn is_same_object(
+    table: &[Entry],
+    cells: &[u32],
+    others: &[Entry],
+    other_cells: &[u32],
+    object: u32,
+) -> bool
+    requires one { AreLaid table.now (length cells.now) }
+    requires other { AreLaid others.now (length other_cells.now) }
+    ensures { IsTrue result → slice_get (objects_of table.now cells.now) object
+        ≡ slice_get (objects_of others.now other_cells.now) object }
+{
+    let place = object as usize;
+    match (table.get(place), others.get(place)) {
+        (Some(one), Some(other)) => {
+            one.kind == other.kind
+                && are_same(
+                    words(table, cells, object),
+                    words(others, other_cells, object),
+                )
+        }
+        _ => false,
     }
 }

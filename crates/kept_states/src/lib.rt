@@ -4,16 +4,11 @@
 #![tactic(auto)]
 
 mod copies;
-mod heap_rows;
+mod globals;
 mod numbered;
-mod object_rows;
-mod reader;
-mod rows;
-mod same;
 mod shared_rows;
-mod stack_rows;
 mod states;
-mod thread_rows;
+mod threads;
 
 pub use copies::copied;
 pub use numbered::Numbered;

@@ -1,9 +1,9 @@
 //! What threads share beside objects, as rows of words.
 
-ghost use Rattle.std.specs.Prelude.{◌≡◌, ◌++◌, OnOk, IfOk, map};
-ghost use Rattle.kept_states.specs.Shared.{status_code, statuses_row, flags_row, ints_row};
+ghost use Rattle.std.specs.Prelude.{◌≡◌, ◌++◌, OnOk, IfOk, IfSome};
+ghost use Rattle.kept_states.specs.Shared.{status_code, statuses_row, ints_row};
 
-use crate::rows::{flag_code, push};
+use kept_parts::rows::push;
 use machine_state::ClassStatus;
 use std::alloc::{AllocError, Global};
 
@@ -47,29 +47,6 @@ pub(crate) fn read_statuses(alloc: Global, row: &[u32]) -> Result<Vec<ClassStatu
         statuses.push(status_of(*word).ok_or(AllocError)?)?;
     }
     Ok(statuses)
-}
-
-/// Flags of classes.
-pub(crate) fn push_flags(row: &mut Vec<u32>, flags: &[bool]) -> Result<(), AllocError>
-    ensures { OnOk result (row.new.items ≡ row.old.items ++ flags_row flags.now) }
-{
-    'flags: for flag in flags {
-        push(row, flag_code(*flag))?;
-    }
-    Ok(())
-}
-
-pub(crate) fn read_flags(alloc: Global, row: &[u32]) -> Result<Vec<bool>, AllocError>
-    ensures { IfOk result (λ flags. flags_row flags.items ≡ row.now) }
-{
-    let mut flags = Vec::with_capacity(alloc, row.len())?;
-    'words: for word in row {
-        if *word > 1 {
-            return Err(AllocError);
-        }
-        flags.push(*word == 1)?;
-    }
-    Ok(flags)
 }
 
 /// Ints, by their bits.

@@ -1,17 +1,13 @@
 //! The states that are kept.
 
-use crate::heap_rows::{fat_number, heap_number, read_heap};
+use crate::globals::{globals_number, read_globals};
 use crate::numbered::Numbered;
-use crate::reader::Reader;
-use crate::rows::push;
-use crate::same::{is_same_stack, is_same_thread};
-use crate::shared_rows::{push_flags, push_ints, push_statuses, read_flags, read_ints, read_statuses};
-use crate::thread_rows::{push_thread, read_main, read_thread};
-use heap::java_threads::Threads;
+use crate::shared_rows::{read_ints, read_statuses};
+use crate::threads::{read_threads, thread_number};
+use kept_parts::heap_rows::{NumberedHeap, fat_number, heap_number, read_heap};
+use kept_parts::rows::{push, read_flags};
 use machine_state::Shared;
-use model::Limits;
 use std::alloc::{AllocError, Global};
-use thread_stacks::ThreadStack;
 use word_table::WordTable;
 
 /// States by their numbers. Each is a list of numbers of its parts, and each part is written once.
@@ -28,177 +24,18 @@ pub struct KeptStates {
     state: Vec<u32>,
     /// Room for the numbers of objects.
     numbers: Vec<u32>,
-    /// That of the list of inflated locks of the state whose row stands in the room.
-    fat_of: u32,
 }
 
-/// What a state keeps beside objects and threads, by numbers.
-#[derive(Clone, Copy)]
-struct Globals {
-    limits: Limits,
-    opening: u32,
-    statics: u32,
-    statuses: u32,
-    ready: u32,
-    printed: u32,
-}
-
-fn read_globals(row: &[u32]) -> Option<Globals> {
-    let mut reader = Reader::new(row);
-    let opening = reader.word()?;
-    let objects = reader.word()?;
-    let cells = reader.word()?;
-    let monitors = reader.word()?;
-    let threads = reader.word()?;
-    let limits = Limits::new(objects, cells, monitors, threads, 1)?;
-    let statics = reader.word()?;
-    let statuses = reader.word()?;
-    let ready = reader.word()?;
-    let printed = reader.word()?;
-    if reader.is_done() {
-        Some(Globals {
-            limits,
-            opening,
-            statics,
-            statuses,
-            ready,
-            printed,
-        })
-    } else {
-        None
+/// The heap of a state before, with its numbers.
+fn heap_before(before: Option<&Numbered>) -> Option<NumberedHeap<'_>> {
+    match before {
+        Some(before) => Some(NumberedHeap {
+            heap: &before.shared.heap,
+            objects: before.objects.as_slice(),
+            number: before.heap,
+        }),
+        None => None,
     }
-}
-
-fn statics_number(
-    parts: &mut WordTable,
-    shared: &Shared,
-    before: Option<&Numbered>,
-) -> Result<u32, AllocError> {
-    if let Some(before) = before {
-        if before.shared.statics.as_slice() == shared.statics.as_slice() {
-            return Ok(before.statics);
-        }
-    }
-    parts.write(shared.statics.as_slice())
-}
-
-fn statuses_number(
-    parts: &mut WordTable,
-    row: &mut Vec<u32>,
-    shared: &Shared,
-    before: Option<&Numbered>,
-) -> Result<u32, AllocError> {
-    if let Some(before) = before {
-        if before.shared.statuses.as_slice() == shared.statuses.as_slice() {
-            return Ok(before.statuses);
-        }
-    }
-    row.clear();
-    push_statuses(row, shared.statuses.as_slice())?;
-    parts.write(row.as_slice())
-}
-
-fn ready_number(
-    parts: &mut WordTable,
-    row: &mut Vec<u32>,
-    shared: &Shared,
-    before: Option<&Numbered>,
-) -> Result<u32, AllocError> {
-    if let Some(before) = before {
-        if before.shared.ready.as_slice() == shared.ready.as_slice() {
-            return Ok(before.ready);
-        }
-    }
-    row.clear();
-    push_flags(row, shared.ready.as_slice())?;
-    parts.write(row.as_slice())
-}
-
-fn printed_number(
-    parts: &mut WordTable,
-    row: &mut Vec<u32>,
-    shared: &Shared,
-    before: Option<&Numbered>,
-) -> Result<u32, AllocError> {
-    if let Some(before) = before {
-        if before.shared.printed.as_slice() == shared.printed.as_slice() {
-            return Ok(before.printed);
-        }
-    }
-    row.clear();
-    push_ints(row, shared.printed.as_slice())?;
-    parts.write(row.as_slice())
-}
-
-fn globals_number(
-    parts: &mut WordTable,
-    row: &mut Vec<u32>,
-    shared: &Shared,
-    before: Option<&Numbered>,
-) -> Result<u32, AllocError> {
-    let statics = statics_number(parts, shared, before)?;
-    let statuses = statuses_number(parts, row, shared, before)?;
-    let ready = ready_number(parts, row, shared, before)?;
-    let printed = printed_number(parts, row, shared, before)?;
-    row.clear();
-    push(row, shared.heap.opening())?;
-    push(row, shared.heap.object_limit())?;
-    push(row, shared.heap.cell_limit())?;
-    push(row, shared.heap.monitor_limit())?;
-    push(row, shared.threads.limit())?;
-    push(row, statics)?;
-    push(row, statuses)?;
-    push(row, ready)?;
-    push(row, printed)?;
-    parts.write(row.as_slice())
-}
-
-fn thread_before(shared: &Shared, thread: u16, before: Option<&Numbered>) -> Option<u32> {
-    let before = before?;
-    let number = before.threads.get(usize::from(thread))?;
-    let one = shared.stacks.get(usize::from(thread))?;
-    let other = before.shared.stacks.get(usize::from(thread))?;
-    if is_same_stack(one, other) && is_same_thread(&shared.threads, &before.shared.threads, thread) {
-        Some(*number)
-    } else {
-        None
-    }
-}
-
-fn thread_number(
-    parts: &mut WordTable,
-    row: &mut Vec<u32>,
-    shared: &Shared,
-    thread: u16,
-    before: Option<&Numbered>,
-) -> Result<u32, AllocError> {
-    if let Some(number) = thread_before(shared, thread, before) {
-        return Ok(number);
-    }
-    let Some(stack) = shared.stacks.get(usize::from(thread)) else {
-        return Err(AllocError);
-    };
-    row.clear();
-    push_thread(row, &shared.threads, stack, thread)?;
-    parts.write(row.as_slice())
-}
-
-/// The threads of these numbers, with their stacks.
-fn read_threads(
-    alloc: Global,
-    parts: &WordTable,
-    limit: u32,
-    numbers: &[u32],
-) -> Result<(Threads, Vec<ThreadStack>), AllocError> {
-    let (main, others) = numbers.split_first().ok_or(AllocError)?;
-    let (mut threads, stack) = read_main(alloc, parts.get(*main).ok_or(AllocError)?, limit)?;
-    let mut stacks = Vec::with_capacity(alloc, numbers.len())?;
-    stacks.push(stack)?;
-    'others: for number in others {
-        let row = parts.get(*number).ok_or(AllocError)?;
-        stacks.push(read_thread(alloc, row, &mut threads)?)?;
-    }
-    Ok((threads, stacks))
 }
 
 impl KeptStates {
@@ -212,7 +49,6 @@ impl KeptStates {
             row: Vec::new(alloc),
             state: Vec::new(alloc),
             numbers: Vec::new(alloc),
-            fat_of: 0,
         })
     }
 
@@ -229,7 +65,7 @@ impl KeptStates {
             &mut self.row,
             &mut self.numbers,
             &shared.heap,
-            before,
+            heap_before(before),
         )?;
         self.state.clear();
         push(&mut self.state, globals)?;
@@ -254,7 +90,7 @@ impl KeptStates {
 
     /// Keeps the state that was written last.
     pub fn push(&mut self, shared: &Shared) -> Result<u32, AllocError> {
-        let fat = fat_number(&mut self.parts, &mut self.numbers, &shared.heap)?;
+        let fat = fat_number(&mut self.parts, &mut self.row, &shared.heap)?;
         self.fat.reserve(1)?;
         let number = self.states.push(self.state.as_slice())?;
         self.fat.push_reserved(fat);
@@ -287,11 +123,20 @@ impl KeptStates {
                     objects,
                     inflated,
                 )?,
-                statics: Vec::from_slice(self.alloc, self.parts.get(globals.statics).ok_or(AllocError)?)?,
-                statuses: read_statuses(self.alloc, self.parts.get(globals.statuses).ok_or(AllocError)?)?,
+                statics: Vec::from_slice(
+                    self.alloc,
+                    self.parts.get(globals.statics).ok_or(AllocError)?,
+                )?,
+                statuses: read_statuses(
+                    self.alloc,
+                    self.parts.get(globals.statuses).ok_or(AllocError)?,
+                )?,
                 ready: read_flags(self.alloc, self.parts.get(globals.ready).ok_or(AllocError)?)?,
                 threads,
-                printed: read_ints(self.alloc, self.parts.get(globals.printed).ok_or(AllocError)?)?,
+                printed: read_ints(
+                    self.alloc,
+                    self.parts.get(globals.printed).ok_or(AllocError)?,
+                )?,
                 stacks,
             },
             globals: *globals_number,

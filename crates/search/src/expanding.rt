@@ -6,9 +6,9 @@ ghost use Rattle.search.specs.States.{IsInState, HasGoneFrom, IsMetFrom, AreMetB
 use crate::machines::{go_on, go_past};
 use crate::met_states::{higher_picks_are_left, met_states_are_kept, other_threads_are_left};
 use crate::states::States;
+use kept_states::Numbered;
 use machine::Machine;
 use machine_state::Answer;
-use kept_states::Numbered;
 use model::Event;
 use std::alloc::{AllocError, Global};
 

@@ -1,7 +1,7 @@
 //! The parts of a heap as they are kept, and a heap that is made of such parts again.
 
-ghost use Rattle.std.specs.Prelude.{◌≡◌, ◌<◌, length, IfOk, OnOk, OnErr};
-ghost use Rattle.heap.specs.Heap.{words_at, with_object};
+ghost use Rattle.std.specs.Prelude.{◌≡◌, ℕ, ◌<◌, ◌≤◌, length, IfOk, OnOk, OnErr, IsTrue};
+ghost use Rattle.heap.specs.Heap.{words_at, with_object, IsSameAt};
 
 use crate::heap::{Heap, MOST_OPENING};
 use crate::kind::ObjectKind;
@@ -45,13 +45,51 @@ impl Heap {
         layout::words(self.table.as_slice(), self.cells.as_slice(), object)
     }
 
+    /// Whether an object and its monitor, for which no thread waits, are the same in another heap, in both of which the
+    /// object is. What is not found to be the same may be so.
+    #[inline]
+    fn is_same_at(&self, other: &Heap, object: u32) -> bool
+        requires one { object < length self.now.objects }
+        requires other { object < length other.now.objects }
+        ensures { IsTrue result → IsSameAt object self.now other.now }
+    {
+        self.monitors.is_same_at(&other.monitors, object)
+            && layout::is_same_object(
+                self.table.as_slice(),
+                self.cells.as_slice(),
+                other.table.as_slice(),
+                other.cells.as_slice(),
+                object,
+            )
+    }
+
+    /// The first object, from this one on, that may differ in another heap, it or its monitor; or the one behind the
+    /// last that both have.
+    pub fn same_until(&self, other: &Heap, from: u32) -> u32
+        ensures same { (object : ℕ) → from ≤ object → object < result → IsSameAt object self.now other.now }
+        ensures there { from ≤ length self.now.objects → result ≤ length self.now.objects }
+        ensures from { from ≤ result }
+        ensures both { from ≤ length other.now.objects → result ≤ length other.now.objects }
+    {
+        let count = self.len().min(other.len());
+        let mut object = from;
+        'objects: while object < count {
+            if !self.is_same_at(other, object) {
+                return object;
+            }
+            object += 1;
+        }
+        object
+    }
+
     /// One more object of the opening state, with these words, to which all objects before it belong too. On an error,
     /// a want of memory, nothing has changed.
     pub fn add_opening_words(&mut self, kind: ObjectKind, words: &[u32]) -> Result<(), AllocError>
         requires there { length self.old.objects < MOST_OPENING }
         requires words { length words.now < 4294967296 }
         ensures ok { OnOk result (self.new ≡ record (with_object self.old (record { kind = kind; words = words.now })) {
-          opening = length self.old.objects + 1; }) }
+          opening = length self.old.objects + 1;
+        }) }
         ensures err { OnErr result (self.new ≡ self.old) }
     {
         let reference = self.len();

@@ -1,7 +1,7 @@
 //! Stacks as rows of words.
 
 ghost use Rattle.std.specs.Prelude.{◌≡◌, ◌++◌, ◌∷◌, [], OnOk, IfSome, IfOk};
-ghost use Rattle.kept_states.specs.Stacks.{entry_kind_row, entry_row, entries_row, stack_row, IsStackRow};
+ghost use Rattle.kept_parts.specs.Stacks.{entry_kind_row, entry_row, entries_row, stack_row, IsStackRow};
 
 use crate::reader::Reader;
 use crate::rows::{push, push_number, push_option, read_option};
@@ -95,7 +95,10 @@ pub(crate) fn push_stack(row: &mut Vec<u32>, stack: &ThreadStack) -> Result<(), 
 }
 
 /// The stack of the words that are left.
-pub(crate) fn read_stack(alloc: Global, reader: &mut Reader<'_>) -> Result<ThreadStack, AllocError> {
+pub(crate) fn read_stack(
+    alloc: Global,
+    reader: &mut Reader<'_>,
+) -> Result<ThreadStack, AllocError> {
     let count = reader.word().ok_or(AllocError)?;
     let mut entries = Vec::new(alloc);
     'entries: for _ in 0..count {

@@ -3,7 +3,7 @@
 ghost use Rattle.std.specs.Prelude.{◌≡◌, ◌<◌, ◌++◌, ◌∷◌, [], Some, length, slice_get, IfSome, OnOk};
 ghost use Rattle.model.specs.Monitors.{monitor_at};
 ghost use Rattle.heap.specs.Heap.{Object};
-ghost use Rattle.kept_states.specs.Objects.{kind_row, owner_code, waiters_row, monitor_row, object_row, IsObjectRead, IsMonitorRead};
+ghost use Rattle.kept_parts.specs.Objects.{kind_row, owner_code, waiters_row, monitor_row, object_row, IsObjectRead, IsMonitorRead};
 
 use crate::reader::Reader;
 use crate::rows::{push, push_number};
@@ -145,7 +145,12 @@ fn thread_in(word: u32) -> Result<u16, AllocError>
 }
 
 /// The monitor of the last object, by the next words; its lock is inflated, or is not.
-fn read_monitor(reader: &mut Reader<'_>, heap: &mut Heap, object: u32, fat: bool) -> Result<(), AllocError> {
+fn read_monitor(
+    reader: &mut Reader<'_>,
+    heap: &mut Heap,
+    object: u32,
+    fat: bool,
+) -> Result<(), AllocError> {
     let owner = reader.word().ok_or(AllocError)?;
     let count = reader.word().ok_or(AllocError)?;
     let waiters = reader.word().ok_or(AllocError)?;
@@ -167,7 +172,12 @@ fn read_monitor(reader: &mut Reader<'_>, heap: &mut Heap, object: u32, fat: bool
 }
 
 /// Adds the object of a row to a heap.
-pub(crate) fn read_object(heap: &mut Heap, row: &[u32], opening: bool, fat: bool) -> Result<(), AllocError> {
+pub(crate) fn read_object(
+    heap: &mut Heap,
+    row: &[u32],
+    opening: bool,
+    fat: bool,
+) -> Result<(), AllocError> {
     let mut reader = Reader::new(row);
     let object = heap.len();
     let kind = read_kind(&mut reader).ok_or(AllocError)?;
@@ -181,5 +191,9 @@ pub(crate) fn read_object(heap: &mut Heap, row: &[u32], opening: bool, fat: bool
         return Err(AllocError);
     }
     read_monitor(&mut reader, heap, object, fat)?;
-    if reader.is_done() { Ok(()) } else { Err(AllocError) }
+    if reader.is_done() {
+        Ok(())
+    } else {
+        Err(AllocError)
+    }
 }

@@ -4,26 +4,26 @@ ghost use Rattle.std.specs.Prelude.{◌≡◌, ◌∷◌, ◌++◌, [], IfSome, 
 
 /// Words that are still to be read.
 #[derive(Clone, Copy)]
-pub(crate) struct Reader<'a> {
-    pub(crate) rest: &'a [u32],
+pub struct Reader<'a> {
+    pub rest: &'a [u32],
 }
 
 impl<'a> Reader<'a> {
-    pub(crate) fn new(words: &'a [u32]) -> Reader<'a>
+    pub fn new(words: &'a [u32]) -> Reader<'a>
         ensures { result.rest.now ≡ words.now }
     {
         Reader { rest: words }
     }
 
     /// Whether none is left.
-    pub(crate) fn is_done(&self) -> bool
+    pub fn is_done(&self) -> bool
         ensures { IsTrue result → self.now.rest.now ≡ [] }
     {
         self.rest.is_empty()
     }
 
     /// The next word, if there is one.
-    pub(crate) fn word(&mut self) -> Option<u32>
+    pub fn word(&mut self) -> Option<u32>
         ensures { IfSome result (λ word. self.old.rest.now ≡ word ∷ self.new.rest.now) }
     {
         let (word, rest) = self.rest.split_first()?;
@@ -32,7 +32,7 @@ impl<'a> Reader<'a> {
     }
 
     /// The next so many words, if there are as many.
-    pub(crate) fn words(&mut self, count: u32) -> Option<&'a [u32]>
+    pub fn words(&mut self, count: u32) -> Option<&'a [u32]>
         ensures { IfSome result (λ words. self.old.rest.now ≡ words.now ++ self.new.rest.now) }
     {
         let count = count as usize;
@@ -45,7 +45,7 @@ impl<'a> Reader<'a> {
     }
 
     /// All words that are left.
-    pub(crate) fn all(&mut self) -> &'a [u32]
+    pub fn all(&mut self) -> &'a [u32]
         ensures { self.old.rest.now ≡ result.now ++ self.new.rest.now }
     {
         let (words, rest) = self.rest.split_at(self.rest.len());

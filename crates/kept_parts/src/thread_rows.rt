@@ -1,7 +1,7 @@
 //! Threads with their stacks, as rows of words.
 
 ghost use Rattle.std.specs.Prelude.{◌≡◌, ◌++◌, ◌∷◌, [], OnOk, IfSome, IfOk};
-ghost use Rattle.kept_states.specs.Threads.{status_row, thread_row};
+ghost use Rattle.kept_parts.specs.Threads.{status_row, thread_row};
 
 use crate::reader::Reader;
 use crate::rows::{flag_code, push, push_option, read_flag, read_option};
@@ -61,7 +61,7 @@ fn read_status(reader: &mut Reader<'_>) -> Option<ThreadStatus>
 
 /// The row of a thread: what it is about, its object, whether it has begun and is interrupted, the exception that is
 /// pending, and its stack.
-pub(crate) fn push_thread(
+pub fn push_thread(
     row: &mut Vec<u32>,
     threads: &Threads,
     stack: &ThreadStack,
@@ -76,7 +76,12 @@ pub(crate) fn push_thread(
 }
 
 /// Sets what a row says of a thread, but for its object.
-fn set_thread(reader: &mut Reader<'_>, threads: &mut Threads, thread: u16, status: ThreadStatus) -> Option<()> {
+fn set_thread(
+    reader: &mut Reader<'_>,
+    threads: &mut Threads,
+    thread: u16,
+    status: ThreadStatus,
+) -> Option<()> {
     threads.set_status(thread, status);
     threads.set_begun(thread, read_flag(reader)?);
     threads.set_interrupted(thread, read_flag(reader)?);
@@ -85,7 +90,11 @@ fn set_thread(reader: &mut Reader<'_>, threads: &mut Threads, thread: u16, statu
 }
 
 /// A table with the thread of a row, which is main's, and its stack.
-pub(crate) fn read_main(alloc: Global, row: &[u32], limit: u32) -> Result<(Threads, ThreadStack), AllocError> {
+pub fn read_main(
+    alloc: Global,
+    row: &[u32],
+    limit: u32,
+) -> Result<(Threads, ThreadStack), AllocError> {
     let mut reader = Reader::new(row);
     let status = read_status(&mut reader).ok_or(AllocError)?;
     let object = reader.word().ok_or(AllocError)?;
@@ -99,7 +108,11 @@ pub(crate) fn read_main(alloc: Global, row: &[u32], limit: u32) -> Result<(Threa
 }
 
 /// Adds the thread of a row to a table. Answers its stack.
-pub(crate) fn read_thread(alloc: Global, row: &[u32], threads: &mut Threads) -> Result<ThreadStack, AllocError> {
+pub fn read_thread(
+    alloc: Global,
+    row: &[u32],
+    threads: &mut Threads,
+) -> Result<ThreadStack, AllocError> {
     let mut reader = Reader::new(row);
     let status = read_status(&mut reader).ok_or(AllocError)?;
     let object = reader.word().ok_or(AllocError)?;
