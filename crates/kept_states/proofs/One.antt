@@ -1,5 +1,5 @@
 -- A row of a state stands for one state, but for which locks are inflated; and it goes on to stand for it.
-use Rattle.std.proofs.Common.{◌≡◌, ℕ, ◌+◌, List, [], ◌∷◌, ◌++◌, length, map, refl, sym, ◌∙◌, ap, subst, Some, arith}
+use Rattle.std.proofs.Common.{◌≡◌, ℕ, ◌+◌, List, [], ◌∷◌, ◌++◌, length, map, refl, sym, ◌∙◌, ap, subst, Some, Bool, arith}
 use Rattle.model.specs.State.{Monitor, Thread}
 use Rattle.heap.specs.monitor.Locks.{Locks}
 use Rattle.heap.specs.Heap.{Object, Heap}
@@ -204,13 +204,32 @@ rows_one parts row one other a b =
 pub rows_alike : (parts : List (List ℕ)) (row : List ℕ) (one other : Shared) → IsStateRow parts row one → IsStateRow parts row other → AreAlike one other
 rows_alike parts row one other a b = (rows_one parts row one other a b).alike
 
+abbrev locks_of : List Monitor → List Bool → ℕ → Locks
+locks_of monitors fat limit = record { monitors = monitors; fat = fat; limit = limit }
+
+abbrev heap_of : List Object → Locks → (opening object_limit cell_limit : ℕ) → Heap
+heap_of objects locks opening object_limit cell_limit =
+    record { objects = objects; locks = locks; opening = opening; object_limit = object_limit; cell_limit = cell_limit }
+
+abbrev table_of : List Thread → ℕ → ThreadTable
+table_of threads limit = record { threads = threads; limit = limit }
+
 heap_is : (one other : Heap) → one.objects ≡ other.objects → one.locks.monitors ≡ other.locks.monitors → one.locks.fat ≡ other.locks.fat
     → one.locks.limit ≡ other.locks.limit → one.opening ≡ other.opening → one.object_limit ≡ other.object_limit → one.cell_limit ≡ other.cell_limit
     → one ≡ other
-heap_is one other a b c d e f g = cc
+heap_is one other a b c d e f g =
+    let locks : one.locks ≡ other.locks =
+    ap (λ (x : List Monitor). locks_of x one.locks.fat one.locks.limit) b
+    ∙ ap (λ (x : List Bool). locks_of other.locks.monitors x one.locks.limit) c
+    ∙ ap (λ (x : ℕ). locks_of other.locks.monitors other.locks.fat x) d in
+    ap (λ (x : List Object). heap_of x one.locks one.opening one.object_limit one.cell_limit) a
+    ∙ ap (λ (x : Locks). heap_of other.objects x one.opening one.object_limit one.cell_limit) locks
+    ∙ ap (λ (x : ℕ). heap_of other.objects other.locks x one.object_limit one.cell_limit) e
+    ∙ ap (λ (x : ℕ). heap_of other.objects other.locks other.opening x one.cell_limit) f
+    ∙ ap (λ (x : ℕ). heap_of other.objects other.locks other.opening other.object_limit x) g
 
 threads_are_one : (one other : ThreadTable) → one.threads ≡ other.threads → one.limit ≡ other.limit → one ≡ other
-threads_are_one one other a b = cc
+threads_are_one one other a b = ap (λ (x : List Thread). table_of x one.limit) a ∙ ap (λ (x : ℕ). table_of other.threads x) b
 
 -- and the same, where the same locks are inflated
 pub states_one : (parts : List (List ℕ)) (row : List ℕ) (fat : ℕ) (one other : Shared) → IsStateRow parts row one → IsStateRow parts row other
