@@ -1,7 +1,7 @@
 -- An object with its monitor as a row of words (own): what it is, how many words it has, these, and its monitor.
 use Rattle.std.specs.Prelude.{◌≡◌, ℕ, ◌+◌, List, [], ◌∷◌, ◌++◌, Option, Some, None, Bool, length, slice_set}
 use Rattle.model.specs.State.{Monitor, Waiter}
-use Rattle.model.specs.Monitors.{unlocked, monitor_at}
+use Rattle.model.specs.Monitors.{unlocked, owned, monitor_at}
 use Rattle.heap.specs.declared.kind.NarrowKind.{NarrowKind}
 use Rattle.heap.specs.declared.kind.NarrowKind.TheVariants as narrow
 use Rattle.heap.specs.declared.kind.ObjectKind.{ObjectKind}
@@ -37,10 +37,32 @@ object_row object monitor = kind_row object.kind ++ length object.words ∷ (obj
 
 -- ---- read again
 
+-- another monitor of an object
+abbrev pub with_monitor_at : ℕ → Monitor → Heap → Heap
+with_monitor_at object monitor heap = record heap { locks = record heap.locks { monitors = slice_set heap.locks.monitors object monitor } }
+
 -- the monitor of an object, whose lock may be inflated
 abbrev pub with_monitor : ℕ → Monitor → Bool → Heap → Heap
 with_monitor object monitor fat heap =
     record heap { locks = record heap.locks { monitors = slice_set heap.locks.monitors object monitor; fat = slice_set heap.locks.fat object fat } }
+
+-- a thread has entered so many times
+pub record Enters (object thread count : ℕ) (old new : Heap) : Type 0 where
+  pub free : (monitor_at old.locks.monitors object).owner ≡ None
+  pub after : new ≡ with_monitor_at object (owned (monitor_at old.locks.monitors object) thread count) old
+
+-- a thread has joined the wait set
+abbrev pub joined : (thread count : ℕ) → Monitor → Monitor
+joined thread count monitor = record { owner = None; count = 0; waiters = monitor.waiters ++ record { thread = thread; count = count } ∷ [] }
+
+pub record Joins (object thread count : ℕ) (old new : Heap) : Type 0 where
+  pub free : (monitor_at old.locks.monitors object).owner ≡ None
+  pub after : new ≡ with_monitor object (joined thread count (monitor_at old.locks.monitors object)) Bool.true old
+
+-- the lock is inflated, and no thread waits
+pub record Inflates (object : ℕ) (old new : Heap) : Type 0 where
+  pub free : (monitor_at old.locks.monitors object).owner ≡ None
+  pub after : new ≡ with_monitor object unlocked Bool.true old
 
 -- a monitor was read, and is that of the object
 pub record IsMonitorRead (object : ℕ) (fat : Bool) (row rest : List ℕ) (old new : Heap) : Type 0 where

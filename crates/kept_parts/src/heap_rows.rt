@@ -1,9 +1,9 @@
 //! Heaps as lists of numbers of objects.
 
-ghost use Rattle.std.specs.Prelude.{◌≡◌, ◌<◌, ◌≤◌, [], length, slice_get, ForSome, IfSome, IfOk, OnOk};
-ghost use Rattle.word_table.specs.Lists.{StandsFor, Grows, IsWritten};
-ghost use Rattle.kept_parts.specs.Objects.{object_row_at};
-ghost use Rattle.kept_parts.specs.Heaps.{AreObjects, AreBefore, IsObjectKept, IsHeapRead};
+ghost use Rattle.std.specs.Prelude.{◌<◌, ◌≤◌, length, ForSome, IfOk, OnOk};
+ghost use Rattle.word_table.specs.Lists.{IsWritten};
+ghost use Rattle.kept_parts.specs.Rows.{flags_row};
+ghost use Rattle.kept_parts.specs.Heaps.{AreBefore, AreFirst, IsObjectNumbered, IsHeapWritten, IsHeapRead};
 
 use crate::object_rows::{push_object, read_object};
 use crate::rows::{flag_code, flag_of, push};
@@ -41,11 +41,18 @@ fn write_object(
 /// Puts the numbers of objects from this one on that are the same in a heap before behind those of the objects before
 /// them. Answers how many objects have numbers then.
 fn same_numbers(
+    parts: &WordTable,
     numbers: &mut Vec<u32>,
     heap: &Heap,
     object: u32,
     before: NumberedHeap<'_>,
-) -> Result<u32, AllocError> {
+) -> Result<u32, AllocError>
+    requires there { object ≤ length heap.now.objects }
+    requires before { AreBefore parts.now before }
+    requires first { AreFirst parts.now numbers.old.items object heap.now }
+    ensures count { IfOk result (λ until. (object ≤ until) × (until ≤ length heap.now.objects)) }
+    ensures first { IfOk result (λ until. AreFirst parts.now numbers.new.items until heap.now) }
+{
     let until = heap.same_until(before.heap, object);
     match before.objects.get(object as usize..until as usize) {
         Some(same) => {
@@ -72,7 +79,7 @@ pub fn heap_number(
     let mut object = 0;
     'objects: while object < count {
         if let Some(before) = before {
-            object = same_numbers(numbers, heap, object, before)?;
+            object = same_numbers(parts, numbers, heap, object, before)?;
         }
         if object < count {
             write_object(parts, row, numbers, heap, object)?;

@@ -2,10 +2,14 @@
 //! once, and a list of the numbers of rows stands for a heap, or for the threads.
 #![tactic(auto)]
 
+mod entry_rows;
 pub mod heap_rows;
-pub mod object_rows;
+mod kind_rows;
+mod monitor_rows;
+mod object_rows;
 pub mod reader;
 pub mod rows;
 pub mod same;
-pub mod stack_rows;
+mod stack_rows;
+mod status_rows;
 pub mod thread_rows;

@@ -1,63 +1,15 @@
 //! Threads with their stacks, as rows of words.
 
-ghost use Rattle.std.specs.Prelude.{◌≡◌, ◌++◌, ◌∷◌, [], OnOk, IfSome, IfOk};
-ghost use Rattle.kept_parts.specs.Threads.{status_row, thread_row};
+ghost use Rattle.std.specs.Prelude.{◌≡◌, ◌++◌, OnOk, IfOk};
+ghost use Rattle.kept_parts.specs.Threads.{thread_row, IsThreadRow};
 
 use crate::reader::Reader;
 use crate::rows::{flag_code, push, push_option, read_flag, read_option};
 use crate::stack_rows::{push_stack, read_stack};
-use heap::java_threads::{ThreadStatus, Threads, WakeCause};
+use crate::status_rows::{push_status, read_status};
+use heap::java_threads::{ThreadStatus, Threads};
 use std::alloc::{AllocError, Global};
 use thread_stacks::ThreadStack;
-
-fn push_status(row: &mut Vec<u32>, status: ThreadStatus) -> Result<(), AllocError>
-    ensures { OnOk result (row.new.items ≡ row.old.items ++ status_row status) }
-{
-    let (tag, object, count) = match status {
-        ThreadStatus::Running => (0, 0, 0),
-        ThreadStatus::Waiting { object, count } => (1, object, count),
-        ThreadStatus::Relock {
-            object,
-            count,
-            cause: WakeCause::Notified,
-        } => (2, object, count),
-        ThreadStatus::Relock {
-            object,
-            count,
-            cause: WakeCause::Interrupted,
-        } => (3, object, count),
-        ThreadStatus::Ended(None) => (4, 0, 0),
-        ThreadStatus::Ended(Some(exception)) => (5, exception, 0),
-    };
-    push(row, tag)?;
-    push(row, object)?;
-    push(row, count)
-}
-
-fn read_status(reader: &mut Reader<'_>) -> Option<ThreadStatus>
-    ensures { IfSome result (λ status. reader.old.rest.now ≡ status_row status ++ reader.new.rest.now) }
-{
-    let tag = reader.word()?;
-    let object = reader.word()?;
-    let count = reader.word()?;
-    match (tag, object, count) {
-        (0, 0, 0) => Some(ThreadStatus::Running),
-        (1, object, count) => Some(ThreadStatus::Waiting { object, count }),
-        (2, object, count) => Some(ThreadStatus::Relock {
-            object,
-            count,
-            cause: WakeCause::Notified,
-        }),
-        (3, object, count) => Some(ThreadStatus::Relock {
-            object,
-            count,
-            cause: WakeCause::Interrupted,
-        }),
-        (4, 0, 0) => Some(ThreadStatus::Ended(None)),
-        (5, exception, 0) => Some(ThreadStatus::Ended(Some(exception))),
-        _ => None,
-    }
-}
 
 /// The row of a thread: what it is about, its object, whether it has begun and is interrupted, the exception that is
 /// pending, and its stack.
