@@ -4,7 +4,7 @@ ghost use Rattle.std.specs.Prelude.{◌≡◌, ◌++◌, OnOk, IfSome};
 ghost use Rattle.kept_parts.specs.Stacks.{entry_kind_row, entry_row, entries_row};
 
 use crate::reader::Reader;
-use crate::rows::{push, push_number, push_option, read_option};
+use crate::rows::{push, push_number, push_option, push_two, read_option};
 use std::alloc::AllocError;
 use thread_stacks::{Entry, EntryKind, Phase};
 
@@ -12,19 +12,17 @@ use thread_stacks::{Entry, EntryKind, Phase};
 fn push_entry_kind(row: &mut Vec<u32>, kind: EntryKind) -> Result<(), AllocError>
     ensures { OnOk result (row.new.items ≡ row.old.items ++ entry_kind_row kind) }
 {
-    let (tag, number) = match kind {
-        EntryKind::Invocation => (0, 0),
+    match kind {
+        EntryKind::Invocation => push_two(row, 0, 0),
         EntryKind::Initialisation {
             class,
             phase: Phase::Super,
-        } => (1, class),
+        } => push_two(row, 1, u32::from(class)),
         EntryKind::Initialisation {
             class,
             phase: Phase::End,
-        } => (2, class),
-    };
-    push(row, tag)?;
-    push(row, u32::from(number))
+        } => push_two(row, 2, u32::from(class)),
+    }
 }
 
 /// What an entry stands for, by the next two words.

@@ -4,7 +4,7 @@ ghost use Rattle.std.specs.Prelude.{◌≡◌, ◌++◌, IfSome, OnOk};
 ghost use Rattle.kept_parts.specs.Objects.{kind_row};
 
 use crate::reader::Reader;
-use crate::rows::push;
+use crate::rows::push_two;
 use heap::{NarrowKind, ObjectKind};
 use std::alloc::AllocError;
 
@@ -12,17 +12,15 @@ use std::alloc::AllocError;
 pub(crate) fn push_kind(row: &mut Vec<u32>, kind: ObjectKind) -> Result<(), AllocError>
     ensures { OnOk result (row.new.items ≡ row.old.items ++ kind_row kind) }
 {
-    let (tag, number) = match kind {
-        ObjectKind::Instance { class } => (0, class),
-        ObjectKind::References { of } => (1, of),
-        ObjectKind::Ints => (2, 0),
-        ObjectKind::Narrow(NarrowKind::Boolean) => (3, 0),
-        ObjectKind::Narrow(NarrowKind::Char) => (4, 0),
-        ObjectKind::Narrow(NarrowKind::Byte) => (5, 0),
-        ObjectKind::Narrow(NarrowKind::Short) => (6, 0),
-    };
-    push(row, tag)?;
-    push(row, number)
+    match kind {
+        ObjectKind::Instance { class } => push_two(row, 0, class),
+        ObjectKind::References { of } => push_two(row, 1, of),
+        ObjectKind::Ints => push_two(row, 2, 0),
+        ObjectKind::Narrow(NarrowKind::Boolean) => push_two(row, 3, 0),
+        ObjectKind::Narrow(NarrowKind::Char) => push_two(row, 4, 0),
+        ObjectKind::Narrow(NarrowKind::Byte) => push_two(row, 5, 0),
+        ObjectKind::Narrow(NarrowKind::Short) => push_two(row, 6, 0),
+    }
 }
 
 /// What an object is, by the next two words.

@@ -24,16 +24,34 @@ pub(crate) fn push_number(row: &mut Vec<u32>, number: usize) -> Result<(), Alloc
     push(row, number as u32)
 }
 
+/// Two more words.
+pub(crate) fn push_two(row: &mut Vec<u32>, first: u32, second: u32) -> Result<(), AllocError>
+    ensures { OnOk result (row.new.items ≡ row.old.items ++ first ∷ second ∷ []) }
+{
+    push(row, first)?;
+    push(row, second)
+}
+
+/// Three more words.
+pub(crate) fn push_three(
+    row: &mut Vec<u32>,
+    first: u32,
+    second: u32,
+    third: u32,
+) -> Result<(), AllocError>
+    ensures { OnOk result (row.new.items ≡ row.old.items ++ first ∷ second ∷ third ∷ []) }
+{
+    push(row, first)?;
+    push_two(row, second, third)
+}
+
 /// The words of an option.
 pub(crate) fn push_option(row: &mut Vec<u32>, option: Option<u32>) -> Result<(), AllocError>
     ensures { OnOk result (row.new.items ≡ row.old.items ++ option_row option) }
 {
     match option {
         None => push(row, 0),
-        Some(word) => {
-            push(row, 1)?;
-            push(row, word)
-        }
+        Some(word) => push_two(row, 1, word),
     }
 }
 

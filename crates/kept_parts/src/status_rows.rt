@@ -5,32 +5,29 @@ ghost use Rattle.heap.specs.java_threads.Statuses.{status_of};
 ghost use Rattle.kept_parts.specs.Threads.{status_row};
 
 use crate::reader::Reader;
-use crate::rows::push;
+use crate::rows::push_three;
 use heap::java_threads::{ThreadStatus, WakeCause};
 use std::alloc::AllocError;
 
 pub(crate) fn push_status(row: &mut Vec<u32>, status: ThreadStatus) -> Result<(), AllocError>
     ensures { OnOk result (row.new.items ≡ row.old.items ++ status_row (status_of status)) }
 {
-    let (tag, object, count) = match status {
-        ThreadStatus::Running => (0, 0, 0),
-        ThreadStatus::Waiting { object, count } => (1, object, count),
+    match status {
+        ThreadStatus::Running => push_three(row, 0, 0, 0),
+        ThreadStatus::Waiting { object, count } => push_three(row, 1, object, count),
         ThreadStatus::Relock {
             object,
             count,
             cause: WakeCause::Notified,
-        } => (2, object, count),
+        } => push_three(row, 2, object, count),
         ThreadStatus::Relock {
             object,
             count,
             cause: WakeCause::Interrupted,
-        } => (3, object, count),
-        ThreadStatus::Ended(None) => (4, 0, 0),
-        ThreadStatus::Ended(Some(exception)) => (5, exception, 0),
-    };
-    push(row, tag)?;
-    push(row, object)?;
-    push(row, count)
+        } => push_three(row, 3, object, count),
+        ThreadStatus::Ended(None) => push_three(row, 4, 0, 0),
+        ThreadStatus::Ended(Some(exception)) => push_three(row, 5, exception, 0),
+    }
 }
 
 pub(crate) fn read_status(reader: &mut Reader<'_>) -> Option<ThreadStatus>
