@@ -1,5 +1,6 @@
 -- A stack as a row of words (own): how many entries it has, these, and its words, all with the top last.
 use Rattle.std.specs.Prelude.{◌≡◌, ℕ, List, [], ◌∷◌, ◌++◌, length}
+use Rattle.std.specs.List.{flat_map}
 use Rattle.thread_stacks.specs.declared.entry.Phase.{Phase}
 use Rattle.thread_stacks.specs.declared.entry.Phase.TheVariants as phase
 use Rattle.thread_stacks.specs.declared.entry.EntryKind.{EntryKind}
@@ -21,8 +22,7 @@ entry_row entry =
     entry_kind_row entry.kind ++ entry.method ∷ (option_row entry.entered ++ entry.place ∷ entry.locals ∷ entry.operands ∷ [])
 
 abbrev pub entries_row : List Entry → List ℕ
-entries_row [] = []
-entries_row (entry ∷ entries) = entry_row entry ++ entries_row entries
+entries_row entries = flat_map entry_row entries
 
 -- of entries over words
 abbrev pub stack_row : List Entry → List ℕ → List ℕ

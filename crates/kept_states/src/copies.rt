@@ -1,5 +1,8 @@
 //! What threads share, copied.
 
+ghost use Rattle.std.specs.Prelude.{◌≡◌, IfOk};
+ghost use Rattle.kept_states.specs.States.{AreTheSame};
+
 use machine_state::Shared;
 use std::alloc::{AllocError, Global};
 use thread_stacks::ThreadStack;
@@ -9,7 +12,9 @@ fn copied_stacks(
     alloc: Global,
     stacks: Vec<ThreadStack>,
     others: &[ThreadStack],
-) -> Result<Vec<ThreadStack>, AllocError> {
+) -> Result<Vec<ThreadStack>, AllocError>
+    ensures { IfOk result (λ copies. copies.items ≡ others.now) }
+{
     let mut room = stacks;
     room.reverse();
     let mut copies = Vec::with_capacity(alloc, others.len())?;
@@ -25,7 +30,9 @@ fn copied_stacks(
 
 /// What threads share in another state, in the room of what they share in this one. The only error is a want of
 /// memory.
-pub fn copied(alloc: Global, shared: Shared, other: &Shared) -> Result<Shared, AllocError> {
+pub fn copied(alloc: Global, shared: Shared, other: &Shared) -> Result<Shared, AllocError>
+    ensures { IfOk result (λ s. AreTheSame other.now s) }
+{
     let Shared {
         heap,
         mut statics,

@@ -1,5 +1,9 @@
 //! The states that are kept.
 
+ghost use Rattle.std.specs.Prelude.{◌≡◌, ◌++◌, [], Some, length, slice_get, ForSome, IfSome, IfOk, OnOk, OnErr};
+ghost use Rattle.kept_states.specs.States.{IsStateRow};
+ghost use Rattle.kept_states.specs.Kept.{IsNumbered, IsState, KeepsStates, IsRowMade, IsStateAdded};
+
 use crate::globals::{globals_number, read_globals};
 use crate::numbered::Numbered;
 use crate::shared_rows::{read_ints, read_statuses};
@@ -40,7 +44,9 @@ fn heap_before(before: Option<&Numbered>) -> Option<NumberedHeap<'_>> {
 
 impl KeptStates {
     /// No state. The only error is a want of memory.
-    pub fn new(alloc: Global) -> Result<KeptStates, AllocError> {
+    pub fn new(alloc: Global) -> Result<KeptStates, AllocError>
+        ensures { IfOk result (λ k. (k.states ≡ []) × (k.fat.items ≡ [])) }
+    {
         Ok(KeptStates {
             alloc,
             parts: WordTable::new(alloc)?,
@@ -53,12 +59,18 @@ impl KeptStates {
     }
 
     /// How many states are kept.
-    pub fn len(&self) -> u32 {
+    pub fn len(&self) -> u32
+        ensures { result ≡ length self.now.states }
+    {
         self.states.len()
     }
 
     /// Writes the parts of a state, and makes its row. Those that are the same in the state before keep their numbers.
-    pub fn write(&mut self, shared: &Shared, before: Option<&Numbered>) -> Result<(), AllocError> {
+    pub fn write(&mut self, shared: &Shared, before: Option<&Numbered>) -> Result<(), AllocError>
+        requires { ForSome before (λ b. IsNumbered self.old.parts b.now) }
+        ensures ok { OnOk result (IsRowMade shared.now self.old self.new) }
+        ensures err { OnErr result (KeepsStates self.old self.new) }
+    {
         let globals = globals_number(&mut self.parts, &mut self.row, shared, before)?;
         let heap = heap_number(
             &mut self.parts,
@@ -84,12 +96,18 @@ impl KeptStates {
     }
 
     /// The number of a kept state that is the same as the one that was written last, if one is found.
-    pub fn find(&self) -> Option<u32> {
+    pub fn find(&self) -> Option<u32>
+        ensures { IfSome result (λ number. slice_get self.now.states number ≡ Some self.now.state.items) }
+    {
         self.states.find(self.state.as_slice())
     }
 
     /// Keeps the state that was written last.
-    pub fn push(&mut self, shared: &Shared) -> Result<u32, AllocError> {
+    pub fn push(&mut self, shared: &Shared) -> Result<u32, AllocError>
+        requires { IsStateRow self.old.parts self.old.state.items shared.now }
+        ensures ok { IfOk result (λ number. IsStateAdded number shared.now self.old self.new) }
+        ensures err { OnErr result (KeepsStates self.old self.new) }
+    {
         let fat = fat_number(&mut self.parts, &mut self.row, &shared.heap)?;
         self.fat.reserve(1)?;
         let number = self.states.push(self.state.as_slice())?;
@@ -98,7 +116,9 @@ impl KeptStates {
     }
 
     /// The state of a number.
-    pub fn read(&self, number: u32) -> Result<Numbered, AllocError> {
+    pub fn read(&self, number: u32) -> Result<Numbered, AllocError>
+        ensures { IfOk result (λ n. IsState self.now number n.shared × IsNumbered self.now.parts n) }
+    {
         let fat = *self.fat.get(number as usize).ok_or(AllocError)?;
         let row = self.states.get(number).ok_or(AllocError)?;
         let (globals_number, rest) = row.split_first().ok_or(AllocError)?;

@@ -1,7 +1,7 @@
 //! The states to which events lead from a state.
 
 ghost use Rattle.std.specs.Prelude.{◌<◌, length, IfOk};
-ghost use Rattle.search.specs.States.{IsInState, HasGoneFrom, IsMetFrom, AreMetByThread, AreMetByThreads, AreAllMet, GrowsTo};
+ghost use Rattle.search.specs.States.{IsInState, IsStateOf, HasGoneFrom, IsMetFrom, AreMetByThread, AreAllMet, GrowsTo, ExpandsTo};
 
 use crate::machines::{go_on, go_past};
 use crate::met_states::{higher_picks_are_left, met_states_are_kept, other_threads_are_left};
@@ -33,11 +33,17 @@ fn meet(
     event: Event,
     machine: Machine,
     most: u32,
-) -> Result<(bool, Machine), AllocError> {
+) -> Result<(bool, Machine), AllocError>
+    requires number { number < length states.old.schedules }
+    requires state { IsStateOf states.old number state.now }
+    requires has_gone { HasGoneFrom states.old number event machine }
+    ensures { IfOk result (λ r. IsInState states.new number r.1
+        × GrowsTo (λ s. IsMetFrom s number event) most states.old states.new r.0) }
+{
     let mut machine = machine;
     let entry = go_past(alloc, &mut machine, event)?;
     let added = states.add(number, state, entry, &machine, most)?;
-    Ok((added, states.again(machine, state)?))
+    Ok((added, states.again(number, machine, state)?))
 }
 
 /// Adds the states to which the events of a thread lead from a state, in which this machine is, and is again at the
@@ -50,7 +56,13 @@ fn expand_thread(
     thread: u16,
     machine: Machine,
     most: u32,
-) -> Result<(Expanded, Machine), AllocError> {
+) -> Result<(Expanded, Machine), AllocError>
+    requires number { number < length states.old.schedules }
+    requires state { IsStateOf states.old number state.now }
+    requires is_in { IsInState states.old number machine }
+    ensures { IfOk result (λ r. IsInState states.new number r.1
+        × ExpandsTo (λ s. AreMetByThread s number thread) most number states.old states.new r.0) }
+{
     higher_picks_are_left();
     met_states_are_kept();
     let mut machine = machine;
@@ -82,7 +94,13 @@ pub(crate) fn expand(
     state: &Numbered,
     machine: Machine,
     most: u32,
-) -> Result<(Expanded, Machine), AllocError> {
+) -> Result<(Expanded, Machine), AllocError>
+    requires number { number < length states.old.schedules }
+    requires state { IsStateOf states.old number state.now }
+    requires is_in { IsInState states.old number machine }
+    ensures { IfOk result (λ r. IsInState states.new number r.1
+        × ExpandsTo (λ s. AreAllMet s number) most number states.old states.new r.0) }
+{
     other_threads_are_left();
     met_states_are_kept();
     let mut machine = machine;

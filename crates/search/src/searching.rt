@@ -107,7 +107,7 @@ fn visit_state(
 {
     met_states_are_kept();
     let state = states.state(number)?;
-    let machine = states.again(machine, &state)?;
+    let machine = states.again(number, machine, &state)?;
     let (expanded, machine) = expand(alloc, states, number, &state, machine, most)?;
     match expanded {
         Expanded::Moved => return Ok((Visit::Visited, machine)),

@@ -4,10 +4,10 @@ ghost use Rattle.std.specs.Prelude.{◌≡◌, ◌<◌, ◌+◌, ◌/◌, ◌^�
 ghost use Rattle.std.specs.Arc.{arc_value};
 ghost use Rattle.model.specs.Schedule.{EntryFits, events_of};
 ghost use Rattle.machine.specs.Machines.{IsOfAccepted};
-ghost use Rattle.search.specs.States.{one_state, IsSchedule, IsInState, IsMetFrom, GrowsTo, IsLocalFrom, IsAfter, IsPushed};
+ghost use Rattle.search.specs.States.{one_state, IsSchedule, IsInState, IsStateOf, IsMetFrom, GrowsTo, IsLocalFrom, IsAfter};
 
 use crate::machines::opened;
-use crate::met_states::new_states_are_met;
+use crate::met_states::{alike_states_are_met, new_states_are_met};
 use kept_states::{KeptStates, Numbered, copied};
 use linked_code::LinkedProgram;
 use machine::Machine;
@@ -46,13 +46,23 @@ impl Model for States {
     ghost use Rattle.std.specs.Arc.{arc_value};
     ghost use Rattle.model.specs.Schedule.{events_of};
     ghost use Rattle.machine.specs.Machines.{IsOfAccepted};
-    ghost use Rattle.search.specs.States.{StatesOf};
+    ghost use Rattle.search.specs.States.{StatesOf, AreKept};
 
     ghost Value = { StatesOf };
 
-    ghost view = { λ s. record { program = arc_value s.program; limits = s.limits; schedules = map events_of s.tree } };
+    ghost view = { λ s. record {
+      program = arc_value s.program;
+      limits = s.limits;
+      schedules = map events_of s.tree;
+      parts = s.kept.parts;
+    } };
 
-    ghost invariant = { λ s. IsOfAccepted (arc_value s.program) × (1 ≤ length s.tree) };
+    ghost invariant = { λ s. IsOfAccepted (arc_value s.program) × AreKept s.kept (record {
+      program = arc_value s.program;
+      limits = s.limits;
+      schedules = map events_of s.tree;
+      parts = s.kept.parts;
+    }) };
 }
 
 /// The opening state alone.
@@ -78,7 +88,7 @@ impl States {
         limits: Limits,
     ) -> Result<States, AllocError>
         requires { IsOfAccepted (arc_value program) }
-        ensures { IfOk result (λ s. s ≡ one_state (arc_value program) limits) }
+        ensures { IfOk result (λ s. s ≡ one_state (arc_value program) limits s.parts) }
     {
         let kept = first_kept(alloc, &program, limits)?;
         Ok(States {
@@ -105,20 +115,32 @@ impl States {
         self.tree.schedule(number)
     }
 
-    /// A state. The only error is a want of memory.
+    /// The state of a number. The only error is a want of memory.
     pub(crate) fn state(&self, number: u32) -> Result<Numbered, AllocError>
         requires { number < length self.now.schedules }
+        ensures { IfOk result (IsStateOf self.now number) }
     {
         self.kept.read(number)
     }
 
     /// A machine before any event. The only error is a want of memory.
-    pub(crate) fn opening(&self) -> Result<Machine, AllocError> {
+    pub(crate) fn opening(&self) -> Result<Machine, AllocError>
+        ensures { IfOk result (λ m. m.program ≡ self.now.program) }
+    {
         opened(self.alloc, Arc::try_clone(&self.program)?, self.limits)
     }
 
-    /// A machine in a state, in the room of another one. The only error is a want of memory.
-    pub(crate) fn again(&self, machine: Machine, state: &Numbered) -> Result<Machine, AllocError>
+    /// A machine in the state of a number, in the room of another one of the same program. The only error is a want of
+    /// memory.
+    pub(crate) fn again(
+        &self,
+        number: u32,
+        machine: Machine,
+        state: &Numbered,
+    ) -> Result<Machine, AllocError>
+        requires number { number < length self.now.schedules }
+        requires program { machine.program ≡ self.now.program }
+        requires state { IsStateOf self.now number state.now }
         ensures { IfOk result (IsInState self.now number) }
     {
         let (program, shared) = machine.into_parts();
@@ -138,9 +160,11 @@ impl States {
     ) -> Result<bool, AllocError>
         requires number { number < length self.old.schedules }
         requires local { IsLocalFrom self.old number entry }
-        requires is_after { IsAfter self.old number entry machine }
+        requires state { IsStateOf self.old number state.now }
+        requires is_after { IsAfter self.old number entry machine.now }
         ensures { IfOk result (GrowsTo (λ s. IsMetFrom s number entry.event) most self.old self.new) }
     {
+        alike_states_are_met();
         new_states_are_met();
         self.kept.write(machine.shared(), Some(state))?;
         if self.kept.find().is_some() {
