@@ -34,3 +34,9 @@ pub record IsStackRow (row : List ℕ) (stack : List ShownEntry) : Type 0 where
   pub words : List ℕ
   pub row_is : row ≡ stack_row entries words
   pub shown_is : stack ≡ shown (length words) words entries
+
+-- the row of a stack was put behind other words
+pub record IsStackPushed (old new : List ℕ) (stack : List ShownEntry) : Type 0 where
+  pub words : List ℕ
+  pub new_is : new ≡ old ++ words
+  pub is_row : IsStackRow words stack

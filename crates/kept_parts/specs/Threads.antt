@@ -3,6 +3,7 @@
 use Rattle.std.specs.Prelude.{◌≡◌, ℕ, List, [], ◌∷◌, ◌++◌, Option, Some, None}
 use Rattle.model.specs.State as model
 use Rattle.model.specs.State.{Thread}
+use Rattle.heap.specs.java_threads.Table.{ThreadTable}
 use Rattle.thread_stacks.specs.Stacks.{ShownEntry}
 use Rattle.kept_parts.specs.Rows.{option_row, flag_code}
 use Rattle.kept_parts.specs.Stacks.{IsStackRow}
@@ -27,3 +28,15 @@ pub record IsThreadRow (row : List ℕ) (thread : Thread) (stack : List ShownEnt
   pub stack_words : List ℕ
   pub row_is : row ≡ thread_row thread ++ stack_words
   pub is_stack : IsStackRow stack_words stack
+
+-- the row of a thread was put behind other words
+pub record IsThreadPushed (old new : List ℕ) (thread : Thread) (stack : List ShownEntry) : Type 0 where
+  pub words : List ℕ
+  pub new_is : new ≡ old ++ words
+  pub is_row : IsThreadRow words thread stack
+
+-- one more thread was read from a row, with its stack
+pub record IsThreadRead (row : List ℕ) (old new : ThreadTable) (stack : List ShownEntry) : Type 0 where
+  pub thread : Thread
+  pub is_row : IsThreadRow row thread stack
+  pub after : new ≡ record old { threads = old.threads ++ thread ∷ [] }

@@ -1,7 +1,7 @@
 //! Stacks as rows of words.
 
 ghost use Rattle.std.specs.Prelude.{◌≡◌, ◌++◌, OnOk, IfOk};
-ghost use Rattle.kept_parts.specs.Stacks.{IsStackRow};
+ghost use Rattle.kept_parts.specs.Stacks.{IsStackRow, IsStackPushed};
 
 use crate::entry_rows::{push_entries, read_entry};
 use crate::reader::Reader;
@@ -10,7 +10,9 @@ use std::alloc::{AllocError, Global};
 use thread_stacks::ThreadStack;
 
 /// The row of a stack: how many entries it has, the entries, and the words in use.
-pub(crate) fn push_stack(row: &mut Vec<u32>, stack: &ThreadStack) -> Result<(), AllocError> {
+pub(crate) fn push_stack(row: &mut Vec<u32>, stack: &ThreadStack) -> Result<(), AllocError>
+    ensures { OnOk result (IsStackPushed row.old.items row.new.items stack.now) }
+{
     push_number(row, stack.entries.len())?;
     push_entries(row, stack.entries.as_slice())?;
     row.extend_from_slice(stack.used_words())?;
@@ -21,7 +23,9 @@ pub(crate) fn push_stack(row: &mut Vec<u32>, stack: &ThreadStack) -> Result<(), 
 pub(crate) fn read_stack(
     alloc: Global,
     reader: &mut Reader<'_>,
-) -> Result<ThreadStack, AllocError> {
+) -> Result<ThreadStack, AllocError>
+    ensures { IfOk result (IsStackRow reader.old.rest.now) }
+{
     let count = reader.word().ok_or(AllocError)?;
     let mut entries = Vec::new(alloc);
     'entries: for _ in 0..count {

@@ -1,7 +1,8 @@
 //! Threads with their stacks, as rows of words.
 
-ghost use Rattle.std.specs.Prelude.{◌≡◌, ◌++◌, OnOk, IfOk};
-ghost use Rattle.kept_parts.specs.Threads.{thread_row, IsThreadRow};
+ghost use Rattle.std.specs.Prelude.{[], OnOk, IfOk};
+ghost use Rattle.heap.specs.java_threads.Table.{thread_at};
+ghost use Rattle.kept_parts.specs.Threads.{IsThreadPushed, IsThreadRead};
 
 use crate::reader::Reader;
 use crate::rows::{flag_code, push, push_option, read_flag, read_option};
@@ -18,7 +19,9 @@ pub fn push_thread(
     threads: &Threads,
     stack: &ThreadStack,
     thread: u16,
-) -> Result<(), AllocError> {
+) -> Result<(), AllocError>
+    ensures { OnOk result (IsThreadPushed row.old.items row.new.items (thread_at threads.now.threads thread) stack.now) }
+{
     push_status(row, threads.status(thread))?;
     push(row, threads.object(thread))?;
     push(row, flag_code(threads.begun(thread)))?;
@@ -46,7 +49,9 @@ pub fn read_main(
     alloc: Global,
     row: &[u32],
     limit: u32,
-) -> Result<(Threads, ThreadStack), AllocError> {
+) -> Result<(Threads, ThreadStack), AllocError>
+    ensures { IfOk result (λ r. IsThreadRead row.now (record { threads = []; limit = limit }) r.0 r.1) }
+{
     let mut reader = Reader::new(row);
     let status = read_status(&mut reader).ok_or(AllocError)?;
     let object = reader.word().ok_or(AllocError)?;
@@ -64,7 +69,9 @@ pub fn read_thread(
     alloc: Global,
     row: &[u32],
     threads: &mut Threads,
-) -> Result<ThreadStack, AllocError> {
+) -> Result<ThreadStack, AllocError>
+    ensures { IfOk result (IsThreadRead row.now threads.old threads.new) }
+{
     let mut reader = Reader::new(row);
     let status = read_status(&mut reader).ok_or(AllocError)?;
     let object = reader.word().ok_or(AllocError)?;

@@ -111,7 +111,10 @@ impl Heap {
         ensures ok { OnOk result (self.new ≡ with_object self.old (record { kind = kind; words = words.now })) }
         ensures err { OnErr result (self.new ≡ self.old) }
     {
-        if self.objects_left() == 0 || self.cells_left() < words.len() {
+        if self.objects_left() == 0 {
+            return Err(AllocError);
+        }
+        if self.cells_left() < words.len() {
             return Err(AllocError);
         }
         layout::add_words(
@@ -120,7 +123,8 @@ impl Heap {
             &mut self.monitors,
             kind,
             words,
-        )
+        )?;
+        Ok(())
     }
 
     /// What another heap is, in the room of this one. The only error is a want of memory.
