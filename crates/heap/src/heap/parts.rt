@@ -1,6 +1,6 @@
 //! The parts of a heap as they are kept, and a heap that is made of such parts again.
 
-ghost use Rattle.std.specs.Prelude.{◌≡◌, ℕ, ◌<◌, ◌≤◌, length, IfOk, OnOk, OnErr, IsTrue};
+ghost use Rattle.std.specs.Prelude.{◌≡◌, ℕ, ◌+◌, ◌<◌, ◌≤◌, length, IfOk, OnOk, OnErr, IsTrue};
 ghost use Rattle.heap.specs.Heap.{words_at, with_object, IsSameAt};
 
 use crate::heap::{Heap, MOST_OPENING};

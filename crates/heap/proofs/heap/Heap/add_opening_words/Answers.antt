@@ -1,6 +1,6 @@
 use Rattle.std.proofs.Common.{◌<◌, ◌^◌, length, arith}
 use Rattle.heap.proofs.Kept.{with_opening_words, with_opening_sound}
-use Rattle.heap.proofs.heap.parts.Heap.add_opening_words.Goals as goal
+use Rattle.heap.proofs.heap.Heap.add_opening_words.Goals as goal
 
 pub overflow_add-self : goal.overflow_add-self
 overflow_add-self c = omega (arith, c.len-reference.ensures.objects, c.requires.there)

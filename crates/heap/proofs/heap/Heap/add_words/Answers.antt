@@ -1,7 +1,7 @@
 use Rattle.std.proofs.Common.{◌+◌, ◌<◌, ◌≤◌, ◌^◌, length, arith}
 use Rattle.heap.specs.Heap.{made, cells_made}
 use Rattle.heap.proofs.Kept.{with_words, with_words_sound}
-use Rattle.heap.proofs.heap.parts.Heap.add_words.Goals as goal
+use Rattle.heap.proofs.heap.Heap.add_words.Goals as goal
 
 pub invariant_of-self-2 : goal.invariant_of-self-2
 invariant_of-self-2 c =
