@@ -11,8 +11,8 @@
 //! # Not proved
 //!
 //! - Which step is told where several race: it is the last write of some thread, or its last read.
-//! - How much memory it takes: a clock for each thread and each place, with a time for each thread; of each variable one
-//!   read and one write of each thread at most. What the numbers stand for.
+//! - How much memory it takes: a clock for each thread and each place, with a time for each thread; of each variable
+//!   one read and one write of each thread at most. What the numbers stand for.
 
 ghost use Rattle.std.specs.Prelude.{◌≡◌, ◌+◌, ◌<◌, ◌^◌, []};
 ghost use Rattle.race_detection.specs.race_detector.Watched.{DetectorOf, IsWatching, Watches, step_with};

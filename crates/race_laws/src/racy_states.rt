@@ -8,8 +8,9 @@
 //!
 //! # Not proved
 //!
-//! - The converse: that a program with a run that has a race has one to a racy state. What is missing is that the events
-//!   which don't happen before the second access can be left out of a run, up to the names of objects and threads.
+//! - The converse: that a program with a run that has a race has one to a racy state. What is missing is that the
+//!   events which don't happen before the second access can be left out of a run, up to the names of objects and
+//!   threads.
 
 ghost use Rattle.race_laws.specs.racy_states.Bridge.{AreCorrectProgramsNeverRacy, DoRacyStatesRace};
 

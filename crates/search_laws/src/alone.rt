@@ -23,15 +23,16 @@
 //!   whose initialisation hasn't begun (`variables_that_are_not_written_are_kept`).
 //! - An event is its thread's own (`IsOwnEvent`) where it changes the thread's stack alone, to the same one wherever
 //!   the thread stands as here, may use the classes that it may use here, and finds as here the variables of the kinds
-//!   that nothing may write. In a state of a run, where each event of others, behind each run of theirs, writes what may be
-//!   written at most, an own event that is in no conflict is alone, and leaves it to each other thread whether it may
-//!   step (`own_events_are_alone`).
+//!   that nothing may write. In a state of a run, where each event of others, behind each run of theirs, writes what may
+//!   be written at most, an own event that is in no conflict is alone, and leaves it to each other thread whether it
+//!   may step (`own_events_are_alone`).
 //! - What each instruction of the program writes at most, the others write at most, in any state
 //!   (`others_write_what_the_program_writes`): so a field that no instruction puts, no other thread can still put.
 //! - A local event is its thread's own (`local_events_are_own`). So are the call of a method that is not synchronized,
 //!   the return from a method that is not, a cast that passes, a test of a type, and the length of an array. So are the
-//!   get of a field that nothing may put, static or not, and the load of an element where nothing may store one. What is
-//!   static is of a class that the thread may use, and the field `target` of `Thread` is left out (`own_steps_are_own`).
+//!   get of a field that nothing may put, static or not, and the load of an element where nothing may store one. What
+//!   is static is of a class that the thread may use, and the field `target` of `Thread` is left out
+//!   (`own_steps_are_own`).
 //! - A monitorexit of a monitor that the thread owns, a monitorenter of one, and the return from a synchronized method
 //!   whose monitor it owns, but for its first method, are alone (`events_on_owned_monitors_are_alone`).
 //!
