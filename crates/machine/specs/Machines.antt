@@ -12,7 +12,7 @@ use Rattle.model.specs.Outcomes.{Cost}
 use Rattle.model.specs.State.{StateOf}
 use Rattle.model.specs.Step.{NotEnabled, Next, stepped}
 use Rattle.linked_code.specs.declared.program.LinkedProgram.{LinkedProgram}
-use Rattle.linked_code.specs.thread_stacks.Stacks.{ShownEntry}
+use Rattle.thread_stacks.specs.Stacks.{ShownEntry}
 use Rattle.machine_state.specs.declared.answers.Answer.{Answer}
 use Rattle.machine_state.specs.declared.refusals.EventRefusal.{EventRefusal}
 use Rattle.machine_state.specs.declared.state.Shared.{Shared}

@@ -5,7 +5,7 @@ use Rattle.model.specs.State as model
 use Rattle.model.specs.State.{StackOf}
 use Rattle.model.specs.Step as step
 use Rattle.linked_code.specs.declared.program.LinkedProgram.{LinkedProgram}
-use Rattle.linked_code.specs.thread_stacks.Stacks.{ShownFrame, ShownEntry, Invocation, Initialisation, IsTopFrame, moved, returned, on_top}
+use Rattle.thread_stacks.specs.Stacks.{ShownFrame, ShownEntry, Invocation, Initialisation, IsTopFrame, moved, returned, on_top}
 use Rattle.machine_state.specs.shown_stacks.Shown.{ShowsStack}
 use Rattle.machine_state.specs.Memory.{operand_counts, shown_counts, has_grown}
 use Rattle.machine_state.proofs.Memory.{counts_shown, grown_under}

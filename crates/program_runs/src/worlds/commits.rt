@@ -83,7 +83,7 @@ impl World {
             return Ok(Commit::Stale);
         }
         self.recorded.reserve()?;
-        if !self.machine.advance(thread, burst) {
+        if !self.machine.advance(thread, burst)? {
             return Ok(Commit::Stale);
         }
         self.recorded

@@ -1,6 +1,6 @@
 use Rattle.std.proofs.Common.{drop, ap, ◌∙◌}
 use Rattle.std.specs.Prelude.{option_to_list}
-use Rattle.linked_code.specs.thread_stacks.Stacks.{returned}
+use Rattle.thread_stacks.specs.Stacks.{returned}
 use Rattle.machine_instructions.proofs.returns.Returned.{returns_alone}
 use Rattle.machine_instructions.proofs.returns.returning.return_alone.Goals as goal
 

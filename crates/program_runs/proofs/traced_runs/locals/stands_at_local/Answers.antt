@@ -1,6 +1,6 @@
 use Rattle.std.proofs.Common.{◌≡◌, Bool, true, false, not, refl, sym, ap, ◌∙◌}
 use Rattle.std.specs.Prelude.{IsTrue}
-use Rattle.linked_code.specs.thread_stacks.Stacks.{shown_frame}
+use Rattle.thread_stacks.specs.Stacks.{shown_frame}
 use Rattle.program_runs.specs.traced_runs.Locals.{divides_by_zero}
 use Rattle.program_runs.proofs.traced_runs.locals.stands_at_local.Goals as goal
 
