@@ -21,8 +21,10 @@
 //!
 //! # Wrong bodies
 //!
-//! - An object keeps the number that another has in the heap before; a list of numbers is taken for one as long; a row
-//!   leaves the monitor out; a stack is the same where an entry has fewer operands; a waiter joins with one entry.
+//! - `number-of-the-next-object`, `list-as-long`: an object has the number that another one has in the heap before, or a
+//!   list of numbers stands for another one.
+//! - `row-without-the-monitor`, `waiter-joins-with-one-entry`: a monitor is left out, or read as another one.
+//! - `operands-are-not-compared`: a stack is found to be the same where an entry has fewer operands.
 #![tactic(auto)]
 
 mod entry_rows;

@@ -12,8 +12,10 @@
 //!
 //! # Wrong bodies
 //!
-//! - A volatile variable read as if it were none; an element numbered by its array alone, a field by its class alone; an
-//!   unlock of another monitor; a join that finds the start; a cleared status that leaves interrupts to be found.
+//! - `numbering-volatile-is-forgotten`, `numbering-element-by-its-array-alone`, `numbering-field-by-its-object-alone`: a
+//!   volatile variable is read as if it were none, or two variables have one number.
+//! - `numbering-unlock-of-another-monitor`, `numbering-join-finds-the-start`, `numbering-cleared-interrupt-stays`: an
+//!   action leaves or finds something else than it does.
 
 ghost use Rattle.std.specs.Prelude.{◌≡◌, []};
 ghost use Rattle.race_places.specs.numbering.Numbers.{AreActionsAlike, IsAdded, IsFound, IsLeft, IsNumbered, IsRead, IsWritten, IsNumbering, IsPlaceNumber, Numbers, NumberingOf};
