@@ -13,9 +13,9 @@
 //! # Wrong bodies
 //!
 //! - `numbering-volatile-is-forgotten`, `numbering-element-by-its-array-alone`, `numbering-field-by-its-object-alone`: a
-//!   volatile variable is read as if it were none, or two variables have one number.
+//!   volatile variable is read as if it were none, or two variables have one number; refused by `IsNumbered`.
 //! - `numbering-unlock-of-another-monitor`, `numbering-join-finds-the-start`, `numbering-cleared-interrupt-stays`: an
-//!   action leaves or finds something else than it does.
+//!   action leaves or finds something else than it does; refused by `IsNumbered`.
 
 ghost use Rattle.std.specs.Prelude.{◌≡◌, []};
 ghost use Rattle.race_places.specs.numbering.Numbers.{AreActionsAlike, IsAdded, IsFound, IsLeft, IsNumbered, IsRead, IsWritten, IsNumbering, IsPlaceNumber, Numbers, NumberingOf};
