@@ -8,14 +8,13 @@ import sys
 from typing import List, Sequence
 
 from tools.completions import Command, bash, fish, listed_commands, listed_options, zsh
+from tools.manual import USER_COMMANDS, manual_page
 from tools.repository import JVM, ROOT
 
 PROGRAM = "jvm"
 DOCUMENTS = ["README.md", "docs", "lessons", "library", "programs"]
 SCRIPTS = ["java-classes", "jvm-java", "class-file"]
 MODULES_OF_SCRIPTS = ["__init__.py", "class_files.py"]
-
-USER_COMMANDS = "1"
 
 
 class Fault(Exception):
@@ -74,27 +73,6 @@ def help_text(program: str, words: Sequence[str]) -> str:
     if done.returncode != 0:
         raise Fault(f"{program} help {' '.join(words)}: status {done.returncode}")
     return done.stdout.decode()
-
-
-def escaped(line: str) -> str:
-    """A line for troff, in which a backslash and a leading dot or quote mean something."""
-    line = line.replace("\\", "\\e").replace("-", "\\-")
-    return "\\&" + line if line[:1] in (".", "'") else line
-
-
-def manual_page(title: str, text: str) -> str:
-    """A page that begins with the first line of the help, and shows the rest as it stands."""
-    summary, _, rest = text.partition("\n")
-    lines = [
-        f'.TH "{title.upper()}" "{USER_COMMANDS}"',
-        ".SH NAME",
-        f"{title} \\- {escaped(summary)}",
-        ".SH DESCRIPTION",
-        ".nf",
-        *map(escaped, rest.strip("\n").split("\n")),
-        ".fi",
-    ]
-    return "\n".join(lines) + "\n"
 
 
 def commands_of(program: str) -> List[Command]:
