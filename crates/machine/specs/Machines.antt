@@ -1,5 +1,5 @@
 -- A machine, and what becomes of it by an event (JVMS 2.5, 2.6; JLS 17).
-use Rattle.std.specs.Prelude.{◌≡◌, ◌<◌, ◌≤◌, ℕ, zero, suc, List, [], Bool, true, false, Some, None, Result, slice_get, slice_set}
+use Rattle.std.specs.Prelude.{◌≡◌, ◌<◌, ◌≤◌, ℕ, zero, suc, List, [], Bool, true, false, Some, None, Result, length, slice_get, slice_set}
 use Rattle.std.specs.Vec.{with_item}
 use Rattle.model.specs.declared.event.Event.{Event}
 use Rattle.model.specs.declared.limits.Limits.{Limits}
@@ -12,7 +12,7 @@ use Rattle.model.specs.Outcomes.{Cost}
 use Rattle.model.specs.State.{StateOf}
 use Rattle.model.specs.Step.{NotEnabled, Next, stepped}
 use Rattle.linked_code.specs.declared.program.LinkedProgram.{LinkedProgram}
-use Rattle.linked_code.specs.thread_stacks.Stacks.{ShownEntry}
+use Rattle.thread_stacks.specs.Stacks.{ShownEntry}
 use Rattle.machine_state.specs.declared.answers.Answer.{Answer}
 use Rattle.machine_state.specs.declared.refusals.EventRefusal.{EventRefusal}
 use Rattle.machine_state.specs.declared.state.Shared.{Shared}
@@ -117,3 +117,25 @@ Repeats result event most old new =
     (result.0 ≤ most) × (new ≡ record old { shared = new.shared })
     × ((files : List (List ℕ)) (trees : Program) (inflated : List ℕ) (state : StateOf ℕ) → Shows old files trees inflated state
     → HasRepeated new files trees event result.0 most result.1 inflated state)
+
+-- ---- so many events, so far
+
+-- where so many events led
+pub record HasLed (old : MachineOf) (shared : Shared) (files : List (List ℕ)) (trees : Program) (event : Event) (n : ℕ) (inflated : List ℕ)
+    (state : StateOf ℕ) : Type 0 where
+  pub locks : List ℕ
+  pub next : StateOf ℕ
+  pub repeated : IsRepeated trees (bounds_of old.limits) event n inflated state locks next
+  pub shows : Shows (record old { shared = shared }) files trees locks next
+
+-- it is the machine to which so many events led, in whatever state of whatever files
+pub record IsSoFar (event : Event) (n : ℕ) (old new : MachineOf) : Type 0 where
+  pub same : new ≡ record old { shared = new.shared }
+  pub led : (files : List (List ℕ)) (trees : Program) (inflated : List ℕ) (state : StateOf ℕ) → Shows old files trees inflated state
+      → HasLed old new.shared files trees event n inflated state
+
+-- a machine of which so many events of a thread, whose stack is lent, led to what stands now, and the place of the thread
+pub record IsLentSoFar (p : LinkedProgram) (limits : Limits) (t n : ℕ) (first : Shared) (begun : List ShownEntry) (shared : Shared)
+    (stack : List ShownEntry) : Type 0 where
+  pub so_far : IsSoFar (record { thread = t; pick = 0 }) n (placed p limits t first begun) (placed p limits t shared stack)
+  pub place : t < length shared.stacks.items

@@ -16,7 +16,7 @@
 //!   exception pending and a frame is on top, memory aside; nothing changes.
 //! - `advance` (`AdvancesTop`): the frame on top has come to where the burst has, and so many events of the thread were
 //!   done with pick 0, exactly where that frame stood where the burst started and the thread runs with no exception
-//!   pending; else nothing has changed.
+//!   pending, memory aside; else nothing has changed.
 //! - `program` and `limits` are what the machine was opened with.
 //! - Where `open` refuses, its program is given up; where `advance` does, the burst is, and all stacks are as they
 //!   were.

@@ -7,7 +7,6 @@ ghost use Rattle.machine.specs.Machines.{IsMachine, IsOfAccepted, Opens, Steps, 
 use crate::stacks::{give_back, lend};
 use crate::turns::thread_turns;
 use linked_code::LinkedProgram;
-use linked_code::thread_stacks::ThreadStack;
 use machine_state::state_events::{events_are_whole, stacks_are_lent};
 use machine_state::{Answer, EventRefusal, Shared};
 use machine_threads::machine_opening::opening_state;
@@ -16,6 +15,7 @@ use model::{Event, Limits};
 use std::alloc::{AllocError, Global};
 use std::marker::Model;
 use std::sync::Arc;
+use thread_stacks::ThreadStack;
 
 /// Why an event was not done once more.
 #[derive(Clone, Copy)]
@@ -68,6 +68,32 @@ impl Machine {
             shared,
             spare: ThreadStack::new(alloc),
         })
+    }
+
+    /// A machine of a program, under these limits, in a state that its threads share: one in which a machine was.
+    pub fn resume(
+        alloc: Global,
+        program: Arc<LinkedProgram>,
+        limits: Limits,
+        shared: Shared,
+    ) -> Machine
+        requires { IsMachine (record { program = arc_value program; limits = limits; shared = shared }) }
+        ensures { result ≡ record { program = arc_value program; limits = limits; shared = shared } }
+    {
+        Machine {
+            program,
+            limits,
+            shared,
+            spare: ThreadStack::new(alloc),
+        }
+    }
+
+    /// The program that it ran, and what its threads shared, once it is to do no more events.
+    pub fn into_parts(self) -> (Arc<LinkedProgram>, Shared)
+        ensures program { arc_value result.0 ≡ self.program }
+        ensures shared { result.1 ≡ self.shared }
+    {
+        (self.program, self.shared)
     }
 
     /// The program that it runs.

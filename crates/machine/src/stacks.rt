@@ -3,8 +3,8 @@
 ghost use Rattle.std.specs.Prelude.{◌≡◌, slice_set};
 ghost use Rattle.machine.specs.Machines.{Lends};
 
-use linked_code::thread_stacks::ThreadStack;
 use std::mem::swap;
+use thread_stacks::ThreadStack;
 
 /// Takes the stack of a thread out, leaves another one in its place, and answers true. Where there is no such thread
 /// it answers false, and nothing changes.

@@ -1,1 +1,2 @@
 pub mod Monitors
+mod Going

@@ -2,3 +2,4 @@ mod Events
 mod Making
 mod Testing
 mod Storing
+mod Made

@@ -1,5 +1,6 @@
 pub mod called_methods
 pub mod field_instructions
+pub mod Leaving
 pub mod local_instructions
 pub mod monitor_instructions
 pub mod returns

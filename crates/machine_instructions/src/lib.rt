@@ -8,6 +8,7 @@
 
 pub mod called_methods;
 pub mod field_instructions;
+mod leaving;
 pub mod local_instructions;
 pub mod monitor_instructions;
 pub mod returns;

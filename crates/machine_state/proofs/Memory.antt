@@ -13,8 +13,8 @@ use Rattle.model.specs.Step.{SteppedOf, NotEnabled, WrongKind, Next, PartOf}
 use Rattle.model.specs.Words.{map_stack, words_of}
 use Rattle.run_laws.specs.word_runs.Words.{map_stepped}
 use Rattle.linked_code.specs.declared.program.LinkedProgram.{LinkedProgram}
-use Rattle.linked_code.specs.declared.thread_stacks.entry.Phase.{Phase}
-use Rattle.linked_code.specs.thread_stacks.Stacks.{ShownFrame, ShownEntry, Invocation, Initialisation, in_phase}
+use Rattle.thread_stacks.specs.declared.entry.Phase.{Phase}
+use Rattle.thread_stacks.specs.Stacks.{ShownFrame, ShownEntry, Invocation, Initialisation, in_phase}
 use Rattle.machine_state.specs.shown_stacks.Shown.{ShowsStack}
 use Rattle.machine_state.specs.declared.refusals.EventRefusal.{EventRefusal}
 use Rattle.machine_state.specs.declared.refusals.EventRefusal.TheVariants as refusal

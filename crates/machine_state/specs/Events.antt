@@ -9,7 +9,7 @@ use Rattle.model.specs.Step.{SteppedOf, NotEnabled, Next, PartOf}
 use Rattle.machine_state.specs.limits_at_words.Limits.{limit_in}
 use Rattle.machine_state.specs.limits_at_words.FatLocks.{flags_after, IsOneOf}
 use Rattle.linked_code.specs.declared.program.LinkedProgram.{LinkedProgram}
-use Rattle.linked_code.specs.thread_stacks.Stacks.{ShownEntry}
+use Rattle.thread_stacks.specs.Stacks.{ShownEntry}
 use Rattle.machine_state.specs.shown_stacks.Shown.{ShowsStack}
 use Rattle.machine_state.specs.declared.answers.Answer.{Answer}
 use Rattle.machine_state.specs.declared.answers.Answer.TheVariants as answer

@@ -9,8 +9,8 @@ use Rattle.model.specs.Outcomes.{Cost, Free, Makes, Starts, Enters, Joins}
 use Rattle.model.specs.Run.{run}
 use Rattle.model.specs.State.{StackEntryOf, Invocation, Initialisation, StackOf, WorldOf, StateOf}
 use Rattle.model.specs.Step.{SteppedOf, NotEnabled, WrongKind, Next, PartOf, part, stepped}
-use Rattle.linked_code.specs.thread_stacks.Stacks as shown
-use Rattle.linked_code.specs.thread_stacks.Stacks.{ShownEntry}
+use Rattle.thread_stacks.specs.Stacks as shown
+use Rattle.thread_stacks.specs.Stacks.{ShownEntry}
 
 -- an object, exceptions that the machine makes among them; a thread; the entry that makes a lock fat; a place in a wait set
 abbrev pub takes_shared : Cost → Bool

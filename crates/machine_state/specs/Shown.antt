@@ -13,7 +13,7 @@ use Rattle.machine_state.specs.limits_at_words.FatLocks.{AreFlags}
 use Rattle.linked_code.specs.declared.program.LinkedProgram.{LinkedProgram}
 use Rattle.linked_code.specs.Numbers.{IsClassAt}
 use Rattle.linked_code.specs.Programs.{IsLinkedProgram}
-use Rattle.linked_code.specs.thread_stacks.Stacks.{ShownEntry}
+use Rattle.thread_stacks.specs.Stacks.{ShownEntry}
 use Rattle.machine_state.specs.shown_objects.Shown.{ShowsObjects, ShowsStatics}
 use Rattle.machine_state.specs.shown_stacks.Shown.{ShowsStack}
 use Rattle.machine_state.specs.declared.state.ClassStatus.{ClassStatus}

@@ -9,17 +9,14 @@
 //!   shows the model's, where the place is that of the next instruction (`returns_are_shown`); a frame at a handler
 //!   (`catches_are_shown`), a class that begins to be initialised and one in another phase
 //!   (`initialisations_are_shown`, `phases_are_shown`) are shown.
-//! - Of a call in two steps: both together are `called`, and without the frame on top the stack is the caller's
-//!   (`calls_in_two_steps`); between them it shows the model's new frame over the caller as it was
-//!   (`calls_over_are_shown`). A frame that goes on at a place is the model's at the offset of that place
-//!   (`moves_are_shown`).
+//! - A frame that goes on at a place is the model's at the offset of that place (`moves_are_shown`).
 //!
 //! # Not proved
 //!
 //! - Not shown: that linked methods begin at place 0 with the model's count of local variables, which the laws on calls
 //!   ask of a callee; that the place after an instruction is that of the next offset.
 
-ghost use Rattle.machine_state.specs.shown_stacks.Shown.{AreCounted, IsBeginShown, IsCallShown, IsCallOverShown, IsCallInTwoSteps, IsMoveShown, IsReturnShown, IsCatchShown, IsInitialisationShown, IsPhaseShown};
+ghost use Rattle.machine_state.specs.shown_stacks.Shown.{AreCounted, IsBeginShown, IsCallShown, IsMoveShown, IsReturnShown, IsCatchShown, IsInitialisationShown, IsPhaseShown};
 
 /// A stack that shows one of the model has as many frames.
 pub fn frames_are_counted()
@@ -34,16 +31,6 @@ pub fn begins_are_shown()
 /// A call makes of a stack what the model does.
 pub fn calls_are_shown()
     ensures holds { IsCallShown }
-{}
-
-/// A frame put over its caller is the model's, and the caller is as it was.
-pub fn calls_over_are_shown()
-    ensures holds { IsCallOverShown }
-{}
-
-/// A call is done in two steps, and the first is undone by taking the frame away.
-pub fn calls_in_two_steps()
-    ensures holds { IsCallInTwoSteps }
 {}
 
 /// A frame that goes on at a place is the model's.

@@ -2,7 +2,7 @@
 
 use heap::Heap;
 use heap::java_threads::Threads;
-use linked_code::thread_stacks::ThreadStack;
+use thread_stacks::ThreadStack;
 
 /// How far the initialisation of a class is (JVMS 5.5).
 #[derive(Clone, Copy, PartialEq, Eq)]

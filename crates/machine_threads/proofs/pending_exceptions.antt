@@ -2,3 +2,4 @@ pub mod NoRoom
 pub mod Handled
 pub mod Caught
 pub mod Tops
+pub mod OnTop

@@ -10,9 +10,9 @@ use Rattle.linked_code.specs.declared.method.LinkedMethod.{LinkedMethod}
 use Rattle.linked_code.specs.declared.method.MethodBody.{MethodBody}
 use Rattle.linked_code.specs.declared.method.MethodBody.TheVariants as body
 use Rattle.linked_code.specs.declared.program.LinkedProgram.{LinkedProgram}
-use Rattle.linked_code.specs.declared.thread_stacks.stack.Top.{Top}
-use Rattle.linked_code.specs.declared.thread_stacks.stack.Top.TheVariants as top
-use Rattle.linked_code.specs.thread_stacks.Stacks.{ShownEntry, ShownFrame, Invocation, Initialisation, top_of}
+use Rattle.thread_stacks.specs.declared.entry.Top.{Top}
+use Rattle.thread_stacks.specs.declared.entry.Top.TheVariants as top
+use Rattle.thread_stacks.specs.Stacks.{ShownEntry, ShownFrame, Invocation, Initialisation, top_of}
 use Rattle.machine_state.specs.declared.state.ClassStatus.{ClassStatus}
 use Rattle.machine_state.specs.declared.state.ClassStatus.TheVariants as status
 use Rattle.machine_state.specs.declared.state.Shared.{Shared}

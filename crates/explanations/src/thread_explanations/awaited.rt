@@ -2,7 +2,7 @@
 
 ghost use Rattle.std.specs.Prelude.{◌≡◌};
 ghost use Rattle.heap.specs.java_threads.Statuses.{status_of};
-ghost use Rattle.linked_code.specs.thread_stacks.Stacks.{shown_frame};
+ghost use Rattle.thread_stacks.specs.Stacks.{shown_frame};
 ghost use Rattle.model.specs.Monitors.{monitor_at};
 ghost use Rattle.model.specs.Report.{end_state_of};
 ghost use Rattle.machine_threads.specs.instruction_needs.Needs.{class_in as needed};
@@ -10,12 +10,12 @@ ghost use Rattle.explanations.specs.thread_explanations.Waits as waits;
 
 use heap::Heap;
 use heap::java_threads::ThreadStatus;
-use linked_code::thread_stacks::{Frame, ThreadStack, Top};
 use linked_code::{LinkedInstruction, LinkedProgram, MethodBody};
 use machine_state::method_selection::method_at;
 use machine_state::{ClassStatus, Shared};
 use model::EndState;
 use model::built_in::MAIN_THREAD;
+use thread_stacks::{Frame, ThreadStack, Top};
 use traces::class_object_of;
 
 /// For what a thread waits. Objects and classes are given by their numbers.
@@ -65,7 +65,7 @@ fn instruction_of(body: &MethodBody, place: usize) -> Option<LinkedInstruction>
 }
 
 /// The instruction at which a frame stands.
-fn instruction_in(program: &LinkedProgram, frame: &Frame) -> Option<LinkedInstruction>
+fn instruction_in(program: &LinkedProgram, frame: &Frame<'_>) -> Option<LinkedInstruction>
     ensures { result ≡ waits.instruction_in program.now (shown_frame frame.now) }
 {
     match method_at(program, frame.method) {
@@ -79,7 +79,7 @@ fn instruction_on_top(program: &LinkedProgram, stack: &ThreadStack) -> Option<Li
     ensures { result ≡ waits.instruction_on_top program.now stack.now }
 {
     match stack.frame() {
-        Some(frame) => instruction_in(program, frame),
+        Some(frame) => instruction_in(program, &frame),
         None => None,
     }
 }

@@ -11,13 +11,13 @@ use crate::thread_explanations::stacks::StackPlaces;
 use crate::thread_explanations::throws::{Thrown, throws_of};
 use crate::thread_explanations::waits::{Wait, each_wait};
 use linked_code::LinkedProgram;
-use linked_code::thread_stacks::ThreadStack;
 use linker::Linked;
 use machine_state::Shared;
 use model::{EndState, Limits};
 use schedule::Schedule;
 use std::alloc::{AllocError, Global};
 use std::sync::Arc;
+use thread_stacks::ThreadStack;
 use traces::ProgramNames;
 
 /// What is told of the threads of a run, in lines.

@@ -1,7 +1,7 @@
 //! The frames of a stack (JVMS 2.6).
 
-use linked_code::thread_stacks::{Frame, ThreadStack};
 use std::alloc::{AllocError, Global};
+use thread_stacks::{Frame, ThreadStack};
 
 /// How many frames of a stack are told.
 pub(crate) const MOST_FRAMES: usize = 32;
@@ -14,7 +14,7 @@ pub(crate) struct FramePlace {
 }
 
 impl FramePlace {
-    pub(crate) fn of(frame: &Frame) -> FramePlace {
+    pub(crate) fn of(frame: &Frame<'_>) -> FramePlace {
         FramePlace {
             method: frame.method,
             place: frame.place,
@@ -37,7 +37,7 @@ impl StackPlaces {
         let mut told = Vec::new(alloc);
         while !stack.is_empty() && told.len() < MOST_FRAMES {
             if let Some(frame) = stack.frame() {
-                told.push(FramePlace::of(frame))?;
+                told.push(FramePlace::of(&frame))?;
             }
             stack.drop_top();
         }

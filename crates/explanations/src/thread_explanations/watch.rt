@@ -77,7 +77,7 @@ impl Watch {
             return;
         };
         if let Some(frame) = stack.frame() {
-            self.top = Some(FramePlace::of(frame));
+            self.top = Some(FramePlace::of(&frame));
         }
         self.frames = stack.frame_count();
         self.initialising = class_on_top(stack);

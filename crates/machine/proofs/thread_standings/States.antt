@@ -22,7 +22,7 @@ use Rattle.run_laws.proofs.typed_threads.Threads.{tables_counted}
 use Rattle.run_laws.specs.word_reports.Reports.{may_step_of, instruction_end_of, site_end_of, frame_end_of, held_end_of, thread_end_of}
 use Rattle.linked_code.specs.declared.program.LinkedProgram.{LinkedProgram}
 use Rattle.machine_state.specs.linked_frames.Frames.{event_of}
-use Rattle.linked_code.specs.thread_stacks.Stacks.{ShownEntry}
+use Rattle.thread_stacks.specs.Stacks.{ShownEntry}
 use Rattle.machine_state.specs.declared.state.Shared.{Shared}
 use Rattle.machine_state.specs.Shown.{IsProgram, IsLent}
 use Rattle.machine_state.specs.state_events.Whole.{ShowsStacks, IsShown}

@@ -26,7 +26,7 @@ use Rattle.linked_code.specs.declared.types.LinkedType.{LinkedType}
 use Rattle.linked_code.specs.Numbers.{IsClassAt}
 use Rattle.linked_code.specs.Selection.{receiver_class}
 use Rattle.machine_state.specs.linked_frames.Frames.{event_of}
-use Rattle.linked_code.specs.thread_stacks.Stacks.{ShownEntry}
+use Rattle.thread_stacks.specs.Stacks.{ShownEntry}
 use Rattle.machine_state.specs.shown_objects.Shown.{ShowsObject, ShowsObjects, IsKindOf}
 use Rattle.machine_state.proofs.shown_objects.Objects.{shown_at}
 use Rattle.machine_state.specs.method_selection.Receivers.{IsReceiverClass}

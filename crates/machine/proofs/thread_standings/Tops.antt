@@ -15,9 +15,9 @@ use Rattle.run_laws.specs.word_reports.Reports.{held_end_of}
 use Rattle.linked_code.specs.declared.program.LinkedProgram.{LinkedProgram}
 use Rattle.linked_code.specs.Numbers.{IsClassAt}
 use Rattle.machine_state.specs.linked_frames.Frames.{event_of}
-use Rattle.linked_code.specs.declared.thread_stacks.entry.Phase.{Phase}
-use Rattle.linked_code.specs.declared.thread_stacks.stack.Top.TheVariants as top
-use Rattle.linked_code.specs.thread_stacks.Stacks.{ShownEntry, Invocation, Initialisation, top_of}
+use Rattle.thread_stacks.specs.declared.entry.Phase.{Phase}
+use Rattle.thread_stacks.specs.declared.entry.Top.TheVariants as top
+use Rattle.thread_stacks.specs.Stacks.{ShownEntry, Invocation, Initialisation, top_of}
 use Rattle.machine_state.specs.shown_stacks.Shown.{ShowsStack, phase_of}
 use Rattle.machine_state.specs.declared.state.Shared.{Shared}
 use Rattle.machine_state.specs.Shown.{IsLent}

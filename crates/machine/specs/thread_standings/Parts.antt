@@ -1,5 +1,5 @@
 -- How a thread stands by what it is about, and by what is on top of its stack (own; JVMS 2.10, 5.2, 5.5; JLS 17).
-use Rattle.std.specs.Prelude.{◌≡◌, ℕ, zero, suc, List, [], ◌∷◌, Option, Some, None, Bool, true, false, if◌then◌else◌, slice_get}
+use Rattle.std.specs.Prelude.{◌≡◌, ℕ, zero, suc, List, [], ◌∷◌, Option, Some, None, Bool, true, false, if◌then◌else◌}
 use Rattle.model.specs.Names.{Name, java_lang_throwable, main_of}
 use Rattle.model.specs.ReferenceTypes.{ReferenceType}
 use Rattle.model.specs.Classes.{Program, body_of}
@@ -23,8 +23,8 @@ use Rattle.linked_code.specs.declared.types.LinkedType.{LinkedType}
 use Rattle.linked_code.specs.Numbers.{IsClassAt}
 use Rattle.machine_state.specs.linked_frames.Frames.{event_of}
 use Rattle.run_laws.specs.word_operands.Operands.{IsOnTop}
-use Rattle.linked_code.specs.declared.thread_stacks.entry.Phase.{Phase}
-use Rattle.linked_code.specs.thread_stacks.Stacks.{ShownEntry}
+use Rattle.thread_stacks.specs.declared.entry.Phase.{Phase}
+use Rattle.thread_stacks.specs.Stacks.{ShownEntry}
 use Rattle.machine_state.specs.shown_objects.Shown.{ShowsObjects}
 use Rattle.machine_state.specs.shown_stacks.Shown.{phase_of}
 use Rattle.machine_state.specs.declared.state.Shared.{Shared}

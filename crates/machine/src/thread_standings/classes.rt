@@ -1,15 +1,15 @@
 //! Classes that other threads initialise (JVMS 5.5).
 
 ghost use Rattle.machine.specs.thread_standings.Parts.{SaysHeld, StandsInitialising};
-ghost use Rattle.linked_code.specs.declared.thread_stacks.entry.Phase.{Phase};
+ghost use Rattle.thread_stacks.specs.declared.entry.Phase.{Phase};
 ghost use Rattle.machine_state.specs.class_initialisation.Steps.{IsBefore};
 
 use linked_code::LinkedProgram;
-use linked_code::thread_stacks::Phase;
 use machine_state::Shared;
 use machine_state::class_initialisation::{ClassLook, look};
 use machine_state::method_selection::{class_at, classes_are_read};
 use machine_threads::waiting_instructions::Standing;
+use thread_stacks::Phase;
 
 /// Whether another thread initialises a class.
 pub(crate) fn is_held(shared: &Shared, thread: u16, class: u16) -> bool

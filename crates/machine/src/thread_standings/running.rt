@@ -8,10 +8,10 @@ ghost use Rattle.machine.specs.thread_standings.Parts.{StandsPending, StandsAtFr
 use crate::thread_standings::begins::{begin_standing, empty_standing};
 use crate::thread_standings::classes::initialisation_standing;
 use linked_code::LinkedProgram;
-use linked_code::thread_stacks::{ThreadStack, Top};
 use machine_state::Shared;
 use machine_state::linked_frames::frames_stand;
 use machine_threads::waiting_instructions::{Standing, instruction_standing};
+use thread_stacks::{ThreadStack, Top};
 
 /// How a thread stands in which an exception is pending (JVMS 2.10): whatever is on top of its stack, it has an event
 /// that is enabled.

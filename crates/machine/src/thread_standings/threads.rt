@@ -9,10 +9,10 @@ use crate::thread_standings::running::running_standing;
 use heap::Heap;
 use heap::java_threads::ThreadStatus;
 use linked_code::LinkedProgram;
-use linked_code::thread_stacks::ThreadStack;
 use machine_state::Shared;
 use machine_state::method_selection::class_of_kind;
 use machine_threads::waiting_instructions::Standing;
+use thread_stacks::ThreadStack;
 
 /// How a thread stands that has ended, with an exception or without one (JVMS 2.10).
 fn ended_standing(heap: &Heap, exception: Option<u32>) -> Standing

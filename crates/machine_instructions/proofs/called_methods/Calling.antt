@@ -31,7 +31,7 @@ use Rattle.run_laws.specs.word_operands.Receivers.{is_any, has_class_below, is_n
 use Rattle.run_laws.proofs.word_operands.Objects.{received}
 use Rattle.run_laws.proofs.word_runs.WordBuiltIns.{receiver_place, placed}
 use Rattle.run_laws.proofs.typed_threads.Threads.{tables_counted}
-use Rattle.linked_code.specs.thread_stacks.Stacks.{ShownEntry}
+use Rattle.thread_stacks.specs.Stacks.{ShownEntry}
 use Rattle.machine_state.specs.shown_stacks.Shown.{offset_at}
 use Rattle.machine_state.specs.declared.answers.MachineException.TheVariants as exception
 use Rattle.machine_state.specs.declared.answers.Effect.{Effect}

@@ -28,8 +28,8 @@ use Rattle.linked_code.specs.declared.program.LinkedProgram.{LinkedProgram}
 use Rattle.linked_code.specs.Linked.{no_offset, offset_in}
 use Rattle.linked_code.specs.Methods.{IsLinkedMethod}
 use Rattle.linked_code.specs.Numbers.{IsMethodAt}
-use Rattle.linked_code.specs.declared.thread_stacks.frame.Callee.{Callee}
-use Rattle.linked_code.specs.thread_stacks.Stacks.{ShownEntry}
+use Rattle.thread_stacks.specs.declared.entry.Callee.{Callee}
+use Rattle.thread_stacks.specs.Stacks.{ShownEntry}
 use Rattle.machine_state.specs.shown_stacks.Shown.{IsCallee, starts_of, offset_at}
 use Rattle.machine_state.specs.declared.answers.MachineException.{MachineException}
 use Rattle.machine_state.specs.declared.answers.MachineException.TheVariants as exception

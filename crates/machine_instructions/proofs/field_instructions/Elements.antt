@@ -27,7 +27,7 @@ use Rattle.linked_code.specs.declared.program.LinkedProgram.{LinkedProgram}
 use Rattle.linked_code.specs.Arrays.{is_narrow}
 use Rattle.linked_code.specs.Linked.{offset_in}
 use Rattle.run_laws.specs.word_operands.Operands.{word_meets, is_word_with}
-use Rattle.linked_code.specs.thread_stacks.Stacks.{ShownFrame, ShownEntry, IsTopFrame, with_top}
+use Rattle.thread_stacks.specs.Stacks.{ShownFrame, ShownEntry, IsTopFrame, with_top}
 use Rattle.machine_state.specs.shown_objects.Laws.{is_array, kept_in, HasElements}
 use Rattle.machine_state.proofs.shown_objects.Objects.{are_elements}
 use Rattle.machine_state.specs.declared.answers.Effect.{Effect}
@@ -36,7 +36,7 @@ use Rattle.machine_state.specs.declared.state.Shared.{Shared}
 use Rattle.machine_state.specs.Instructions.{instruction_event, Does}
 use Rattle.machine_state.specs.linked_frames.Frames.{IsRunning, event_of}
 use Rattle.machine_state.proofs.linked_frames.Frames.{event_is}
-use Rattle.machine_instructions.specs.field_instructions.Puts.{Leaves}
+use Rattle.machine_instructions.specs.Leaving.{Leaves}
 use Rattle.machine_instructions.proofs.field_instructions.OnTop.{pops_met, lent_shows, operand_is, IsShownAfter, done, done_or_refused}
 use Rattle.machine_instructions.proofs.field_instructions.Referred.{meets_first, meets_second, meets_third, referred, with_objects}
 

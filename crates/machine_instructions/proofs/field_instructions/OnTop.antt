@@ -19,7 +19,7 @@ use Rattle.linked_code.specs.declared.method.LinkedCode.{LinkedCode}
 use Rattle.linked_code.specs.declared.program.LinkedProgram.{LinkedProgram}
 use Rattle.linked_code.specs.Linked.{offset_in}
 use Rattle.run_laws.specs.word_operands.Operands.{word_meets}
-use Rattle.linked_code.specs.thread_stacks.Stacks.{ShownFrame, ShownEntry, Invocation, IsTopFrame, with_top}
+use Rattle.thread_stacks.specs.Stacks.{ShownFrame, ShownEntry, Invocation, IsTopFrame, with_top}
 use Rattle.machine_state.specs.shown_stacks.Shown.{ShowsStack}
 use Rattle.machine_state.specs.declared.answers.Effect.{Effect}
 use Rattle.machine_state.specs.declared.answers.Effect.TheVariants as effect
@@ -34,7 +34,7 @@ use Rattle.machine_state.proofs.Memory.{grown_frame, takes_by_growth}
 use Rattle.machine_state.specs.linked_frames.Frames.{IsRunning, IsTopShown}
 use Rattle.machine_state.proofs.linked_frames.Frames.{top_shown, finds_shown, meaning_is, top_frame, with_top_is}
 use Rattle.machine_state.proofs.linked_frames.Moves.{free_done, replaced_shown}
-use Rattle.machine_instructions.specs.field_instructions.Puts.{gone_on, Leaves}
+use Rattle.machine_instructions.specs.Leaving.{gone_on, Leaves}
 
 module _ (trees : Program) (p : LinkedProgram) (bounds : Bounds) (inflated : List ℕ) (t : ℕ) (old : Shared) (stack : List ShownEntry) (state : StateOf ℕ) (frame : FrameOf ℕ) (rest : StackOf ℕ) (code : LinkedCode) (site : Site) (meaning : MeaningOf ℕ) (instruction : LinkedInstruction) (is : IsRunning trees p bounds inflated t old stack state frame rest code site meaning instruction) where
   -- ---- its operands

@@ -18,7 +18,7 @@ use Rattle.linked_code.specs.declared.program.LinkedProgram.{LinkedProgram}
 use Rattle.model.specs.Primitives.{primitive_of}
 use Rattle.linked_code.specs.Fields.{IsGetStatic, IsPutStatic}
 use Rattle.linked_code.specs.Linked.{IsLinked, offset_in}
-use Rattle.linked_code.specs.thread_stacks.Stacks.{ShownFrame, ShownEntry, IsTopFrame, with_top}
+use Rattle.thread_stacks.specs.Stacks.{ShownFrame, ShownEntry, IsTopFrame, with_top}
 use Rattle.machine_state.specs.shown_objects.Shown.{ShowsStatics}
 use Rattle.machine_state.proofs.shown_objects.Objects.{are_statics}
 use Rattle.machine_state.specs.declared.answers.Effect.{Effect}
@@ -27,7 +27,7 @@ use Rattle.machine_state.specs.declared.state.Shared.{Shared}
 use Rattle.machine_state.specs.Instructions.{instruction_event, Does}
 use Rattle.machine_state.specs.linked_frames.Frames.{IsRunning, event_of}
 use Rattle.machine_state.proofs.linked_frames.Frames.{event_is}
-use Rattle.machine_instructions.specs.field_instructions.Puts.{Leaves}
+use Rattle.machine_instructions.specs.Leaving.{Leaves}
 use Rattle.machine_instructions.specs.field_instructions.Puts as puts
 use Rattle.machine_instructions.proofs.field_instructions.OnTop.{operand_is, goes_on, IsShownAfter, done, done_or_refused}
 use Rattle.machine_instructions.proofs.field_instructions.Referred.{with_slots}

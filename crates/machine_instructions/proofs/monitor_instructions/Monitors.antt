@@ -31,7 +31,7 @@ use Rattle.linked_code.specs.declared.method.LinkedCode.{LinkedCode}
 use Rattle.linked_code.specs.declared.program.LinkedProgram.{LinkedProgram}
 use Rattle.linked_code.specs.Linked.{offset_in}
 use Rattle.run_laws.specs.word_operands.Operands.{word_meets}
-use Rattle.linked_code.specs.thread_stacks.Stacks.{ShownEntry, Invocation, at_place, replaced}
+use Rattle.thread_stacks.specs.Stacks.{ShownEntry, Invocation, at_place, replaced}
 use Rattle.machine_state.specs.shown_stacks.Shown.{ShowsStack, offset_at}
 use Rattle.machine_state.specs.declared.answers.Effect.{Effect}
 use Rattle.machine_state.specs.declared.refusals.EventRefusal.{EventRefusal}

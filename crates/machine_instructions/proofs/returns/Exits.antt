@@ -11,7 +11,7 @@ use Rattle.model.specs.Step.{SteppedOf, PartOf, on_to, raised, leaving}
 use Rattle.heap.specs.Heap.{Heap}
 use Rattle.heap.specs.monitor_events.Tables.{MonitorsBecome}
 use Rattle.linked_code.specs.declared.program.LinkedProgram.{LinkedProgram}
-use Rattle.linked_code.specs.thread_stacks.Stacks.{ShownEntry, Invocation, Initialisation}
+use Rattle.thread_stacks.specs.Stacks.{ShownEntry, Invocation, Initialisation}
 use Rattle.machine_state.specs.shown_stacks.Shown.{ShowsStack}
 use Rattle.machine_state.specs.declared.answers.Answer.{Answer}
 use Rattle.machine_state.specs.declared.answers.Answer.TheVariants as answer

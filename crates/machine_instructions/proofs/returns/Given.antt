@@ -1,11 +1,11 @@
 -- Whether a value is returned to an invoker.
-use Rattle.std.proofs.Common.{◌≡◌, ℕ, suc, List, [], ◌∷◌, true, Some, None, length, drop, refl, sym, ap, subst, ◌∙◌, arith}
+use Rattle.std.proofs.Common.{◌≡◌, ◌-◌, ℕ, suc, List, [], ◌∷◌, true, Some, None, length, drop, refl, sym, ap, subst, ◌∙◌, arith}
 use Rattle.model.specs.Classes.{Program}
 use Rattle.model.specs.State as model
 use Rattle.model.specs.State.{StackOf}
 use Rattle.model.specs.Step as step
 use Rattle.linked_code.specs.declared.program.LinkedProgram.{LinkedProgram}
-use Rattle.linked_code.specs.thread_stacks.Stacks.{ShownFrame, ShownEntry, Invocation, Initialisation, IsTopFrame, moved, returned, on_top}
+use Rattle.thread_stacks.specs.Stacks.{ShownFrame, ShownEntry, Invocation, Initialisation, IsTopFrame, moved, returned, on_top}
 use Rattle.machine_state.specs.shown_stacks.Shown.{ShowsStack}
 use Rattle.machine_state.specs.Memory.{operand_counts, shown_counts, has_grown}
 use Rattle.machine_state.proofs.Memory.{counts_shown, grown_under}
@@ -31,6 +31,12 @@ pub passes_over : (under : List ShownEntry) → IsTopFrame under None → (next 
 passes_over [] top next results = refl
 passes_over (Invocation frame ∷ others) top next results = absurd cc
 passes_over (Initialisation class phase ∷ others) top next results = refl
+
+-- one less is on the stack
+pub returned_count : (stack : List ShownEntry) (next : ℕ) (results : List ℕ) → length (returned next results (drop 1 stack)) ≡ length stack - 1
+returned_count [] next results = omega arith
+returned_count (entry ∷ []) next results = omega arith
+returned_count (entry ∷ under ∷ others) next results = omega arith
 
 -- the invoker has one operand more
 pub given_grows : (trees : Program) (p : LinkedProgram) (stack : List ShownEntry) (frame : ShownFrame) (below : List ShownEntry) → stack ≡ Invocation frame ∷ below

@@ -26,7 +26,7 @@ use Rattle.linked_code.specs.Numbers.{methods_of}
 use Rattle.linked_code.specs.Methods.{IsMethodBody, IsCode, IsLinkedMethod}
 use Rattle.linked_code.specs.Programs.{AreMethods}
 use Rattle.opcodes.proofs.linkable_code.Decoded.{decoded}
-use Rattle.linked_code.specs.thread_stacks.Stacks.{ShownFrame, ShownEntry, Invocation, Initialisation, IsTopFrame}
+use Rattle.thread_stacks.specs.Stacks.{ShownFrame, ShownEntry, Invocation, Initialisation, IsTopFrame}
 use Rattle.machine_state.specs.shown_stacks.Shown.{ShowsFrame, offset_at}
 use Rattle.machine_state.specs.Shown.{IsProgram}
 use Rattle.machine_state.proofs.linked_frames.Frames.{offset_of}

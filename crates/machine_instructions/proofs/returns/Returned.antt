@@ -27,7 +27,7 @@ use Rattle.linked_code.specs.declared.instruction.LinkedInstruction.{LinkedInstr
 use Rattle.linked_code.specs.declared.method.LinkedCode.{LinkedCode}
 use Rattle.linked_code.specs.declared.program.LinkedProgram.{LinkedProgram}
 use Rattle.linked_code.specs.Linked.{IsLinked, offset_in}
-use Rattle.linked_code.specs.thread_stacks.Stacks.{ShownFrame, ShownEntry, Invocation, returned as returned_to}
+use Rattle.thread_stacks.specs.Stacks.{ShownFrame, ShownEntry, Invocation, returned as returned_to}
 use Rattle.machine_state.specs.shown_stacks.Shown.{ShowsStack}
 use Rattle.machine_state.proofs.shown_stacks.Laws.{return}
 use Rattle.machine_state.specs.declared.state.Shared.{Shared}

@@ -16,7 +16,7 @@ use Rattle.model.specs.Step.{SteppedOf, PartOf, Next, part}
 use Rattle.heap.specs.java_threads.Table.{thread_at as row_at}
 use Rattle.linked_code.specs.declared.method.BuiltInMethod.{BuiltInMethod}
 use Rattle.linked_code.specs.declared.program.LinkedProgram.{LinkedProgram}
-use Rattle.linked_code.specs.thread_stacks.Stacks.{ShownEntry, on_top, without}
+use Rattle.thread_stacks.specs.Stacks.{ShownEntry, on_top, without}
 use Rattle.machine_state.specs.shown_stacks.Shown.{ShowsFrame, ShowsStack}
 use Rattle.machine_state.specs.declared.answers.Effect.{Effect}
 use Rattle.machine_state.specs.declared.answers.Effect.TheVariants as effect

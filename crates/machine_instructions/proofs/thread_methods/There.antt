@@ -19,7 +19,7 @@ use Rattle.heap.specs.java_threads.Table.{thread_at as row_at}
 use Rattle.machine_state.proofs.shown_objects.Objects.{counted}
 use Rattle.linked_code.specs.declared.method.BuiltInMethod.{BuiltInMethod}
 use Rattle.linked_code.specs.declared.program.LinkedProgram.{LinkedProgram}
-use Rattle.linked_code.specs.thread_stacks.Stacks.{ShownEntry}
+use Rattle.thread_stacks.specs.Stacks.{ShownEntry}
 use Rattle.machine_state.specs.declared.state.Shared.{Shared}
 use Rattle.heap.specs.monitor_events.Tables.{IsStatusWithin, AreStatusesWithin}
 use Rattle.machine_instructions.specs.thread_methods.Called.{RefersTo, IsCalling}

@@ -16,7 +16,7 @@ use Rattle.linked_code.specs.declared.instruction.LinkedInstruction.{LinkedInstr
 use Rattle.linked_code.specs.declared.method.LinkedCode.{LinkedCode}
 use Rattle.linked_code.specs.declared.program.LinkedProgram.{LinkedProgram}
 use Rattle.linked_code.specs.Linked.{offset_in}
-use Rattle.linked_code.specs.thread_stacks.Stacks.{ShownFrame, ShownEntry, IsTopFrame, with_top}
+use Rattle.thread_stacks.specs.Stacks.{ShownFrame, ShownEntry, IsTopFrame, with_top}
 use Rattle.machine_state.specs.shown_stacks.Shown.{ShowsStack}
 use Rattle.machine_state.specs.declared.answers.Effect.{Effect}
 use Rattle.machine_state.specs.declared.answers.Effect.TheVariants as effect
@@ -31,7 +31,7 @@ use Rattle.machine_state.proofs.Memory.{grown_frame, takes_by_growth}
 use Rattle.machine_state.specs.linked_frames.Frames.{IsRunning, event_of}
 use Rattle.machine_state.proofs.linked_frames.Frames.{top_shown, finds_shown, meaning_is, event_is, top_frame, with_top_is}
 use Rattle.machine_state.proofs.linked_frames.Moves.{free_done, replaced_shown}
-use Rattle.machine_instructions.specs.type_instructions.Leaving.{gone_on, Leaves}
+use Rattle.machine_instructions.specs.Leaving.{gone_on, Leaves}
 
 -- ---- operands
 

@@ -33,7 +33,7 @@ use Rattle.model.specs.declared.primitive.Primitive.{Primitive}
 use Rattle.model.specs.declared.primitive.Primitive.TheVariants as primitive
 use Rattle.linked_code.specs.Objects.{IsNew}
 use Rattle.machine_state.specs.shown_objects.Shown.{names_of, words_in, ShowsObject}
-use Rattle.linked_code.specs.thread_stacks.Stacks.{ShownFrame, ShownEntry, with_top}
+use Rattle.thread_stacks.specs.Stacks.{ShownFrame, ShownEntry, with_top}
 use Rattle.machine_state.specs.declared.answers.Effect.{Effect}
 use Rattle.machine_state.specs.declared.answers.Effect.TheVariants as effect
 use Rattle.machine_state.specs.declared.answers.MachineException.TheVariants as exception
@@ -45,7 +45,8 @@ use Rattle.machine_state.specs.Events.{MayBeRefused}
 use Rattle.machine_state.specs.allocations.Allocated.{IsMade}
 use Rattle.machine_state.proofs.allocations.Allocating.{made, refused}
 use Rattle.machine_state.specs.linked_frames.Frames.{IsRunning}
-use Rattle.machine_instructions.specs.type_instructions.Leaving.{gone_on, IsUnmade, LeavesNew}
+use Rattle.machine_instructions.specs.Leaving.{gone_on}
+use Rattle.machine_instructions.specs.type_instructions.Leaving.{IsUnmade, LeavesNew}
 use Rattle.machine_instructions.specs.type_instructions.Arrays.{kind_of_array, AreArrays}
 use Rattle.machine_instructions.proofs.type_instructions.Events.{IsEvent, DoesSo, own_after, slots_after, place_small, operand_is, operands_there, unchanged, event_by, goes_on, shows_after, stays}
 
@@ -62,14 +63,6 @@ first_names (f ∷ fields) = ap (λ l. f ∷ l) (first_names fields)
 first_words : (fields : List Member) → replicate (length fields) 0 ≡ words_in (map (with_first words) fields)
 first_words [] = refl
 first_words (f ∷ fields) = ap (λ l. 0 ∷ l) (first_words fields) ∙ ap (λ w. w ∷ words_in (map (with_first words) fields)) (sym (first_zero (field_declared f.descriptor)))
-
--- ---- a refusal of the heap
-
-unmade_by : (why : AllocRefusal) (told : EventRefusal) → told ≡ of_heap why → (of : ObjectKind) (cells : ℕ) (old new : Heap)
-    → Allocates (Err why) of cells old new → IsUnmade told of cells old new
-unmade_by heap.Objects told is of cells old new told_so = subst (λ r. IsUnmade r of cells old new) (sym is) (heap.Objects, refl, told_so)
-unmade_by heap.Cells told is of cells old new told_so = subst (λ r. IsUnmade r of cells old new) (sym is) (heap.Cells, refl, told_so)
-unmade_by heap.Memory told is of cells old new told_so = subst (λ r. IsUnmade r of cells old new) (sym is) told_so.2
 
 module _ {trees : Program} {p : LinkedProgram} {bounds : Bounds} {inflated : List ℕ} {t : ℕ} {shared : Shared} {stack : List
     ShownEntry} {state : StateOf ℕ} {frame : FrameOf ℕ} {rest : StackOf ℕ} {code : LinkedCode} {site : Site} {meaning : MeaningOf

@@ -29,7 +29,7 @@ use Rattle.run_laws.specs.word_operands.Operands.{word_meets, is_word_with}
 use Rattle.machine_state.specs.shown_objects.Shown.{IsKindOf, ShowsObjects}
 use Rattle.machine_state.specs.shown_objects.Laws.{is_array, kept_in, HasElements}
 use Rattle.machine_state.proofs.shown_objects.Objects.{are_elements}
-use Rattle.linked_code.specs.thread_stacks.Stacks.{ShownFrame, ShownEntry, with_top}
+use Rattle.thread_stacks.specs.Stacks.{ShownFrame, ShownEntry, with_top}
 use Rattle.machine_state.specs.declared.answers.Effect.{Effect}
 use Rattle.machine_state.specs.declared.answers.Effect.TheVariants as effect
 use Rattle.machine_state.specs.declared.answers.MachineException.TheVariants as exception
@@ -37,7 +37,7 @@ use Rattle.machine_state.specs.declared.state.Shared.{Shared}
 use Rattle.machine_state.specs.Shown.{Represents}
 use Rattle.machine_state.specs.linked_frames.Frames.{IsRunning}
 use Rattle.machine_state.proofs.linked_frames.Frames.{finds_shown, meaning_is}
-use Rattle.machine_instructions.specs.type_instructions.Leaving.{Leaves}
+use Rattle.machine_instructions.specs.Leaving.{Leaves}
 use Rattle.machine_instructions.specs.type_instructions.Words.{component_by, component_in, TestsWord, TestsStore}
 use Rattle.machine_instructions.proofs.type_instructions.Events.{IsEvent, DoesSo, slots_after, operand_is, event_by, goes_on, done_free, stays}
 

@@ -18,14 +18,14 @@ use Rattle.linked_code.specs.declared.program.LinkedProgram.{LinkedProgram}
 use Rattle.linked_code.specs.Linked.{offset_in}
 use Rattle.linked_code.specs.Objects.{IsCheckCast, IsInstanceOf}
 use Rattle.linked_code.specs.Subtypes.{IsTested}
-use Rattle.linked_code.specs.thread_stacks.Stacks.{ShownFrame, ShownEntry, with_top}
+use Rattle.thread_stacks.specs.Stacks.{ShownFrame, ShownEntry, with_top}
 use Rattle.machine_state.specs.declared.answers.Effect.{Effect}
 use Rattle.machine_state.specs.declared.answers.Effect.TheVariants as effect
 use Rattle.machine_state.specs.declared.answers.MachineException.TheVariants as exception
 use Rattle.machine_state.specs.declared.refusals.EventRefusal.{EventRefusal}
 use Rattle.machine_state.specs.declared.state.Shared.{Shared}
 use Rattle.machine_state.specs.linked_frames.Frames.{IsRunning}
-use Rattle.machine_instructions.specs.type_instructions.Leaving.{Leaves}
+use Rattle.machine_instructions.specs.Leaving.{Leaves}
 use Rattle.machine_instructions.specs.type_instructions.Words.{TestsWord, TestsInstance}
 use Rattle.machine_instructions.proofs.type_instructions.Events.{IsEvent, DoesSo, slots_after, top_and_rest, operands_are, operand_is, operands_there, event_by, goes_on, done_free, does_own, stays}
 

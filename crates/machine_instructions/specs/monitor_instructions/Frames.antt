@@ -1,7 +1,7 @@
 -- The object of a monitor instruction, and the frame after it (JVMS 2.6, 6.5). No public clause cites this module.
 use Rattle.std.specs.Prelude.{◌≡◌, ℕ, ◌+◌, ◌<◌, ◌^◌, List, [], ◌∷◌, Option, None, slice_index_or}
 use Rattle.model.specs.Operands.{word_reference}
-use Rattle.linked_code.specs.thread_stacks.Stacks.{ShownEntry, Invocation, Initialisation, at_place, replaced}
+use Rattle.thread_stacks.specs.Stacks.{ShownEntry, Invocation, Initialisation, at_place, replaced}
 
 -- the object to which the operand on top refers, if it is not null
 abbrev pub object_on : List ShownEntry → Option ℕ

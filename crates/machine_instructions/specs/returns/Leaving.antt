@@ -7,7 +7,7 @@ use Rattle.model.specs.Worlds.{is_owner, with_exit}
 use Rattle.heap.specs.Heap.{Heap}
 use Rattle.heap.specs.monitor_events.Tables.{over}
 use Rattle.linked_code.specs.declared.program.LinkedProgram.{LinkedProgram}
-use Rattle.linked_code.specs.thread_stacks.Stacks.{ShownEntry, Invocation}
+use Rattle.thread_stacks.specs.Stacks.{ShownEntry, Invocation}
 use Rattle.machine_state.specs.declared.state.Shared.{Shared}
 use Rattle.machine_state.specs.Shown.{Represents}
 

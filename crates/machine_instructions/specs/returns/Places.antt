@@ -10,7 +10,7 @@ use Rattle.linked_code.specs.declared.method.LinkedMethod.{LinkedMethod}
 use Rattle.linked_code.specs.declared.method.MethodBody.{MethodBody}
 use Rattle.linked_code.specs.declared.method.MethodBody.TheVariants as body
 use Rattle.linked_code.specs.declared.program.LinkedProgram.{LinkedProgram}
-use Rattle.linked_code.specs.thread_stacks.Stacks.{ShownFrame, ShownEntry}
+use Rattle.thread_stacks.specs.Stacks.{ShownFrame, ShownEntry}
 use Rattle.machine_state.specs.shown_stacks.Shown.{ShowsFrame, ShowsStack, IsNext, offset_at}
 use Rattle.machine_state.specs.Shown.{IsProgram}
 

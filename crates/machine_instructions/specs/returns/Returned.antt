@@ -2,7 +2,7 @@
 use Rattle.std.specs.Prelude.{◌≡◌, ℕ, List, ◌∷◌, Option, Some, None, Bool, true, false, drop, slice_index_or}
 use Rattle.linked_code.specs.declared.instruction.LinkedInstruction.{LinkedInstruction}
 use Rattle.linked_code.specs.declared.instruction.LinkedInstruction.TheVariants as linked
-use Rattle.linked_code.specs.thread_stacks.Stacks.{ShownFrame, ShownEntry, Invocation}
+use Rattle.thread_stacks.specs.Stacks.{ShownFrame, ShownEntry, Invocation}
 
 -- with a value, or with none
 abbrev pub returning : Bool → LinkedInstruction

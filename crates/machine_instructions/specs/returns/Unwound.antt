@@ -5,7 +5,7 @@ use Rattle.model.specs.State.{FrameOf, Invocation, StackOf, WorldOf}
 use Rattle.model.specs.LimitStands.{Bounds}
 use Rattle.model.specs.Step.{leaving}
 use Rattle.linked_code.specs.declared.program.LinkedProgram.{LinkedProgram}
-use Rattle.linked_code.specs.thread_stacks.Stacks.{ShownEntry}
+use Rattle.thread_stacks.specs.Stacks.{ShownEntry}
 use Rattle.machine_state.specs.shown_stacks.Shown.{ShowsStack}
 use Rattle.machine_state.specs.declared.answers.Answer.{Answer}
 use Rattle.machine_state.specs.declared.refusals.EventRefusal.{EventRefusal}

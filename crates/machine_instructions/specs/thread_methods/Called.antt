@@ -14,7 +14,7 @@ use Rattle.linked_code.specs.declared.method.BuiltInMethod.{BuiltInMethod}
 use Rattle.linked_code.specs.declared.method.BuiltInMethod.TheVariants as method
 use Rattle.linked_code.specs.declared.program.LinkedProgram.{LinkedProgram}
 use Rattle.linked_code.specs.Methods.{built_in_of}
-use Rattle.linked_code.specs.thread_stacks.Stacks.{ShownFrame, ShownEntry, Invocation}
+use Rattle.thread_stacks.specs.Stacks.{ShownFrame, ShownEntry, Invocation}
 use Rattle.machine_state.specs.shown_stacks.Shown.{offset_at}
 use Rattle.machine_state.specs.declared.answers.Effect.{Effect}
 use Rattle.machine_state.specs.declared.refusals.EventRefusal.{EventRefusal}

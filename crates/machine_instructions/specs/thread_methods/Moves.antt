@@ -2,7 +2,7 @@
 use Rattle.std.specs.Prelude.{◌≡◌, ◌<◌, ℕ, suc, List, [], ◌∷◌, drop, Bool, ◌&&◌, ◌==◌, if◌then◌else◌, nat_lt, length, Result, Ok, Err, slice_index_or}
 use Rattle.model.specs.State.{WorldOf}
 use Rattle.model.specs.Worlds.{is_owner, waiters_of}
-use Rattle.linked_code.specs.thread_stacks.Stacks.{ShownEntry, Invocation, Initialisation, replaced, at_place, on_top}
+use Rattle.thread_stacks.specs.Stacks.{ShownEntry, Invocation, Initialisation, replaced, at_place, on_top}
 use Rattle.machine_state.specs.declared.answers.Effect.{Effect}
 use Rattle.machine_state.specs.declared.answers.Effect.TheVariants as effect
 use Rattle.machine_state.specs.declared.refusals.EventRefusal.{EventRefusal}

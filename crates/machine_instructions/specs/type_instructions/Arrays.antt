@@ -20,7 +20,7 @@ use Rattle.linked_code.specs.declared.method.LinkedCode.{LinkedCode}
 use Rattle.linked_code.specs.declared.program.LinkedProgram.{LinkedProgram}
 use Rattle.linked_code.specs.Linked.{offset_in}
 use Rattle.machine_state.specs.shown_objects.Shown.{ShowsObject}
-use Rattle.linked_code.specs.thread_stacks.Stacks.{ShownEntry}
+use Rattle.thread_stacks.specs.Stacks.{ShownEntry}
 use Rattle.machine_state.specs.declared.answers.Effect.{Effect}
 use Rattle.machine_state.specs.declared.refusals.EventRefusal.{EventRefusal}
 use Rattle.machine_state.specs.declared.state.Shared.{Shared}

@@ -10,10 +10,10 @@ ghost use Rattle.machine_instructions.specs.called_methods.Selected.{IsClassObje
 use crate::called_methods::frames::{raised, receiver};
 use crate::called_methods::running::{Call, run_method};
 use linked_code::LinkedProgram;
-use linked_code::thread_stacks::ThreadStack;
 use machine_state::method_selection::{method_at, methods_are_read};
 use machine_state::{Effect, EventRefusal, MachineException, Shared};
 use model::built_in::FIRST_CLASS_OBJECT;
+use thread_stacks::ThreadStack;
 
 /// The Class object of a class.
 pub fn class_object_of(class: u16) -> u32

@@ -3,8 +3,8 @@
 ghost use Rattle.std.specs.Prelude.{◌≡◌};
 ghost use Rattle.machine_instructions.specs.called_methods.Frames.{object_under, IsPlaceBehind, raised_by};
 
-use linked_code::thread_stacks::ThreadStack;
 use machine_state::{Effect, MachineException};
+use thread_stacks::ThreadStack;
 
 /// The object of the reference under so many parameters, if it is not null.
 #[inline]

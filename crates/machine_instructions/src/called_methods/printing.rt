@@ -9,8 +9,8 @@ ghost use Rattle.machine_state.specs.linked_frames.Frames.{CanRun, DoesInstructi
 use crate::called_methods::frames::{place_behind, raised, receiver};
 use crate::thread_methods::run_built_in;
 use linked_code::BuiltInMethod;
-use linked_code::thread_stacks::ThreadStack;
 use machine_state::{Effect, EventRefusal, MachineException, Shared};
+use thread_stacks::ThreadStack;
 
 /// `invokevirtual` of PrintStream.println(int): the number on top is printed; null under it is a NullPointerException.
 ///

@@ -6,11 +6,11 @@ ghost use Rattle.machine_instructions.specs.called_methods.Invoked.{CanInvoke, I
 
 use crate::called_methods::frames::{place_behind, raised};
 use crate::thread_methods::run_built_in;
-use linked_code::thread_stacks::{Callee, ThreadStack};
 use linked_code::{LinkedProgram, MethodBody};
 use machine_state::invocations::call as call_method;
 use machine_state::method_selection::{method_at, methods_are_run};
 use machine_state::{Effect, EventRefusal, MachineException, Shared};
+use thread_stacks::{Callee, ThreadStack};
 
 /// A call: the method that it runs, by its number, the object whose monitor that enters where it is synchronized, and
 /// how many words it takes.

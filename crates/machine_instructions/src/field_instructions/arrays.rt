@@ -5,9 +5,9 @@ ghost use Rattle.linked_code.specs.declared.instruction.LinkedInstruction.TheVar
 ghost use Rattle.linked_code.specs.declared.program.LinkedProgram.{LinkedProgram};
 ghost use Rattle.machine_state.specs.linked_frames.Frames.{DoesOwn};
 
-use crate::field_instructions::leaving::{leave, leave_nothing};
-use linked_code::thread_stacks::ThreadStack;
+use crate::leaving::{leave, leave_nothing};
 use machine_state::{Effect, EventRefusal, MachineException, Shared};
+use thread_stacks::ThreadStack;
 
 /// `iaload`, `aaload`, `baload`, `caload`, `saload`: the element at the index on top, of the array under it, takes
 /// their place.
@@ -20,7 +20,7 @@ pub fn load_element(shared: &Shared, stack: &mut ThreadStack) -> Result<Effect, 
     ensures { (p : LinkedProgram) (t : ℕ)
         → DoesOwn p linked.LoadElement t result shared.now shared.now stack.old stack.new }
 {
-    let Some(frame) = stack.frame_mut() else {
+    let Some(frame) = stack.frame() else {
         return Ok(Effect::NotEnabled);
     };
     let index = frame.operand(0);
@@ -28,7 +28,7 @@ pub fn load_element(shared: &Shared, stack: &mut ThreadStack) -> Result<Effect, 
         None => Ok(Effect::Raises(MachineException::NullPointer)),
         Some(array) => {
             if index < shared.heap.length(array) {
-                leave(frame, 2, shared.heap.get_element(array, index))
+                leave(stack, 2, shared.heap.get_element(array, index))
             } else {
                 Ok(Effect::Raises(MachineException::ArrayIndexOutOfBounds))
             }
@@ -44,7 +44,7 @@ fn store(shared: &mut Shared, stack: &mut ThreadStack) -> Effect
     ensures narrow { (p : LinkedProgram) (t : ℕ)
         → DoesOwn p linked.StoreNarrow t (Ok result) shared.old shared.new stack.old stack.new }
 {
-    let Some(frame) = stack.frame_mut() else {
+    let Some(frame) = stack.frame() else {
         return Effect::NotEnabled;
     };
     let index = frame.operand(1);
@@ -54,7 +54,7 @@ fn store(shared: &mut Shared, stack: &mut ThreadStack) -> Effect
             if index < shared.heap.length(array) {
                 let word = frame.operand(0);
                 shared.heap.put_element(array, index, word);
-                leave_nothing(frame, 3)
+                leave_nothing(stack, 3)
             } else {
                 Effect::Raises(MachineException::ArrayIndexOutOfBounds)
             }
@@ -90,11 +90,11 @@ pub fn array_length(shared: &Shared, stack: &mut ThreadStack) -> Result<Effect, 
     ensures { (p : LinkedProgram) (t : ℕ)
         → DoesOwn p linked.ArrayLength t result shared.now shared.now stack.old stack.new }
 {
-    let Some(frame) = stack.frame_mut() else {
+    let Some(frame) = stack.frame() else {
         return Ok(Effect::NotEnabled);
     };
     match frame.operand(0).checked_sub(1) {
         None => Ok(Effect::Raises(MachineException::NullPointer)),
-        Some(array) => leave(frame, 1, shared.heap.length(array)),
+        Some(array) => leave(stack, 1, shared.heap.length(array)),
     }
 }

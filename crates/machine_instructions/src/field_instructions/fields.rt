@@ -6,11 +6,11 @@ ghost use Rattle.linked_code.specs.declared.program.LinkedProgram.{LinkedProgram
 ghost use Rattle.machine_state.specs.linked_frames.Frames.{DoesOwn};
 ghost use Rattle.machine_instructions.specs.field_instructions.Puts.{put_field_instruction};
 
-use crate::field_instructions::leaving::{leave, leave_nothing};
 use crate::field_instructions::narrowing::kept;
-use linked_code::thread_stacks::ThreadStack;
+use crate::leaving::{leave, leave_nothing};
 use machine_state::{Effect, EventRefusal, MachineException, Shared};
 use model::Primitive;
+use thread_stacks::ThreadStack;
 
 /// `getfield`: the field in a slot of the object of the operand on top takes the operand's place.
 ///
@@ -26,12 +26,12 @@ pub fn get_field(
     ensures { (p : LinkedProgram) (t : ℕ)
         → DoesOwn p (linked.GetField slot) t result shared.now shared.now stack.old stack.new }
 {
-    let Some(frame) = stack.frame_mut() else {
+    let Some(frame) = stack.frame() else {
         return Ok(Effect::NotEnabled);
     };
     match frame.operand(0).checked_sub(1) {
         None => Ok(Effect::Raises(MachineException::NullPointer)),
-        Some(object) => leave(frame, 1, shared.heap.get_field(object, u32::from(slot))),
+        Some(object) => leave(stack, 1, shared.heap.get_field(object, u32::from(slot))),
     }
 }
 
@@ -43,7 +43,7 @@ pub fn put_field(shared: &mut Shared, stack: &mut ThreadStack, of: Primitive, sl
         → DoesOwn p (put_field_instruction of slot) t (Ok result) shared.old shared.new stack.old
         stack.new }
 {
-    let Some(frame) = stack.frame_mut() else {
+    let Some(frame) = stack.frame() else {
         return Effect::NotEnabled;
     };
     match frame.operand(1).checked_sub(1) {
@@ -51,7 +51,7 @@ pub fn put_field(shared: &mut Shared, stack: &mut ThreadStack, of: Primitive, sl
         Some(object) => {
             let word = kept(of, frame.operand(0));
             shared.heap.put_field(object, u32::from(slot), word);
-            leave_nothing(frame, 2)
+            leave_nothing(stack, 2)
         }
     }
 }

@@ -20,7 +20,6 @@
 
 mod arrays;
 mod fields;
-mod leaving;
 mod narrowing;
 mod statics;
 

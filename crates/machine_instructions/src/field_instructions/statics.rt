@@ -7,12 +7,12 @@ ghost use Rattle.machine_state.specs.declared.state.Shared.{Shared};
 ghost use Rattle.machine_state.specs.linked_frames.Frames.{DoesOwn};
 ghost use Rattle.machine_instructions.specs.field_instructions.Puts.{put_static_instruction};
 
-use crate::field_instructions::leaving::{leave, leave_nothing};
 use crate::field_instructions::narrowing::kept;
-use linked_code::thread_stacks::ThreadStack;
+use crate::leaving::{leave, leave_nothing};
 use machine_state::{Effect, EventRefusal, Shared};
 use model::Primitive;
 use model::built_in::SYSTEM_OUT;
+use thread_stacks::ThreadStack;
 
 /// The word of the reference to the PrintStream of System.out.
 const PRINT_STREAM: u32 = SYSTEM_OUT + 1;
@@ -39,8 +39,8 @@ pub fn get_static(
     ensures { (p : LinkedProgram) (class t : ℕ)
         → DoesOwn p (linked.GetStatic class slot) t result shared.now shared.now stack.old stack.new }
 {
-    match stack.frame_mut() {
-        Some(frame) => leave(frame, 0, static_word(&shared.statics, slot)),
+    match stack.frame() {
+        Some(_frame) => leave(stack, 0, static_word(&shared.statics, slot)),
         None => Ok(Effect::NotEnabled),
     }
 }
@@ -55,8 +55,8 @@ pub fn get_system_out(stack: &mut ThreadStack) -> Result<Effect, EventRefusal>
     ensures { (p : LinkedProgram) (t : ℕ) (shared : Shared)
         → DoesOwn p linked.GetSystemOut t result shared shared stack.old stack.new }
 {
-    match stack.frame_mut() {
-        Some(frame) => leave(frame, 0, PRINT_STREAM),
+    match stack.frame() {
+        Some(_frame) => leave(stack, 0, PRINT_STREAM),
         None => Ok(Effect::NotEnabled),
     }
 }
@@ -78,11 +78,11 @@ pub fn put_static(shared: &mut Shared, stack: &mut ThreadStack, of: Primitive, s
     ensures { (p : LinkedProgram) (class t : ℕ)
         → DoesOwn p (put_static_instruction of class slot) t (Ok result) shared.old shared.new stack.old stack.new }
 {
-    match stack.frame_mut() {
+    match stack.frame() {
         Some(frame) => {
             let word = kept(of, frame.operand(0));
             set_static(&mut shared.statics, slot, word);
-            leave_nothing(frame, 1)
+            leave_nothing(stack, 1)
         }
         None => Effect::NotEnabled,
     }

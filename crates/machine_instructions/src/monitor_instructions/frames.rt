@@ -3,7 +3,7 @@
 ghost use Rattle.std.specs.Prelude.{◌≡◌};
 ghost use Rattle.machine_instructions.specs.monitor_instructions.Frames.{object_on, GoesOn};
 
-use linked_code::thread_stacks::ThreadStack;
+use thread_stacks::ThreadStack;
 
 /// The object of the reference on top, if it is not null.
 #[inline]
@@ -21,9 +21,9 @@ pub(crate) fn object_on_top(stack: &ThreadStack) -> Option<u32>
 pub(crate) fn go_on(stack: &mut ThreadStack)
     ensures { GoesOn stack.old stack.new }
 {
-    if let Some(frame) = stack.frame_mut() {
-        frame.pop(1);
-        let place = frame.place;
-        frame.go_to(place.saturating_add(1));
+    if let Some(frame) = stack.frame() {
+        let next = frame.place.saturating_add(1);
+        stack.pop(1);
+        stack.go_on(next);
     }
 }

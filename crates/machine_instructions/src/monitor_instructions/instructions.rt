@@ -7,8 +7,8 @@ ghost use Rattle.machine_state.specs.linked_frames.Frames.{CanRun, DoesOwn};
 
 use crate::monitor_instructions::frames::{go_on, object_on_top};
 use heap::monitor_events as events;
-use linked_code::thread_stacks::ThreadStack;
 use machine_state::{Effect, EventRefusal, MachineException, Shared};
+use thread_stacks::ThreadStack;
 
 /// `monitorenter`: the thread enters the monitor of the object on top once; it waits while another thread owns it.
 ///

@@ -5,8 +5,8 @@ ghost use Rattle.machine_instructions.specs.returns.Leaving.{HasEntered, SaysMay
 
 use heap::Heap;
 use heap::monitor_events::{exit, is_owner};
-use linked_code::thread_stacks::ThreadStack;
 use machine_state::Shared;
+use thread_stacks::ThreadStack;
 
 /// The object whose monitor the frame on top entered.
 #[inline]

@@ -1,7 +1,7 @@
 //! Returns to the invoker.
 
-ghost use Rattle.std.specs.Prelude.{◌≡◌, ℕ, Ok, true, false, drop, option_to_list, OnOk, OnErr};
-ghost use Rattle.linked_code.specs.thread_stacks.Stacks.{moved, returned, on_top};
+ghost use Rattle.std.specs.Prelude.{◌≡◌, ◌-◌, ℕ, Ok, true, false, drop, length, option_to_list, OnOk, OnErr};
+ghost use Rattle.thread_stacks.specs.Stacks.{moved, returned, on_top};
 ghost use Rattle.machine_state.specs.declared.answers.Effect.TheVariants as effect;
 ghost use Rattle.machine_state.specs.declared.state.Shared.{Shared};
 ghost use Rattle.machine_instructions.specs.returns.Returned.{result_in, returning, IsGiven};
@@ -10,9 +10,9 @@ ghost use Rattle.machine_state.specs.linked_frames.Frames.{DoesOwn};
 use crate::returns::leaving::{entered_by_top, leave, may_leave};
 use crate::returns::places::next_place_under;
 use linked_code::LinkedProgram;
-use linked_code::thread_stacks::ThreadStack;
 use machine_state::{Effect, EventRefusal, MachineException, Shared};
 use std::alloc::AllocError;
+use thread_stacks::ThreadStack;
 
 /// What the frame on top returns: the word on top of its operands, or nothing.
 #[inline]
@@ -95,6 +95,7 @@ pub fn return_from(
 pub fn return_alone(stack: &mut ThreadStack, program: &LinkedProgram, value: bool) -> bool
     ensures done { result ≡ true → (t : ℕ) (shared : Shared)
         → DoesOwn program.now (returning value) t (Ok effect.Done) shared shared stack.old stack.new }
+    ensures shallower { result ≡ true → length stack.new ≡ length stack.old - 1 }
     ensures still { result ≡ false → stack.new ≡ stack.old }
 {
     if let Some(_entered) = entered_by_top(stack) {

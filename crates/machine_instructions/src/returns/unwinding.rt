@@ -3,9 +3,9 @@
 ghost use Rattle.machine_instructions.specs.returns.Unwound.{Unwinds};
 
 use crate::returns::leaving::{entered_by_top, leave, may_leave};
-use linked_code::thread_stacks::ThreadStack;
 use machine_state::raised_exceptions::raise;
 use machine_state::{Answer, EventRefusal, MachineException, Shared};
+use thread_stacks::ThreadStack;
 
 /// The exception that is pending ends the frame on top (JVMS 2.10): it goes, and the monitor that the invocation
 /// entered is left once. Where another thread or none owns that monitor, an IllegalMonitorStateException is pending

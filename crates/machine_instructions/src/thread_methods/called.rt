@@ -4,8 +4,8 @@ ghost use Rattle.machine_instructions.specs.thread_methods.Called.{CanCall, Does
 
 use crate::thread_methods::{lives, printing, targets, waiting};
 use linked_code::BuiltInMethod;
-use linked_code::thread_stacks::ThreadStack;
 use machine_state::{Effect, EventRefusal, Shared};
+use thread_stacks::ThreadStack;
 
 /// By an event that picks nothing.
 fn run_unpicked(

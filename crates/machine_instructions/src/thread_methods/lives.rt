@@ -13,8 +13,8 @@ use crate::thread_methods::growth::{add, spare};
 use crate::thread_methods::moves::{answer, go_on, object};
 use heap::java_threads::Threads;
 use heap::{Heap, monitor_events as events};
-use linked_code::thread_stacks::ThreadStack;
 use machine_state::{Effect, EventRefusal, MachineException, Shared};
+use thread_stacks::ThreadStack;
 
 /// The word of a boolean (JVMS 2.3.4).
 fn word_of(flag: bool) -> u32

@@ -1,12 +1,11 @@
 //! What a call reads of the frame that calls, and what it makes of it.
 
 ghost use Rattle.std.specs.Prelude.{◌≡◌, ◌-◌, [], ◌∷◌};
-ghost use Rattle.linked_code.specs.thread_stacks.Stacks.{on_top, without};
+ghost use Rattle.thread_stacks.specs.Stacks.{on_top, without};
 ghost use Rattle.machine_instructions.specs.thread_methods.Moves.{operand_of, went_on, Answers};
 
-use linked_code::thread_stacks::ThreadStack;
-use machine_state::linked_frames::replace_operands;
 use machine_state::{Effect, EventRefusal};
+use thread_stacks::ThreadStack;
 
 /// The operand under so many others, 0 where there is none.
 #[inline]
@@ -32,10 +31,8 @@ pub(crate) fn object(stack: &ThreadStack, under: usize) -> u32
 pub(crate) fn go_on(stack: &mut ThreadStack, operands: usize, next: usize)
     ensures { stack.new ≡ on_top (went_on operands [] next) stack.old }
 {
-    if let Some(frame) = stack.frame_mut() {
-        frame.pop(operands);
-        frame.go_to(next);
-    }
+    stack.pop(operands);
+    stack.go_on(next);
 }
 
 /// Takes so many operands, and stays at the call.
@@ -43,9 +40,7 @@ pub(crate) fn go_on(stack: &mut ThreadStack, operands: usize, next: usize)
 pub(crate) fn stay(stack: &mut ThreadStack, operands: usize)
     ensures { stack.new ≡ on_top (without operands) stack.old }
 {
-    if let Some(frame) = stack.frame_mut() {
-        frame.pop(operands);
-    }
+    stack.pop(operands);
 }
 
 /// Goes on at a place with a result in the place of so many operands, and answers that the call is done.
@@ -62,9 +57,7 @@ pub(crate) fn answer(
 ) -> Result<Effect, EventRefusal>
     ensures { Answers result operands word next stack.old stack.new }
 {
-    if let Some(frame) = stack.frame_mut() {
-        replace_operands(frame, operands, word)?;
-        frame.go_to(next);
-    }
+    stack.replace(operands, word)?;
+    stack.go_on(next);
     Ok(Effect::Done)
 }

@@ -6,8 +6,8 @@ ghost use Rattle.machine_instructions.specs.thread_methods.Called.{DoesUnpicked}
 
 use crate::thread_methods::growth::{add, spare};
 use crate::thread_methods::moves::{go_on, operand};
-use linked_code::thread_stacks::ThreadStack;
 use machine_state::{Effect, EventRefusal, Shared};
+use thread_stacks::ThreadStack;
 
 /// `PrintStream.println(int)`: the number is printed.
 pub(crate) fn print_line(

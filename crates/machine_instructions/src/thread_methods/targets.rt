@@ -6,8 +6,8 @@ ghost use Rattle.linked_code.specs.declared.method.BuiltInMethod.TheVariants as 
 ghost use Rattle.machine_instructions.specs.thread_methods.Called.{DoesUnpicked};
 
 use crate::thread_methods::moves::{go_on, object, operand};
-use linked_code::thread_stacks::ThreadStack;
 use machine_state::{Effect, EventRefusal, Shared};
+use thread_stacks::ThreadStack;
 
 /// The slot of the field `target` in an object of Thread or of a class below it.
 const TARGET: u32 = 0;

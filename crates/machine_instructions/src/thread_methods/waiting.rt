@@ -9,8 +9,8 @@ ghost use Rattle.machine_instructions.specs.thread_methods.Called.{DoesCall, Doe
 
 use crate::thread_methods::moves::{go_on, object, stay};
 use heap::{Heap, monitor_events as events};
-use linked_code::thread_stacks::ThreadStack;
 use machine_state::{Effect, EventRefusal, MachineException, Shared};
+use thread_stacks::ThreadStack;
 
 /// `Object.wait` (JLS 17.2.1): the thread joins the wait set, and stays at its call. One that is interrupted doesn't
 /// join.

@@ -2,13 +2,13 @@
 
 ghost use Rattle.std.specs.Prelude.{◌≡◌};
 ghost use Rattle.heap.specs.Heap.{Allocates};
-ghost use Rattle.linked_code.specs.thread_stacks.Stacks.{shown_frame};
-ghost use Rattle.machine_instructions.specs.type_instructions.Leaving.{LeavesNew};
+ghost use Rattle.thread_stacks.specs.Stacks.{shown_frame};
+ghost use Rattle.machine_instructions.specs.type_instructions.Leaving.{LeavesNewTop};
 
-use crate::type_instructions::leaving::{go_on, set_top};
+use crate::leaving::next_place;
 use heap::{AllocRefusal, Heap, ObjectKind};
-use linked_code::thread_stacks::Frame;
 use machine_state::{Effect, EventRefusal};
+use thread_stacks::ThreadStack;
 
 /// One more object of a kind, with so many words, which are 0.
 #[inline]
@@ -31,17 +31,25 @@ fn allocate(heap: &mut Heap, kind: ObjectKind, cells: u32) -> Result<u32, AllocR
 #[inline]
 pub(crate) fn leave_new(
     heap: &mut Heap,
-    frame: &mut Frame,
+    stack: &mut ThreadStack,
     kind: ObjectKind,
     cells: u32,
 ) -> Result<Effect, EventRefusal>
-    ensures { LeavesNew result kind cells 0 heap.old heap.new (shown_frame frame.old) (shown_frame frame.new) }
+    ensures { LeavesNewTop result kind cells 0 heap.old heap.new stack.old stack.new }
 {
-    frame.make_room(1)?;
-    let reference = allocate(heap, kind, cells)?;
-    frame.put(reference + 1);
-    go_on(frame);
-    Ok(Effect::Done)
+    let next = next_place(stack);
+    stack.replace(0, 0)?;
+    match allocate(heap, kind, cells) {
+        Ok(reference) => {
+            stack.set_top(reference + 1);
+            stack.go_on(next);
+            Ok(Effect::Done)
+        }
+        Err(refusal) => {
+            stack.pop(1);
+            Err(refusal.into())
+        }
+    }
 }
 
 /// Leaves a new object as `leave_new` does, where its word takes the place of the operand on top.
@@ -52,14 +60,15 @@ pub(crate) fn leave_new(
 #[inline]
 pub(crate) fn leave_new_on_top(
     heap: &mut Heap,
-    frame: &mut Frame,
+    stack: &mut ThreadStack,
     kind: ObjectKind,
     cells: u32,
 ) -> Result<Effect, EventRefusal>
-    ensures { LeavesNew result kind cells 1 heap.old heap.new (shown_frame frame.old) (shown_frame frame.new) }
+    ensures { LeavesNewTop result kind cells 1 heap.old heap.new stack.old stack.new }
 {
+    let next = next_place(stack);
     let reference = allocate(heap, kind, cells)?;
-    set_top(frame, reference + 1);
-    go_on(frame);
+    stack.set_top(reference + 1);
+    stack.go_on(next);
     Ok(Effect::Done)
 }

@@ -9,9 +9,9 @@ ghost use Rattle.machine_instructions.specs.type_instructions.Arrays.{MakesArray
 
 use crate::type_instructions::allocation::leave_new_on_top;
 use heap::{NarrowKind, ObjectKind};
-use linked_code::thread_stacks::ThreadStack;
 use machine_state::{Effect, EventRefusal, MachineException, Shared};
 use model::Primitive;
+use thread_stacks::ThreadStack;
 
 /// The kind of the arrays of a primitive type.
 #[inline]
@@ -37,14 +37,14 @@ fn make_array(
 ) -> Result<Effect, EventRefusal>
     ensures { (p : LinkedProgram) (t : ℕ) → MakesArray p kind t result shared.old shared.new stack.old stack.new }
 {
-    let Some(frame) = stack.frame_mut() else {
+    let Some(frame) = stack.frame() else {
         return Ok(Effect::NotEnabled);
     };
     let length = frame.operand(0);
     if length > i32::MAX.cast_unsigned() {
         return Ok(Effect::Raises(MachineException::NegativeArraySize));
     }
-    leave_new_on_top(&mut shared.heap, frame, kind, length)
+    leave_new_on_top(&mut shared.heap, stack, kind, length)
 }
 
 /// `newarray`: an array of ints, booleans, chars, bytes or shorts, which are 0.

@@ -5,12 +5,12 @@ ghost use Rattle.linked_code.specs.declared.instruction.LinkedInstruction.TheVar
 ghost use Rattle.machine_state.specs.linked_frames.Frames.{DoesOwn};
 ghost use Rattle.machine_instructions.specs.type_instructions.Words.{TestsWord, TestsInstance};
 
-use crate::type_instructions::leaving::{leave, leave_nothing};
+use crate::leaving::{leave, leave_nothing};
 use heap::Heap;
-use linked_code::thread_stacks::ThreadStack;
 use linked_code::{LinkedProgram, LinkedType};
 use machine_state::type_tests::is_object_below;
 use machine_state::{Effect, EventRefusal, MachineException, Shared};
+use thread_stacks::ThreadStack;
 
 /// Whether a word is null or that of an instance of a type.
 #[inline]
@@ -45,11 +45,11 @@ pub fn check_cast(
     ensures { (t : ℕ) → DoesOwn program.now (linked.CheckCast of) t
         (Ok result) shared.now shared.now stack.old stack.new }
 {
-    let Some(frame) = stack.frame_mut() else {
+    let Some(frame) = stack.frame() else {
         return Effect::NotEnabled;
     };
     if may_be(program, &shared.heap, frame.operand(0), of) {
-        leave_nothing(frame, 0)
+        leave_nothing(stack, 0)
     } else {
         Effect::Raises(MachineException::ClassCast)
     }
@@ -69,9 +69,9 @@ pub fn instance_of(
 ) -> Result<Effect, EventRefusal>
     ensures { (t : ℕ) → DoesOwn program.now (linked.InstanceOf of) t result shared.now shared.now stack.old stack.new }
 {
-    let Some(frame) = stack.frame_mut() else {
+    let Some(frame) = stack.frame() else {
         return Ok(Effect::NotEnabled);
     };
     let bit = instance_bit(program, &shared.heap, frame.operand(0), of);
-    leave(frame, 1, bit)
+    leave(stack, 1, bit)
 }

@@ -16,7 +16,6 @@
 mod allocation;
 mod arrays;
 mod casts;
-mod leaving;
 mod objects;
 mod stores;
 

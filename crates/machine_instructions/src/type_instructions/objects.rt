@@ -6,11 +6,11 @@ ghost use Rattle.linked_code.specs.declared.program.LinkedProgram.{LinkedProgram
 ghost use Rattle.machine_state.specs.declared.state.Shared.{Shared};
 ghost use Rattle.machine_state.specs.linked_frames.Frames.{DoesOwn};
 
+use crate::leaving::leave;
 use crate::type_instructions::allocation::leave_new;
-use crate::type_instructions::leaving::leave;
 use heap::ObjectKind;
-use linked_code::thread_stacks::ThreadStack;
 use machine_state::{Effect, EventRefusal, MachineException, Shared};
+use thread_stacks::ThreadStack;
 
 /// `ldc` of an object that is there from the start: its word, the reference and one, goes onto the stack.
 ///
@@ -22,8 +22,8 @@ pub fn load_object(stack: &mut ThreadStack, word: u32) -> Result<Effect, EventRe
     ensures { (p : LinkedProgram) (t : ℕ) (shared : Shared)
         → DoesOwn p (linked.LoadObject word) t result shared shared stack.old stack.new }
 {
-    match stack.frame_mut() {
-        Some(frame) => leave(frame, 0, word),
+    match stack.frame() {
+        Some(_frame) => leave(stack, 0, word),
         None => Ok(Effect::NotEnabled),
     }
 }
@@ -44,13 +44,13 @@ pub fn new_object(
     ensures { (p : LinkedProgram) (t : ℕ)
         → DoesOwn p (linked.New class fields) t result shared.old shared.new stack.old stack.new }
 {
-    let Some(frame) = stack.frame_mut() else {
+    let Some(_frame) = stack.frame() else {
         return Ok(Effect::NotEnabled);
     };
     let kind = ObjectKind::Instance {
         class: u32::from(class),
     };
-    leave_new(&mut shared.heap, frame, kind, u32::from(fields))
+    leave_new(&mut shared.heap, stack, kind, u32::from(fields))
 }
 
 /// `athrow`: the object of the operand on top is thrown, or a NullPointerException where that is null. The stack

@@ -6,12 +6,12 @@ ghost use Rattle.linked_code.specs.declared.instruction.LinkedInstruction.TheVar
 ghost use Rattle.machine_state.specs.linked_frames.Frames.{DoesOwn};
 ghost use Rattle.machine_instructions.specs.type_instructions.Words.{component_in, TestsStore};
 
+use crate::leaving::leave_nothing;
 use crate::type_instructions::casts::may_be;
-use crate::type_instructions::leaving::leave_nothing;
 use heap::{Heap, ObjectKind};
-use linked_code::thread_stacks::ThreadStack;
 use linked_code::{LinkedProgram, LinkedType};
 use machine_state::{Effect, MachineException, Shared};
+use thread_stacks::ThreadStack;
 
 /// The component type of an array of references.
 #[inline]
@@ -47,7 +47,7 @@ pub fn store_reference(
     ensures { (t : ℕ) → DoesOwn program.now linked.StoreReference t
         (Ok result) shared.old shared.new stack.old stack.new }
 {
-    let Some(frame) = stack.frame_mut() else {
+    let Some(frame) = stack.frame() else {
         return Effect::NotEnabled;
     };
     let (word, index) = (frame.operand(0), frame.operand(1));
@@ -61,5 +61,5 @@ pub fn store_reference(
         return Effect::Raises(MachineException::ArrayStore);
     }
     shared.heap.put_element(array, index, word);
-    leave_nothing(frame, 3)
+    leave_nothing(stack, 3)
 }

@@ -23,8 +23,8 @@ use Rattle.linked_code.specs.declared.class.LinkedConstant.{LinkedConstant}
 use Rattle.linked_code.specs.declared.program.LinkedProgram.{LinkedProgram}
 use Rattle.linked_code.specs.ClassRows.{constant_in, AreConstants}
 use Rattle.linked_code.specs.Numbers.{IsClassAt}
-use Rattle.linked_code.specs.declared.thread_stacks.entry.Phase.TheVariants as phase
-use Rattle.linked_code.specs.thread_stacks.Stacks.{ShownEntry, Initialisation}
+use Rattle.thread_stacks.specs.declared.entry.Phase.TheVariants as phase
+use Rattle.thread_stacks.specs.Stacks.{ShownEntry, Initialisation}
 use Rattle.machine_state.specs.shown_objects.Shown.{ShowsStatics}
 use Rattle.machine_state.proofs.Memory.{grown_by_one, takes_by_growth}
 use Rattle.machine_state.proofs.shown_objects.Objects.{are_statics}

@@ -5,8 +5,8 @@ use Rattle.model.specs.Classes.{Program}
 use Rattle.model.specs.State as model
 use Rattle.model.specs.State.{StackOf}
 use Rattle.linked_code.specs.declared.program.LinkedProgram.{LinkedProgram}
-use Rattle.linked_code.specs.declared.thread_stacks.entry.Phase.TheVariants as phase
-use Rattle.linked_code.specs.thread_stacks.Stacks.{ShownEntry, Invocation, Initialisation, in_phase}
+use Rattle.thread_stacks.specs.declared.entry.Phase.TheVariants as phase
+use Rattle.thread_stacks.specs.Stacks.{ShownEntry, Invocation, Initialisation, in_phase}
 use Rattle.machine_state.specs.shown_stacks.Shown.{ShowsStack}
 
 module _ (trees : Program) (p : LinkedProgram) (class : Name) (rest : StackOf ℕ) where

@@ -16,7 +16,7 @@ use Rattle.linked_code.specs.Numbers.{IsClassAt, IsClassIf, IsMethodAt}
 use Rattle.linked_code.specs.Linked.{no_offset, offset_in}
 use Rattle.linked_code.specs.ClassRows.{IsInitialiser, IsLinkedClass}
 use Rattle.linked_code.specs.Methods.{IsMethodBody, IsCode}
-use Rattle.linked_code.specs.declared.thread_stacks.frame.Callee.{Callee}
+use Rattle.thread_stacks.specs.declared.entry.Callee.{Callee}
 use Rattle.machine_state.specs.shown_stacks.Shown.{IsCallee, starts_of}
 use Rattle.machine_state.specs.Shown.{IsProgram}
 use Rattle.machine_state.specs.method_selection.Rows.{HasClass, HasMethod, AreClassesRead, AreMethodsRead}

@@ -16,11 +16,11 @@ use Rattle.heap.specs.Heap.{Heap}
 use Rattle.heap.specs.monitor_events.Events.{Enters}
 use Rattle.machine_state.specs.limits_at_words.FatLocks.{IsOneOf}
 use Rattle.linked_code.specs.declared.program.LinkedProgram.{LinkedProgram}
-use Rattle.linked_code.specs.declared.thread_stacks.frame.Callee.{Callee}
-use Rattle.linked_code.specs.thread_stacks.Stacks as shown
-use Rattle.linked_code.specs.thread_stacks.Stacks.{ShownEntry, frame_count, begun, called, called_over, under_top, without}
+use Rattle.thread_stacks.specs.declared.entry.Callee.{Callee}
+use Rattle.thread_stacks.specs.Stacks as shown
+use Rattle.thread_stacks.specs.Stacks.{ShownEntry, frame_count, begun, called}
 use Rattle.machine_state.specs.shown_stacks.Shown.{ShowsStack, IsCallee}
-use Rattle.machine_state.proofs.shown_stacks.Laws.{counted, begin, call, two_steps}
+use Rattle.machine_state.proofs.shown_stacks.Laws.{counted, begin, call}
 use Rattle.machine_state.specs.declared.answers.MachineException.TheVariants as exception
 use Rattle.machine_state.specs.declared.answers.Effect.{Effect}
 use Rattle.machine_state.specs.declared.answers.Effect.TheVariants as effect
@@ -164,16 +164,14 @@ same_shown : (trees : Program) (p : LinkedProgram) (to from : List ShownEntry) (
     → ShowsStack trees p to own
 same_shown trees p to from own same s = subst (λ (st : List ShownEntry). ShowsStack trees p st own) (sym same) s
 
--- it is put over its caller, and then its arguments are taken
-pub two_steps_shown : (trees : Program) (p : LinkedProgram) (from over to : List ShownEntry) (frame : FrameOf ℕ) (rest : StackOf ℕ)
+-- the frame of a callee over its caller
+pub calls_shown : (trees : Program) (p : LinkedProgram) (from to : List ShownEntry) (frame : FrameOf ℕ) (rest : StackOf ℕ)
     → ShowsStack trees p from (Invocation frame ∷ rest)
-    → (callee : Callee) (method : Member) (body : Body) → IsCallee trees p callee method body → (count : ℕ)
-    → over ≡ called_over callee count from → to ≡ under_top (without count) over
+    → (callee : Callee) (method : Member) (body : Body) → IsCallee trees p callee method body → (count : ℕ) → to ≡ called callee count from
     → ShowsStack trees p to
     (Invocation (frame_with words method (reverse (take count frame.place.slots.stack)) callee.entered body) ∷ Invocation (at_call frame (drop count frame.place.slots.stack)) ∷ rest)
-two_steps_shown trees p from over to frame rest s callee method body is count first second =
-    same_shown trees p to (called callee count from) _ (second ∙ ap (under_top (without count)) first ∙ (two_steps callee count from).0)
-    (called_shown trees p from frame rest s callee method body is count)
+calls_shown trees p from to frame rest s callee method body is count same =
+    same_shown trees p to (called callee count from) _ same (called_shown trees p from frame rest s callee method body is count)
 
 -- the frame of a method that no frame calls
 pub first_shown : (trees : Program) (p : LinkedProgram) (from to : List ShownEntry) (own : StackOf ℕ) → ShowsStack trees p from own

@@ -18,7 +18,7 @@ use Rattle.linked_code.specs.declared.types.Element.TheVariants as element
 use Rattle.linked_code.specs.declared.types.LinkedType.{LinkedType}
 use Rattle.model.specs.Primitives.{primitive_of}
 use Rattle.linked_code.specs.Numbers.{IsClassAt, IsMethodAt, IsType, IsTypeAt, IsTypeWith}
-use Rattle.linked_code.specs.thread_stacks.Stacks.{ShownFrame, ShownEntry, Invocation, Initialisation}
+use Rattle.thread_stacks.specs.Stacks.{ShownFrame, ShownEntry, Invocation, Initialisation}
 use Rattle.machine_state.specs.shown_objects.Shown.{names_of, words_in, cells_of, IsKindOf, ShowsObjects}
 use Rattle.machine_state.specs.shown_stacks.Shown.{ShowsFrame, ShowsEntry, ShowsStack}
 use Rattle.machine_state.specs.declared.state.Shared.{Shared}

@@ -2,8 +2,8 @@
 use Rattle.std.proofs.Common.{◌≡◌, refl, ℕ, suc, [], ◌∷◌, ◌++◌, take, drop, reverse, sym, ap, ◌∙◌, ◌+◌, arith}
 use Rattle.model.specs.State as model
 use Rattle.model.specs.Frames.{locals_with}
-use Rattle.linked_code.specs.thread_stacks.Stacks.{Invocation, Initialisation, filled, frame_count}
-use Rattle.machine_state.specs.shown_stacks.Shown.{AreCounted, IsBeginShown, IsCallShown, IsCallOverShown, IsCallInTwoSteps, IsMoveShown, IsReturnShown, IsCatchShown, IsInitialisationShown, IsPhaseShown}
+use Rattle.thread_stacks.specs.Stacks.{Invocation, Initialisation, filled, frame_count}
+use Rattle.machine_state.specs.shown_stacks.Shown.{AreCounted, IsBeginShown, IsCallShown, IsMoveShown, IsReturnShown, IsCatchShown, IsInitialisationShown, IsPhaseShown}
 
 one_more : (n : ℕ) → 1 + n ≡ suc n
 one_more n = omega arith
@@ -60,13 +60,6 @@ call files p f others g stack s callee method body is count = (
     s.1,
   ),
 )
-
-pub call_over : IsCallOverShown
-call_over files p f others g stack s callee method body is count = ((call files p f others g stack s callee method body is count).0, s)
-
-pub two_steps : IsCallInTwoSteps
-two_steps callee count [] = (refl, refl)
-two_steps callee count (entry ∷ stack) = (refl, refl)
 
 pub move_on : IsMoveShown
 move_on files p f g s place offset is =

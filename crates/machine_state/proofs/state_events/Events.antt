@@ -28,7 +28,7 @@ use Rattle.run_laws.proofs.typed_threads.Threads.{tables_counted}
 use Rattle.run_laws.proofs.typed_threads.EndsAtWords.{ends_kept}
 use Rattle.heap.specs.Heap.{Heap}
 use Rattle.linked_code.specs.declared.program.LinkedProgram.{LinkedProgram}
-use Rattle.linked_code.specs.thread_stacks.Stacks.{ShownEntry}
+use Rattle.thread_stacks.specs.Stacks.{ShownEntry}
 use Rattle.machine_state.specs.shown_stacks.Shown.{ShowsStack}
 use Rattle.machine_state.specs.declared.answers.Answer.{Answer}
 use Rattle.machine_state.specs.declared.answers.Answer.TheVariants as answer

@@ -12,9 +12,9 @@ use Rattle.model.specs.Step.{before, failed, initialisation_event, initialiser_e
 use Rattle.linked_code.specs.declared.program.LinkedProgram.{LinkedProgram}
 use Rattle.linked_code.specs.Numbers.{IsClassAt, IsClassIf, IsMethodAt}
 use Rattle.linked_code.specs.ClassRows.{IsInitialiser}
-use Rattle.linked_code.specs.declared.thread_stacks.entry.Phase.{Phase as LinkedPhase}
-use Rattle.linked_code.specs.declared.thread_stacks.frame.Callee.{Callee}
-use Rattle.linked_code.specs.thread_stacks.Stacks.{ShownEntry}
+use Rattle.thread_stacks.specs.declared.entry.Phase.{Phase as LinkedPhase}
+use Rattle.thread_stacks.specs.declared.entry.Callee.{Callee}
+use Rattle.thread_stacks.specs.Stacks.{ShownEntry}
 use Rattle.machine_state.specs.shown_stacks.Shown.{ShowsStack, IsCallee, phase_of}
 use Rattle.machine_state.specs.declared.answers.Answer.{Answer}
 use Rattle.machine_state.specs.declared.refusals.EventRefusal.{EventRefusal}

@@ -6,7 +6,7 @@ use Rattle.model.specs.LimitStands.{Bounds}
 use Rattle.model.specs.Worlds.{with_pending}
 use Rattle.model.specs.Step.{SteppedOf, PartOf, on_to}
 use Rattle.linked_code.specs.declared.program.LinkedProgram.{LinkedProgram}
-use Rattle.linked_code.specs.thread_stacks.Stacks.{ShownEntry}
+use Rattle.thread_stacks.specs.Stacks.{ShownEntry}
 use Rattle.machine_state.specs.shown_stacks.Shown.{ShowsStack}
 use Rattle.machine_state.specs.declared.answers.Answer.{Answer}
 use Rattle.machine_state.specs.declared.answers.Effect.{Effect}

@@ -16,10 +16,10 @@ use Rattle.linked_code.specs.declared.method.MethodBody.TheVariants as body
 use Rattle.linked_code.specs.declared.program.LinkedProgram.{LinkedProgram}
 use Rattle.linked_code.specs.Numbers.{IsMethodAt, IsClassAt}
 use Rattle.linked_code.specs.Linked.{offset_in, no_offset}
-use Rattle.linked_code.specs.declared.thread_stacks.entry.Phase.{Phase as LinkedPhase}
-use Rattle.linked_code.specs.declared.thread_stacks.entry.Phase.TheVariants as phase
-use Rattle.linked_code.specs.declared.thread_stacks.frame.Callee.{Callee}
-use Rattle.linked_code.specs.thread_stacks.Stacks.{ShownFrame, ShownEntry, Invocation, Initialisation, begun, caught, at_place, called, called_over, under_top, without, returned, in_phase, frame_count}
+use Rattle.thread_stacks.specs.declared.entry.Phase.{Phase as LinkedPhase}
+use Rattle.thread_stacks.specs.declared.entry.Phase.TheVariants as phase
+use Rattle.thread_stacks.specs.declared.entry.Callee.{Callee}
+use Rattle.thread_stacks.specs.Stacks.{ShownFrame, ShownEntry, Invocation, Initialisation, begun, caught, at_place, called, returned, in_phase, frame_count}
 
 -- ---- places
 
@@ -82,21 +82,6 @@ IsCallShown =
     → (count : ℕ)
     → ShowsStack files p (called callee count (Invocation shown ∷ others))
     (model.Invocation (frame_with words method (reverse (take count frame.place.slots.stack)) callee.entered body) ∷ model.Invocation (at_call frame (drop count frame.place.slots.stack)) ∷ stack)
-
--- the frame of the callee stands over its caller, which still has its operands
-abbrev pub IsCallOverShown : Type 0
-IsCallOverShown =
-    (files : Program) (p : LinkedProgram) (shown : ShownFrame) (others : List ShownEntry) (frame : FrameOf ℕ) (stack : StackOf ℕ) → ShowsStack files p (Invocation shown ∷ others) (model.Invocation frame ∷ stack)
-    → (callee : Callee) (method : Member) (body : Body) → IsCallee files p callee method body
-    → (count : ℕ)
-    → ShowsStack files p (called_over callee count (Invocation shown ∷ others))
-    (model.Invocation (frame_with words method (reverse (take count frame.place.slots.stack)) callee.entered body) ∷ model.Invocation frame ∷ stack)
-
--- a call is a frame put over its caller, whose arguments are taken from it after that; without the frame the stack is as it was
-abbrev pub IsCallInTwoSteps : Type 0
-IsCallInTwoSteps =
-    (callee : Callee) (count : ℕ) (shown : List ShownEntry)
-    → (under_top (without count) (called_over callee count shown) ≡ called callee count shown) × (drop 1 (called_over callee count shown) ≡ shown)
 
 -- a frame that goes on at a place
 abbrev pub IsMoveShown : Type 0

@@ -13,7 +13,7 @@ use Rattle.run_laws.specs.monitor_counts.Counts.{is_inflated, AreMonitorsCounted
 use Rattle.machine_state.specs.limits_at_words.FatLocks.{AreFlags}
 use Rattle.run_laws.specs.typed_threads.Ends.{AreEndsThrowable}
 use Rattle.linked_code.specs.declared.program.LinkedProgram.{LinkedProgram}
-use Rattle.linked_code.specs.thread_stacks.Stacks.{ShownEntry}
+use Rattle.thread_stacks.specs.Stacks.{ShownEntry}
 use Rattle.machine_state.specs.shown_stacks.Shown.{ShowsStack}
 use Rattle.machine_state.specs.declared.answers.Answer.{Answer}
 use Rattle.machine_state.specs.declared.answers.Answer.TheVariants as answer

@@ -4,8 +4,8 @@ ghost use Rattle.std.specs.Prelude.{◌≡◌, None, IfSome};
 ghost use Rattle.machine_state.specs.class_initialisation.Steps.{IsBefore, IsInitialiserAt, IsCalleeAt, IsInitialiserBy};
 
 use crate::method_selection::{class_at, classes_are_read, method_at, methods_are_read};
-use linked_code::thread_stacks::Callee;
 use linked_code::{LinkedProgram, MethodBody};
+use thread_stacks::Callee;
 
 /// The class that comes before a class (JVMS 5.5, step 7): its superclass; an interface has none to wait for.
 pub(crate) fn class_before(program: &LinkedProgram, class: u16) -> Option<u16>

@@ -8,7 +8,7 @@ use crate::method_selection::{class_at, classes_are_read};
 use crate::raised_exceptions::raise;
 use crate::{Answer, ClassStatus, EventRefusal, MachineException, Shared};
 use linked_code::LinkedProgram;
-use linked_code::thread_stacks::{Phase, ThreadStack};
+use thread_stacks::{Phase, ThreadStack};
 
 /// A thread marks a class as its own and sets the constants; its entry stands for the steps after that (JVMS 5.5,
 /// step 6).

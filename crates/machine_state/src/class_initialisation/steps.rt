@@ -2,7 +2,7 @@
 
 ghost use Rattle.std.specs.Prelude.{◌≡◌, ◌<◌, None, drop};
 ghost use Rattle.model.specs.BuiltInNumbers.{most_threads};
-ghost use Rattle.linked_code.specs.declared.thread_stacks.entry.Phase.{Phase};
+ghost use Rattle.thread_stacks.specs.declared.entry.Phase.{Phase};
 ghost use Rattle.machine_state.specs.class_initialisation.Statuses.{IsStatusSet};
 ghost use Rattle.machine_state.specs.class_initialisation.Steps.{Calls, CallsOver, Fails, Initialises, RunsInitialiser};
 
@@ -13,7 +13,7 @@ use crate::invocations::first_call;
 use crate::raised_exceptions::{apply, raise};
 use crate::{Answer, ClassStatus, EventRefusal, MachineException, Shared};
 use linked_code::LinkedProgram;
-use linked_code::thread_stacks::{Callee, Phase, ThreadStack};
+use thread_stacks::{Callee, Phase, ThreadStack};
 
 /// The class on top gets a status, and its entry goes.
 fn end(shared: &mut Shared, stack: &mut ThreadStack, class: u16, status: ClassStatus)

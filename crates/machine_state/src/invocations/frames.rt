@@ -1,13 +1,24 @@
 //! New frames: of a call, and of the first method of a thread.
 
-ghost use Rattle.std.specs.Prelude.{◌<◌};
+ghost use Rattle.std.specs.Prelude.{◌≡◌, ◌<◌};
 ghost use Rattle.model.specs.BuiltInNumbers.{most_threads};
+ghost use Rattle.thread_stacks.specs.Stacks.{operands_on};
 ghost use Rattle.machine_state.specs.invocations.Entering.{IsThere};
 ghost use Rattle.machine_state.specs.invocations.Calls.{DoesCall, DoesFirstCall};
 
 use crate::invocations::entering::{enter_for, may_begin};
 use crate::{Effect, EventRefusal, MachineException, Shared};
-use linked_code::thread_stacks::{Callee, ThreadStack};
+use thread_stacks::{Callee, ThreadStack};
+
+/// How many operands the frame on top has.
+fn operand_count(stack: &ThreadStack) -> usize
+    ensures { result ≡ operands_on stack.now }
+{
+    match stack.frame() {
+        Some(frame) => frame.operands.len(),
+        None => 0,
+    }
+}
 
 /// The frame on top calls a method with code: a new frame stands over it, whose first local variables are its last
 /// operands, so many as the method has parameters and a receiver, and they are taken from it. The thread enters the
@@ -35,14 +46,12 @@ pub fn call(
     if !may_begin(&shared.heap, thread, callee.entered) {
         return Ok(Effect::NotEnabled);
     }
-    stack.call_over(callee, parameters)?;
+    let taken = parameters.min(operand_count(stack));
+    stack.call(callee, parameters)?;
     match enter_for(shared, thread, callee.entered) {
-        Ok(()) => {
-            stack.pop_under(parameters);
-            Ok(Effect::Done)
-        }
+        Ok(()) => Ok(Effect::Done),
         Err(refusal) => {
-            stack.drop_top();
+            stack.take_back(taken);
             Err(refusal)
         }
     }

@@ -7,10 +7,8 @@
 //!   its method, in each state whose words are those of a well-typed one (`frames_stand`). That instruction finds its
 //!   operands and room for what it leaves (`operands_are_there`). A frame that goes on at a place shows the frame of
 //!   the definitions at the offset of that place (`moves_are_shown`). An event that takes nothing is done where the
-//!   world after it is shown (`free_events_are_done`). `instruction_at` answers the instruction. `replace_operands`
-//!   takes memory only where there are more operands then.
+//!   world after it is shown (`free_events_are_done`). `instruction_at` answers the instruction.
 
-mod replacing;
 mod standing;
 
 ghost use Rattle.machine_state.specs.linked_frames.Frames.{AreFramesStanding, AreTopsShown, AreOperandsThere};
@@ -18,7 +16,6 @@ ghost use Rattle.machine_state.specs.linked_frames.Moves.{AreMovesShown, AreFree
 
 use crate::method_selection::methods_are_read;
 use linked_code::{places_are_filled, places_are_next};
-pub use replacing::replace_operands;
 pub use standing::instruction_at;
 
 /// The frame on top of a thread that runs, with no exception pending, stands at an instruction of the linked code of

@@ -3,8 +3,8 @@
 ghost use Rattle.machine_state.specs.linked_frames.Frames.{IsInstruction};
 
 use crate::method_selection::method_at;
-use linked_code::thread_stacks::ThreadStack;
 use linked_code::{LinkedInstruction, LinkedProgram, MethodBody};
+use thread_stacks::ThreadStack;
 
 /// The instruction at which the frame on top of a stack stands; none where there is no frame on top, or where it stands
 /// behind the end of its code, which a thread that runs never does.

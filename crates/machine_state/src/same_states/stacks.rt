@@ -1,13 +1,13 @@
 //! Stacks, entry by entry. A stack that is compared is used up.
 
 ghost use Rattle.std.specs.Prelude.{◌≡◌, ◌↔◌, IsTrue, take};
-ghost use Rattle.linked_code.specs.thread_stacks.Stacks.{shown_frame};
+ghost use Rattle.thread_stacks.specs.Stacks.{shown_frame};
 
 use crate::same_states::numbers::{same_numbers, same_reference};
-use linked_code::thread_stacks::{Frame, ThreadStack};
+use thread_stacks::{Frame, ThreadStack};
 
 /// Whether two frames are of the same method, at the same place and with the same words.
-fn same_frame(one: &Frame, other: &Frame) -> bool
+fn same_frame(one: &Frame<'_>, other: &Frame<'_>) -> bool
     ensures { IsTrue result ↔ (shown_frame one.now ≡ shown_frame other.now) }
 {
     if one.method != other.method || one.place != other.place {
@@ -16,13 +16,10 @@ fn same_frame(one: &Frame, other: &Frame) -> bool
     if !same_reference(one.entered, other.entered) {
         return false;
     }
-    if !same_numbers(one.locals.as_slice(), other.locals.as_slice()) {
+    if !same_numbers(one.locals, other.locals) {
         return false;
     }
-    same_numbers(
-        one.last_operands(one.operand_count()),
-        other.last_operands(other.operand_count()),
-    )
+    same_numbers(one.operands, other.operands)
 }
 
 /// Whether the same is on top of both stacks.
@@ -30,7 +27,7 @@ fn same_top(one: &ThreadStack, other: &ThreadStack) -> bool
     ensures { IsTrue result ↔ (take 1 one.now ≡ take 1 other.now) }
 {
     match (one.frame(), other.frame()) {
-        (Some(one), Some(other)) => same_frame(one, other),
+        (Some(one), Some(other)) => same_frame(&one, &other),
         (None, None) => one.top() == other.top(),
         _ => false,
     }

@@ -9,7 +9,7 @@ use Rattle.linked_code.specs.declared.program.LinkedProgram.{LinkedProgram}
 use Rattle.model.specs.declared.primitive.Primitive.{Primitive}
 use Rattle.linked_code.specs.declared.types.LinkedType.{LinkedType}
 use Rattle.linked_code.specs.Linked.{IsLinked}
-use Rattle.linked_code.specs.thread_stacks.Stacks.{ShownEntry}
+use Rattle.thread_stacks.specs.Stacks.{ShownEntry}
 use Rattle.machine_state.specs.declared.answers.Effect.{Effect}
 use Rattle.machine_state.specs.declared.refusals.EventRefusal.{EventRefusal}
 use Rattle.machine_state.specs.declared.state.Shared.{Shared}

@@ -16,7 +16,7 @@ use Rattle.machine_state.proofs.limits_at_words.FatLocks.{flags_kept}
 use Rattle.machine_state.proofs.limits_at_words.Limits.{limits_same}
 use Rattle.run_laws.specs.monitor_counts.Counts.{is_inflated}
 use Rattle.run_laws.proofs.monitor_counts.Runs.{openings_counted}
-use Rattle.linked_code.specs.thread_stacks.Stacks.{ShownEntry}
+use Rattle.thread_stacks.specs.Stacks.{ShownEntry}
 use Rattle.run_laws.proofs.typed_runs.Opened.{opening_typed}
 use Rattle.run_laws.proofs.typed_threads.EndsAtWords.{opening_ends}
 use Rattle.run_laws.proofs.word_runs.OpenedWords.{opened_words}

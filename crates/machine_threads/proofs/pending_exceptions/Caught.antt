@@ -21,7 +21,7 @@ use Rattle.run_laws.proofs.word_runs.InCode.{in_code}
 use Rattle.run_laws.proofs.typed_threads.Threads.{tables_counted}
 use Rattle.linked_code.specs.declared.program.LinkedProgram.{LinkedProgram}
 use Rattle.linked_code.specs.declared.types.LinkedType.{LinkedType}
-use Rattle.linked_code.specs.thread_stacks.Stacks.{ShownFrame, ShownEntry, Invocation, caught}
+use Rattle.thread_stacks.specs.Stacks.{ShownFrame, ShownEntry, Invocation, caught}
 use Rattle.machine_state.specs.shown_objects.Shown.{ShowsObjects}
 use Rattle.machine_state.specs.shown_stacks.Shown.{ShowsFrame, ShowsStack, offset_at}
 use Rattle.machine_state.proofs.shown_stacks.Laws.{catch}

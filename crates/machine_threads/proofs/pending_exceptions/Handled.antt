@@ -16,7 +16,7 @@ use Rattle.linked_code.specs.declared.method.MethodBody.TheVariants as body
 use Rattle.linked_code.specs.declared.program.LinkedProgram.{LinkedProgram}
 use Rattle.linked_code.specs.Linked.{offset_in}
 use Rattle.linked_code.specs.Methods.{IsMethodBody, IsCode}
-use Rattle.linked_code.specs.thread_stacks.Stacks.{ShownFrame}
+use Rattle.thread_stacks.specs.Stacks.{ShownFrame}
 use Rattle.machine_state.specs.shown_objects.Shown.{ShowsObjects}
 use Rattle.machine_state.specs.shown_stacks.Shown.{ShowsFrame, offset_at}
 use Rattle.machine_state.specs.method_selection.Rows.{AreMethodsRead, HasMethod}

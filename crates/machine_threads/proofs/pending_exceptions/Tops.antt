@@ -7,9 +7,9 @@ use Rattle.model.specs.State.{StackOf, StateOf}
 use Rattle.model.specs.Step.{NotEnabled}
 use Rattle.linked_code.specs.declared.program.LinkedProgram.{LinkedProgram}
 use Rattle.linked_code.specs.Numbers.{IsClassAt}
-use Rattle.linked_code.specs.declared.thread_stacks.entry.Phase.{Phase}
-use Rattle.linked_code.specs.declared.thread_stacks.stack.Top.TheVariants as top
-use Rattle.linked_code.specs.thread_stacks.Stacks.{ShownEntry, Invocation, Initialisation, top_of}
+use Rattle.thread_stacks.specs.declared.entry.Phase.{Phase}
+use Rattle.thread_stacks.specs.declared.entry.Top.TheVariants as top
+use Rattle.thread_stacks.specs.Stacks.{ShownEntry, Invocation, Initialisation, top_of}
 use Rattle.machine_state.specs.declared.answers.Answer.{Answer}
 use Rattle.machine_state.specs.declared.refusals.EventRefusal.{EventRefusal}
 use Rattle.machine_state.specs.declared.state.Shared.{Shared}

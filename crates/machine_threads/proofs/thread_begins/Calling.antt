@@ -12,8 +12,8 @@ use Rattle.model.specs.Step.{initial_class, main_frame, pushed}
 use Rattle.run_laws.proofs.laws.LinkedOf.{linked_of}
 use Rattle.linked_code.specs.declared.program.LinkedProgram.{LinkedProgram}
 use Rattle.linked_code.specs.Numbers.{IsClassAt}
-use Rattle.linked_code.specs.declared.thread_stacks.frame.Callee.{Callee}
-use Rattle.linked_code.specs.thread_stacks.Stacks.{ShownEntry}
+use Rattle.thread_stacks.specs.declared.entry.Callee.{Callee}
+use Rattle.thread_stacks.specs.Stacks.{ShownEntry}
 use Rattle.run_laws.proofs.typed_threads.Threads.{tables_counted}
 use Rattle.machine_state.specs.declared.state.Shared.{Shared}
 use Rattle.machine_state.specs.Shown.{IsProgram, IsLent}

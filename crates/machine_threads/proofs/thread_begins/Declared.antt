@@ -17,7 +17,7 @@ use Rattle.linked_code.specs.declared.method.MethodBody.TheVariants as body
 use Rattle.linked_code.specs.declared.program.LinkedProgram.{LinkedProgram}
 use Rattle.linked_code.specs.Numbers.{IsMethodAt, member_of, members_of, methods_of}
 use Rattle.linked_code.specs.Methods.{IsMethodBody}
-use Rattle.linked_code.specs.declared.thread_stacks.frame.Callee.{Callee}
+use Rattle.thread_stacks.specs.declared.entry.Callee.{Callee}
 use Rattle.machine_state.specs.Shown.{IsProgram}
 use Rattle.machine_state.specs.method_selection.Rows.{AreMethodsRead}
 use Rattle.machine_state.specs.method_selection.Selected.{IsChosenBy}

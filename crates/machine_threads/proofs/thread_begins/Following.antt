@@ -9,7 +9,7 @@ use Rattle.model.specs.Worlds.{thread_at}
 use Rattle.model.specs.ClassInitialisation.{Look, IsReady, look_at}
 use Rattle.model.specs.Step.{initial_class, main_frame, main_event, needing, begin_event, run_event}
 use Rattle.linked_code.specs.declared.program.LinkedProgram.{LinkedProgram}
-use Rattle.linked_code.specs.thread_stacks.Stacks.{ShownEntry}
+use Rattle.thread_stacks.specs.Stacks.{ShownEntry}
 use Rattle.machine_state.specs.declared.answers.Answer.{Answer}
 use Rattle.machine_state.specs.declared.refusals.EventRefusal.{EventRefusal}
 use Rattle.machine_state.specs.declared.state.Shared.{Shared}

@@ -14,8 +14,8 @@ use Rattle.model.specs.Worlds.{no_thread, thread_at, with_begun}
 use Rattle.model.specs.Step.{pushed, raised, run_of, run_frame}
 use Rattle.heap.specs.java_threads.Table as table
 use Rattle.linked_code.specs.declared.program.LinkedProgram.{LinkedProgram}
-use Rattle.linked_code.specs.declared.thread_stacks.frame.Callee.{Callee}
-use Rattle.linked_code.specs.thread_stacks.Stacks.{ShownEntry}
+use Rattle.thread_stacks.specs.declared.entry.Callee.{Callee}
+use Rattle.thread_stacks.specs.Stacks.{ShownEntry}
 use Rattle.machine_state.proofs.shown_objects.Objects.{counted}
 use Rattle.run_laws.specs.typed_threads.Objects.{IsInstance}
 use Rattle.run_laws.proofs.typed_threads.Threads.{tables_counted, thread_objects}

@@ -15,7 +15,7 @@ use Rattle.heap.specs.java_threads.Table.{ThreadTable}
 use Rattle.heap.specs.java_threads.Table as table
 use Rattle.heap.specs.monitor_events.Tables.{shared, ThreadsBecome}
 use Rattle.linked_code.specs.declared.program.LinkedProgram.{LinkedProgram}
-use Rattle.linked_code.specs.thread_stacks.Stacks.{ShownEntry}
+use Rattle.thread_stacks.specs.Stacks.{ShownEntry}
 use Rattle.machine_state.specs.shown_stacks.Shown.{ShowsStack}
 use Rattle.machine_state.specs.declared.state.Shared.{Shared}
 use Rattle.machine_state.specs.declared.refusals.EventRefusal.{EventRefusal}

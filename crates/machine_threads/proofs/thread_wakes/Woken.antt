@@ -24,7 +24,7 @@ use Rattle.heap.specs.monitor_events.Events.{Relocks, relocked}
 use Rattle.heap.proofs.monitor_events.Ending.{written_twice}
 use Rattle.machine_state.proofs.entries.Changing.{both_shown}
 use Rattle.linked_code.specs.declared.program.LinkedProgram.{LinkedProgram}
-use Rattle.linked_code.specs.thread_stacks.Stacks.{ShownEntry, Invocation, Initialisation, on_top, moved, returned}
+use Rattle.thread_stacks.specs.Stacks.{ShownEntry, Invocation, Initialisation, on_top, moved, returned}
 use Rattle.machine_state.specs.shown_stacks.Shown.{ShowsStack}
 use Rattle.machine_state.proofs.shown_stacks.Laws.{return}
 use Rattle.machine_state.specs.declared.answers.Answer.{Answer}

@@ -9,7 +9,7 @@ use Rattle.model.specs.Worlds.{may_enter, with_entry, entry_cost}
 use Rattle.model.specs.Frames as frames
 use Rattle.model.specs.Step.{SteppedOf, Next, PartOf, part, is_enabled_by, enabled_if, raised, entering, pushed, become}
 use Rattle.linked_code.specs.declared.program.LinkedProgram.{LinkedProgram}
-use Rattle.linked_code.specs.thread_stacks.Stacks.{ShownEntry, frame_count}
+use Rattle.thread_stacks.specs.Stacks.{ShownEntry, frame_count}
 use Rattle.machine_state.specs.shown_stacks.Shown.{ShowsStack}
 use Rattle.machine_state.proofs.shown_stacks.Laws.{counted}
 use Rattle.machine_state.specs.declared.state.Shared.{Shared}

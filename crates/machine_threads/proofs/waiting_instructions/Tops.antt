@@ -20,7 +20,7 @@ use Rattle.linked_code.specs.declared.instruction.LinkedInstruction.TheVariants 
 use Rattle.linked_code.specs.declared.method.LinkedCode.{LinkedCode}
 use Rattle.linked_code.specs.declared.program.LinkedProgram.{LinkedProgram}
 use Rattle.run_laws.specs.word_operands.Operands.{word_meets}
-use Rattle.linked_code.specs.thread_stacks.Stacks.{ShownEntry}
+use Rattle.thread_stacks.specs.Stacks.{ShownEntry}
 use Rattle.machine_state.specs.declared.state.Shared.{Shared}
 use Rattle.heap.specs.monitor_events.Events.{SaysMayEnter}
 use Rattle.machine_state.specs.linked_frames.Frames.{IsRunning, event_of}

@@ -9,7 +9,7 @@ use Rattle.model.specs.State.{FrameOf, StackOf, WorldOf}
 use Rattle.model.specs.Step.{on_to}
 use Rattle.model.specs.Worlds.{with_caught}
 use Rattle.linked_code.specs.declared.program.LinkedProgram.{LinkedProgram}
-use Rattle.linked_code.specs.thread_stacks.Stacks.{ShownFrame, ShownEntry, Invocation, caught}
+use Rattle.thread_stacks.specs.Stacks.{ShownFrame, ShownEntry, Invocation, caught}
 use Rattle.machine_state.specs.shown_stacks.Shown.{ShowsFrame, ShowsStack, offset_at}
 use Rattle.machine_state.specs.declared.answers.Answer.{Answer}
 use Rattle.machine_state.specs.declared.refusals.EventRefusal.{EventRefusal}

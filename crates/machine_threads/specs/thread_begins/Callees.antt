@@ -5,7 +5,7 @@ use Rattle.model.specs.Classes.{Program, Body, body_of}
 use Rattle.model.specs.Frames.{entered_by}
 use Rattle.linked_code.specs.declared.program.LinkedProgram.{LinkedProgram}
 use Rattle.linked_code.specs.Numbers.{IsMethodAt}
-use Rattle.linked_code.specs.declared.thread_stacks.frame.Callee.{Callee}
+use Rattle.thread_stacks.specs.declared.entry.Callee.{Callee}
 use Rattle.machine_state.specs.shown_stacks.Shown.{IsCallee}
 use Rattle.machine_state.specs.Shown.{IsProgram}
 

@@ -10,8 +10,8 @@ use Rattle.heap.specs.java_threads.Table.{thread_at as row_at}
 use Rattle.linked_code.specs.declared.instruction.LinkedInstruction.{LinkedInstruction}
 use Rattle.linked_code.specs.declared.program.LinkedProgram.{LinkedProgram}
 use Rattle.machine_state.specs.linked_frames.Frames.{IsInstruction}
-use Rattle.linked_code.specs.declared.thread_stacks.stack.Top.TheVariants as top
-use Rattle.linked_code.specs.thread_stacks.Stacks.{ShownEntry, top_of}
+use Rattle.thread_stacks.specs.declared.entry.Top.TheVariants as top
+use Rattle.thread_stacks.specs.Stacks.{ShownEntry, top_of}
 use Rattle.machine_state.specs.declared.answers.Answer.{Answer}
 use Rattle.machine_state.specs.declared.refusals.EventRefusal.{EventRefusal}
 use Rattle.machine_state.specs.declared.state.Shared.{Shared}

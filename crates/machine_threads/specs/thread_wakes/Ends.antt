@@ -5,7 +5,7 @@ use Rattle.model.specs.State.{WorldOf}
 use Rattle.model.specs.LimitStands.{Bounds}
 use Rattle.model.specs.Step.{SteppedOf, PartOf, with_end, settled}
 use Rattle.linked_code.specs.declared.program.LinkedProgram.{LinkedProgram}
-use Rattle.linked_code.specs.thread_stacks.Stacks.{ShownEntry}
+use Rattle.thread_stacks.specs.Stacks.{ShownEntry}
 use Rattle.heap.specs.monitor_events.Tables.{BothBecome}
 use Rattle.machine_state.specs.declared.state.Shared.{Shared}
 use Rattle.machine_state.specs.Events.{IsDone}

@@ -6,7 +6,7 @@ use Rattle.model.specs.State.{WakeCause, Relock, StackOf, StateOf}
 use Rattle.model.specs.LimitStands.{Bounds}
 use Rattle.model.specs.Step.{thread_at, relock_event}
 use Rattle.linked_code.specs.declared.program.LinkedProgram.{LinkedProgram}
-use Rattle.linked_code.specs.thread_stacks.Stacks.{ShownEntry}
+use Rattle.thread_stacks.specs.Stacks.{ShownEntry}
 use Rattle.machine_state.specs.declared.answers.Answer.{Answer}
 use Rattle.machine_state.specs.declared.refusals.EventRefusal.{EventRefusal}
 use Rattle.machine_state.specs.declared.state.Shared.{Shared}

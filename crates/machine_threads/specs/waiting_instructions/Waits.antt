@@ -15,7 +15,7 @@ use Rattle.linked_code.specs.declared.method.LinkedCode.{LinkedCode}
 use Rattle.linked_code.specs.declared.program.LinkedProgram.{LinkedProgram}
 use Rattle.linked_code.specs.Numbers.{IsClassAt}
 use Rattle.machine_state.specs.linked_frames.Frames.{IsRunning, event_of}
-use Rattle.linked_code.specs.thread_stacks.Stacks.{ShownEntry}
+use Rattle.thread_stacks.specs.Stacks.{ShownEntry}
 use Rattle.machine_state.specs.declared.state.Shared.{Shared}
 use Rattle.machine_threads.specs.declared.waiting_instructions.kinds.Standing.{Standing}
 use Rattle.machine_threads.specs.declared.waiting_instructions.kinds.Standing.TheVariants as standing

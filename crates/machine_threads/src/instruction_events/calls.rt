@@ -5,12 +5,12 @@ ghost use Rattle.model.specs.BuiltInNumbers.{most_threads};
 ghost use Rattle.machine_state.specs.linked_frames.Frames.{CanRun, DoesInstruction};
 
 use crate::instruction_events::own::own_instruction;
-use linked_code::thread_stacks::ThreadStack;
 use linked_code::{LinkedInstruction, LinkedProgram};
 use machine_instructions::called_methods::{
     invoke_interface, invoke_special, invoke_static, invoke_virtual, println,
 };
 use machine_state::{Effect, EventRefusal, Shared};
+use thread_stacks::ThreadStack;
 
 /// Does an instruction. One that calls nothing picks nothing.
 pub(crate) fn any_instruction(

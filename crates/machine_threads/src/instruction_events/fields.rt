@@ -2,12 +2,12 @@
 
 ghost use Rattle.machine_threads.specs.instruction_events.Doing.{DoesFieldOrLocal};
 
-use linked_code::thread_stacks::ThreadStack;
 use linked_code::{LinkedInstruction, LinkedProgram};
 use machine_instructions::field_instructions::{get_field, get_static, put_field, put_static};
 use machine_instructions::local_instructions::local_instruction;
 use machine_state::{Effect, EventRefusal, Shared};
 use model::Primitive;
+use thread_stacks::ThreadStack;
 
 /// Does an instruction on a field, or one that touches its frame alone.
 #[inline]

@@ -3,10 +3,10 @@
 ghost use Rattle.machine_threads.specs.instruction_events.Doing.{ComesFirst};
 
 use crate::instruction_needs::class_needed;
-use linked_code::thread_stacks::ThreadStack;
 use linked_code::{LinkedInstruction, LinkedProgram};
 use machine_state::class_initialisation::need_class;
 use machine_state::{Answer, EventRefusal, Shared, instructions_are_done};
+use thread_stacks::ThreadStack;
 
 /// What comes before the instruction at which a thread stands: the class that it needs (JVMS 5.5). It answers nothing
 /// where the event is what the instruction does, and nothing has changed; else it answers what became of the event.

@@ -24,5 +24,5 @@ mod fields;
 mod first;
 mod own;
 
-pub use at_once::instruction_at_once;
+pub use at_once::{frame_at_once, instruction_at_once};
 pub use events::{instruction_event, known_instruction_event};

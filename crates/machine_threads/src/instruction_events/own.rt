@@ -5,7 +5,6 @@ ghost use Rattle.machine_state.specs.linked_frames.Frames.{CanRun, DoesOwn};
 ghost use Rattle.machine_threads.specs.instruction_events.Families.{is_call};
 
 use crate::instruction_events::fields::field_instruction;
-use linked_code::thread_stacks::ThreadStack;
 use linked_code::{LinkedInstruction, LinkedProgram};
 use machine_instructions::field_instructions::{
     array_length, get_system_out, load_element, store_int, store_narrow,
@@ -17,6 +16,7 @@ use machine_instructions::type_instructions::{
     store_reference, throw,
 };
 use machine_state::{Effect, EventRefusal, Shared};
+use thread_stacks::ThreadStack;
 
 /// Does an instruction that calls nothing (JVMS 2.11), its class, where it needs one, being ready.
 ///

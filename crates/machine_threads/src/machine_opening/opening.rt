@@ -7,11 +7,11 @@ use crate::machine_opening::objects::opening_heap;
 use crate::machine_opening::readiness::{opening_ready, opening_statuses};
 use heap::java_threads::Threads;
 use linked_code::LinkedProgram;
-use linked_code::thread_stacks::ThreadStack;
 use machine_state::Shared;
 use model::Limits;
 use model::built_in::MAIN_THREAD_OBJECT;
 use std::alloc::{AllocError, Global};
+use thread_stacks::ThreadStack;
 
 /// The static fields, each of which is 0 or null (JVMS 2.3, 2.4).
 fn opening_statics(alloc: Global, program: &LinkedProgram) -> Result<Vec<u32>, AllocError>

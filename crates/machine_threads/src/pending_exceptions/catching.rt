@@ -1,14 +1,13 @@
 //! A frame that goes on at its handler.
 
 ghost use Rattle.std.specs.Prelude.{◌≡◌, ◌+◌, ◌<◌, ◌^◌, length, OnOk, OnErr};
-ghost use Rattle.linked_code.specs.thread_stacks.Stacks.{shown_frame, caught};
+ghost use Rattle.thread_stacks.specs.Stacks.{operands_on};
 ghost use Rattle.machine_threads.specs.pending_exceptions.Caught.{IsCaughtOnTop, HasNoOperand, IsCleared, Catches};
 
 use heap::Heap;
-use linked_code::thread_stacks::{Frame, ThreadStack};
-use machine_state::linked_frames::replace_operands;
 use machine_state::{Answer, EventRefusal, Shared};
 use std::alloc::AllocError;
+use thread_stacks::ThreadStack;
 
 /// The word of the reference of an object, which is one of 32 bits, or 0 where there is no such object.
 #[inline]
@@ -19,33 +18,29 @@ fn word_of(heap: &Heap, object: u32) -> u32
     if object < heap.len() { object + 1 } else { 0 }
 }
 
-/// A frame goes on at a handler, with one word alone on its stack. It takes memory only where it had no operand. On
-/// an error nothing has changed.
+/// How many operands the frame on top has.
 #[inline]
-#[tactic(auto, using(linked_code::proofs::thread_stacks::Turned::drop_all, crate::proofs::pending_exceptions::NoRoom::no_operand))]
-fn catch_in_frame(frame: &mut Frame, handler: u16, word: u32) -> Result<(), AllocError>
-    ensures ok { OnOk result (shown_frame frame.new ≡ caught handler word (shown_frame frame.old)) }
-    ensures err { OnErr result (shown_frame frame.new ≡ shown_frame frame.old) }
-    ensures none { OnErr result (length (shown_frame frame.old).operands ≡ 0) }
+fn operand_count(stack: &ThreadStack) -> usize
+    ensures { result ≡ operands_on stack.now }
 {
-    let count = frame.operand_count();
-    replace_operands(frame, count, word)?;
-    frame.go_to(handler as usize);
-    Ok(())
+    match stack.frame() {
+        Some(frame) => frame.operands.len(),
+        None => 0,
+    }
 }
 
-/// The frame on top goes on at a handler, with one word alone on its stack. On an error nothing has changed, and it
-/// has no operand.
+/// The frame on top goes on at a handler, with one word alone on its stack. It takes memory only where it had no
+/// operand. On an error nothing has changed.
 #[inline]
 fn catch_on_top(stack: &mut ThreadStack, handler: u16, word: u32) -> Result<(), AllocError>
     ensures ok { OnOk result (IsCaughtOnTop handler word stack.old stack.new) }
     ensures err { OnErr result (stack.new ≡ stack.old) }
     ensures none { OnErr result (HasNoOperand stack.old) }
 {
-    match stack.frame_mut() {
-        Some(frame) => catch_in_frame(frame, handler, word),
-        None => Ok(()),
-    }
+    let count = operand_count(stack);
+    stack.replace(count, word)?;
+    stack.go_on(usize::from(handler));
+    Ok(())
 }
 
 /// No exception is pending in a thread any more.

@@ -5,11 +5,11 @@ ghost use Rattle.machine_threads.specs.pending_exceptions.Pending.{DoesPending, 
 use crate::pending_exceptions::catching::catch_in;
 use crate::pending_exceptions::finding::handler_on_top;
 use linked_code::LinkedProgram;
-use linked_code::thread_stacks::{ThreadStack, Top};
 use machine_instructions::returns::unwind;
 use machine_state::class_initialisation::fail;
 use machine_state::exception_handlers::is_error;
 use machine_state::{Answer, EventRefusal, Shared};
+use thread_stacks::{ThreadStack, Top};
 
 /// The event with a frame on top: the frame goes on at its handler, or ends (JVMS 2.10).
 fn event_in_frame(

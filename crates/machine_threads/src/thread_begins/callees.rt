@@ -3,9 +3,9 @@
 ghost use Rattle.std.specs.Prelude.{◌≡◌, IfSome, Some, None, if◌then◌else◌};
 ghost use Rattle.machine_threads.specs.thread_begins.Callees.{IsCalleeAt, MayEnter};
 
-use linked_code::thread_stacks::Callee;
 use linked_code::{LinkedProgram, MethodBody};
 use machine_state::method_selection::{method_at, methods_are_read};
+use thread_stacks::Callee;
 
 /// The method of a number as its call needs it, if it has code; a synchronized one enters the monitor of this object.
 pub fn callee_at(program: &LinkedProgram, method: u32, object: u32) -> Option<Callee>

@@ -6,9 +6,9 @@ ghost use Rattle.machine_state.specs.invocations.Entering.{IsThere};
 ghost use Rattle.machine_threads.specs.thread_begins.First.{PushesFirst};
 
 use crate::thread_begins::begun::begin_where_done;
-use linked_code::thread_stacks::{Callee, ThreadStack};
 use machine_state::invocations::first_call;
 use machine_state::{Effect, EventRefusal, MachineException, Shared};
+use thread_stacks::{Callee, ThreadStack};
 
 /// A thread calls its first method with one argument, by its word, and has begun then. Where a stack may have no
 /// frame, a StackOverflowError is raised (JVMS 2.5.2), and where another thread owns the monitor that the call

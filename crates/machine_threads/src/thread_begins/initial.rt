@@ -7,13 +7,13 @@ ghost use Rattle.machine_threads.specs.thread_begins.Initial.{IsOfProgram, IsIni
 use crate::thread_begins::callees::callee_at;
 use crate::thread_begins::first_frames::push_first;
 use linked_code::LinkedProgram;
-use linked_code::thread_stacks::{Callee, ThreadStack};
 use machine_instructions::called_methods::class_object_of;
 use machine_state::class_initialisation::need_class;
 use machine_state::method_selection::{method_at, methods_are_read};
 use machine_state::raised_exceptions::apply;
 use machine_state::{Answer, EventRefusal, Shared};
 use model::built_in::{MAIN_ARGUMENTS, MAIN_THREAD};
+use thread_stacks::{Callee, ThreadStack};
 
 /// The word of the reference to the empty array that `main` gets.
 const ARGUMENTS: u32 = MAIN_ARGUMENTS + 1;

@@ -9,9 +9,9 @@ use crate::thread_begins::callees::callee_at;
 use crate::thread_begins::first_frames::push_first;
 use heap::Heap;
 use linked_code::LinkedProgram;
-use linked_code::thread_stacks::{Callee, ThreadStack};
 use machine_state::method_selection::{class_of_kind, methods_are_read, select_virtual};
 use machine_state::{Effect, EventRefusal, MachineException, Shared};
+use thread_stacks::{Callee, ThreadStack};
 
 /// The number of the method `run` of a Thread object, by the rules of `invokevirtual` (JVMS 6.5).
 fn selected_run(program: &LinkedProgram, heap: &Heap, object: u32) -> Option<u32>

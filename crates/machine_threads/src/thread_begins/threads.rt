@@ -8,9 +8,9 @@ ghost use Rattle.machine_threads.specs.thread_begins.Threads.{BeginsStarted, Beg
 use crate::thread_begins::initial::begin_main;
 use crate::thread_begins::runs::begin_run;
 use linked_code::LinkedProgram;
-use linked_code::thread_stacks::ThreadStack;
 use machine_state::raised_exceptions::apply;
 use machine_state::{Answer, EventRefusal, Shared};
+use thread_stacks::ThreadStack;
 
 /// A thread that was started calls `run` of its Thread object, and what it raises is pending then.
 fn begin_started(

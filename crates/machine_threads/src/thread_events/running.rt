@@ -9,8 +9,8 @@ ghost use Rattle.machine_threads.specs.thread_events.Events.{HasThread, DoesRunn
 use crate::instruction_events::instruction_event;
 use crate::thread_events::unpicked::{begin, initialisation};
 use linked_code::LinkedProgram;
-use linked_code::thread_stacks::{ThreadStack, Top};
 use machine_state::{Answer, EventRefusal, Shared};
+use thread_stacks::{ThreadStack, Top};
 
 /// By what is on top of its stack: with a frame the event is that of its instruction (JVMS 2.6), with a class that
 /// the thread initialises it is the next step of that (JVMS 5.5), and with an empty stack the thread begins (JVMS

@@ -3,8 +3,8 @@
 ghost use Rattle.machine_threads.specs.thread_events.Settling.{SettlesEvent};
 
 use crate::thread_wakes::settle;
-use linked_code::thread_stacks::ThreadStack;
 use machine_state::{Answer, EventRefusal, Shared};
+use thread_stacks::ThreadStack;
 
 /// What an event of a thread came to, with the end of the thread that may belong to it: where the event is done, the
 /// stack is empty, and the thread has begun or an exception is pending, it has ended, and all that wait on its Thread

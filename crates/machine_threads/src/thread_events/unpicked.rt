@@ -14,9 +14,9 @@ use crate::thread_begins::begin_thread;
 use crate::thread_wakes::relock_event;
 use heap::java_threads::WakeCause;
 use linked_code::LinkedProgram;
-use linked_code::thread_stacks::{Phase, ThreadStack};
 use machine_state::class_initialisation::initialise;
 use machine_state::{Answer, EventRefusal, Shared};
+use thread_stacks::{Phase, ThreadStack};
 
 /// The event of a thread that has left the wait set of an object (JLS 17.2.1).
 pub(crate) fn relock(

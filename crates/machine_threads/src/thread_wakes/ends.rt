@@ -9,8 +9,8 @@ ghost use Rattle.machine_threads.specs.thread_wakes.Ends.{Ends, Settles};
 
 use heap::java_threads::{ThreadStatus, Threads};
 use heap::monitor_events::end;
-use linked_code::thread_stacks::ThreadStack;
 use machine_state::Shared;
+use thread_stacks::ThreadStack;
 
 /// Whether a thread whose stack is empty has ended: it has begun, or an exception is pending.
 fn is_over(threads: &Threads, thread: u16) -> bool

@@ -10,10 +10,10 @@ use heap::Heap;
 use heap::java_threads::WakeCause;
 use heap::monitor_events::relock;
 use linked_code::LinkedProgram;
-use linked_code::thread_stacks::ThreadStack;
 use machine_instructions::returns::next_place_of_top;
 use machine_state::raised_exceptions::raise_interrupt;
 use machine_state::{Answer, EventRefusal, Shared};
+use thread_stacks::ThreadStack;
 
 /// Whether a thread that has left the wait set of an object may enter its monitor again: no thread owns it.
 #[inline]

@@ -6,9 +6,9 @@ ghost use Rattle.machine_threads.specs.waiting_instructions.Held.{StandsInInstru
 use crate::waiting_instructions::kinds::Standing;
 use crate::waiting_instructions::methods::call_standing;
 use linked_code::LinkedProgram;
-use linked_code::thread_stacks::ThreadStack;
 use machine_instructions::called_methods::{interface_method, receiver, virtual_method};
 use machine_state::Shared;
+use thread_stacks::ThreadStack;
 
 /// At `invokevirtual`: a null receiver does not wait, it throws.
 pub(crate) fn virtual_standing(

@@ -7,9 +7,9 @@ ghost use Rattle.machine_threads.specs.waiting_instructions.Held.{StandsInInstru
 use crate::waiting_instructions::kinds::Standing;
 use crate::waiting_instructions::methods::call_standing;
 use linked_code::LinkedProgram;
-use linked_code::thread_stacks::ThreadStack;
 use machine_instructions::called_methods::{class_object, receiver};
 use machine_state::Shared;
+use thread_stacks::ThreadStack;
 
 /// At `invokestatic`, its class being ready.
 pub(crate) fn static_standing(

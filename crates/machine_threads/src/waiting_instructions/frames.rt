@@ -3,7 +3,7 @@
 ghost use Rattle.std.specs.Prelude.{◌≡◌, ◌-◌};
 ghost use Rattle.machine_instructions.specs.thread_methods.Moves.{operand_of};
 
-use linked_code::thread_stacks::ThreadStack;
+use thread_stacks::ThreadStack;
 
 /// The operand on top, 0 where there is none.
 fn operand_on_top(stack: &ThreadStack) -> u32

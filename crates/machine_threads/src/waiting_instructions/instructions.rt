@@ -6,11 +6,11 @@ ghost use Rattle.machine_threads.specs.waiting_instructions.Held.{StandsAt};
 use crate::waiting_instructions::kinds::Standing;
 use crate::waiting_instructions::looks::look_of;
 use crate::waiting_instructions::ready::ready_standing;
-use linked_code::thread_stacks::ThreadStack;
 use linked_code::{LinkedInstruction, LinkedProgram};
 use machine_state::class_initialisation::ClassLook;
 use machine_state::linked_frames::instruction_at;
 use machine_state::{Shared, instructions_are_done};
+use thread_stacks::ThreadStack;
 
 /// How a thread stands at an instruction. Its class comes first: while another thread initialises it, the thread
 /// waits (JVMS 5.5); the event is the begin of its initialisation, where it is new, and a NoClassDefFoundError, where

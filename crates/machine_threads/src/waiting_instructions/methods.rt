@@ -8,11 +8,11 @@ use crate::waiting_instructions::kinds::Standing;
 use crate::waiting_instructions::monitors::may_enter_there;
 use heap::Heap;
 use heap::monitor_events::is_alive;
-use linked_code::thread_stacks::ThreadStack;
 use linked_code::{BuiltInMethod, LinkedProgram, MethodBody};
 use machine_instructions::called_methods::entered;
 use machine_state::Shared;
 use machine_state::method_selection::{method_at, methods_are_run};
+use thread_stacks::ThreadStack;
 
 /// `Thread.join` waits while the target is alive, unless the thread itself is interrupted (JLS 17.2.3).
 fn join_standing(shared: &Shared, stack: &ThreadStack, thread: u16) -> Standing

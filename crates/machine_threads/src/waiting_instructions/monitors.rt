@@ -6,9 +6,9 @@ ghost use Rattle.machine_threads.specs.waiting_instructions.Held.{SaysMayEnterTo
 
 use heap::Heap;
 use heap::monitor_events::may_enter;
-use linked_code::thread_stacks::ThreadStack;
 use machine_instructions::called_methods::receiver;
 use machine_state::Shared;
+use thread_stacks::ThreadStack;
 
 /// Whether no other thread owns the monitor of an object that is there (JLS 17.1).
 pub(crate) fn may_enter_there(heap: &Heap, object: u32, thread: u16) -> bool

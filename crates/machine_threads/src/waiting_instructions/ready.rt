@@ -6,9 +6,9 @@ use crate::waiting_instructions::calls::{interface_standing, virtual_standing};
 use crate::waiting_instructions::direct_calls::{special_standing, static_standing};
 use crate::waiting_instructions::kinds::Standing;
 use crate::waiting_instructions::monitors::may_enter_top;
-use linked_code::thread_stacks::ThreadStack;
 use linked_code::{LinkedInstruction, LinkedProgram};
 use machine_state::Shared;
+use thread_stacks::ThreadStack;
 
 /// How a thread stands at an instruction whose class is ready, where it needs one: only `monitorenter` and calls may
 /// wait.

@@ -10,7 +10,7 @@ use Rattle.model.specs.State as model
 use Rattle.model.specs.State.{StackOf, State, StateOf}
 use Rattle.model.specs.Words.{map_stack, words_of}
 use Rattle.linked_code.specs.declared.program.LinkedProgram.{LinkedProgram}
-use Rattle.linked_code.specs.thread_stacks.Stacks.{ShownEntry, Invocation, Initialisation}
+use Rattle.thread_stacks.specs.Stacks.{ShownEntry, Invocation, Initialisation}
 use Rattle.machine_state.specs.shown_stacks.Shown.{ShowsStack, offset_at}
 use Rattle.machine_state.specs.state_events.Whole.{ShowsStacks}
 use Rattle.machine.specs.Machines.{MachineOf}

@@ -3,7 +3,7 @@ use Rattle.std.specs.Prelude.{IfOk, min}
 use Rattle.std.proofs.Common.{◌≡◌, ◌⊎◌, ◌<◌, ◌≤◌, ◌+◌, ℕ, Option, Some, None, Result, Ok, Err, length, sym, subst, inl, inr, arith}
 use Rattle.std.proofs.Math.Nat.{eq-or-lt_of_le}
 use Rattle.std.proofs.Math.Decide.{dec_lt}
-use Rattle.linked_code.specs.thread_stacks.Stacks.{ShownFrame}
+use Rattle.thread_stacks.specs.Stacks.{ShownFrame}
 use Rattle.machine.specs.Machines.{MachineOf}
 use Rattle.machine.specs.Tops.{HasTop}
 use Rattle.program_runs.specs.declared.worlds.commits.ThreadBurst.{ThreadBurst}

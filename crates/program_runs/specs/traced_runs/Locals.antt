@@ -6,7 +6,7 @@ use Rattle.run_laws.specs.interleavings.Local.{is_local}
 use Rattle.linked_code.specs.declared.instruction.LinkedInstruction.{LinkedInstruction}
 use Rattle.linked_code.specs.declared.instruction.LinkedInstruction.TheVariants as linked
 use Rattle.linked_code.specs.declared.program.LinkedProgram.{LinkedProgram}
-use Rattle.linked_code.specs.thread_stacks.Stacks.{ShownFrame, ShownEntry, IsTopFrame}
+use Rattle.thread_stacks.specs.Stacks.{ShownFrame, ShownEntry, IsTopFrame}
 use Rattle.machine_state.specs.linked_frames.Frames.{IsInstruction}
 use Rattle.machine_instructions.specs.local_instructions.Local as instructions
 use Rattle.machine.specs.Machines.{MachineOf}

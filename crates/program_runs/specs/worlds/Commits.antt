@@ -1,6 +1,6 @@
 -- Bursts of the threads of a world (own; JVMS 2.6; JLS 17).
 use Rattle.std.specs.Prelude.{◌≡◌, ◌⊎◌, ◌<◌, ◌≤◌, ◌+◌, ◌++◌, ℕ, Option, Some, None, length, replicate}
-use Rattle.linked_code.specs.thread_stacks.Stacks.{ShownFrame}
+use Rattle.thread_stacks.specs.Stacks.{ShownFrame}
 use Rattle.machine_instructions.specs.local_instructions.Local.{with_running}
 use Rattle.machine_state.specs.state_events.Whole.{IsSame}
 use Rattle.machine.specs.Machines.{MachineOf}

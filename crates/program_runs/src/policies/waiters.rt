@@ -6,12 +6,12 @@ ghost use Rattle.program_runs.specs.policies.Runs.{waiting_in, waits};
 
 use heap::Heap;
 use heap::java_threads::{ThreadStatus, Threads};
-use linked_code::thread_stacks::Frame;
 use linked_code::{BuiltInMethod, LinkedInstruction, LinkedProgram, MethodBody};
 use machine::Machine;
 use machine::top_frames::goes_on;
 use machine_state::linked_frames::instruction_at;
 use machine_state::method_selection::{class_of_kind, method_at, select_interface, select_virtual};
+use thread_stacks::Frame;
 
 /// Whether a thread of a status is in a wait set.
 fn is_waiting(status: ThreadStatus) -> bool
@@ -35,7 +35,7 @@ pub(crate) fn waiting(threads: &Threads) -> u16
 }
 
 /// The object under so many operands of a frame, if that is no null.
-fn object_under(frame: &Frame, operands: u8) -> Option<u32> {
+fn object_under(frame: &Frame<'_>, operands: u8) -> Option<u32> {
     frame.operand(usize::from(operands)).checked_sub(1)
 }
 
@@ -49,7 +49,7 @@ fn class_of(heap: &Heap, object: u32) -> Option<u32> {
 fn called(
     program: &LinkedProgram,
     heap: &Heap,
-    frame: &Frame,
+    frame: &Frame<'_>,
     instruction: LinkedInstruction,
 ) -> Option<(u32, u32)> {
     match instruction {
@@ -90,7 +90,7 @@ fn notified(machine: &Machine, thread: u16) -> Option<u32> {
     let program = machine.program();
     let stack = shared.stacks.get(usize::from(thread))?;
     let instruction = instruction_at(program, stack)?;
-    let (method, object) = called(program, &shared.heap, stack.frame()?, instruction)?;
+    let (method, object) = called(program, &shared.heap, &stack.frame()?, instruction)?;
     if is_notify(program, method) {
         Some(object)
     } else {

@@ -3,7 +3,6 @@
 ghost use Rattle.std.specs.Prelude.{◌≡◌, IsTrue, option_map, slice_get};
 ghost use Rattle.program_runs.specs.traced_runs.Locals.{IsNextLocal, StandsAtLocal, divides_by_zero as is_division};
 
-use linked_code::thread_stacks::ThreadStack;
 use linked_code::{LinkedInstruction, LinkedProgram};
 use machine::Machine;
 use machine::top_frames::goes_on;
@@ -11,6 +10,7 @@ use machine_instructions::local_instructions::is_local;
 use machine_state::Shared;
 use machine_state::linked_frames::{frames_stand, instruction_at};
 use machine_state::state_events::stacks_are_lent;
+use thread_stacks::ThreadStack;
 
 /// Whether an instruction is a division by the int on top of the operands, and that is 0.
 fn divides_by_zero(instruction: LinkedInstruction, top: u32) -> bool

@@ -25,7 +25,7 @@ use Rattle.linked_code.specs.declared.program.LinkedProgram.{LinkedProgram}
 use Rattle.linked_code.specs.Linked.{offset_in}
 use Rattle.linked_code.specs.linked_events.Local.{Running}
 use Rattle.linked_code.specs.local_bursts.Steps.{steps}
-use Rattle.linked_code.specs.thread_stacks.Stacks.{ShownFrame, ShownEntry, Invocation, Initialisation, IsTopFrame}
+use Rattle.thread_stacks.specs.Stacks.{ShownFrame, ShownEntry, Invocation, Initialisation, IsTopFrame}
 use Rattle.machine_state.specs.bursts.Bursts.{code_in, code_if, code_of}
 use Rattle.machine_state.specs.thread_bursts.Threads.{event_of, Activation, RunsCode, frame_in, AreLocalBursts}
 use Rattle.machine_state.specs.shown_stacks.Shown.{ShowsStack, offset_at}

@@ -10,7 +10,7 @@ use Rattle.run_laws.specs.searches.Searches.{AreLocal}
 use Rattle.linked_code.specs.declared.program.LinkedProgram.{LinkedProgram}
 use Rattle.linked_code.specs.linked_events.Local.{Running}
 use Rattle.linked_code.specs.local_bursts.Steps.{steps}
-use Rattle.linked_code.specs.thread_stacks.Stacks.{ShownFrame, ShownEntry, IsTopFrame}
+use Rattle.thread_stacks.specs.Stacks.{ShownFrame, ShownEntry, IsTopFrame}
 use Rattle.machine_state.specs.bursts.Bursts.{code_of}
 use Rattle.machine_state.specs.thread_bursts.Threads.{event_of}
 use Rattle.machine_state.specs.declared.state.Shared.{Shared}

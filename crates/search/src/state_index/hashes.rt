@@ -4,8 +4,8 @@ ghost use Rattle.std.specs.Prelude.{◌<◌, length};
 
 use heap::Heap;
 use heap::java_threads::{ThreadStatus, Threads};
-use linked_code::thread_stacks::{Frame, ThreadStack};
 use machine_state::{ClassStatus, Shared};
+use thread_stacks::{Frame, ThreadStack};
 
 /// The hash once a number is mixed in.
 fn with_number(hash: u64, number: u64) -> u64 {
@@ -25,20 +25,20 @@ fn of_words(hash: u64, words: &[u32]) -> u64 {
     hash
 }
 
-fn of_frame(hash: u64, frame: &Frame) -> u64 {
+fn of_frame(hash: u64, frame: &Frame<'_>) -> u64 {
     let hash = with_number(mixed(hash, frame.method), frame.place as u64);
-    let hash = of_words(hash, frame.locals.as_slice());
-    of_words(hash, frame.last_operands(frame.operand_count()))
+    let hash = of_words(hash, frame.locals);
+    of_words(hash, frame.operands)
 }
 
 /// By its two entries on top.
 fn of_stack(hash: u64, stack: &ThreadStack) -> u64 {
     let mut hash = with_number(hash, stack.frame_count() as u64);
     if let Some(frame) = stack.frame() {
-        hash = of_frame(hash, frame);
+        hash = of_frame(hash, &frame);
     }
     if let Some(frame) = stack.frame_under() {
-        hash = of_frame(hash, frame);
+        hash = of_frame(hash, &frame);
     }
     hash
 }

@@ -5,7 +5,7 @@ use Rattle.model.specs.State as model
 use Rattle.model.specs.State.{StackOf}
 use Rattle.linked_code.specs.declared.program.LinkedProgram.{LinkedProgram}
 use Rattle.linked_code.specs.Numbers.{IsClassAt, IsMethodAt}
-use Rattle.linked_code.specs.thread_stacks.Stacks.{ShownEntry, Invocation, Initialisation}
+use Rattle.thread_stacks.specs.Stacks.{ShownEntry, Invocation, Initialisation}
 use Rattle.machine_state.specs.shown_stacks.Shown.{offset_at}
 use Rattle.machine_state.specs.declared.state.Shared.{Shared}
 use Rattle.traces.specs.declared.traced_events.frames.FrameBefore.{FrameBefore}

@@ -9,11 +9,11 @@ use crate::traced_events::calls::{called_method, receiver_place};
 use crate::traced_events::frames::{FrameBefore, frame_on_top};
 use crate::traced_events::monitors::waiting_on;
 use crate::traced_events::rules::{Rule, rule_of};
-use linked_code::thread_stacks::{Frame, ThreadStack, Top};
 use linked_code::{BuiltInMethod, LinkedInstruction, LinkedProgram};
 use machine_state::Shared;
 use machine_state::linked_frames::instruction_at;
 use std::alloc::{AllocError, Global};
+use thread_stacks::{Frame, ThreadStack, Top};
 
 /// What is known of a thread before its event. It serves for one event after another.
 #[derive(Drop)]
@@ -38,7 +38,7 @@ pub struct Before {
 }
 
 /// The operands on top of a frame, the topmost first.
-fn operands_of(frame: Option<&Frame>) -> [u32; 3] {
+fn operands_of(frame: Option<Frame<'_>>) -> [u32; 3] {
     match frame {
         Some(frame) => [frame.operand(0), frame.operand(1), frame.operand(2)],
         None => [0, 0, 0],
@@ -46,7 +46,7 @@ fn operands_of(frame: Option<&Frame>) -> [u32; 3] {
 }
 
 /// The word of the receiver of the method that an instruction calls.
-fn receiver_of(frame: Option<&Frame>, instruction: Option<LinkedInstruction>) -> u32 {
+fn receiver_of(frame: Option<Frame<'_>>, instruction: Option<LinkedInstruction>) -> u32 {
     match (frame, instruction) {
         (Some(frame), Some(instruction)) => frame.operand(receiver_place(instruction)),
         _ => 0,

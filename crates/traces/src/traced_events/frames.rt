@@ -1,14 +1,14 @@
 //! Where a thread stands before its event.
 
 ghost use Rattle.std.specs.Prelude.{◌≡◌};
-ghost use Rattle.linked_code.specs.thread_stacks.Stacks.{shown_frame};
+ghost use Rattle.thread_stacks.specs.Stacks.{shown_frame};
 ghost use Rattle.machine_state.specs.shown_stacks.Shown.{offset_at, starts_of as starts_in};
 ghost use Rattle.traces.specs.traced_events.Seen.{IsFrameSeen};
 
-use linked_code::thread_stacks::{Frame, ThreadStack};
 use linked_code::{LinkedProgram, MethodBody};
 use machine_state::method_selection::method_at;
 use model::built_in::NO_OFFSET;
+use thread_stacks::{Frame, ThreadStack};
 
 /// Where the frame on top of a thread stands.
 #[derive(Clone, Copy)]
@@ -45,7 +45,7 @@ pub(crate) fn offset_of(program: &LinkedProgram, method: u32, place: usize) -> u
 }
 
 /// Where a frame stands.
-fn frame_before(program: &LinkedProgram, frame: &Frame) -> FrameBefore
+fn frame_before(program: &LinkedProgram, frame: &Frame<'_>) -> FrameBefore
     ensures { result ≡ record {
       method = (shown_frame frame.now).method;
       offset = offset_at program.now frame.now.method frame.now.place;
@@ -64,7 +64,7 @@ pub(crate) fn frame_on_top(program: &LinkedProgram, stack: &ThreadStack) -> Opti
     ensures { IsFrameSeen program.now stack.now result }
 {
     match stack.frame() {
-        Some(frame) => Some(frame_before(program, frame)),
+        Some(frame) => Some(frame_before(program, &frame)),
         None => None,
     }
 }

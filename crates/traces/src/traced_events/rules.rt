@@ -1,8 +1,8 @@
 //! By which rule a thread's event goes.
 
 use heap::java_threads::{ThreadStatus, WakeCause};
-use linked_code::thread_stacks::{Phase, ThreadStack, Top};
 use machine_state::Shared;
+use thread_stacks::{Phase, ThreadStack, Top};
 
 /// By which rule the event of a thread goes (JVMS 2.6, 2.10, 5.2, 5.5; JLS 17).
 #[derive(Clone, Copy)]

@@ -8,9 +8,9 @@ use crate::traced_events::monitors::entries_of;
 use crate::traced_events::rules::Rule;
 use heap::java_threads::ThreadStatus;
 use linked_code::LinkedProgram;
-use linked_code::thread_stacks::{Phase, Top};
 use machine_state::Shared;
 use model::Event;
+use thread_stacks::{Phase, Top};
 
 /// What an event of a thread did.
 #[derive(Clone, Copy)]

@@ -1,4 +1,4 @@
-use Rattle.machine.proofs.Repeating.{IsSoFar}
+use Rattle.machine.specs.Machines.{IsSoFar}
 use Rattle.machine.proofs.machine.Machine.repeat.Given as goal
 
 abbrev pub invariant-loop-done : goal.invariant-loop-done

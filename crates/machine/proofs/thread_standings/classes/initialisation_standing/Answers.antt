@@ -1,5 +1,5 @@
 use Rattle.std.proofs.Common.{sym, subst}
-use Rattle.linked_code.specs.declared.thread_stacks.entry.Phase.{Phase}
+use Rattle.thread_stacks.specs.declared.entry.Phase.{Phase}
 use Rattle.machine.specs.thread_standings.Parts.{StandsInitialising}
 use Rattle.machine.proofs.thread_standings.classes.initialisation_standing.Goals as goal
 

@@ -1,5 +1,5 @@
 use Rattle.std.proofs.Common.{sym, subst}
-use Rattle.linked_code.specs.thread_stacks.Stacks.{shown_frame}
+use Rattle.thread_stacks.specs.Stacks.{shown_frame}
 use Rattle.machine_instructions.specs.returns.Places.{GoesOnAt}
 use Rattle.machine_instructions.proofs.returns.Going.{next_goes, none_goes}
 use Rattle.machine_instructions.proofs.returns.places.next_place_of.Goals as goal

@@ -1,6 +1,6 @@
 use Rattle.std.proofs.Common.{drop, ap, ◌∙◌}
 use Rattle.std.specs.Prelude.{option_to_list}
-use Rattle.linked_code.specs.thread_stacks.Stacks.{returned}
+use Rattle.thread_stacks.specs.Stacks.{returned}
 use Rattle.machine_instructions.proofs.returns.Returned.{not_owner, lacks, returns as returned_to}
 use Rattle.machine_instructions.proofs.returns.returning.return_from.Goals as goal
 

@@ -18,7 +18,7 @@ use Rattle.heap.specs.java_threads.Table.{ThreadTable, IsAdded}
 use Rattle.run_laws.specs.word_operands.Receivers.{is_any}
 use Rattle.linked_code.specs.declared.method.BuiltInMethod.TheVariants as method
 use Rattle.linked_code.specs.declared.program.LinkedProgram.{LinkedProgram}
-use Rattle.linked_code.specs.thread_stacks.Stacks.{ShownEntry}
+use Rattle.thread_stacks.specs.Stacks.{ShownEntry}
 use Rattle.machine_state.specs.shown_stacks.Shown.{ShowsStack}
 use Rattle.machine_state.specs.declared.answers.Effect.{Effect}
 use Rattle.machine_state.specs.declared.refusals.EventRefusal.{EventRefusal}

@@ -1,7 +1,7 @@
 use Rattle.std.proofs.Common.{List, ◌∷◌, Ok, Result, sym, ap, subst, ◌∙◌}
 use Rattle.model.specs.State as model
-use Rattle.linked_code.specs.declared.thread_stacks.entry.Phase.TheVariants as phase
-use Rattle.linked_code.specs.thread_stacks.Stacks.{ShownEntry, in_phase}
+use Rattle.thread_stacks.specs.declared.entry.Phase.TheVariants as phase
+use Rattle.thread_stacks.specs.Stacks.{ShownEntry, in_phase}
 use Rattle.machine_state.specs.shown_stacks.Shown.{ShowsStack}
 use Rattle.machine_state.specs.declared.answers.Answer.{Answer}
 use Rattle.machine_state.specs.declared.refusals.EventRefusal.{EventRefusal}

@@ -3,7 +3,7 @@ use Rattle.model.specs.State.{Erroneous}
 use Rattle.model.specs.Outcomes.{ExceptionInInitializer}
 use Rattle.model.specs.ClassInitialisation.{with_class_status}
 use Rattle.model.specs.Step.{failed, raised}
-use Rattle.linked_code.specs.thread_stacks.Stacks.{ShownEntry}
+use Rattle.thread_stacks.specs.Stacks.{ShownEntry}
 use Rattle.machine_state.specs.declared.state.ClassStatus.TheVariants as status
 use Rattle.machine_state.specs.declared.state.Shared.{Shared}
 use Rattle.machine_state.specs.Events.{Becomes, IsDone}

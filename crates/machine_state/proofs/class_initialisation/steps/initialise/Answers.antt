@@ -4,8 +4,8 @@ use Rattle.model.specs.State as model
 use Rattle.model.specs.Operands.{words}
 use Rattle.model.specs.ClassInitialisation.{with_class_status}
 use Rattle.model.specs.Step.{initialisation_event}
-use Rattle.linked_code.specs.declared.thread_stacks.entry.Phase.{Phase}
-use Rattle.linked_code.specs.thread_stacks.Stacks.{ShownEntry}
+use Rattle.thread_stacks.specs.declared.entry.Phase.{Phase}
+use Rattle.thread_stacks.specs.Stacks.{ShownEntry}
 use Rattle.machine_state.specs.shown_stacks.Shown.{phase_of}
 use Rattle.machine_state.specs.declared.state.Shared.{Shared}
 use Rattle.machine_state.specs.Events.{IsDone}

@@ -5,7 +5,7 @@ use Rattle.model.specs.Names.{initialiser_of}
 use Rattle.model.specs.Operands.{words}
 use Rattle.model.specs.State as model
 use Rattle.model.specs.Step.{initialiser_event, pushed}
-use Rattle.linked_code.specs.thread_stacks.Stacks.{ShownEntry}
+use Rattle.thread_stacks.specs.Stacks.{ShownEntry}
 use Rattle.machine_state.specs.Events.{Becomes, IsDone}
 use Rattle.machine_state.proofs.class_initialisation.Beginning.{free_done}
 use Rattle.machine_state.proofs.class_initialisation.Phases.{at_end}

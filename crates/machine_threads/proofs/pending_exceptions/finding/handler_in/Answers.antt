@@ -1,6 +1,6 @@
 use Rattle.std.proofs.Common.{ap, ◌∙◌}
 use Rattle.linked_code.specs.Linked.{offset_in}
-use Rattle.linked_code.specs.thread_stacks.Stacks.{shown_frame}
+use Rattle.thread_stacks.specs.Stacks.{shown_frame}
 use Rattle.machine_threads.proofs.pending_exceptions.Handled.{handled, unhandled}
 use Rattle.machine_threads.proofs.pending_exceptions.finding.handler_in.Goals as goal
 

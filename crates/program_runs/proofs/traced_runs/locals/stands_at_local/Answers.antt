@@ -1,6 +1,6 @@
 use Rattle.std.proofs.Common.{◌≡◌, Bool, true, false, not, refl, sym, ap, ◌∙◌}
 use Rattle.std.specs.Prelude.{IsTrue}
-use Rattle.linked_code.specs.thread_stacks.Stacks.{shown_frame}
+use Rattle.thread_stacks.specs.Stacks.{shown_frame}
 use Rattle.program_runs.specs.traced_runs.Locals.{divides_by_zero}
 use Rattle.program_runs.proofs.traced_runs.locals.stands_at_local.Goals as goal
 
@@ -12,7 +12,7 @@ pub returns-then-has_local : goal.returns-then-has_local
 returns-then-has_local c = λ is.
     let instruction = c.in-Some-instruction_at.instruction in
     record {
-      shown = shown_frame c.in-Some.frame.now;
+      shown = shown_frame c.in-Some.frame;
       on_top = c.in-Some.ensures;
       instruction = instruction;
       is = c.in-Some-instruction_at.ensures;

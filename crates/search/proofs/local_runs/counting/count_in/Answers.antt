@@ -1,4 +1,4 @@
-use Rattle.linked_code.specs.thread_stacks.Stacks.{shown_frame}
+use Rattle.thread_stacks.specs.Stacks.{shown_frame}
 use Rattle.search.proofs.local_runs.Frames.{can_do}
 use Rattle.search.proofs.local_runs.counting.count_in.Goals as goal
 
