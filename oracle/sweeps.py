@@ -84,9 +84,12 @@ SWEPT = [
     ("lost-update", ["LostUpdate"], "--seeds 1..20 --policy random"),
     ("lost-update", ["LostUpdate"], "--seeds 1..20 --for output=1"),
     ("lost-update", ["LostUpdate"], "--seeds 1..20 --policy random --for differs=two"),
+    ("lost-update", ["LostUpdate"], "--seeds 1..20 --policy random --workers 3"),
+    ("lost-update", ["LostUpdate"], "--seeds 1..20 --workers 64 --for output=1"),
     ("lost-update", ["LostUpdate"], "--seeds 7..7"),
     ("lost-update", ["LostUpdate"], "--seeds 1..20 --budget 33"),
     ("lost-update", ["LostUpdate"], "--seeds 18446744073709551610..18446744073709551615"),
+    ("lost-update", ["LostUpdate"], "--seeds 18446744073709551610..18446744073709551615 --workers 4"),
     ("bounded-buffer", ["IfForWhile"], "--seeds 1..40 --for uncaught"),
     ("class-initialisation", ["Initialisers", "Left", "Right"], "--seeds 1..20"),
     ("philosophers", ["Philosophers"], "--seeds 1..10"),
@@ -106,6 +109,7 @@ def words_of(words: Sequence[str]) -> argparse.Namespace:
     parser.add_argument("--seeds", required=True)
     parser.add_argument("--policy", choices=["mixed", "random"], default="mixed")
     parser.add_argument("--budget", type=int, default=10_000_000)
+    parser.add_argument("--workers", type=int, help="changes nothing of what is told")
     parser.add_argument("--for", dest="goal")
     parser.add_argument("files", nargs="+")
     return parser.parse_args(words)

@@ -500,10 +500,10 @@ refuses_more (Number text) reason other on known = on known
 refuses_more (Asked error) reason other on known = elim known [ ]
 
 -- where the option is no number there is no command
-pub no_budget : (rows : List Row) → ((number : Option ℕ) → IsNumber 0 4294967295 (first_of (codes "budget") rows) number → ⊥)
+pub no_budget : (rows : List Row) → is_set (first_of (codes "then-run") rows) ≡ true → ((number : Option ℕ) → IsNumber 0 4294967295 (first_of (codes "budget") rows) number → ⊥)
     → (then_run : Option ThenRun) → IsThenRun rows then_run → ⊥
-no_budget rows none None are = none None (subst (λ text. IsNumber 0 4294967295 text None) (sym are.1) tt)
-no_budget rows none (Some then_run) are = none then_run.budget are.1.budget
+no_budget rows set none None are = let bad : true ≡ false = sym set ∙ are.0 in absurd cc
+no_budget rows set none (Some then_run) are = none then_run.budget are.1.budget
 
 -- so is what a function answers
 pub refused_more : {A : Type 0} (result : Result A Usage) (reason other : Type 0) → (reason → other) → IfErr result (λ usage. Refuses usage reason)

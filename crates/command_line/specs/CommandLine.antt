@@ -249,6 +249,11 @@ pub record AreLimitNumbers (rows : List Row) (limits : LimitOptions) : Type 0 wh
 abbrev pub is_set : Option Text → Bool
 is_set text = option_map_or (λ text. bytes_eq text (codes "true")) text false
 
+-- this is so, unless the words name seeds: of a sweep the workers are cores, and go with any policy
+abbrev pub UnlessSweep : (seeds : Option Text) → Type 0 → Type 0
+UnlessSweep (Some word) P = Unit {0}
+UnlessSweep None P = P
+
 -- who gives the threads turns, and up to how many events, by the words of a run
 pub record AreRunNumbers (rows : List Row) (options : RunOptions) : Type 0 where
   pub workers : IsNumber 1 64 (first_of (codes "workers") rows) options.workers
@@ -256,7 +261,7 @@ pub record AreRunNumbers (rows : List Row) (options : RunOptions) : Type 0 where
   pub quantum : IsNumber 1 4294967295 (first_of (codes "quantum") rows) options.quantum
   pub seed : IsNumber 0 18446744073709551615 (first_of (codes "seed") rows) options.seed
   pub policy : IsPolicy (first_of (codes "policy") rows) options.policy
-  pub together : GoTogether options.workers options.quantum options.seed options.policy
+  pub together : UnlessSweep (first_of (codes "seeds") rows) (GoTogether options.workers options.quantum options.seed options.policy)
 
 -- the values that the words give to `jvm run`
 pub record AreRunValues (rows : List Row) (run : Run) : Type 0 where
@@ -280,14 +285,14 @@ pub record AreThenRunValues (rows : List Row) (then_run : ThenRun) : Type 0 wher
 -- the words ask for a run behind the schedule, or for none of it
 abbrev pub IsThenRun : List Row → Option ThenRun → Type 0
 IsThenRun rows (Some then_run) = (is_set (first_of (codes "then-run") rows) ≡ true) × AreThenRunValues rows then_run
-IsThenRun rows None = (is_set (first_of (codes "then-run") rows) ≡ false)
-    × (first_of (codes "budget") rows ≡ None) × (first_of (codes "record") rows ≡ None)
+IsThenRun rows None = (is_set (first_of (codes "then-run") rows) ≡ false) × (first_of (codes "record") rows ≡ None)
 
 -- the values that the words give to `jvm replay`
 pub record AreValues (rows : List Row) (replay : Replay) : Type 0 where
   pub schedule : first_of (codes "schedule") rows ≡ Some (string_bytes replay.schedule)
   pub any_files : replay.any_files ≡ is_set (first_of (codes "any-files") rows)
   pub then_run : IsThenRun rows replay.then_run
+  pub budget : IsNumber 0 4294967295 (first_of (codes "budget") rows) replay.budget
   pub limits : AreLimitNumbers rows replay.limits
   pub main : first_of (codes "main") rows ≡ option_map string_bytes replay.main
   pub files : all_of (codes "files") rows ≡ Some (map string_bytes replay.files.items)

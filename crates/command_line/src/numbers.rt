@@ -26,7 +26,7 @@ pub(crate) const WORKERS: NumberOption = NumberOption {
     name: "workers",
     least: 1,
     most: 64,
-    help: "How many workers run the threads side by side, by no policy",
+    help: "How many workers run the threads side by side, by no policy; with --seeds the runs",
 };
 
 pub(crate) const BUDGET: NumberOption = NumberOption {
@@ -47,7 +47,7 @@ pub(crate) const WHOLE_BUDGET: NumberOption = NumberOption {
     name: "budget",
     least: 0,
     most: u32::MAX,
-    help: "How many events there may be, those of the schedule included [default: 10000000]",
+    help: "How many events there may be, those of the schedule included; behind them a place gives up, too [default: 10000000]",
 };
 
 pub(crate) const QUANTUM: NumberOption = NumberOption {

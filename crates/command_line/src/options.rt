@@ -20,7 +20,8 @@ pub enum Command {
     Schedule(Schedule),
 }
 
-/// The usual budget of a run of a sweep, of one that goes on behind a schedule, and of a try of `shrink`, in events.
+/// The usual budget of a run of a sweep, of one that goes on behind a schedule, of a try of `shrink`, and of places, in
+/// events.
 pub(crate) const USUAL_BUDGET: u32 = 10_000_000;
 
 /// How many states a search may meet, unless another number is asked for.
@@ -61,6 +62,8 @@ pub struct Replay {
     pub any_files: bool,
     /// How the run goes on where the schedule ends, if it does.
     pub then_run: Option<ThenRun>,
+    /// Behind how many events a place of the schedule gives up, and `None` for the usual number.
+    pub budget: Option<u32>,
     pub limits: LimitOptions,
     /// The name of the class whose `main` is run, with dots or slashes, if it is given.
     pub main: Option<String>,
@@ -197,6 +200,15 @@ pub struct Shrink {
 
 impl Shrink {
     /// The budget of each try, in events.
+    pub fn budget(&self) -> u32
+        ensures { result ≡ unwrap_or self.now.budget 10000000 }
+    {
+        self.budget.unwrap_or(USUAL_BUDGET)
+    }
+}
+
+impl Replay {
+    /// The budget of places, in events.
     pub fn budget(&self) -> u32
         ensures { result ≡ unwrap_or self.now.budget 10000000 }
     {

@@ -1,11 +1,12 @@
 //! The reading of the command line.
 
-ghost use Rattle.std.specs.Prelude.{◌≡◌, ◌⊎◌, List, false, Some, codes, map, string_bytes, IfOk, IfErr};
+ghost use Rattle.std.specs.Prelude.{◌≡◌, ◌⊎◌, List, false, Some, codes, map, string_bytes, IfOk, IfErr, MatchOption};
 ghost use Rattle.std.specs.Option.{option_map};
 ghost use Rattle.clap.specs.Words.{HasMatchesOf, all_of, first_of, found_of, kind_of, rows_of, Text};
 ghost use Rattle.clap.specs.declared.error.kind.ErrorKind.TheVariants.{UnknownArgument as unknown_argument};
-ghost use Rattle.command_line.specs.CommandLine.{AreDisasmValues, AreLimitNumbers, AreRunNumbers, AreRunValues, AreScheduleValues, AreSearchValues, AreShrinkValues, AreTraceValues, AreValues, AreVerifyValues, Asks, Fails, IsRequiredGoal, IsThenRun, IsTraceForm, Refuses, Spells, is_set as is_true, jvm, usage_of};
+ghost use Rattle.command_line.specs.CommandLine.{AreDisasmValues, AreLimitNumbers, AreRunNumbers, AreRunValues, AreScheduleValues, AreSearchValues, AreShrinkValues, AreTraceValues, AreValues, AreVerifyValues, Asks, Fails, IsRequiredGoal, IsThenRun, IsTraceForm, Refuses, Spells, UnlessSweep, is_set as is_true, jvm, usage_of};
 ghost use Rattle.command_line.specs.Goals.{IsGoal};
+ghost use Rattle.command_line.specs.Policies.{GoTogether};
 
 use crate::goal::goal_by;
 use crate::numbers::{
@@ -20,8 +21,8 @@ use crate::options::{
 use crate::parsers::program;
 use crate::paths::{check_file, check_files, check_goal};
 use crate::run_arguments::{policy_of, seed_of};
-use crate::run_options::RunOptions;
-use crate::sweep_arguments::sweep_of;
+use crate::run_options::{Clash, RunOptions};
+use crate::sweep_arguments::{SEEDS, sweep_of};
 use crate::usage::Usage;
 use clap::ArgMatches;
 use clap::error::ErrorKind;
@@ -150,6 +151,7 @@ fn replay_of(alloc: Global, matches: &ArgMatches<'_>) -> Result<Replay, Usage>
 {
     let schedule = required_path_of(alloc, matches, "schedule")?;
     let then_run = then_run_of(alloc, matches)?;
+    let budget = WHOLE_BUDGET.number(alloc, matches)?;
     let limits = limits_of(alloc, matches)?;
     let main = path_of(alloc, matches, "main")?;
     let files = files_of(alloc, matches)?;
@@ -158,6 +160,7 @@ fn replay_of(alloc: Global, matches: &ArgMatches<'_>) -> Result<Replay, Usage>
     Ok(Replay {
         schedule,
         then_run,
+        budget,
         limits,
         main,
         files,
@@ -349,17 +352,17 @@ fn form_of(alloc: Global, matches: &ArgMatches<'_>) -> Result<TraceForm, Usage>
     }
 }
 
-/// How the run goes on where the schedule ends. Its options stand beside `--then-run` alone.
+/// How the run goes on where the schedule ends. `--record` stands beside `--then-run` alone.
 fn then_run_of(alloc: Global, matches: &ArgMatches<'_>) -> Result<Option<ThenRun>, Usage>
     ensures values { IfOk result (IsThenRun (rows_of (found_of matches.now))) }
     ensures none { IfErr result (λ usage. Refuses usage ((then_run : _)
         → IsThenRun (rows_of (found_of matches.now)) then_run → ⊥)) }
 {
-    let budget = WHOLE_BUDGET.number(alloc, matches)?;
     let record = path_of(alloc, matches, "record")?;
     if is_set(matches, "then-run") {
+        let budget = WHOLE_BUDGET.number(alloc, matches)?;
         Ok(Some(ThenRun { budget, record }))
-    } else if budget.is_some() || record.is_some() {
+    } else if record.is_some() {
         Err(Usage::no_then_run(alloc))
     } else {
         Ok(None)
@@ -378,9 +381,22 @@ fn run_options_of(alloc: Global, matches: &ArgMatches<'_>) -> Result<RunOptions,
         seed: seed_of(alloc, matches)?,
         policy: policy_of(alloc, matches)?,
     };
-    match options.clash() {
+    match clash_of(matches, &options) {
         None => Ok(options),
         Some((one, other)) => Err(Usage::not_together(alloc, one, other)),
+    }
+}
+
+/// Two of the options of a run that don't go together, if there are such. Of a sweep each is looked at by itself.
+fn clash_of(matches: &ArgMatches<'_>, options: &RunOptions) -> Option<Clash>
+    ensures { MatchOption result (UnlessSweep (first_of (codes "seeds") (rows_of (found_of matches.now)))
+        (GoTogether options.now.workers options.now.quantum options.now.seed options.now.policy))
+        (λ _. UnlessSweep (first_of (codes "seeds") (rows_of (found_of matches.now)))
+        (GoTogether options.now.workers options.now.quantum options.now.seed options.now.policy) → ⊥) }
+{
+    match matches.get_str(SEEDS) {
+        Some(_) => None,
+        None => options.clash(),
     }
 }
 

@@ -14,7 +14,7 @@ use clap::{Arg, ArgAction, ArgMatches};
 use std::alloc::{AllocError, Global};
 
 /// The name of the option that takes seeds.
-const SEEDS: &str = "seeds";
+pub(crate) const SEEDS: &str = "seeds";
 
 /// The option that takes seeds, for the parser, which takes any text for them.
 pub(crate) fn seeds_argument<'a>(alloc: Global) -> Arg<'a>
@@ -66,7 +66,6 @@ fn sweep_by(alloc: Global, matches: &ArgMatches<'_>, word: &str) -> Result<Sweep
 {
     let seeds = seeds_by(alloc, word)?;
     check_alone(alloc, matches, SEED, "--seed <NUMBER>")?;
-    check_alone(alloc, matches, "workers", "--workers <NUMBER>")?;
     check_alone(alloc, matches, "quantum", "--quantum <NUMBER>")?;
     check_alone(alloc, matches, "record", "--record <FILE>")?;
     let policy = sweep_policy_of(alloc, matches)?;

@@ -159,25 +159,25 @@ IsRunUndoneBy held given lefts run (Some sweep) old new fault written =
 
 pub record IsContinuationDone (held : Held) (given : ℕ) (lefts : List (Option (List ℕ))) (replay : Replay) (then_run : ThenRun) (text : List ℕ) (written : Written) (status : Status) : Type 0 where
   pub file : Option (List ℕ)
-  pub continues : OfSchedule held (string_bytes replay.schedule) (λ left. Continues left lefts (conditions_of replay.limits replay.any_files given)
+  pub continues : OfSchedule held (string_bytes replay.schedule) (λ left. Continues left lefts (conditions_of replay.limits replay.any_files given (unwrap_or replay.budget 10000000))
       (unwrap_or then_run.budget 10000000) text file status)
   pub made : IsTrue (is_some then_run.record) → IsTrue (is_some file)
   pub recorded : written ≡ written_at then_run.record file
 
 pub record IsContinuationUndone (held : Held) (given : ℕ) (lefts : List (Option (List ℕ))) (replay : Replay) (then_run : ThenRun) (old new : Option (List ℕ)) (fault : Fault) (written : Written) : Type 0 where
   pub file : Option (List ℕ)
-  pub uncontinued : OfSchedule held (string_bytes replay.schedule) (λ left. IsUncontinued left lefts (conditions_of replay.limits replay.any_files given)
+  pub uncontinued : OfSchedule held (string_bytes replay.schedule) (λ left. IsUncontinued left lefts (conditions_of replay.limits replay.any_files given (unwrap_or replay.budget 10000000))
       (unwrap_or then_run.budget 10000000) old new None file fault)
   pub recorded : (written ≡ None) ⊎ (written ≡ written_at then_run.record file)
 
 abbrev pub IsReplayDone : Held → (given : ℕ) → (lefts : List (Option (List ℕ))) → Replay → Option ThenRun → List ℕ → Written → Status → Type 0
 IsReplayDone held given lefts replay None text written status =
-    OfSchedule held (string_bytes replay.schedule) (λ left. Replays left lefts (conditions_of replay.limits replay.any_files given) text status) × (written ≡ None)
+    OfSchedule held (string_bytes replay.schedule) (λ left. Replays left lefts (conditions_of replay.limits replay.any_files given (unwrap_or replay.budget 10000000)) text status) × (written ≡ None)
 IsReplayDone held given lefts replay (Some then_run) text written status = IsContinuationDone held given lefts replay then_run text written status
 
 abbrev pub IsReplayUndone : Held → (given : ℕ) → (lefts : List (Option (List ℕ))) → Replay → Option ThenRun → (old new : Option (List ℕ)) → Fault → Written → Type 0
 IsReplayUndone held given lefts replay None old new fault written =
-    OfSchedule held (string_bytes replay.schedule) (λ left. IsFaulty left lefts (conditions_of replay.limits replay.any_files given) old new fault) × (written ≡ None)
+    OfSchedule held (string_bytes replay.schedule) (λ left. IsFaulty left lefts (conditions_of replay.limits replay.any_files given (unwrap_or replay.budget 10000000)) old new fault) × (written ≡ None)
 IsReplayUndone held given lefts replay (Some then_run) old new fault written =
     (IsUnable fault × (new ≡ old) × (written ≡ None)) ⊎ IsContinuationUndone held given lefts replay then_run old new fault written
 
@@ -199,11 +199,11 @@ pub record IsWindow (trace : Trace) (window : Window) : Type 0 where
 
 abbrev pub IsTraceDone : Held → (given : ℕ) → (lefts : List (Option (List ℕ))) → Trace → List ℕ → Written → Status → Type 0
 IsTraceDone held given lefts trace text written status = (window : Window) × IsWindow trace window
-    × OfSchedule held (string_bytes trace.schedule) (λ left. Traces left lefts (conditions_of trace.limits trace.any_files given) window text status) × (written ≡ None)
+    × OfSchedule held (string_bytes trace.schedule) (λ left. Traces left lefts (conditions_of trace.limits trace.any_files given 10000000) window text status) × (written ≡ None)
 
 abbrev pub IsTraceUndone : Held → (given : ℕ) → (lefts : List (Option (List ℕ))) → Trace → (old new : Option (List ℕ)) → Fault → Written → Type 0
 IsTraceUndone held given lefts trace old new fault written = (window : Window) × IsWindow trace window
-    × OfSchedule held (string_bytes trace.schedule) (λ left. IsUntraced left lefts (conditions_of trace.limits trace.any_files given) window old new fault) × (written ≡ None)
+    × OfSchedule held (string_bytes trace.schedule) (λ left. IsUntraced left lefts (conditions_of trace.limits trace.any_files given 10000000) window old new fault) × (written ≡ None)
 
 -- ---- search
 

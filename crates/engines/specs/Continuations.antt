@@ -1,5 +1,5 @@
 -- What the engine of replays that go on answers and writes, by the bytes that its devices hold.
-use Rattle.std.specs.Prelude.{◌≡◌, ◌⊎◌, ℕ, List, Option, Some, IfSome}
+use Rattle.std.specs.Prelude.{◌≡◌, ◌⊎◌, ◌<◌, ◌≤◌, ℕ, List, Option, Some, Bool, true, IfSome, IsTrue, length}
 use Rattle.model.specs.declared.event.Event.{Event}
 use Rattle.model.specs.declared.limits.Limits.{Limits}
 use Rattle.model.specs.declared.report.Report.{Report}
@@ -8,7 +8,8 @@ use Rattle.model.specs.Classes.{Program}
 use Rattle.model.specs.Devices.{AppendsFront}
 use Rattle.model.specs.Schedule.{events_of}
 use Rattle.schedule.specs.Joined.{RecordedFile}
-use Rattle.machine.specs.machine_replay.Replays.{text_of}
+use Rattle.machine.specs.machine_replay.Replays.{IsReplay, text_of}
+use Rattle.engines.specs.GivenPlaces.{told_status, told_text}
 use Rattle.program_runs.specs.continued_runs.Continuing.{GoesOn}
 use Rattle.program_runs.specs.declared.continued_runs.run.Continued.{Continued}
 use Rattle.program_runs.specs.declared.continued_runs.run.Continued.TheVariants.{Whole, Part}
@@ -34,7 +35,8 @@ pub record IsContinued (schedule : List ℕ) (files : List (List ℕ)) (options 
   pub trees : Program
   pub events : List Event
   pub limits : Limits
-  pub opened : IsOpened schedule files options trees events limits
+  pub gives_up : Bool
+  pub opened : IsOpened schedule files options trees events limits gives_up
   pub continued : Continued
   pub goes_on : GoesOn trees events limits budget continued
   pub report : Report
@@ -43,12 +45,34 @@ pub record IsContinued (schedule : List ℕ) (files : List (List ℕ)) (options 
   pub comes_to : ComesTo continued events report end whole
   pub told : text ≡ text_of report end
   pub ended : status ≡ status_of report.threads.items end
+  pub goes_past : IsTrue gives_up → budget < length events
   pub spelled : IfSome file (λ bytes. RecordedFile bytes (Some (recording_over limits options.given files)) whole)
+
+-- The schedule gives up at a place before the budget ends the run: the report is that of a replay of its events, and says so. They are
+-- what a file is of.
+pub record IsGivenUp (schedule : List ℕ) (files : List (List ℕ)) (options : Conditions) (budget : ℕ) (text : List ℕ)
+    (file : Option (List ℕ)) (status : Status) : Type 0 where
+  pub trees : Program
+  pub events : List Event
+  pub limits : Limits
+  pub opened : IsOpened schedule files options trees events limits true
+  pub few : length events ≤ budget
+  pub report : Report
+  pub end : End
+  pub replayed : IsReplay trees events limits report end
+  pub told : text ≡ told_text true report end
+  pub ended : status ≡ told_status true report end
+  pub spelled : IfSome file (λ bytes. RecordedFile bytes (Some (recording_over limits options.given files)) events)
+
+-- it goes on behind the schedule, or gives up at a place of it
+abbrev pub ContinuesBy : List ℕ → List (List ℕ) → Conditions → (budget : ℕ) → List ℕ → Option (List ℕ) → Status → Type 0
+ContinuesBy schedule files options budget text file status =
+    IsContinued schedule files options budget text file status ⊎ IsGivenUp schedule files options budget text file status
 
 -- the same of what these sources hold
 abbrev pub Continues : Option (List ℕ) → List (Option (List ℕ)) → Conditions → (budget : ℕ) → List ℕ → Option (List ℕ) → Status → Type 0
 Continues left lefts options budget text file status =
-    (schedule : List ℕ) × (files : List (List ℕ)) × Reads left schedule × ReadsEach lefts files × IsContinued schedule files options budget text file status
+    (schedule : List ℕ) × (files : List (List ℕ)) × Reads left schedule × ReadsEach lefts files × ContinuesBy schedule files options budget text file status
 
 -- nothing is written, and no file made; or the file is made, and a front of the text is written
 abbrev pub ContinuesPart : Option (List ℕ) → List (Option (List ℕ)) → Conditions → (budget : ℕ) → (old new : Option (List ℕ))

@@ -10,7 +10,9 @@ pub mod Goals
 pub mod Libraries
 pub mod LibraryMain
 pub mod Listings
+pub mod GivenPlaces
 pub mod Opening
+pub mod PlaceWords
 pub mod Policies
 pub mod Recordings
 pub mod Refusals

@@ -56,7 +56,8 @@ pub record IsShrunkOf (schedule : List ℕ) (given : ℕ) (files : List (List �
   pub trees : Program
   pub events : List Event
   pub limits : Limits
-  pub opened : IsOpened schedule files (conditions_of options.limits options.any_files given) trees events limits
+  pub gives_up : Bool
+  pub opened : IsOpened schedule files (conditions_of options.limits options.any_files given (unwrap_or options.budget 10000000)) trees events limits gives_up
   pub shrunk : Option (List ScheduleEntry)
   pub is : IsShrunk (Has (tries_of trees limits options want)) (Lacks (tries_of trees limits options want)) events shrunk
   pub written : IsShrunkBy limits given files (is_some options.record) shrunk text file status
@@ -79,7 +80,7 @@ abbrev pub IsUnshrunk : Option (List ℕ) → (given : ℕ) → List (Option (Li
 IsUnshrunk left given lefts options want old new kept made faults.Device = ShrinksPart left given lefts options want old new kept made
 IsUnshrunk left given lefts options want old new kept made faults.Memory = ShrinksPart left given lefts options want old new kept made
 IsUnshrunk left given lefts options want old new kept made fault =
-    (new ≡ old) × (made ≡ kept) × IsKeptBy left lefts (conditions_of options.limits options.any_files given) fault
+    (new ≡ old) × (made ≡ kept) × IsKeptBy left lefts (conditions_of options.limits options.any_files given (unwrap_or options.budget 10000000)) fault
 
 -- ---- the command
 

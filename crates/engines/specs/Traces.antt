@@ -24,12 +24,13 @@ pub record IsTraced (schedule : List ℕ) (files : List (List ℕ)) (options : C
   pub trees : Program
   pub events : List Event
   pub limits : Limits
-  pub opened : IsOpened schedule files options trees events limits
+  pub gives_up : Bool
+  pub opened : IsOpened schedule files options trees events limits gives_up
   pub lines : List ℕ
   pub report : Report
   pub end : End
   pub traced : IsTrace trees events limits window report end lines
-  pub told : text ≡ lines ++ text_of report end
+  pub told : text ≡ lines ++ told_text gives_up report end
   pub ended : status ≡ status_of report.threads.items end
 
 -- the same of what these sources hold
@@ -44,7 +45,8 @@ pub record IsUnended (schedule : List ℕ) (files : List (List ℕ)) (options : 
   pub trees : Program
   pub events : List Event
   pub limits : Limits
-  pub opened : IsOpened schedule files options trees events limits
+  pub gives_up : Bool
+  pub opened : IsOpened schedule files options trees events limits gives_up
   pub lines : WritesFront trees events limits window old new
 
 -- or it has ended, and a front of its lines and its report is written

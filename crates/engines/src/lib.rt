@@ -156,6 +156,8 @@ mod named_file;
 mod names;
 mod open;
 mod opening;
+mod place_ends;
+mod place_schedules;
 mod program;
 mod recording;
 mod repeat_words;

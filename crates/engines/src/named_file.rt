@@ -7,6 +7,7 @@ ghost use Rattle.engines.specs.declared.fault.Fault.TheVariants.{Memory};
 use crate::fault::{Fault, device_fault};
 use model::{DeviceFault, Source};
 use program_files::Folder;
+use place_texts::is_places_word;
 use schedule::schedule_text::is_schedule_word;
 use std::alloc::Global;
 
@@ -75,12 +76,21 @@ pub(crate) fn source<'a, F: Folder>(folder: &'a F, path: &'a str) -> NamedFile<'
     }
 }
 
+/// Whether a word of a command line is a schedule, which may have places, and no path.
+pub(crate) fn is_given_word(alloc: Global, word: &[u8]) -> bool {
+    is_schedule_word(word) || is_places_word(alloc, word)
+}
+
 /// The schedule that a word is, or whose path it is, as a source.
-pub(crate) fn schedule_source<'a, F: Folder>(folder: &'a F, word: &'a str) -> NamedFile<'a, F>
+pub(crate) fn schedule_source<'a, F: Folder>(
+    alloc: Global,
+    folder: &'a F,
+    word: &'a str,
+) -> NamedFile<'a, F>
     ensures at { IsScheduleAt (F.held folder.now) word.now (⟦<NamedFile<'a, F> as Source>⟧.remaining result) }
     ensures none { ⟦<NamedFile<'a, F> as Source>⟧.failures result ≡ 0 }
 {
-    let reading = if is_schedule_word(word.as_bytes()) {
+    let reading = if is_given_word(alloc, word.as_bytes()) {
         Reading::There(word.as_bytes())
     } else {
         Reading::Ahead

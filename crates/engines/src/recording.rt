@@ -10,11 +10,13 @@ use std::alloc::{AllocError, Global};
 
 /// Under what a schedule is to run over class files: the limits that are asked for, and whether any files will do,
 /// whatever it was recorded over. The first so many of the files are given, and a library adds the others.
+/// A place of the schedule gives up once there are as many events as the budget.
 #[derive(Clone, Copy)]
 pub struct Conditions {
     pub limits: LimitOptions,
     pub any_files: bool,
     pub given: usize,
+    pub budget: u32,
 }
 
 /// Those of class files that are given: the first so many.

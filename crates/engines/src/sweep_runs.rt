@@ -18,8 +18,9 @@ use model::{Sink, Source};
 use program_runs::verified_programs::verified_program;
 use search::run_outcomes::Wanted;
 use std::alloc::{AllocError, Global};
-use std::sync::Arc;
-use sweeps::{PolicyRuns, SeededPolicy, Watch, sweep_text};
+use std::sync::{Arc, Wait};
+use std::thread::Threads;
+use sweeps::{PolicyRuns, SeededPolicy, SideBySide, Watch, sweep_text};
 use verifier::Verified;
 
 /// Runs the class files once for each seed that is asked for, until a run shows what is wanted. Writes what the runs
@@ -27,7 +28,8 @@ use verifier::Verified;
 ///
 /// A fault of the class files is answered before anything runs, and nothing is written then; nor is anything after a
 /// want of memory in the sweep.
-pub fn sweep_engine<P: Watch, S: Source, W: Sink>(
+pub fn sweep_engine<R: Threads + Wait + Sync, P: Watch, S: Source, W: Sink>(
+    rt: &R,
     alloc: Global,
     watch: &P,
     files: &mut [S],
@@ -50,7 +52,7 @@ pub fn sweep_engine<P: Watch, S: Source, W: Sink>(
     let read = read_class_files(alloc, files)?;
     let files = read.as_slice();
     let verified = accepted(alloc, files)?;
-    let swept = swept(alloc, watch, verified, options, sweep, wanted)?;
+    let swept = swept(rt, alloc, watch, verified, options, sweep, wanted)?;
     report.write_all(swept.text.as_slice())?;
     Ok(swept.status)
 }
@@ -63,7 +65,8 @@ struct ToldSweep {
 }
 
 /// Sweeps over accepted class files, and makes what is to be written. Lets them go.
-fn swept<P: Watch>(
+fn swept<R: Threads + Wait + Sync, P: Watch>(
+    rt: &R,
     alloc: Global,
     watch: &P,
     verified: Verified,
@@ -76,11 +79,14 @@ fn swept<P: Watch>(
 {
     let program = verified_program(alloc, &verified)?;
     let verified = Arc::new(alloc, verified)?;
-    swept_over(alloc, watch, &verified, &program, options, sweep, wanted)
+    swept_over(
+        rt, alloc, watch, &verified, &program, options, sweep, wanted,
+    )
 }
 
 /// The same, where there is all that a run needs of the class files.
-fn swept_over<P: Watch>(
+fn swept_over<R: Threads + Wait + Sync, P: Watch>(
+    rt: &R,
     alloc: Global,
     watch: &P,
     verified: &Arc<Verified>,
@@ -98,7 +104,9 @@ fn swept_over<P: Watch>(
     let budget = options.options.sweep_budget();
     let runs = PolicyRuns::new(verified, program, limits, budget, policy);
     let seeds = sweep.seeds;
-    let swept = sweeps::sweep(alloc, &runs, watch, wanted, seeds.first, seeds.last)?;
+    let workers = options.options.workers().unwrap_or(1);
+    let mut runs = SideBySide::new(alloc, runs, workers, seeds.last);
+    let swept = sweeps::sweep(rt, alloc, &mut runs, watch, wanted, seeds.first, seeds.last)?;
     let words = repeat_words(alloc, options, sweep)?;
     let text = sweep_text(alloc, &swept, policy, words.as_str())?;
     let status = Status::of_sweep(swept.end);

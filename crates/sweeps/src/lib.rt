@@ -2,7 +2,7 @@
 //!
 //! # Proved
 //!
-//! - `sweep`, memory aside, over whatever does a run for each seed (`SeedRuns`): there is a run for each seed from the
+//! - `sweep`, memory aside, over what does a run for each seed, several side by side (`SideBySide`): there is a run for each seed from the
 //!   first one up, and the tally is that of these runs (`Sweeps`, `tally_of`). It has what they show by the first seed
 //!   that shows it, each with how many runs show it and with the events of the first of them; how many runs there were,
 //!   and how many events in all. *Done*: there is a run for each seed up to the last, and none shows what is wanted.
@@ -43,8 +43,8 @@
 
 mod policy_runs;
 mod same_runs;
-mod seed_runs;
 mod shown;
+mod side_by_side;
 mod sweep_texts;
 mod sweeping;
 mod tallies;
@@ -52,8 +52,8 @@ mod watch;
 
 pub use policy_runs::{PolicyRuns, SeededPolicy};
 pub use same_runs::SameRuns;
-pub use seed_runs::SeedRuns;
 pub use shown::{Ran, Shown};
+pub use side_by_side::SideBySide;
 pub use sweep_texts::sweep_text;
 pub use sweeping::{SweepEnd, SweepReport, sweep};
 pub use tallies::Tally;

@@ -10,7 +10,7 @@ use crate::commands::storing::try_record;
 use crate::explanation::Explanation;
 use crate::fault::Fault;
 use crate::named_file::schedule_source;
-use crate::opening::read_given;
+use crate::place_schedules::read_words;
 use command_line::{Command, Goal, Replay, Run, Search, Shrink};
 use program_files::Folder;
 use std::alloc::Global;
@@ -140,7 +140,7 @@ fn check_schedule<F: Folder>(alloc: Global, folder: &F, word: &str) -> Result<()
     ensures kept { IfErr result (λ fault. IsUnable fault ⊎ KeepsSchedule (F.held folder.now) word.now fault) }
     ensures told { (n : ℕ) → TellsFailures (FolderMayFail F.may_fail) result n n }
 {
-    let mut schedule = schedule_source(folder, word);
-    let _ = read_given(alloc, &mut schedule)?;
+    let mut schedule = schedule_source(alloc, folder, word);
+    let _ = read_words(alloc, &mut schedule)?;
     Ok(())
 }

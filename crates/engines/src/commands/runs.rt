@@ -27,9 +27,15 @@ use program_runs::workers::Gate;
 use std::alloc::Global;
 use std::sync::Wait;
 use std::thread::Threads;
+use sweeps::Watch;
 
 /// `run`: once, or for each of the seeds that are asked for.
-pub(crate) fn run<R: Threads + Wait + Sync, G: Gate + Seeds + Deadline + Sync, F: Folder, W: Sink>(
+pub(crate) fn run<
+    R: Threads + Wait + Sync,
+    G: Gate + Seeds + Deadline + Watch + Sync,
+    F: Folder,
+    W: Sink,
+>(
     rt: &R,
     alloc: Global,
     gate: &G,
@@ -51,7 +57,7 @@ pub(crate) fn run<R: Threads + Wait + Sync, G: Gate + Seeds + Deadline + Sync, F
     ensures told { TellsFailures (FolderMayFail F.may_fail) result (W.failures output.old) (W.failures output.new) }
 {
     match &options.sweep {
-        Some(sweep) => sweep_files(alloc, gate, folder, files, options, sweep, output),
+        Some(sweep) => sweep_files(rt, alloc, gate, folder, files, options, sweep, output),
         None => run_files(
             rt,
             alloc,
@@ -122,6 +128,7 @@ fn conditions_of(options: &Run, given: usize) -> Conditions {
         limits: options.limits,
         any_files: false,
         given,
+        budget: 10_000_000,
     }
 }
 

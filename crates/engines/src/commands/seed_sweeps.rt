@@ -19,11 +19,15 @@ use model::Sink;
 use program_files::Folder;
 use search::run_outcomes::Wanted;
 use std::alloc::Global;
+use std::sync::Wait;
+use std::thread::Threads;
+use sweeps::Watch;
 
 /// Sweeps over the seeds that are asked for.
-pub(crate) fn sweep_files<D: Deadline, F: Folder, W: Sink>(
+pub(crate) fn sweep_files<R: Threads + Wait + Sync, G: Watch + Deadline, F: Folder, W: Sink>(
+    rt: &R,
     alloc: Global,
-    deadline: &D,
+    gate: &G,
     folder: &F,
     files: &[Vec<u8>],
     options: &Run,
@@ -43,14 +47,15 @@ pub(crate) fn sweep_files<D: Deadline, F: Folder, W: Sink>(
 {
     let wanted = wanted_by(alloc, folder, &sweep.goal)?;
     sweep_for(
-        alloc, deadline, folder, files, options, sweep, &wanted, output,
+        rt, alloc, gate, folder, files, options, sweep, &wanted, output,
     )
 }
 
 /// Sweeps for an outcome.
-fn sweep_for<D: Deadline, F: Folder, W: Sink>(
+fn sweep_for<R: Threads + Wait + Sync, G: Watch + Deadline, F: Folder, W: Sink>(
+    rt: &R,
     alloc: Global,
-    deadline: &D,
+    gate: &G,
     folder: &F,
     files: &[Vec<u8>],
     options: &Run,
@@ -68,11 +73,12 @@ fn sweep_for<D: Deadline, F: Folder, W: Sink>(
     ensures told { TellsFailures (FolderMayFail F.may_fail) result (W.failures output.old) (W.failures output.new) }
 {
     let watch = Until {
-        gate: deadline,
+        gate,
         seconds: options.seconds,
     };
     let mut sources = sources(alloc, folder, files)?;
     sweep_engine(
+        rt,
         alloc,
         &watch,
         sources.as_mut_slice(),

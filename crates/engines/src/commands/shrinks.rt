@@ -176,7 +176,7 @@ fn shrunk_files<'a, F: Folder, W: Sink>(
         (option_map vec_items made.new.file) fault)) }
     ensures told { TellsFailures (FolderMayFail F.may_fail) result (W.failures output.old) (W.failures output.new) }
 {
-    let mut schedule = schedule_source(folder, options.schedule.as_str());
+    let mut schedule = schedule_source(alloc, folder, options.schedule.as_str());
     let mut sources = sources(alloc, folder, files)?;
     shrink_engine(
         alloc,
@@ -226,12 +226,13 @@ pub(crate) fn shrink_engine<S: Source, W: Sink>(
 
 /// Under what the schedule is to run.
 fn conditions_of(options: &Shrink, given: usize) -> Conditions
-    ensures { result ≡ conditions_of options.now.limits options.now.any_files given }
+    ensures { result ≡ conditions_of options.now.limits options.now.any_files given (unwrap_or options.now.budget 10000000) }
 {
     Conditions {
         limits: options.limits,
         any_files: options.any_files,
         given,
+        budget: options.budget(),
     }
 }
 
@@ -251,16 +252,17 @@ fn found_of(
     options: &Shrink,
     wanted: &Wanted,
 ) -> Result<Found, AllocError>
-    requires { IsAccepted (map vec_items opened.files.items) opened.verified }
+    requires { IsAccepted (map vec_items opened.files.items) (arc_value opened.verified) }
     ensures { IfOk result (λ found. (bytes : _)
         → IsOpened bytes (map vec_items opened.files.items)
-        (conditions_of options.now.limits options.now.any_files given) opened.verified (events_of opened.schedule)
-        opened.limits
+        (conditions_of options.now.limits options.now.any_files given (unwrap_or options.now.budget 10000000)) (arc_value opened.verified)
+        (events_of opened.schedule) opened.limits opened.gives_up
         → IsShrunkOf bytes given (map vec_items opened.files.items) options.now wanted.now found.text.items
         (option_map vec_items found.made.file) found.status) }
 {
     let Opened {
         schedule,
+        gives_up: _,
         files,
         verified,
         limits,
@@ -282,17 +284,16 @@ fn found_of(
 /// hasn't got it.
 fn shrunk_over(
     alloc: Global,
-    verified: Verified,
+    verified: Arc<Verified>,
     limits: Limits,
     options: &Shrink,
     wanted: &Wanted,
     schedule: &Schedule,
 ) -> Result<Option<Schedule>, AllocError>
-    ensures { IfOk result (IsShrunk (Has (tries_of verified limits options.now wanted.now))
-        (Lacks (tries_of verified limits options.now wanted.now)) (events_of schedule.now)) }
+    ensures { IfOk result (IsShrunk (Has (tries_of (arc_value verified) limits options.now wanted.now))
+        (Lacks (tries_of (arc_value verified) limits options.now wanted.now)) (events_of schedule.now)) }
 {
     let program = verified_program(alloc, &verified)?;
-    let verified = Arc::new(alloc, verified)?;
     shrunk_by(
         alloc, &verified, &program, limits, options, wanted, schedule,
     )
