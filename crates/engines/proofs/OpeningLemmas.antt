@@ -25,6 +25,7 @@ kept_is_faulty faults.Device left lefts options held kept = inl refl
 kept_is_faulty faults.Memory left lefts options held kept = inl refl
 kept_is_faulty (faults.Schedule fault) left lefts options held kept = (refl, kept)
 kept_is_faulty (faults.Text fault) left lefts options held kept = (refl, kept)
+kept_is_faulty (faults.Place missing) left lefts options held kept = (refl, kept)
 kept_is_faulty (faults.Refusal refusal) left lefts options held kept = (refl, kept)
 
 pub kept_is_uncontinued : (fault : Fault) (left : Option (List ℕ)) (lefts : List (Option (List ℕ))) (options : Conditions) (budget : ℕ)
@@ -34,6 +35,7 @@ kept_is_uncontinued faults.Device left lefts options budget held made kept = inl
 kept_is_uncontinued faults.Memory left lefts options budget held made kept = inl (refl, refl)
 kept_is_uncontinued (faults.Schedule fault) left lefts options budget held made kept = (refl, refl, kept)
 kept_is_uncontinued (faults.Text fault) left lefts options budget held made kept = (refl, refl, kept)
+kept_is_uncontinued (faults.Place missing) left lefts options budget held made kept = (refl, refl, kept)
 kept_is_uncontinued (faults.Refusal refusal) left lefts options budget held made kept = (refl, refl, kept)
 
 -- where a device fails, or there is no memory for what it does, a part may be written

@@ -39,6 +39,7 @@ whole_is_unrun given lefts asked options may_stop old new made faults.Memory una
 whole_is_unrun given lefts asked options may_stop old new made (faults.Refusal refusal) unable whole = absurd unable
 whole_is_unrun given lefts asked options may_stop old new made (faults.Schedule fault) unable whole = absurd unable
 whole_is_unrun given lefts asked options may_stop old new made (faults.Text fault) unable whole = absurd unable
+whole_is_unrun given lefts asked options may_stop old new made (faults.Place missing) unable whole = absurd unable
 
 whole_is_uncontinued : (left : Option (List ℕ)) (lefts : List (Option (List ℕ))) (asked : Conditions) (budget : ℕ) (old new made : Option (List ℕ))
     (fault : Fault) → IsUnable fault → (text : List ℕ) × (status : Status) × Continues left lefts asked budget text made status × Appends old new text
@@ -48,6 +49,7 @@ whole_is_uncontinued left lefts asked budget old new made faults.Memory unable (
 whole_is_uncontinued left lefts asked budget old new made (faults.Refusal refusal) unable whole = absurd unable
 whole_is_uncontinued left lefts asked budget old new made (faults.Schedule fault) unable whole = absurd unable
 whole_is_uncontinued left lefts asked budget old new made (faults.Text fault) unable whole = absurd unable
+whole_is_uncontinued left lefts asked budget old new made (faults.Place missing) unable whole = absurd unable
 
 whole_is_unsearched : (given : ℕ) (lefts : List (Option (List ℕ))) (asked : LimitOptions) (want : Wanted) (may_stop : Bool) (most : ℕ) (recorded : Bool) (old new made : Option (List ℕ))
     (fault : Fault) → IsUnable fault → (text : List ℕ) × (status : Status) × Searches given lefts asked want may_stop most recorded text made status × Appends old new text
@@ -57,6 +59,7 @@ whole_is_unsearched given lefts asked want may_stop most recorded old new made f
 whole_is_unsearched given lefts asked want may_stop most recorded old new made (faults.Refusal refusal) unable whole = absurd unable
 whole_is_unsearched given lefts asked want may_stop most recorded old new made (faults.Schedule fault) unable whole = absurd unable
 whole_is_unsearched given lefts asked want may_stop most recorded old new made (faults.Text fault) unable whole = absurd unable
+whole_is_unsearched given lefts asked want may_stop most recorded old new made (faults.Place missing) unable whole = absurd unable
 
 -- ---- a fault of the command, or of the record
 

@@ -38,6 +38,7 @@ unread_is_unrun faults.Device given lefts asked options may_stop held kept file 
 unread_is_unrun faults.Memory given lefts asked options may_stop held kept file within of_file = absurd of_file
 unread_is_unrun (faults.Schedule fault) given lefts asked options may_stop held kept file within of_file = absurd of_file
 unread_is_unrun (faults.Text fault) given lefts asked options may_stop held kept file within of_file = absurd of_file
+unread_is_unrun (faults.Place missing) given lefts asked options may_stop held kept file within of_file = absurd of_file
 unread_is_unrun (faults.Refusal refusal) given lefts asked options may_stop held kept file within of_file = (refl, refl, inl (file, within, of_file))
 
 -- the writing stops

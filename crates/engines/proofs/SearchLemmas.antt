@@ -26,6 +26,7 @@ module _ (given : ℕ) (lefts : List (Option (List ℕ))) (asked : LimitOptions)
   unread_is_unsearched faults.Memory held kept file within of_file = absurd of_file
   unread_is_unsearched (faults.Schedule fault) held kept file within of_file = absurd of_file
   unread_is_unsearched (faults.Text fault) held kept file within of_file = absurd of_file
+  unread_is_unsearched (faults.Place missing) held kept file within of_file = absurd of_file
   unread_is_unsearched (faults.Refusal refusal) held kept file within of_file = (refl, refl, inl (file, within, of_file))
 
   -- the writing stops

@@ -28,6 +28,7 @@ kept_is_unshrunk faults.Device left given lefts options want held made kept = in
 kept_is_unshrunk faults.Memory left given lefts options want held made kept = inl (refl, refl)
 kept_is_unshrunk (faults.Schedule fault) left given lefts options want held made kept = (refl, refl, kept)
 kept_is_unshrunk (faults.Text fault) left given lefts options want held made kept = (refl, refl, kept)
+kept_is_unshrunk (faults.Place missing) left given lefts options want held made kept = (refl, refl, kept)
 kept_is_unshrunk (faults.Refusal refusal) left given lefts options want held made kept = (refl, refl, kept)
 
 pub part_is_unshrunk : (fault : DeviceFault) (left : Option (List ℕ)) (given : ℕ) (lefts : List (Option (List ℕ))) (options : Shrink) (want : Wanted)
@@ -50,6 +51,7 @@ whole_is_unshrunk left given lefts options want old new made faults.Memory unabl
 whole_is_unshrunk left given lefts options want old new made (faults.Refusal refusal) unable whole = absurd unable
 whole_is_unshrunk left given lefts options want old new made (faults.Schedule fault) unable whole = absurd unable
 whole_is_unshrunk left given lefts options want old new made (faults.Text fault) unable whole = absurd unable
+whole_is_unshrunk left given lefts options want old new made (faults.Place missing) unable whole = absurd unable
 
 module _ (held holds : Held) (given : ℕ) (lefts : List (Option (List ℕ))) (old new made : Option (List ℕ)) (outcome : Result Status Fault) (fault : Fault)
     (shrink : Shrink) (want : Wanted) (asked : IsAskedFor held (Some shrink.goal) want) where

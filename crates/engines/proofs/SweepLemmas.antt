@@ -25,6 +25,7 @@ module _ (lefts : List (Option (List ℕ))) (run : Run) (sweep : SweepOptions) (
   unread_is_unswept faults.Memory held file within of_file = absurd of_file
   unread_is_unswept (faults.Schedule fault) held file within of_file = absurd of_file
   unread_is_unswept (faults.Text fault) held file within of_file = absurd of_file
+  unread_is_unswept (faults.Place missing) held file within of_file = absurd of_file
   unread_is_unswept (faults.Refusal refusal) held file within of_file = (refl, inl (file, within, of_file))
 
   -- the writing stops

@@ -29,6 +29,7 @@ kept_is_untraced faults.Device left lefts options window held kept = inl refl
 kept_is_untraced faults.Memory left lefts options window held kept = inl refl
 kept_is_untraced (faults.Schedule fault) left lefts options window held kept = (refl, kept)
 kept_is_untraced (faults.Text fault) left lefts options window held kept = (refl, kept)
+kept_is_untraced (faults.Place missing) left lefts options window held kept = (refl, kept)
 kept_is_untraced (faults.Refusal refusal) left lefts options window held kept = (refl, kept)
 
 -- where a device fails, or memory is wanted, a part may be written

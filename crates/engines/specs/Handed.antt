@@ -44,6 +44,7 @@ refused_name given added faults.Device = None
 refused_name given added faults.Memory = None
 refused_name given added (faults.Schedule fault) = None
 refused_name given added (faults.Text fault) = None
+refused_name given added (faults.Place missing) = None
 refused_name given added (faults.Refusal refusal) = option_and_then (added_name given added) refusal.file
 
 -- the complaint is of this fault: it has the name of the class of the library that is refused, if it is one

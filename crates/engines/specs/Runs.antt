@@ -70,3 +70,4 @@ IsUnrun given lefts asked options may_stop old new kept made (faults.Refusal ref
     ⊎ ((files : List (List ℕ)) × ReadsEach lefts files × IsRefused files refusal))
 IsUnrun given lefts asked options may_stop old new kept made (faults.Schedule fault) = ⊥
 IsUnrun given lefts asked options may_stop old new kept made (faults.Text fault) = ⊥
+IsUnrun given lefts asked options may_stop old new kept made (faults.Place missing) = ⊥

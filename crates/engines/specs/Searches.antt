@@ -76,3 +76,4 @@ IsUnsearched given lefts asked want may_stop most recorded old new kept made (fa
     ⊎ ((files : List (List ℕ)) × ReadsEach lefts files × IsRefused files refusal))
 IsUnsearched given lefts asked want may_stop most recorded old new kept made (faults.Schedule fault) = ⊥
 IsUnsearched given lefts asked want may_stop most recorded old new kept made (faults.Text fault) = ⊥
+IsUnsearched given lefts asked want may_stop most recorded old new kept made (faults.Place missing) = ⊥

@@ -105,3 +105,4 @@ IsUnswept lefts run sweep may_stop want old new (faults.Refusal refusal) = (new 
     ⊎ ((files : List (List ℕ)) × ReadsEach lefts files × IsRefused files refusal))
 IsUnswept lefts run sweep may_stop want old new (faults.Schedule fault) = ⊥
 IsUnswept lefts run sweep may_stop want old new (faults.Text fault) = ⊥
+IsUnswept lefts run sweep may_stop want old new (faults.Place missing) = ⊥

@@ -12,7 +12,7 @@ use Rattle.model.specs.Worlds.{thread_at}
 use Rattle.run_laws.specs.interleavings.Local.{is_going}
 use Rattle.heap.specs.java_threads.Table.{thread_at as row_of_thread}
 use Rattle.linked_code.specs.declared.program.LinkedProgram.{LinkedProgram}
-use Rattle.linked_code.specs.thread_stacks.Stacks.{ShownEntry, Invocation, Initialisation}
+use Rattle.thread_stacks.specs.Stacks.{ShownEntry, Invocation, Initialisation}
 use Rattle.machine_state.specs.shown_stacks.Shown.{ShowsStack, offset_at}
 use Rattle.machine_state.specs.declared.state.Shared.{Shared}
 use Rattle.machine_state.specs.state_events.Whole.{ShowsStacks}

@@ -5,7 +5,7 @@ ghost use Rattle.machine_state.specs.shown_stacks.Shown.{offset_at, starts_of as
 ghost use Rattle.place_runs.specs.Shown.{IsShownAt, IsTopAt, has_point as has};
 
 use code_places::Point;
-use linked_code::thread_stacks::{Frame, ThreadStack};
+use thread_stacks::{Frame, ThreadStack};
 use linked_code::{LinkedProgram, MethodBody};
 use machine::Machine;
 use machine::top_frames::goes_on;

@@ -1,6 +1,6 @@
 use Rattle.std.proofs.Common.{◌≡◌, ℕ, List, Bool, Some, None, ap, sym, subst, ◌∙◌, Option}
 use Rattle.std.specs.Prelude.{slice_get, ◌&&◌}
-use Rattle.linked_code.specs.thread_stacks.Stacks.{ShownEntry}
+use Rattle.thread_stacks.specs.Stacks.{ShownEntry}
 use Rattle.machine_state.specs.declared.state.Shared.{Shared}
 use Rattle.machine.specs.top_frames.Tops.{GoesOnIf}
 use Rattle.place_runs.specs.Shown.{IsTopAt}
