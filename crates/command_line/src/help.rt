@@ -32,6 +32,10 @@ pub(crate) const FILES_HELP: &str =
 /// What class files are that are listed.
 pub(crate) const LISTED_HELP: &str = "The class files, and folders of them";
 
+/// What files `schedule` takes.
+pub(crate) const SCHEDULE_HELP: &str =
+    "The schedule file; with --places the class files, and folders of them";
+
 /// What stands below the options of `run`.
 pub(crate) const RUN_PAGE: &str = "\
 What it does:

@@ -31,13 +31,15 @@ mod parsers;
 mod paths;
 mod run_arguments;
 mod run_options;
+mod schedule_arguments;
 mod sweep_arguments;
 mod sweep_options;
 mod usage;
+mod values;
 
 pub use options::{
-    Command, Disasm, Goal, LimitOptions, Replay, Run, Schedule, Search, Shrink, ThenRun, Trace,
-    TraceForm, Verify,
+    Command, Disasm, Goal, LimitOptions, Places, Replay, Run, Schedule, Search, Shrink, ThenRun,
+    Trace, TraceForm, Verify,
 };
 pub use parse::command;
 pub use paths::is_same_path;

@@ -18,6 +18,7 @@ pub enum Command {
     Verify(Verify),
     Disasm(Disasm),
     Schedule(Schedule),
+    Places(Places),
 }
 
 /// The usual budget of a run of a sweep, of one that goes on behind a schedule, of a try of `shrink`, and of places, in
@@ -38,8 +39,11 @@ pub struct Run {
     pub seconds: Option<u32>,
     /// A run for each of some seeds, where these are asked for.
     pub sweep: Option<SweepOptions>,
-    /// The path of the file that the schedule of the run is written to, if any.
+    /// The path of the file that the schedule of the run is written to, if any; of a sweep that of the folder for
+    /// the schedules of its outcomes.
     pub record: Option<String>,
+    /// The version that a schedule is written in at most, and `None` for any.
+    pub as_version: Option<u32>,
     pub limits: LimitOptions,
     /// The name of the class whose `main` is run, with dots or slashes, if it is given.
     pub main: Option<String>,
@@ -130,6 +134,8 @@ pub struct Search {
     pub seconds: Option<u32>,
     /// The path of the file that the schedule that is found is written to, if any.
     pub record: Option<String>,
+    /// The version that the schedule is written in at most, and `None` for any.
+    pub as_version: Option<u32>,
     pub limits: LimitOptions,
     /// The name of the class whose `main` is run, with dots or slashes, if it is given.
     pub main: Option<String>,
@@ -185,6 +191,8 @@ pub struct Shrink {
     pub budget: Option<u32>,
     /// The path of the file that the schedule is written to, if any.
     pub record: Option<String>,
+    /// The version that the schedule is written in at most, and `None` for any.
+    pub as_version: Option<u32>,
     pub limits: LimitOptions,
     /// The name of the class whose `main` is run, with dots or slashes, if it is given.
     pub main: Option<String>,
@@ -223,6 +231,8 @@ pub struct ThenRun {
     pub budget: Option<u32>,
     /// The path of the file that the whole schedule is written to, if any.
     pub record: Option<String>,
+    /// The version that the whole schedule is written in at most, and `None` for any.
+    pub as_version: Option<u32>,
 }
 
 impl ThenRun {
@@ -278,6 +288,25 @@ pub struct Schedule {
     pub explain: bool,
     /// Whether standard error tells no more than why there is no output.
     pub quiet: bool,
+}
+
+/// `jvm schedule --places`: a schedule of class files is printed as a text with places.
+#[derive(Drop)]
+pub struct Places {
+    /// The path of the schedule file, or the schedule itself.
+    pub schedule: String,
+    /// Whether any class files will do, whatever the schedule was recorded over.
+    pub any_files: bool,
+    /// The name of the class whose `main` is run, with dots or slashes, if it is given.
+    pub main: Option<String>,
+    /// The paths of the class files, and of folders of them.
+    pub files: Vec<String>,
+    /// Whether a refusal is explained.
+    pub explain: bool,
+    /// Whether standard error tells no more than why there is no output.
+    pub quiet: bool,
+    /// Whether no class is added from the library.
+    pub files_alone: bool,
 }
 
 /// The limits that are asked for, each in its range, and `None` for the usual one.

@@ -33,6 +33,7 @@ use Rattle.engines.specs.Goals.{IsAskedFor}
 use Rattle.engines.specs.Libraries.{IsUnacceptedLibrary, VerifiesLibrary}
 use Rattle.engines.specs.Listings.{AreClassFiles, IsUnlisted, IsUnnamed, Lists}
 use Rattle.engines.specs.Opening.{IsKeptBy}
+use Rattle.engines.specs.RecordForms.{record_form}
 use Rattle.engines.specs.Recordings.{conditions_of}
 use Rattle.engines.specs.Replays.{IsFaulty, Replays}
 use Rattle.engines.specs.Runs.{IsUnrun, Runs}
@@ -120,14 +121,14 @@ IsUnrecorded outcome held holds written fault = ((outcome ≡ Err fault) × (IsW
 
 pub record IsRunDone (given : ℕ) (lefts : List (Option (List ℕ))) (run : Run) (text : List ℕ) (written : Written) (status : Status) : Type 0 where
   pub file : Option (List ℕ)
-  pub runs : Runs given lefts run.limits run.options (is_some run.seconds) text file status
+  pub runs : Runs (record_form given run.as_version) lefts run.limits run.options (is_some run.seconds) text file status
   pub made : IsTrue (is_some run.record) → IsTrue (is_some file)
   pub recorded : written ≡ written_at run.record file
 
 -- what was made may be recorded though the output failed
 pub record IsRunUndone (given : ℕ) (lefts : List (Option (List ℕ))) (run : Run) (old new : Option (List ℕ)) (fault : Fault) (written : Written) : Type 0 where
   pub file : Option (List ℕ)
-  pub unrun : IsUnrun given lefts run.limits run.options (is_some run.seconds) old new None file fault
+  pub unrun : IsUnrun (record_form given run.as_version) lefts run.limits run.options (is_some run.seconds) old new None file fault
   pub recorded : (written ≡ None) ⊎ (written ≡ written_at run.record file)
 
 -- ---- run over seeds
@@ -211,14 +212,14 @@ pub record IsSearchDone (held : Held) (given : ℕ) (lefts : List (Option (List 
   pub want : Wanted
   pub asked : IsAskedFor held search.goal want
   pub file : Option (List ℕ)
-  pub searches : Searches given lefts search.limits want (is_some search.seconds) (most_states search) (is_some search.record) text file status
+  pub searches : Searches (record_form given search.as_version) lefts search.limits want (is_some search.seconds) (most_states search) (is_some search.record) text file status
   pub recorded : written ≡ written_at search.record file
 
 pub record IsSearchUndone (held : Held) (given : ℕ) (lefts : List (Option (List ℕ))) (search : Search) (old new : Option (List ℕ)) (fault : Fault) (written : Written) : Type 0 where
   pub want : Wanted
   pub asked : IsAskedFor held search.goal want
   pub file : Option (List ℕ)
-  pub unsearched : IsUnsearched given lefts search.limits want (is_some search.seconds) (most_states search) (is_some search.record) old new None file fault
+  pub unsearched : IsUnsearched (record_form given search.as_version) lefts search.limits want (is_some search.seconds) (most_states search) (is_some search.record) old new None file fault
   pub recorded : (written ≡ None) ⊎ (written ≡ written_at search.record file)
 
 -- ---- verify and disasm

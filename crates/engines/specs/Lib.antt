@@ -14,6 +14,7 @@ pub mod GivenPlaces
 pub mod Opening
 pub mod PlaceWords
 pub mod Policies
+pub mod RecordForms
 pub mod Recordings
 pub mod Refusals
 pub mod Replays

@@ -13,7 +13,7 @@ ghost use Rattle.engines.specs.Opening.{IsAfterFiles, IsOfSchedule, IsOpened};
 use crate::fault::Fault;
 use crate::opening::{Opened, open};
 use crate::place_ends::told;
-use crate::recording::Conditions;
+use crate::recording::{Conditions, RecordForm};
 use crate::running::{Outcome, outcome_of, recorded_file};
 use crate::status::Status;
 use command_line::ThenRun;
@@ -129,7 +129,10 @@ fn ran_up_to(
         alloc,
         is_recorded,
         opened.files.as_slice(),
-        given,
+        RecordForm {
+            given,
+            as_version: None,
+        },
         opened.limits,
         &opened.schedule,
     )?;
@@ -156,12 +159,16 @@ fn ran_on(
         (option_map vec_items ran.file) ran.status) }
     ensures asked { IfOk result (λ ran. IsTrue is_recorded → IsTrue (is_some ran.file)) }
 {
+    let form = RecordForm {
+        given,
+        as_version: None,
+    };
     match run_on(alloc, verified, schedule, limits, budget)? {
         Continued::Whole(run) => {
             outcome_of(
                 alloc,
                 files,
-                given,
+                form,
                 limits,
                 &run.report,
                 run.end,
@@ -173,7 +180,7 @@ fn ran_on(
             outcome_of(
                 alloc,
                 files,
-                given,
+                form,
                 limits,
                 &report,
                 end,

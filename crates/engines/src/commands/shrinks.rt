@@ -5,7 +5,7 @@
 //! - `shrink_engine`, over any readers and writers: with a status, a text was appended and nothing else. It is that of
 //!   a schedule behind which a run has the outcome, as `shrink` of `shrinking` says it (`IsShrunk`); or nothing, and
 //!   the status 1, where the given schedule hasn't got it. The file, where one is asked for, spells its events, the
-//!   limits and the lengths and checksums of the class files (`shrunk`, `IsShrunkOf`). Before the tries, and with a
+//!   limits and the lengths and checksums of the class files, as far as its version tells them (`shrunk`, `IsShrunkOf`). Before the tries, and with a
 //!   fault, it is as `continue_engine` is (`faulty`, `counted`).
 //!
 //! # Not proved
@@ -36,7 +36,7 @@ use crate::explanation::Explanation;
 use crate::fault::Fault;
 use crate::named_file::{schedule_source, sources};
 use crate::opening::{Opened, open};
-use crate::recording::Conditions;
+use crate::recording::{Conditions, RecordForm};
 use crate::running::recorded_file;
 use crate::status::Status;
 use command_line::Shrink;
@@ -269,10 +269,14 @@ fn found_of(
     } = opened;
     let shrunk = shrunk_over(alloc, verified, limits, options, wanted, &schedule)?;
     let is_recorded = options.record.is_some();
+    let form = RecordForm {
+        given,
+        as_version: options.as_version,
+    };
     found_by(
         alloc,
         &files,
-        given,
+        form,
         limits,
         is_recorded,
         schedule.len(),
@@ -321,14 +325,14 @@ fn shrunk_by(
 fn found_by(
     alloc: Global,
     files: &[Vec<u8>],
-    given: usize,
+    form: RecordForm,
     limits: Limits,
     is_recorded: bool,
     before: usize,
     shrunk: Option<Schedule>,
 ) -> Result<Found, AllocError>
     requires { length files.now < 2 ^ 32 }
-    ensures { IfOk result (λ found. IsShrunkBy limits given (map vec_items files.now) is_recorded shrunk
+    ensures { IfOk result (λ found. IsShrunkBy limits form (map vec_items files.now) is_recorded shrunk
         found.text.items (option_map vec_items found.made.file) found.status) }
 {
     match shrunk {
@@ -340,7 +344,7 @@ fn found_by(
             },
             status: Status::Threw,
         }),
-        Some(shrunk) => found_so(alloc, files, given, limits, is_recorded, before, &shrunk),
+        Some(shrunk) => found_so(alloc, files, form, limits, is_recorded, before, &shrunk),
     }
 }
 
@@ -348,18 +352,18 @@ fn found_by(
 fn found_so(
     alloc: Global,
     files: &[Vec<u8>],
-    given: usize,
+    form: RecordForm,
     limits: Limits,
     is_recorded: bool,
     before: usize,
     shrunk: &Schedule,
 ) -> Result<Found, AllocError>
     requires { length files.now < 2 ^ 32 }
-    ensures { IfOk result (λ found. IsShrunkBy limits given (map vec_items files.now) is_recorded (Some shrunk.now)
+    ensures { IfOk result (λ found. IsShrunkBy limits form (map vec_items files.now) is_recorded (Some shrunk.now)
         found.text.items (option_map vec_items found.made.file) found.status) }
 {
     let text = text_of(alloc, shrunk)?;
-    let file = recorded_file(alloc, is_recorded, files, given, limits, shrunk)?;
+    let file = recorded_file(alloc, is_recorded, files, form, limits, shrunk)?;
     let after = shrunk.len();
     let words = Some(WordCounts { before, after });
     Ok(Found {

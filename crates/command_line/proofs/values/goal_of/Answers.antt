@@ -2,7 +2,7 @@ use Rattle.std.proofs.Common.{codes, Some, None}
 use Rattle.std.proofs.lemmas.Result.{err_from_is_err_and}
 use Rattle.command_line.proofs.CommandLineLemmas.{first_is, refuses_more}
 use Rattle.command_line.proofs.GoalLemmas.{none_asked, one_asked, none_fits}
-use Rattle.command_line.proofs.parse.goal_of.Goals as goal
+use Rattle.command_line.proofs.values.goal_of.Goals as goal
 
 pub returns-in-None-clause-goal : goal.returns-in-None-clause-goal
 returns-in-None-clause-goal c = none_asked _ (first_is c.args.matches.now (codes "for") None c.in-None.ensures)

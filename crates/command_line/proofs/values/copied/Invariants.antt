@@ -1,5 +1,5 @@
 use Rattle.std.proofs.Common.{◌≡◌, map, take, string_bytes}
-use Rattle.command_line.proofs.parse.copied.Given as goal
+use Rattle.command_line.proofs.values.copied.Given as goal
 
 -- the texts so far are copied
 abbrev pub invariant-loop-text : goal.invariant-loop-text

@@ -1,6 +1,6 @@
 use Rattle.std.proofs.Common.{◌∙◌, ap, codes, map, sym, Some, None}
 use Rattle.command_line.proofs.CommandLineLemmas.{all_is, no_value, refuses}
-use Rattle.command_line.proofs.parse.files_of.Goals as goal
+use Rattle.command_line.proofs.values.files_of.Goals as goal
 
 pub returns-in_ok-copied-in-Some-clause-files : goal.returns-in_ok-copied-in-Some-clause-files
 returns-in_ok-copied-in-Some-clause-files c =
