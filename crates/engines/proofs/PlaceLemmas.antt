@@ -1,6 +1,8 @@
 -- What a schedule with places gives, and what keeps it from that.
 use Rattle.std.proofs.Common.{◌≡◌, ◌⊎◌, ◌++◌, ◌<◌, ◌+◌, ℕ, List, [], ◌∷◌, Bool, Option, ap, get_or, inl, inr, length, refl, subst, sym, take, drop, ◌∙◌}
 use Rattle.std.proofs.lemmas.List.{drop_more, map-append, take-append-drop}
+use Rattle.model.specs.declared.device.DeviceFault.{DeviceFault}
+use Rattle.model.specs.declared.device.DeviceFault.TheVariants as devices
 use Rattle.model.specs.declared.event.Event.{Event}
 use Rattle.model.specs.declared.limits.Limits.{Limits}
 use Rattle.model.specs.Accepted.{IsAccepted}
@@ -14,10 +16,12 @@ use Rattle.schedule.specs.schedule_text.Text.{text_words}
 use Rattle.place_texts.specs.declared.place.PlacedDeed.{PlacedDeed}
 use Rattle.place_texts.specs.Places.{DeedOf, deed_of, deeds_of}
 use Rattle.place_texts.specs.Texts.{SpellDeeds}
+use Rattle.engines.specs.Devices.{fault_of}
 use Rattle.engines.specs.Engines.{CountsWith, Reads, ReadsEach}
 use Rattle.engines.specs.GivenPlaces.{Gives, Spells}
 use Rattle.engines.specs.Opening.{IsAfterFiles, IsKeptBy, IsMisplaced, IsOfSchedule, IsUnspelled}
 use Rattle.engines.specs.PlaceWords.{IsMissingAt, IsMissingFor, IsMissingIn, IsTextOf, IsUnfollowed, IsUnreadWords, SpellsWords, WordsGive}
+use Rattle.engines.specs.Placings.{IsUnplaced, PlacesPart}
 use Rattle.engines.specs.declared.fault.Fault.{Fault}
 use Rattle.engines.specs.declared.fault.Fault.TheVariants as faults
 use Rattle.engines.specs.declared.place_schedules.MissingPlace.{MissingPlace}
@@ -137,3 +141,21 @@ module _ (left : Option (List ℕ)) (lefts : List (Option (List ℕ))) (options 
   unfollowed_is_after (words.Entries schedule) fault spells unfollowed of_schedule = absurd unfollowed
   unfollowed_is_after (words.Places deeds) fault spells (inl is) of_schedule = absurd (subst IsOfSchedule is of_schedule)
   unfollowed_is_after (words.Places deeds) fault (none, spelled) (inr missing) of_schedule = missing_is_after (deeds_of deeds.items) fault spelled missing of_schedule
+
+-- ---- a text with places
+
+-- nothing is written where nothing is run
+pub kept_is_unplaced : (fault : Fault) (left : Option (List ℕ)) (lefts : List (Option (List ℕ))) (options : Conditions) (held : Option (List ℕ))
+    → IsKeptBy left lefts options fault → IsUnplaced left lefts options held held fault
+kept_is_unplaced faults.Device left lefts options held kept = inl refl
+kept_is_unplaced faults.Memory left lefts options held kept = inl refl
+kept_is_unplaced (faults.Schedule fault) left lefts options held kept = (refl, kept)
+kept_is_unplaced (faults.Text fault) left lefts options held kept = (refl, kept)
+kept_is_unplaced (faults.Place missing) left lefts options held kept = (refl, kept)
+kept_is_unplaced (faults.Refusal refusal) left lefts options held kept = (refl, kept)
+
+-- where a device fails, or there is no memory for what it does, a part may be written
+pub part_is_unplaced : (fault : DeviceFault) (left : Option (List ℕ)) (lefts : List (Option (List ℕ))) (options : Conditions) (old new : Option (List ℕ))
+    → PlacesPart left lefts options old new → IsUnplaced left lefts options old new (fault_of fault)
+part_is_unplaced devices.Device left lefts options old new part = part
+part_is_unplaced devices.Memory left lefts options old new part = part

@@ -13,6 +13,7 @@ pub mod Listings
 pub mod GivenPlaces
 pub mod Opening
 pub mod PlaceWords
+pub mod Placings
 pub mod Policies
 pub mod RecordForms
 pub mod Recordings
