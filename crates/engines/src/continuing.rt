@@ -60,7 +60,13 @@ pub fn continue_engine<S: Source, W: Sink>(
 {
     let opened = open(alloc, schedule, files, conditions)?;
     let is_recorded = then_run.record.is_some();
-    let ran = ran_by(alloc, opened, conditions.given, then_run.budget(), is_recorded)?;
+    let ran = ran_by(
+        alloc,
+        opened,
+        conditions.given,
+        then_run.budget(),
+        is_recorded,
+    )?;
     *file = ran.file;
     report.write_all(ran.text.as_slice())?;
     Ok(ran.status)
