@@ -382,7 +382,7 @@ fn with_record<'a>(
     alloc: Global,
     command: clap::Command<'a>,
 ) -> Result<clap::Command<'a>, AllocError>
-    ensures app { IfOk result (λ record. app_of record ≡ recorded (app_of command.entry)) }
+    ensures app { IfOk result (λ whole. app_of whole ≡ recorded (app_of command.entry)) }
     ensures local { IsLocal command.entry → IfOk result IsLocal }
 {
     command
