@@ -223,7 +223,7 @@ pub(crate) fn recorded_file(
 }
 
 /// The schedule file of a run of the class files.
-fn file_of(
+pub(crate) fn file_of(
     alloc: Global,
     files: &[Vec<u8>],
     form: RecordForm,

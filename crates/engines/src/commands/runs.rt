@@ -58,7 +58,18 @@ pub(crate) fn run<
     ensures told { TellsFailures (FolderMayFail F.may_fail) result (W.failures output.old) (W.failures output.new) }
 {
     match &options.sweep {
-        Some(sweep) => sweep_files(rt, alloc, gate, folder, files, options, sweep, output),
+        Some(sweep) => sweep_files(
+            rt,
+            alloc,
+            gate,
+            folder,
+            files,
+            given,
+            options,
+            sweep,
+            output,
+            explanation,
+        ),
         None => run_files(
             rt,
             alloc,
