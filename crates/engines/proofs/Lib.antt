@@ -8,6 +8,7 @@ pub mod LibraryLemmas
 pub mod ListingLemmas
 pub mod OpeningLemmas
 pub mod OutcomeLemmas
+pub mod PlaceLemmas
 pub mod RecordLemmas
 pub mod RunLemmas
 pub mod ScheduleLemmas

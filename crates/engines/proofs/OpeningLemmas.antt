@@ -73,7 +73,7 @@ file_is_no_text : (bytes : List ℕ) (recorded : Option Recording) (events : Lis
 file_is_no_text bytes recorded events text file = let bad : false ≡ true = sym (ap begins_text file.spelled) ∙ text in cc
 
 -- memory apart, its bytes give none
-unspelled : (fault : EitherFault) (left : Option (List ℕ)) (bytes : List ℕ) → Reads left bytes
+pub unspelled : (fault : EitherFault) (left : Option (List ℕ)) (bytes : List ℕ) → Reads left bytes
     → ((recorded : Option Recording) (events : List Event) → GivesEvents bytes recorded events → IsMemory fault) → IsFaultOf bytes fault
     → IsMemory fault ⊎ IsUnspelled left fault
 unspelled fault left bytes read only (inl memory) = inl memory

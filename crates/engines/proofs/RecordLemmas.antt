@@ -88,11 +88,11 @@ module _ (held holds : Held) (given : ℕ) (lefts : List (Option (List ℕ))) (o
 
   module _ (replay : Replay) (then_run : ThenRun) where
     abbrev ReplayDone : Status → Type 0
-    ReplayDone status = (text : List ℕ) × OfSchedule held (string_bytes replay.schedule) (λ left. Continues left lefts (conditions_of replay.limits replay.any_files given)
+    ReplayDone status = (text : List ℕ) × OfSchedule held (string_bytes replay.schedule) (λ left. Continues left lefts (conditions_of replay.limits replay.any_files given (unwrap_or replay.budget 10000000))
         (unwrap_or then_run.budget 10000000) text made status) × Appends old new text
 
     abbrev ReplayUndone : Fault → Type 0
-    ReplayUndone told = OfSchedule held (string_bytes replay.schedule) (λ left. IsUncontinued left lefts (conditions_of replay.limits replay.any_files given)
+    ReplayUndone told = OfSchedule held (string_bytes replay.schedule) (λ left. IsUncontinued left lefts (conditions_of replay.limits replay.any_files given (unwrap_or replay.budget 10000000))
         (unwrap_or then_run.budget 10000000) old new None made told)
 
     replay_whole : (status : Status) → IsUnable fault → ReplayDone status → ReplayUndone fault

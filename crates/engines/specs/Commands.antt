@@ -39,6 +39,7 @@ use Rattle.engines.specs.Recordings.{conditions_of}
 use Rattle.engines.specs.Replays.{IsFaulty, Replays}
 use Rattle.engines.specs.Runs.{IsUnrun, Runs}
 use Rattle.engines.specs.Searches.{IsUnsearched, Searches, most_states}
+use Rattle.engines.specs.Placings.{IsPlacesDone, IsPlacesUndone}
 use Rattle.engines.specs.Shrinks.{IsShrinkDone, IsShrinkUndone}
 use Rattle.engines.specs.Sweeps.{IsUnswept, SweepsOver}
 use Rattle.engines.specs.Traces.{IsUntraced, Traces}
@@ -73,6 +74,7 @@ AreFiles held listed (commands.Shrink shrink) files = AreHandedOn held listed (o
 AreFiles held listed (commands.Verify verify) files = AreVerified held listed verify.library (option_map string_bytes verify.main) (map string_bytes verify.files.items) files
 AreFiles held listed (commands.Disasm disasm) files = AreGiven listed (map string_bytes disasm.files.items) files
 AreFiles held listed (commands.Schedule schedule) files = files ≡ []
+AreFiles held listed (commands.Places places) files = AreHandedOn held listed (option_map string_bytes places.main) (map string_bytes places.files.items) files
 
 -- why there are none
 abbrev pub HasNoFiles : Held → Listed → Command → FilesFault → Type 0
@@ -84,6 +86,7 @@ HasNoFiles held listed (commands.Shrink shrink) fault = IsUnhanded held listed (
 HasNoFiles held listed (commands.Verify verify) fault = IsUnverified held listed verify.library (option_map string_bytes verify.main) (map string_bytes verify.files.items) fault
 HasNoFiles held listed (commands.Disasm disasm) fault = IsUngiven listed (map string_bytes disasm.files.items) fault
 HasNoFiles held listed (commands.Schedule schedule) fault = IsUnableFor fault
+HasNoFiles held listed (commands.Places places) fault = IsUnhanded held listed (option_map string_bytes places.main) (map string_bytes places.files.items) fault
 
 -- where the schedule of a run is written
 abbrev pub record_path : Command → Option Path
@@ -95,6 +98,7 @@ record_path (commands.Shrink shrink) = option_map string_bytes shrink.record
 record_path (commands.Verify verify) = None
 record_path (commands.Disasm disasm) = None
 record_path (commands.Schedule schedule) = None
+record_path (commands.Places places) = None
 
 -- it is none of these files
 abbrev pub IsUnread : (written : Option Path) → (files : List Path) → Type 0
@@ -284,6 +288,8 @@ IsDoneOver held given own lefts input (commands.Verify verify) text written stat
 IsDoneOver held given own lefts input (commands.Disasm disasm) text written status =
     ListsAs disasm.names lefts text × (written ≡ None) × (status ≡ Returned)
 IsDoneOver held given own lefts input (commands.Schedule schedule) text written status = IsScheduleDone held input schedule schedule.write text written status
+IsDoneOver held given own lefts input (commands.Places places) text written status =
+    IsPlacesDone held given lefts places text × (written ≡ None) × (status ≡ Returned)
 
 -- What keeps a command from a status, what is on the output then, and what is written.
 abbrev pub IsUndoneOver : Held → (given : ℕ) → (own : List LibraryFile) → (lefts : List (Option (List ℕ))) → (input : Option (List ℕ)) → Command → (old new : Option (List ℕ)) → Fault → Written → Type 0
@@ -299,6 +305,7 @@ IsUndoneOver held given own lefts input (commands.Verify verify) old new fault w
 IsUndoneOver held given own lefts input (commands.Disasm disasm) old new fault written =
     ((IsUnable fault × (new ≡ old)) ⊎ IsUnlistedAs disasm.names lefts old new fault) × (written ≡ None)
 IsUndoneOver held given own lefts input (commands.Schedule schedule) old new fault written = IsScheduleUndone held input schedule schedule.write old new fault written
+IsUndoneOver held given own lefts input (commands.Places places) old new fault written = IsPlacesUndone held given lefts places old new fault × (written ≡ None)
 
 -- the same over the files that it hands on, none of which is written
 abbrev pub IsDone : List LibraryFile → Held → Listed → (input : Option (List ℕ)) → Command → List ℕ → Written → Status → Type 0
@@ -321,6 +328,7 @@ KeepsSchedule held word fault = OfSchedule held word (λ left. (lefts : List (Op
 abbrev pub IsKeptFirst : Held → Command → Fault → Type 0
 IsKeptFirst held (commands.Replay replay) fault = KeepsSchedule held (string_bytes replay.schedule) fault
 IsKeptFirst held (commands.Trace trace) fault = KeepsSchedule held (string_bytes trace.schedule) fault
+IsKeptFirst held (commands.Places places) fault = KeepsSchedule held (string_bytes places.schedule) fault
 IsKeptFirst held (commands.Shrink shrink) fault = KeepsSchedule held (string_bytes shrink.schedule) fault
 IsKeptFirst held command fault = ⊥
 

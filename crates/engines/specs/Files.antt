@@ -5,6 +5,7 @@ use Rattle.std.specs.Global.{Global}
 pub use Rattle.program_files.specs.Folders.{Held, Listed, Path}
 use Rattle.program_files.specs.Folders as folders
 use Rattle.schedule.specs.schedule_text.CommandWord.{IsScheduleWord}
+use Rattle.place_texts.specs.CommandWord.{IsPlacesWord}
 use Rattle.engines.specs.declared.named_file.Reading.{Reading}
 use Rattle.engines.specs.declared.named_file.Reading.TheVariants.{Ahead, There, Behind, Failed}
 
@@ -31,9 +32,9 @@ failures_of (There bytes) = 0
 failures_of Behind = 0
 failures_of Failed = 1
 
--- what the schedule holds that a word is, or whose path it is
+-- What the schedule holds that a word is, or whose path it is. A word with places is one, where there is memory to read it.
 abbrev pub IsScheduleAt : Held → (word : List ℕ) → Option (List ℕ) → Type 0
-IsScheduleAt held word left = (IsScheduleWord word × (left ≡ Some word)) ⊎ ((IsScheduleWord word → ⊥) × (left ≡ held word))
+IsScheduleAt held word left = ((IsScheduleWord word ⊎ IsPlacesWord word) × (left ≡ Some word)) ⊎ ((IsScheduleWord word → ⊥) × (left ≡ held word))
 
 -- this is so of it
 abbrev pub OfSchedule : Held → (word : List ℕ) → (Option (List ℕ) → Type 0) → Type 0

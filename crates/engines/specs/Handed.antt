@@ -27,6 +27,7 @@ library_of (commands.Shrink shrink) library = unless_alone shrink.files_alone li
 library_of (commands.Verify verify) library = unless_alone verify.files_alone library
 library_of (commands.Disasm disasm) library = []
 library_of (commands.Schedule schedule) library = []
+library_of (commands.Places places) library = unless_alone places.files_alone library
 
 -- these are the files that are read, and behind them those of the classes that the library adds to them; and these are its classes in
 -- whose place they have their own

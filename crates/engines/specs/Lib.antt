@@ -14,6 +14,7 @@ pub mod GivenPlaces
 pub mod Opening
 pub mod OutcomeFiles
 pub mod PlaceWords
+pub mod Placings
 pub mod Policies
 pub mod RecordForms
 pub mod Recordings

@@ -7,6 +7,7 @@ use Rattle.model.specs.Schedule.{events_of}
 use Rattle.schedule.specs.Files.{Recording}
 use Rattle.schedule.specs.declared.fault.ScheduleFault.TheVariants as schedules
 use Rattle.schedule.specs.declared.schedule_text.either.EitherFault.TheVariants.{File, Text}
+use Rattle.schedule.specs.declared.schedule_text.fault.TextFault.{TextFault}
 use Rattle.schedule.specs.declared.schedule_text.fault.TextFault.TheVariants as texts
 use Rattle.schedule.specs.schedule_text.Either.{GivesEvents}
 use Rattle.schedule.specs.schedule_text.Text.{text_words}
@@ -36,15 +37,38 @@ IsUnreadWords left (faults.Text fault) = (fault ≡ texts.OutOfMemory) ⊎ IsUns
 IsUnreadWords left (faults.Place missing) = ⊥
 IsUnreadWords left (faults.Refusal refusal) = ⊥
 
--- what is told of the place of one of these words isn't there
-abbrev pub IsMissingIn : Program → List DeedOf → Fault → Type 0
-IsMissingIn trees deeds faults.Memory = Unit {0}
-IsMissingIn trees deeds (faults.Place missing) = (before : List DeedOf) × (thread : ℕ) × (place : PlaceOf) × (behind : List DeedOf)
-    × (deeds ≡ before ++ Until thread place ∷ behind) × Misses trees place (Some missing.fault) × (missing.words.items ≡ place_words place)
-IsMissingIn trees deeds fault = ⊥
+-- Why a text spells no places, which spells no schedule for the first of these faults: memory ran out, or that was no want of memory.
+abbrev pub IsTextOf : TextFault → Fault → Type 0
+IsTextOf fault told = (told ≡ faults.Text texts.OutOfMemory) ⊎ ((fault ≡ texts.OutOfMemory → ⊥) × ((why : TextFault) × (told ≡ faults.Text why)))
 
--- the events of words over these class files
+-- what is told of the place of a word isn't there
+abbrev pub IsMissingAt : Program → DeedOf → Fault → Type 0
+IsMissingAt trees deed faults.Device = ⊥
+IsMissingAt trees deed faults.Memory = Unit {0}
+IsMissingAt trees deed (faults.Schedule fault) = ⊥
+IsMissingAt trees deed (faults.Text fault) = ⊥
+IsMissingAt trees deed (faults.Place missing) = (thread : ℕ) × (place : PlaceOf) × (deed ≡ Until thread place)
+    × Misses trees place (Some missing.fault) × (missing.words.items ≡ place_words place)
+IsMissingAt trees deed (faults.Refusal refusal) = ⊥
+
+-- of one of these words
+abbrev pub IsMissingIn : Program → List DeedOf → Fault → Type 0
+IsMissingIn trees deeds fault = (before : List DeedOf) × (deed : DeedOf) × (behind : List DeedOf)
+    × (deeds ≡ before ++ deed ∷ behind) × IsMissingAt trees deed fault
+
+-- memory ran out, or it is so of one
+abbrev pub IsUnfollowed : Program → List DeedOf → Fault → Type 0
+IsUnfollowed trees deeds fault = (fault ≡ faults.Memory) ⊎ IsMissingIn trees deeds fault
+
+abbrev pub IsMissingFor : Words → Program → Fault → Type 0
+IsMissingFor (words.Entries schedule) trees fault = ⊥
+IsMissingFor (words.Places deeds) trees fault = IsUnfollowed trees (deeds_of deeds.items) fault
+
+-- the events of words over these class files, the last of which is that which can't be done, if that is why there are no more
+abbrev pub DeedsGive : List DeedOf → Program → Limits → (budget : ℕ) → List Event → (gives_up : Bool) → Type 0
+DeedsGive deeds trees limits budget events gives_up = (done : List Event) × (stop : Stop)
+    × IsFollowed trees limits 4294967295 budget deeds done stop × (events ≡ with_stop done stop) × (gives_up ≡ is_given_up stop)
+
 abbrev pub WordsGive : Words → Program → Limits → (budget : ℕ) → List Event → (gives_up : Bool) → Type 0
 WordsGive (words.Entries schedule) trees limits budget events gives_up = (events ≡ events_of schedule) × (gives_up ≡ false)
-WordsGive (words.Places deeds) trees limits budget events gives_up = (done : List Event) × (stop : Stop)
-    × IsFollowed trees limits 4294967295 budget (deeds_of deeds.items) done stop × (events ≡ with_stop done stop) × (gives_up ≡ is_given_up stop)
+WordsGive (words.Places deeds) trees limits budget events gives_up = DeedsGive (deeds_of deeds.items) trees limits budget events gives_up

@@ -6,7 +6,7 @@ ghost use Rattle.std.specs.Io.KnownBytes.{Appends};
 ghost use Rattle.std.specs.Arc.{arc_value};
 ghost use Rattle.model.specs.Accepted.{IsAccepted};
 ghost use Rattle.model.specs.Schedule.{events_of};
-ghost use Rattle.engines.specs.Continuations.{Continues, IsContinued, IsGivenUp, IsUncontinued};
+ghost use Rattle.engines.specs.Continuations.{Continues, ContinuesBy, IsContinued, IsGivenUp, IsUncontinued};
 ghost use Rattle.engines.specs.Engines.{CountsFailure};
 ghost use Rattle.engines.specs.Opening.{IsAfterFiles, IsOfSchedule, IsOpened};
 
@@ -59,23 +59,44 @@ pub fn continue_engine<S: Source, W: Sink>(
         (S.failures schedule.new + sum_by S.failures files.new + W.failures report.new) }
 {
     let opened = open(alloc, schedule, files, conditions)?;
-    let ran = if gives_up_within(&opened, then_run.budget()) {
-        ran_up_to(alloc, &opened, conditions.given, then_run.record.is_some())?
-    } else {
-        ran_on(
-            alloc,
-            opened.verified,
-            &opened.schedule,
-            opened.files.as_slice(),
-            conditions.given,
-            opened.limits,
-            then_run.budget(),
-            then_run.record.is_some(),
-        )?
-    };
+    let is_recorded = then_run.record.is_some();
+    let ran = ran_by(alloc, opened, conditions.given, then_run.budget(), is_recorded)?;
     *file = ran.file;
     report.write_all(ran.text.as_slice())?;
     Ok(ran.status)
+}
+
+/// Runs class files that were opened under their schedule, goes on where it ends, unless it gives up at a place within
+/// the budget, and makes what is to be written. Lets go what was opened.
+fn ran_by(
+    alloc: Global,
+    opened: Opened,
+    given: usize,
+    budget: u32,
+    is_recorded: bool,
+) -> Result<Outcome, AllocError>
+    requires { IsAccepted (map vec_items opened.files.items) (arc_value opened.verified) }
+    ensures run { IfOk result (λ ran. (bytes : _) (options : _)
+        → options.given ≡ given
+        → IsOpened bytes (map vec_items opened.files.items) options (arc_value opened.verified)
+        (events_of opened.schedule) opened.limits opened.gives_up
+        → ContinuesBy bytes (map vec_items opened.files.items) options budget ran.text.items
+        (option_map vec_items ran.file) ran.status) }
+    ensures asked { IfOk result (λ ran. IsTrue is_recorded → IsTrue (is_some ran.file)) }
+{
+    if gives_up_within(&opened, budget) {
+        return ran_up_to(alloc, &opened, given, is_recorded);
+    }
+    ran_on(
+        alloc,
+        opened.verified,
+        &opened.schedule,
+        opened.files.as_slice(),
+        given,
+        opened.limits,
+        budget,
+        is_recorded,
+    )
 }
 
 /// Whether a schedule gives up at a place before the budget ends the run.

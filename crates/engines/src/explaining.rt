@@ -146,6 +146,7 @@ fn flags_of(command: &Command) -> (bool, bool)
         Command::Verify(options) => (options.explain, options.quiet),
         Command::Disasm(options) => (options.explain, options.quiet),
         Command::Schedule(options) => (options.explain, options.quiet),
+        Command::Places(options) => (options.explain, options.quiet),
     }
 }
 
@@ -163,6 +164,7 @@ fn schedule_of(command: &Command) -> Option<&str> {
         Command::Replay(options) => Some(options.schedule.as_str()),
         Command::Trace(options) => Some(options.schedule.as_str()),
         Command::Shrink(options) => Some(options.schedule.as_str()),
+        Command::Places(options) => Some(options.schedule.as_str()),
         Command::Schedule(options) if !options.write => Some(options.file.as_str()),
         _ => None,
     }
@@ -200,6 +202,7 @@ fn words_of(command: &Command) -> &[String] {
         Command::Shrink(options) => options.files.as_slice(),
         Command::Verify(options) => options.files.as_slice(),
         Command::Disasm(options) => options.files.as_slice(),
+        Command::Places(options) => options.files.as_slice(),
         Command::Schedule(_) => &[],
     }
 }

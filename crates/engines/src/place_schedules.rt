@@ -1,19 +1,20 @@
 //! Schedules with places, as they are given to be run.
 
-ghost use Rattle.std.specs.Prelude.{◌≡◌, ◌⊎◌, IfErr, IfOk};
+ghost use Rattle.std.specs.Prelude.{◌≡◌, ℕ, IfErr, IfOk, List, None, Option};
 ghost use Rattle.std.specs.Arc.{arc_value};
 ghost use Rattle.model.specs.Schedule.{events_of};
-ghost use Rattle.engines.specs.Engines.{CountsFailure, Reads};
-ghost use Rattle.place_texts.specs.Places.{deeds_of, place_of};
+ghost use Rattle.place_runs.specs.Followed.{AreEventsOf};
+ghost use Rattle.place_texts.specs.Places.{deed_of, deeds_of, place_of};
 ghost use Rattle.place_texts.specs.Texts.{place_words};
-ghost use Rattle.engines.specs.declared.place_schedules.Words.TheVariants.{Places};
-ghost use Rattle.engines.specs.PlaceWords.{IsMissingIn, IsUnreadWords, SpellsWords, WordsGive};
+ghost use Rattle.engines.specs.Engines.{CountsFailure, Reads};
+ghost use Rattle.engines.specs.GivenPlaces.{is_given_up};
+ghost use Rattle.engines.specs.PlaceWords.{DeedsGive, IsMissingAt, IsMissingFor, IsTextOf, IsUnfollowed, IsUnreadWords, SpellsWords, WordsGive};
 
 use crate::fault::Fault;
 use code_places::{PlaceFault, missing};
 use linker::Linked;
 use model::{DeviceFault, Limits, Source};
-use place_runs::{Stop, follow_deeds};
+use place_runs::{Followed as EventsOfPlaces, Stop, follow_deeds};
 use place_texts::{Deed, Place, PlacedDeed, place_text, read_deeds};
 use program_runs::verified_programs::verified_program;
 use schedule::schedule_text::{EitherFault, TextFault, read_either};
@@ -66,21 +67,32 @@ pub(crate) fn words_of(
     alloc: Global,
     bytes: &[u8],
 ) -> Result<(Words, Option<Recording>), Fault>
-    ensures { IfOk result (λ read. SpellsWords bytes.now read.1 read.0) }
+    ensures read { IfOk result (λ read. SpellsWords bytes.now read.1 read.0) }
+    ensures kept { (left : Option (List ℕ)) → Reads left bytes.now → IfErr result (IsUnreadWords left) }
+    ensures counted { (n : ℕ) → CountsFailure result n n }
 {
     match read_either(alloc, bytes) {
         Ok((schedule, recorded)) => Ok((Words::Entries(schedule), recorded)),
         Err(EitherFault::File(fault)) => Err(Fault::Schedule(fault)),
-        Err(EitherFault::Text(fault)) => Ok((places_of(alloc, bytes, fault)?, None)),
+        Err(EitherFault::Text(fault)) => match places_of(alloc, bytes, fault) {
+            Ok(words) => Ok((words, None)),
+            Err(told) => Err(told),
+        },
     }
 }
 
 /// The words of a text that spells no schedule without places, for this fault.
-fn places_of(alloc: Global, bytes: &[u8], fault: TextFault) -> Result<Words, Fault> {
+fn places_of(alloc: Global, bytes: &[u8], fault: TextFault) -> Result<Words, Fault>
+    ensures read { IfOk result (SpellsWords bytes.now None) }
+    ensures refused { IfErr result (IsTextOf fault) }
+{
+    if let TextFault::OutOfMemory = fault {
+        return Err(Fault::Text(fault));
+    }
     match read_deeds(alloc, bytes) {
         Ok(Some(deeds)) => Ok(Words::Places(deeds)),
         Ok(None) => Err(Fault::Text(fault)),
-        Err(fault) => Err(Fault::Text(fault)),
+        Err(told) => Err(Fault::Text(told)),
     }
 }
 
@@ -99,19 +111,21 @@ fn missing_place(
 }
 
 /// Whether the place of a word, if it has one, is there.
-fn check_place(alloc: Global, linked: &Linked, placed: &PlacedDeed) -> Result<(), Fault> {
-    let Deed::Until(_, place) = &placed.deed else {
-        return Ok(());
-    };
-    match missing(alloc, linked, place)? {
-        Some(fault) => Err(Fault::Place(missing_place(alloc, place, fault, placed.line)?)),
-        None => Ok(()),
+fn check_place(alloc: Global, linked: &Linked, placed: &PlacedDeed) -> Result<(), Fault>
+    ensures { IfErr result (IsMissingAt linked.now (deed_of placed.now.deed)) }
+{
+    match &placed.deed {
+        Deed::Entry(_) => Ok(()),
+        Deed::Until(_, place) => match missing(alloc, linked, place)? {
+            Some(fault) => Err(Fault::Place(missing_place(alloc, place, fault, placed.line)?)),
+            None => Ok(()),
+        },
     }
 }
 
 /// Whether all places of words are there; else the first that isn't.
 fn check_places(alloc: Global, linked: &Linked, deeds: &[PlacedDeed]) -> Result<(), Fault>
-    ensures { IfErr result (IsMissingIn linked.now (deeds_of deeds.now)) }
+    ensures { IfErr result (IsUnfollowed linked.now (deeds_of deeds.now)) }
 {
     'deeds: for placed in deeds {
         check_place(alloc, linked, placed)?;
@@ -129,32 +143,63 @@ pub(crate) fn followed(
 ) -> Result<Followed, Fault>
     ensures gives { IfOk result (λ f. WordsGive words (arc_value verified.now) limits budget
         (events_of f.schedule) f.gives_up) }
-    ensures missing { IfErr result (λ fault. (deeds : _) → words ≡ Places deeds
-        → IsMissingIn (arc_value verified.now) (deeds_of deeds.items) fault) }
+    ensures missing { IfErr result (IsMissingFor words (arc_value verified.now)) }
 {
-    let deeds = match words {
-        Words::Entries(schedule) => {
-            return Ok(Followed {
-                schedule,
-                gives_up: false,
-            });
+    match words {
+        Words::Entries(schedule) => Ok(Followed {
+            schedule,
+            gives_up: false,
+        }),
+        Words::Places(deeds) => {
+            followed_places(alloc, deeds.as_slice(), verified, limits, budget)
         }
-        Words::Places(deeds) => deeds,
-    };
-    check_places(alloc, verified.linked(), deeds.as_slice())?;
-    let program = verified_program(alloc, verified)?;
-    let run = follow_deeds(
-        alloc,
-        verified.clone()?,
-        program,
-        deeds.as_slice(),
-        limits,
-        budget,
-    )?;
+    }
+}
+
+/// The events of words of which some have places.
+fn followed_places(
+    alloc: Global,
+    deeds: &[PlacedDeed],
+    verified: &Arc<Verified>,
+    limits: Limits,
+    budget: u32,
+) -> Result<Followed, Fault>
+    ensures gives { IfOk result (λ f. DeedsGive (deeds_of deeds.now) (arc_value verified.now) limits budget
+        (events_of f.schedule) f.gives_up) }
+    ensures missing { IfErr result (IsUnfollowed (arc_value verified.now) (deeds_of deeds.now)) }
+{
+    check_places(alloc, verified.linked(), deeds)?;
+    let run = run_of(alloc, deeds, verified, limits, budget)?;
+    let gives_up = gives_up(run.stop);
     Ok(Followed {
-        gives_up: matches!(run.stop, Stop::UsedUp),
         schedule: run.schedule,
+        gives_up,
     })
+}
+
+/// The events of words, and why there are no more.
+fn run_of(
+    alloc: Global,
+    deeds: &[PlacedDeed],
+    verified: &Arc<Verified>,
+    limits: Limits,
+    budget: u32,
+) -> Result<EventsOfPlaces, AllocError>
+    ensures { IfOk result (AreEventsOf (arc_value verified.now) limits budget (deeds_of deeds.now)) }
+{
+    let program = verified_program(alloc, verified)?;
+    let copy = verified.clone()?;
+    follow_deeds(alloc, copy, program, deeds, limits, budget)
+}
+
+/// Whether that is why a run by places has no more events: it gave up at one.
+fn gives_up(stop: Stop) -> bool
+    ensures { result ≡ is_given_up stop }
+{
+    match stop {
+        Stop::UsedUp => true,
+        Stop::Whole | Stop::Event(_) => false,
+    }
 }
 
 /// The line, without its end, that tells which place isn't there of the schedule of a name: by its words, and the line in

@@ -67,5 +67,6 @@ fn replay_of(alloc: Global, opened: &Opened) -> Result<(Vec<u8>, Status), AllocE
         → IsReplayed bytes (map vec_items opened.now.files.items) options told.0.items told.1) }
 {
     let (report, end) = replay(alloc, &opened.verified, &opened.schedule, opened.limits)?;
-    told(alloc, &report, end, opened.gives_up)
+    let (text, status) = told(alloc, &report, end, opened.gives_up)?;
+    Ok((text, status))
 }

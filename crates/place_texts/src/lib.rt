@@ -11,6 +11,10 @@
 //!   so, and an `@`, byte by byte (`place_words`). It answers something, or a fault of a word, only where some word of
 //!   the text has an `@`, and nothing only where none has (`marked`, `refused`). The words are those of `text_words`:
 //!   comments are none of them. Each entry fits a schedule (`Fits`, kept by `PlacedDeed`).
+//! - `is_places_word` (`IsPlacesWord`): it is true only of a word whose words spell entries and places, of which one has
+//!   an `@`, and in which no `#` stands.
+//! - `place_text` and `print_deeds`, memory aside: the text is that of a place, or has the word of each in a line
+//!   (`place_words`, `deed_lines`).
 //!
 //! # Not proved
 //!

@@ -2,6 +2,7 @@ use Rattle.std.proofs.Common.{arith, ◌<◌, ◌^◌, ℕ, length, map, subst, 
 use Rattle.std.specs.Prelude.{IfOk, is_some}
 use Rattle.std.proofs.lemmas.List.{length-map}
 use Rattle.std.proofs.lemmas.Result.{IfOk-weaker}
+use Rattle.std.specs.Arc.{arc_value}
 use Rattle.std.specs.Option.{option_map}
 use Rattle.model.specs.Schedule.{events_of}
 use Rattle.engines.specs.RecordForms.{record_form}
@@ -10,7 +11,7 @@ use Rattle.engines.proofs.RunLemmas.{few_files}
 use Rattle.engines.proofs.commands.shrinks.found_of.Goals as goal
 
 pub found_by-requires : goal.found_by-requires
-found_by-requires c = omega (arith, few_files (map vec_items c.args.opened.files.items) c.args.opened.verified c.requires, length-map c.args.opened.files.items vec_items)
+found_by-requires c = omega (arith, few_files (map vec_items c.args.opened.files.items) (arc_value c.args.opened.verified) c.requires, length-map c.args.opened.files.items vec_items)
 
 pub returns : goal.returns
 returns c =
@@ -22,9 +23,10 @@ returns c =
     c.is_some-is_recorded.ensures of_files in
     IfOk-weaker found _ _
     (λ found is bytes given. record {
-      trees = opened.verified;
+      trees = arc_value opened.verified;
       events = events_of opened.schedule;
       limits = opened.limits;
+      gives_up = opened.gives_up;
       opened = given;
       shrunk = c.in_ok-shrunk.shrunk;
       is = c.in_ok-shrunk.ensures;
