@@ -1,6 +1,6 @@
 //! The files of the outcomes of a sweep, in a folder.
 
-ghost use Rattle.std.specs.Prelude.{◌≡◌, ◌×◌, IfErr, IfOk, OnErr, OnOk, map, string_bytes, take, vec_items};
+ghost use Rattle.std.specs.Prelude.{◌≡◌, ◌∷◌, [], IfErr, IfOk, None, OnErr, OnOk, Some, map, string_bytes, take, vec_items};
 ghost use Rattle.model.specs.declared.device.DeviceFault.TheVariants.{Device};
 ghost use Rattle.engines.specs.Failures.{FolderMayFail};
 ghost use Rattle.engines.specs.Files.{AreWith, IsWith};
@@ -73,15 +73,28 @@ fn store_each<F: Folder>(
         (files_in at.now 1 (take count (map vec_items schedules.now)))) }
     ensures failed { IfErr result (λ fault. fault ≡ Device → FolderMayFail F.may_fail) }
 {
-    for i in 0..schedules.len() {
-        let path = outcome_path(alloc, at, i + 1)?;
-        store(
-            alloc,
-            folder,
-            path.as_str(),
-            schedules[i].as_slice(),
-            explanation,
-        )?;
+    let mut number = 1usize;
+    for bytes in schedules {
+        store_outcome(alloc, folder, at, number, bytes, explanation)?;
+        number += 1;
     }
     Ok(())
+}
+
+/// Writes the schedule of the outcome with a number to a folder.
+fn store_outcome<F: Folder>(
+    alloc: Global,
+    folder: &mut F,
+    at: &str,
+    number: usize,
+    bytes: &[u8],
+    explanation: &mut Explanation,
+) -> Result<(), DeviceFault>
+    ensures stored { OnOk result (IsWith (F.held folder.old) (F.held folder.new)
+        (Some ((outcome_path at.now number, bytes.now) ∷ []))) }
+    ensures same { OnErr result (IsWith (F.held folder.old) (F.held folder.new) None) }
+    ensures failed { IfErr result (λ fault. fault ≡ Device → FolderMayFail F.may_fail) }
+{
+    let path = outcome_path(alloc, at, number)?;
+    store(alloc, folder, path.as_str(), bytes, explanation)
 }
