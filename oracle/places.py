@@ -20,10 +20,12 @@ sys.path.insert(0, str(pathlib.Path(__file__).resolve().parent.parent))
 
 from oracle.classes import ClassReader, Reader
 from oracle.frames import Frame
-from oracle.lessons import LESSONS, gone_on
+from oracle.lessons import LESSONS, gone_on, outcome
 from oracle.machine import Machine, status_of, text_of
-from oracle.schedules import Entry, Event, entries_of_text, text_of_events
+from oracle.schedules import Entry, Event, entries_of_events, entries_of_text, text_of_events
+from oracle.shrinks import Shrunk, joined, lines_of, words_of as entry_words
 from oracle.state import NotEnabled, Refused
+from oracle.traces import trace
 from tools.cases import file_lines, store, stored
 from tools.repository import CONFORMANCE, compiled
 
@@ -105,14 +107,19 @@ def words_of(text: str, files: Sequence[bytes], machine: Machine) -> List[Union[
     return words
 
 
-def is_at(machine: Machine, place: Place) -> bool:
-    """Whether the next bytecode of the thread is at the place."""
-    thread = machine.threads[place.thread]
+def stands(machine: Machine, number: int) -> Optional[Tuple[Member, int]]:
+    """Where the next bytecode of a thread is: in which method, and at which offset."""
+    thread = machine.threads[number]
     top = thread.top()
     if thread.has_ended or thread.pending or thread.waits or thread.relock or not isinstance(top, Frame):
-        return False
-    member = top.method.owner.name, top.method.name, top.method.descriptor
-    return top.at in place.offsets.get(member, set())
+        return None
+    return (top.method.owner.name, top.method.name, top.method.descriptor), top.at
+
+
+def is_at(machine: Machine, place: Place) -> bool:
+    """Whether the next bytecode of the thread is at the place."""
+    found = stands(machine, place.thread)
+    return found is not None and found[1] in place.offsets.get(found[0], set())
 
 
 def events_of(machine: Machine, word: Union[Entry, Place], budget: int) -> Iterator[Event]:
@@ -157,6 +164,44 @@ class Followed:
         assert self.end is not None
         status = 3 if self.end.startswith("place") else status_of(self.machine, self.end)
         return text_of(self.machine, self.end), status
+
+
+def words_at(member: Member, at: int, files: Sequence[bytes], machine: Machine) -> Iterator[str]:
+    """The words of the places at an offset of a method: by its line, if one begins there, and by the offset."""
+    overloads = [one for one in machine.classes[member[0]].methods.values() if one.name == member[1] and one.code is not None]
+    name = f"{member[0]}.{member[1]}{member[2] if len(overloads) > 1 else ''}"
+    begun = [line for data in files for method, offset, line in line_starts(data) if (method, offset) == (member, at)]
+    if begun:
+        yield f"{name}:{begun[-1]}"
+    yield f"{name}+{at}"
+
+
+def placed_word(machine: Machine, entry: Entry, files: Sequence[bytes]) -> str:
+    """The word of an entry that is done: the first place to which it brings its thread, and no fewer of its events."""
+    passed = []
+    for _ in range(entry.repeat):
+        machine.step(entry.thread, entry.pick)
+        passed.append(stands(machine, entry.thread))
+    last = passed[-1]
+    for place in words_at(*last, files, machine) if last is not None and entry.pick == 0 else []:
+        word = f"{entry.thread}@{place}"
+        found = PLACE.fullmatch(word)
+        assert found
+        offsets = place_of(found, files, machine).offsets
+        if [at for at, one in enumerate(passed) if one is not None and one[1] in offsets.get(one[0], set())][0] == len(passed) - 1:
+            return word
+    return entry_words([entry])[0]
+
+
+def placed_text(files: Sequence[bytes], text: str) -> str:
+    """What `schedule --places` prints of a schedule: a word in a line, or the entries alone, where there is no place."""
+    machine, entries = Machine(files), joined(entries_of_text(text))
+    try:
+        words = [placed_word(machine, entry, files) for entry in entries]
+    except (NotEnabled, Refused):
+        words = []
+    lines = words if any("@" in word for word in words) else lines_of(entries)
+    return "".join(f"{line}\n" for line in lines)
 
 
 class Shown(NamedTuple):
@@ -267,6 +312,56 @@ def recorded(files: Dict[str, bytes]) -> Tuple[List[str], str]:
     return lines, shown
 
 
+# Schedules that are written with places: a name, what it shows, the lesson and its classes, and the schedule.
+PLACED: List[Tuple[str, str, Tuple[str, List[str]], str]] = [
+    ("deadlock", "each thread stands in front of its second lock", ORDER, "0*43 1*6 2*6"),
+    ("offset", "where no line begins it is the offset", BUFFER, "0*26 1*10 0*3"),
+    ("joined", "neighbouring entries of a thread are one", BUFFER, "0*20 0*6 1*4 1*6 0 0 0"),
+    ("waits", "a thread that waits is at no place", BUFFER, "0*26 1*11 0*3"),
+    ("ended", "nor is one that has ended", BUFFER, "0*67 1*9"),
+    ("again", "nor is it a place that is met before", BUFFER, "0*56 1*9"),
+    ("not-enabled", "an event that can't be done leaves the entries as they are", BUFFER, "0*3 7*2 0"),
+    ("empty", "and so does a schedule without events", BUFFER, "# none"),
+]
+
+
+def placed(files: Dict[str, Dict[str, bytes]]) -> Tuple[List[str], str]:
+    """Cases of schedules that are written with places; and what is written is replayed."""
+    lines, shown = ["# schedules that are written with places, and what is written is read"], ""
+    for name, shows, (folder, _), text in PLACED:
+        own, paths = list(files[folder].values()), " ".join(files[folder])
+        words = re.sub(r"#.*", "", text)
+        told = placed_text(own, words)
+        lines += [f"# {shows}", f"text placed-{name}.text", f"  {text}", f"case placed-{name}"]
+        lines += [f"  schedule --places --schedule placed-{name}.text {paths}"]
+        shown += f"case placed-{name}\n{told}status 0\n"
+        report, status = outcome(own, words, False)
+        lines += [f"text placed-{name}-again.text", *(f"  {line}" for line in told.splitlines())]
+        lines += [f"case placed-{name}-again", f"  replay --schedule placed-{name}-again.text {paths}"]
+        shown += f"case placed-{name}-again\n{report}status {status}\n"
+    return lines, shown
+
+
+def traced_and_shrunk(files: Dict[str, Dict[str, bytes]]) -> Tuple[List[str], str]:
+    """Cases of `trace` and `shrink` of schedules with places."""
+    lines, shown = ["# a trace of a schedule with places is one of its events, and so is what is left of it"], ""
+    own, paths = list(files[BUFFER[0]].values()), " ".join(files[BUFFER[0]])
+    text = f"{STARTED} 1@IfForWhile.take:9"
+    told, status = trace(own, entries_of_events(Followed(own, text, 10_000_000, False).events))
+    lines += ["text place-traced.text", f"  {text}", "case place-traced", f"  trace --schedule place-traced.text {paths}"]
+    shown += f"case place-traced\n{told}status {status}\n"
+    own, paths = list(files[ORDER[0]].values()), " ".join(files[ORDER[0]])
+    text = "0@LockOrder.main:25 1*2 2*2 1@LockOrder.run:16 2@LockOrder.run:16"
+    given = entries_of_events(Followed(own, text, 10_000_000, False).events)
+    best = Shrunk(own, "deadlock", 10_000_000, given).best
+    assert best is not None
+    lines += ["text place-shrunk.text", f"  {text}", "case place-shrunk"]
+    lines += [f"  shrink --for deadlock --schedule place-shrunk.text {paths}"]
+    left = "".join(f"{line}\n" for line in lines_of(best))
+    shown += f"case place-shrunk\n{left}  words: {len(given)} before, {len(best)} after\nstatus 0\n"
+    return lines, shown
+
+
 def write() -> None:
     lines, shown, files = [*HEAD], "", dict[str, bytes]()
     for one in SHOWN:
@@ -277,11 +372,12 @@ def write() -> None:
         case, printed = replayed(one, own)
         lines, shown = [*lines, *case], shown + printed
     own = class_files(*BUFFER)
-    for case, printed in (refused(list(own)), recorded(own)):
+    lessons = {BUFFER[0]: own, ORDER[0]: class_files(*ORDER)}
+    for case, printed in (refused(list(own)), recorded(own), placed(lessons), traced_and_shrunk(lessons)):
         lines, shown = [*lines, *case], shown + printed
     (CONFORMANCE / "data/places.cases").write_text("\n".join([*lines, ""]))
     before, _, after = stored().partition("case sweep-")
-    store(before.split("case place-")[0] + shown + "case sweep-" + after)
+    store(re.split("case place[-d]", before)[0] + shown + "case sweep-" + after)
 
 
 def main() -> int:

@@ -1,5 +1,5 @@
 -- What a schedule with places gives, and what keeps it from that.
-use Rattle.std.proofs.Common.{◌≡◌, ◌⊎◌, ◌++◌, ◌<◌, ◌+◌, ℕ, List, [], ◌∷◌, Bool, Option, ap, get_or, inl, inr, length, refl, subst, sym, take, drop, ◌∙◌}
+use Rattle.std.proofs.Common.{◌≡◌, ◌⊎◌, ◌++◌, ◌<◌, ◌+◌, ℕ, List, [], ◌∷◌, Bool, None, Option, ap, arith, get_or, inl, inr, length, refl, subst, sym, take, drop, ◌∙◌}
 use Rattle.std.proofs.lemmas.List.{drop_more, map-append, take-append-drop}
 use Rattle.model.specs.declared.device.DeviceFault.{DeviceFault}
 use Rattle.model.specs.declared.device.DeviceFault.TheVariants as devices
@@ -12,7 +12,7 @@ use Rattle.schedule.specs.Files.{Recording}
 use Rattle.schedule.specs.declared.schedule_text.either.EitherFault.TheVariants.{Text}
 use Rattle.schedule.specs.declared.schedule_text.fault.TextFault.{TextFault}
 use Rattle.schedule.specs.schedule_text.Either.{GivesEvents, IsMemory}
-use Rattle.schedule.specs.schedule_text.Text.{text_words}
+use Rattle.schedule.specs.schedule_text.Text.{SpellsSchedule, behind_comments, text_words, words_from}
 use Rattle.place_texts.specs.declared.place.PlacedDeed.{PlacedDeed}
 use Rattle.place_texts.specs.Places.{DeedOf, deed_of, deeds_of}
 use Rattle.place_texts.specs.Texts.{SpellDeeds}
@@ -159,3 +159,11 @@ pub part_is_unplaced : (fault : DeviceFault) (left : Option (List ℕ)) (lefts :
     → PlacesPart left lefts options old new → IsUnplaced left lefts options old new (fault_of fault)
 part_is_unplaced devices.Device left lefts options old new part = part
 part_is_unplaced devices.Memory left lefts options old new part = part
+
+-- a line without a word spells no entries
+no_words : text_words (10 ∷ []) ≡ []
+unfolding words_from behind_comments
+no_words = refl
+
+pub spells_none : SpellsSchedule (10 ∷ []) None []
+spells_none = record { fits = record { count = omega arith; each = tt }; recording_fits = tt; spelled = no_words }

@@ -32,7 +32,7 @@ pub(crate) enum Words {
 
 /// A schedule that is to be run, and whether it gives up at a place.
 #[derive(Drop)]
-pub(crate) struct Followed {
+pub(crate) struct GivenSchedule {
     pub(crate) schedule: Schedule,
     pub(crate) gives_up: bool,
 }
@@ -140,13 +140,13 @@ pub(crate) fn followed(
     verified: &Arc<Verified>,
     limits: Limits,
     budget: u32,
-) -> Result<Followed, Fault>
+) -> Result<GivenSchedule, Fault>
     ensures gives { IfOk result (λ f. WordsGive words (arc_value verified.now) limits budget
         (events_of f.schedule) f.gives_up) }
     ensures missing { IfErr result (IsMissingFor words (arc_value verified.now)) }
 {
     match words {
-        Words::Entries(schedule) => Ok(Followed {
+        Words::Entries(schedule) => Ok(GivenSchedule {
             schedule,
             gives_up: false,
         }),
@@ -163,7 +163,7 @@ fn followed_places(
     verified: &Arc<Verified>,
     limits: Limits,
     budget: u32,
-) -> Result<Followed, Fault>
+) -> Result<GivenSchedule, Fault>
     ensures gives { IfOk result (λ f. DeedsGive (deeds_of deeds.now) (arc_value verified.now) limits budget
         (events_of f.schedule) f.gives_up) }
     ensures missing { IfErr result (IsUnfollowed (arc_value verified.now) (deeds_of deeds.now)) }
@@ -171,7 +171,7 @@ fn followed_places(
     check_places(alloc, verified.linked(), deeds)?;
     let run = run_of(alloc, deeds, verified, limits, budget)?;
     let gives_up = gives_up(run.stop);
-    Ok(Followed {
+    Ok(GivenSchedule {
         schedule: run.schedule,
         gives_up,
     })

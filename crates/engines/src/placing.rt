@@ -82,5 +82,8 @@ fn plain_text(alloc: Global, schedule: &Schedule) -> Result<Vec<u8>, AllocError>
     ensures { IfOk result (λ text. SpellsEvents (events_of schedule.now) text.items) }
 {
     let joined = schedule.joined(alloc)?;
+    if joined.entries().is_empty() {
+        return Vec::from_slice(alloc, b"\n");
+    }
     print(alloc, &joined, None)
 }
