@@ -59,6 +59,7 @@ What it does:
   stand is listed once, with how many runs show it and the first seed. --for ends
   the sweep at the first seed that shows an outcome: deadlock, uncaught,
   output=NUMBERS (what is printed, with commas), or differs=FILE (another text).
+  --record FOLDER keeps the first schedule of each: FOLDER/outcome-1.schedule ..
   With --seconds the run ends behind so many, or the sweep behind the run that it
   is at, and says so: `end seconds`, `sweep gave up: seconds`.
 
@@ -202,7 +203,9 @@ pub(crate) const SCHEDULE_PAGE: &str = "\
 What it does:
   Prints a schedule file as text: a word such as `1`, `1*20` or `0.2` for each
   entry, which is an event of thread 1, 20 of them, and one of thread 0 with the
-  pick 2. With --write it makes the file of such a text on standard input.
+  pick 2. With --write it makes the file of such a text on standard input. With
+  --places --schedule a.schedule it prints the schedule of class files as a text
+  in which places of the code stand for events, as far as they do.
 
 Statuses:
   0  the schedule is printed, or made
@@ -212,4 +215,5 @@ Statuses:
 
 Example:
   jvm schedule a.schedule > a.text
-  jvm schedule --write b.schedule < a.text";
+  jvm schedule --write b.schedule < a.text
+  jvm schedule --places --schedule a.schedule A.class";
