@@ -32,6 +32,13 @@ pub(crate) const FILES_HELP: &str =
 /// What class files are that are listed.
 pub(crate) const LISTED_HELP: &str = "The class files, and folders of them";
 
+/// What is recorded.
+pub(crate) const RECORD_HELP: &str = "The file that the schedule of the run is written to";
+
+/// What is recorded of runs.
+pub(crate) const RUN_RECORD_HELP: &str =
+    "The file that the schedule of the run is written to; with --seeds the folder for those of the outcomes";
+
 /// What files `schedule` takes.
 pub(crate) const SCHEDULE_HELP: &str =
     "The schedule file; with --places the class files, and folders of them";
