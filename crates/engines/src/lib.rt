@@ -13,9 +13,9 @@
 //!   - `run`, `replay` and `search` hand on all their options; `trace` its window and its form (`IsWindow`); `search`
 //!     its goal (`IsAskedFor`), with the text of the file of `differs`; `verify` whether it is of a library; `disasm`
 //!     whether names are asked for; `schedule` whether a file is made; `run` over seeds its sweep (`IsSweepDone`);
-//!   - the file that is asked for holds the bytes of the schedule, and each other file what it held (`IsWith`); of `run`
-//!     over seeds one for each outcome, in the folder that is asked for (`written_in`), and after a fault those before
-//!     it (`IsSweepUnrecorded`).
+//!   - the file that is asked for holds the bytes of the schedule, and each other file what it held (`IsWith`); of
+//!     `run` over seeds one for each outcome, in the folder that is asked for (`written_in`), and after a fault those
+//!     before it (`IsSweepUnrecorded`).
 //! - `run` with a complaint: usage only where the words spell no command, or one that would write a file that it reads
 //!   (`IsReadToo`), and nothing is written then. A fault of files only where the words of the command stand for none,
 //!   or these have no order; nothing is written then, either (`HasNoFiles`). Another fault only where the engine may
@@ -90,8 +90,8 @@
 //!     (`faulty`, `IsUnrun`);
 //!   - `Device` exactly with one more failure of a device (`counted`).
 //! - `sweep_engine`, over any readers and writer: with a status, one text was appended and nothing else: that of a
-//!   sweep over the seeds that are asked for (`swept`, `IsSwept`, with `Sweeps` of `sweeps`), which doesn't depend on how
-//!   many workers there are. Where they are asked for, files are made of the schedules of the first runs of the
+//!   sweep over the seeds that are asked for (`swept`, `IsSwept`, with `Sweeps` of `sweeps`), which doesn't depend on
+//!   how many workers there are. Where they are asked for, files are made of the schedules of the first runs of the
 //!   outcomes, in the order of these, and of no other (`AreOutcomeFiles`). With a refusal nothing was written, with
 //!   `memory` or `device` nothing or a beginning of the text (`faulty`, `IsUnswept`); `counted` as above.
 //! - `policy_for`, by which a run without workers gives turns: it is the policy that the options ask for, with the seed

@@ -4,9 +4,9 @@
 //!
 //! - `sweep`, memory aside: there is a run for each seed from the first one up, and the tally is that of these runs
 //!   (`Sweeps`, `tally_of`). It has what they show by the first seed that shows it, each with how many runs show it and
-//!   with the events of the first of them; how many runs there were, and how many events in all. *Done*: there is a run for each seed up to the last, and none shows what is wanted.
-//!   *Found*: the last run shows it, and none before it. *GaveUp* comes only where the watch may stop a sweep, behind a
-//!   run, and none shows what is wanted (`EndsSo`).
+//!   with the events of the first of them; how many runs there were, and how many events in all. *Done*: there is a run
+//!   for each seed up to the last, and none shows what is wanted. *Found*: the last run shows it, and none before it.
+//!   *GaveUp* comes only where the watch may stop a sweep, behind a run, and none shows what is wanted (`EndsSo`).
 //! - `PolicyRuns`: a run is the record of one of these class files, under these limits and with this budget, and it
 //!   hasn't ended for want of memory. By `mixed` its events are those of the seed (`IsRunWith`, with `events_by` of
 //!   `policies`).
