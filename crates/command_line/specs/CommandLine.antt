@@ -129,6 +129,10 @@ with_run_options app = with_rule (with_rule (with_rule (with_rule (with_rule (wi
 abbrev pub with_sweep_options : App → App
 with_sweep_options app = with_rule (with_rule app (path_option (codes "seeds"))) goal_option
 
+-- where schedules are recorded, and in which version at most
+abbrev pub with_record : App → App
+with_record app = with_rule (with_rule app record_option) version_option
+
 -- where a run goes on behind its schedule, up to how many events in all, and where it is recorded
 abbrev pub with_then_run : App → App
 with_then_run app = with_record (with_rule (with_rule app (flag (codes "then-run"))) (number_option (codes "budget") 0 4294967295))
@@ -136,10 +140,6 @@ with_then_run app = with_record (with_rule (with_rule app (flag (codes "then-run
 -- `--explain`, `--quiet`, and files behind all options
 abbrev pub with_files : App → Rule → App
 with_files app files = with_rule (with_rule (with_rule app (flag (codes "explain"))) (flag (codes "quiet"))) files
-
--- where schedules are recorded, and in which version at most
-abbrev pub with_record : App → App
-with_record app = with_rule (with_rule app record_option) version_option
 
 abbrev pub jvm_run : App
 jvm_run = with_files (with_program (with_record (with_sweep_options (with_run_options (new_app (codes "run")))))) class_files
@@ -408,7 +408,7 @@ pub record AreScheduleValues (rows : List Row) (schedule : Schedule) : Type 0 wh
 
 -- those with `--places`: no file is made
 pub record ArePlacesValues (rows : List Row) (places : Places) : Type 0 where
-  pub places : is_set (first_of (codes "places") rows) ≡ true
+  pub with_places : is_set (first_of (codes "places") rows) ≡ true
   pub no_write : is_set (first_of (codes "write") rows) ≡ false
   pub no_version : first_of (codes "as-version") rows ≡ None
   pub schedule : first_of (codes "schedule") rows ≡ Some (string_bytes places.schedule)

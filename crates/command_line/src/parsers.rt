@@ -6,8 +6,9 @@ ghost use Rattle.clap.specs.declared.error.kind.ErrorKind.TheVariants.{OutOfMemo
 ghost use Rattle.command_line.specs.CommandLine.{IsLocal, class_files, flag, goal_option, jvm, jvm_disasm, jvm_replay, jvm_run, jvm_schedule, jvm_search, jvm_shrink, jvm_trace, jvm_verify, main_option, path_option, record_option, required_goal_option, schedule_option, with_files as over_files, with_limits as limited, with_main as started, with_program as programmed, alone_flag, with_record as recorded};
 
 use crate::help::{
-    ABOUT, AFTER, DISASM_PAGE, FILES_HELP, LISTED_HELP, REPLAY_PAGE, RUN_PAGE, SCHEDULE_HELP, SCHEDULE_PAGE,
-    SEARCH_PAGE, SHRINK_PAGE, TRACE_PAGE, VERIFY_PAGE, VERSION,
+    ABOUT, AFTER, DISASM_PAGE, FILES_HELP, LISTED_HELP, RECORD_HELP, REPLAY_PAGE, RUN_PAGE,
+    RUN_RECORD_HELP, SCHEDULE_HELP, SCHEDULE_PAGE, SEARCH_PAGE, SHRINK_PAGE, TRACE_PAGE,
+    VERIFY_PAGE, VERSION,
 };
 use crate::numbers::{
     AS_VERSION, BUDGET, CELLS, FRAMES, FROM, MEMORY, MONITORS, OBJECTS, ONLY, QUANTUM, SECONDS,
@@ -80,7 +81,7 @@ fn run_parser<'a>(alloc: Global) -> Result<clap::Command<'a>, AllocError>
     .arg(SECONDS.argument(alloc))?
     .arg(seeds_argument(alloc))?
     .arg(goal_argument(alloc))?;
-    let run = with_record(alloc, run)?;
+    let run = with_record(alloc, run, RUN_RECORD_HELP)?;
     with_files(
         alloc,
         with_program(alloc, run)?,
@@ -105,7 +106,7 @@ fn replay_parser<'a>(alloc: Global) -> Result<clap::Command<'a>, AllocError>
         "Goes on where the schedule ends: the threads take turns",
     ))?
     .arg(WHOLE_BUDGET.argument(alloc))?;
-    let replay = with_record(alloc, replay)?;
+    let replay = with_record(alloc, replay, RECORD_HELP)?;
     with_files(
         alloc,
         with_program(alloc, replay)?,
@@ -154,7 +155,7 @@ fn search_parser<'a>(alloc: Global) -> Result<clap::Command<'a>, AllocError>
     .arg(STATES.argument(alloc))?
     .arg(MEMORY.argument(alloc))?
     .arg(SECONDS.argument(alloc))?;
-    let search = with_record(alloc, search)?;
+    let search = with_record(alloc, search, RECORD_HELP)?;
     with_files(
         alloc,
         with_program(alloc, search)?,
@@ -175,7 +176,7 @@ fn shrink_parser<'a>(alloc: Global) -> Result<clap::Command<'a>, AllocError>
     .arg(schedule_argument(alloc))?
     .arg(any_files_argument(alloc))?
     .arg(WHOLE_BUDGET.argument(alloc))?;
-    let shrink = with_record(alloc, shrink)?;
+    let shrink = with_record(alloc, shrink, RECORD_HELP)?;
     with_files(
         alloc,
         with_program(alloc, shrink)?,
@@ -269,16 +270,12 @@ fn any_files_argument<'a>(alloc: Global) -> Arg<'a>
     )
 }
 
-/// The file that a schedule is written to.
-fn record_argument<'a>(alloc: Global) -> Arg<'a>
+/// The file that a schedule is written to, or the folder for several.
+fn record_argument<'a>(alloc: Global, help: &'a str) -> Arg<'a>
     ensures rule { rule_of result ≡ record_option }
     ensures local { result.global ≡ false }
 {
-    path_argument(
-        alloc,
-        "record",
-        "The file that the schedule is written to; with --seeds the folder for one of each outcome",
-    )
+    path_argument(alloc, "record", help)
 }
 
 /// The class whose main is run.
@@ -381,12 +378,13 @@ fn with_limits<'a>(
 fn with_record<'a>(
     alloc: Global,
     command: clap::Command<'a>,
+    help: &'a str,
 ) -> Result<clap::Command<'a>, AllocError>
-    ensures app { IfOk result (λ record. app_of record ≡ recorded (app_of command.entry)) }
+    ensures app { IfOk result (λ whole. app_of whole ≡ recorded (app_of command.entry)) }
     ensures local { IsLocal command.entry → IfOk result IsLocal }
 {
     command
-        .arg(record_argument(alloc))?
+        .arg(record_argument(alloc, help))?
         .arg(AS_VERSION.argument(alloc))
 }
 

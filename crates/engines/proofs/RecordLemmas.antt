@@ -43,15 +43,15 @@ whole_is_unrun form lefts asked options may_stop old new made (faults.Schedule f
 whole_is_unrun form lefts asked options may_stop old new made (faults.Text fault) unable whole = absurd unable
 whole_is_unrun form lefts asked options may_stop old new made (faults.Place missing) unable whole = absurd unable
 
-whole_is_uncontinued : (left : Option (List ℕ)) (lefts : List (Option (List ℕ))) (asked : Conditions) (budget : ℕ) (old new made : Option (List ℕ))
-    (fault : Fault) → IsUnable fault → (text : List ℕ) × (status : Status) × Continues left lefts asked budget text made status × Appends old new text
-    → IsUncontinued left lefts asked budget old new None made fault
-whole_is_uncontinued left lefts asked budget old new made faults.Device unable (text, status, runs, all) = inr (text, status, runs, all_front old new text all)
-whole_is_uncontinued left lefts asked budget old new made faults.Memory unable (text, status, runs, all) = inr (text, status, runs, all_front old new text all)
-whole_is_uncontinued left lefts asked budget old new made (faults.Refusal refusal) unable whole = absurd unable
-whole_is_uncontinued left lefts asked budget old new made (faults.Schedule fault) unable whole = absurd unable
-whole_is_uncontinued left lefts asked budget old new made (faults.Text fault) unable whole = absurd unable
-whole_is_uncontinued left lefts asked budget old new made (faults.Place missing) unable whole = absurd unable
+whole_is_uncontinued : (left : Option (List ℕ)) (lefts : List (Option (List ℕ))) (asked : Conditions) (then_run : ThenRun) (old new made : Option (List ℕ))
+    (fault : Fault) → IsUnable fault → (text : List ℕ) × (status : Status) × Continues left lefts asked then_run text made status × Appends old new text
+    → IsUncontinued left lefts asked then_run old new None made fault
+whole_is_uncontinued left lefts asked then_run old new made faults.Device unable (text, status, runs, all) = inr (text, status, runs, all_front old new text all)
+whole_is_uncontinued left lefts asked then_run old new made faults.Memory unable (text, status, runs, all) = inr (text, status, runs, all_front old new text all)
+whole_is_uncontinued left lefts asked then_run old new made (faults.Refusal refusal) unable whole = absurd unable
+whole_is_uncontinued left lefts asked then_run old new made (faults.Schedule fault) unable whole = absurd unable
+whole_is_uncontinued left lefts asked then_run old new made (faults.Text fault) unable whole = absurd unable
+whole_is_uncontinued left lefts asked then_run old new made (faults.Place missing) unable whole = absurd unable
 
 whole_is_unsearched : (form : RecordForm) (lefts : List (Option (List ℕ))) (asked : LimitOptions) (want : Wanted) (may_stop : Bool) (most : ℕ) (recorded : Bool) (old new made : Option (List ℕ))
     (fault : Fault) → IsUnable fault → (text : List ℕ) × (status : Status) × Searches form lefts asked want may_stop most recorded text made status × Appends old new text
@@ -89,11 +89,11 @@ module _ (held holds : Held) (given : ℕ) (lefts : List (Option (List ℕ))) (o
   module _ (replay : Replay) (then_run : ThenRun) where
     abbrev ReplayDone : Status → Type 0
     ReplayDone status = (text : List ℕ) × OfSchedule held (string_bytes replay.schedule) (λ left. Continues left lefts (conditions_of replay.limits replay.any_files given (unwrap_or replay.budget 10000000))
-        (unwrap_or then_run.budget 10000000) text made status) × Appends old new text
+        then_run text made status) × Appends old new text
 
     abbrev ReplayUndone : Fault → Type 0
     ReplayUndone told = OfSchedule held (string_bytes replay.schedule) (λ left. IsUncontinued left lefts (conditions_of replay.limits replay.any_files given (unwrap_or replay.budget 10000000))
-        (unwrap_or then_run.budget 10000000) old new None made told)
+        then_run old new None made told)
 
     replay_whole : (status : Status) → IsUnable fault → ReplayDone status → ReplayUndone fault
     replay_whole status unable (text, (left, at, continues), all) =

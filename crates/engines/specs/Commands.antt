@@ -1,6 +1,6 @@
--- What a command does, by what the files hold that its words stand for: the text that it writes to the output, the file that it writes, and
+-- What a command does, by what the files hold that its words stand for: the text that it writes to the output, the files that it writes, and
 -- its status (own). Each does what its engine does, with these files in their order.
-use Rattle.std.specs.Prelude.{◌≡◌, ◌⊎◌, ℕ, ◌-◌, ◌^◌, Bool, true, false, List, [], length, map, Option, Some, None, IsTrue, is_some, string_bytes, unwrap_or, vec_items, Result, Ok, Err}
+use Rattle.std.specs.Prelude.{◌≡◌, ◌⊎◌, ℕ, ◌-◌, ◌^◌, Bool, true, false, List, [], ◌∷◌, length, map, Option, Some, None, IsTrue, is_some, string_bytes, take, unwrap_or, vec_items, Result, Ok, Err}
 use Rattle.std.specs.Option.{option_and_then, option_map}
 use Rattle.std.specs.Io.KnownBytes.{Appends}
 use Rattle.model.specs.Devices.{AppendsFront}
@@ -33,6 +33,7 @@ use Rattle.engines.specs.Goals.{IsAskedFor}
 use Rattle.engines.specs.Libraries.{IsUnacceptedLibrary, VerifiesLibrary}
 use Rattle.engines.specs.Listings.{AreClassFiles, IsUnlisted, IsUnnamed, Lists}
 use Rattle.engines.specs.Opening.{IsKeptBy}
+use Rattle.engines.specs.OutcomeFiles.{written_in}
 use Rattle.engines.specs.RecordForms.{record_form}
 use Rattle.engines.specs.Recordings.{conditions_of}
 use Rattle.engines.specs.Replays.{IsFaulty, Replays}
@@ -137,42 +138,56 @@ pub record IsRunUndone (given : ℕ) (lefts : List (Option (List ℕ))) (run : R
 
 -- ---- run over seeds
 
--- nothing is recorded
-pub record IsSweepDone (held : Held) (lefts : List (Option (List ℕ))) (run : Run) (sweep : SweepOptions) (text : List ℕ) (written : Written) (status : Status) : Type 0 where
+-- a file for each outcome, in the folder that is asked for
+pub record IsSweepDone (held : Held) (given : ℕ) (lefts : List (Option (List ℕ))) (run : Run) (sweep : SweepOptions) (text : List ℕ) (written : Written) (status : Status) : Type 0 where
   pub want : Wanted
   pub asked : IsAskedFor held sweep.goal want
-  pub sweeps : SweepsOver lefts run sweep (is_some run.seconds) want text status
+  pub schedules : List (List ℕ)
+  pub sweeps : SweepsOver given lefts run sweep (is_some run.seconds) want text schedules status
+  pub recorded : written ≡ written_in run.record schedules
+
+pub record IsSweepUndone (held : Held) (given : ℕ) (lefts : List (Option (List ℕ))) (run : Run) (sweep : SweepOptions) (old new : Option (List ℕ)) (fault : Fault) (written : Written) : Type 0 where
+  pub want : Wanted
+  pub asked : IsAskedFor held sweep.goal want
+  pub unswept : IsUnswept given lefts run sweep (is_some run.seconds) want old new fault
   pub recorded : written ≡ None
 
-pub record IsSweepUndone (held : Held) (lefts : List (Option (List ℕ))) (run : Run) (sweep : SweepOptions) (old new : Option (List ℕ)) (fault : Fault) (written : Written) : Type 0 where
+-- all is on the output, and one of the files can't be written: those before it are
+pub record IsSweepUnrecorded (held : Held) (given : ℕ) (lefts : List (Option (List ℕ))) (run : Run) (sweep : SweepOptions) (old new : Option (List ℕ)) (fault : Fault) (written : Written) : Type 0 where
   pub want : Wanted
   pub asked : IsAskedFor held sweep.goal want
-  pub unswept : IsUnswept lefts run sweep (is_some run.seconds) want old new fault
-  pub recorded : written ≡ None
+  pub text : List ℕ
+  pub schedules : List (List ℕ)
+  pub status : Status
+  pub sweeps : SweepsOver given lefts run sweep (is_some run.seconds) want text schedules status
+  pub appends : Appends old new text
+  pub unable : IsUnable fault
+  pub count : ℕ
+  pub recorded : written ≡ written_in run.record (take count schedules)
 
 -- one run, or one for each of the seeds that are asked for
 abbrev pub IsRunDoneBy : Held → (given : ℕ) → (lefts : List (Option (List ℕ))) → Run → Option SweepOptions → List ℕ → Written → Status → Type 0
 IsRunDoneBy held given lefts run None text written status = IsRunDone given lefts run text written status
-IsRunDoneBy held given lefts run (Some sweep) text written status = IsSweepDone held lefts run sweep text written status
+IsRunDoneBy held given lefts run (Some sweep) text written status = IsSweepDone held given lefts run sweep text written status
 
 abbrev pub IsRunUndoneBy : Held → (given : ℕ) → (lefts : List (Option (List ℕ))) → Run → Option SweepOptions → (old new : Option (List ℕ)) → Fault → Written → Type 0
 IsRunUndoneBy held given lefts run None old new fault written = IsRunUndone given lefts run old new fault written
 IsRunUndoneBy held given lefts run (Some sweep) old new fault written =
-    (IsUnable fault × (new ≡ old) × (written ≡ None)) ⊎ IsSweepUndone held lefts run sweep old new fault written
+    (IsUnable fault × (new ≡ old) × (written ≡ None)) ⊎ (IsSweepUndone held given lefts run sweep old new fault written ⊎ IsSweepUnrecorded held given lefts run sweep old new fault written)
 
 -- ---- replay
 
 pub record IsContinuationDone (held : Held) (given : ℕ) (lefts : List (Option (List ℕ))) (replay : Replay) (then_run : ThenRun) (text : List ℕ) (written : Written) (status : Status) : Type 0 where
   pub file : Option (List ℕ)
   pub continues : OfSchedule held (string_bytes replay.schedule) (λ left. Continues left lefts (conditions_of replay.limits replay.any_files given (unwrap_or replay.budget 10000000))
-      (unwrap_or then_run.budget 10000000) text file status)
+      then_run text file status)
   pub made : IsTrue (is_some then_run.record) → IsTrue (is_some file)
   pub recorded : written ≡ written_at then_run.record file
 
 pub record IsContinuationUndone (held : Held) (given : ℕ) (lefts : List (Option (List ℕ))) (replay : Replay) (then_run : ThenRun) (old new : Option (List ℕ)) (fault : Fault) (written : Written) : Type 0 where
   pub file : Option (List ℕ)
   pub uncontinued : OfSchedule held (string_bytes replay.schedule) (λ left. IsUncontinued left lefts (conditions_of replay.limits replay.any_files given (unwrap_or replay.budget 10000000))
-      (unwrap_or then_run.budget 10000000) old new None file fault)
+      then_run old new None file fault)
   pub recorded : (written ≡ None) ⊎ (written ≡ written_at then_run.record file)
 
 abbrev pub IsReplayDone : Held → (given : ℕ) → (lefts : List (Option (List ℕ))) → Replay → Option ThenRun → List ℕ → Written → Status → Type 0
@@ -249,7 +264,7 @@ IsUnlistedAs false lefts old new fault = IsUnlisted lefts old new fault
 
 abbrev pub IsScheduleDone : Held → (input : Option (List ℕ)) → Schedule → (write : Bool) → List ℕ → Written → Status → Type 0
 IsScheduleDone held input schedule true text written status = (bytes : List ℕ) × Transcribes schedule.as_version input bytes
-    × (text ≡ []) × (written ≡ Some (string_bytes schedule.file, bytes)) × (status ≡ Returned)
+    × (text ≡ []) × (written ≡ Some ((string_bytes schedule.file, bytes) ∷ [])) × (status ≡ Returned)
 IsScheduleDone held input schedule false text written status = Prints (held (string_bytes schedule.file)) text
     × (written ≡ None) × (status ≡ Returned)
 
@@ -363,7 +378,7 @@ IsUntold usage old new (complaints.Fault fault) = Asks usage × IsUnable fault �
 
 -- ---- what a call leaves
 
--- with a status: a text is on the output behind what was, and a file is written
+-- with a status: a text is on the output behind what was, and files are written
 abbrev pub Leaves : (List ℕ → Written → Status → Type 0) → (old new : Option (List ℕ)) → (held holds : Held) → Status → Type 0
 Leaves Is old new held holds status = (text : List ℕ) × (written : Written) × Is text written status × Appends old new text × IsWith held holds written
 

@@ -6,7 +6,7 @@ ghost use Rattle.std.specs.Io.KnownBytes.{Appends};
 ghost use Rattle.std.specs.Arc.{arc_value};
 ghost use Rattle.model.specs.Accepted.{IsAccepted};
 ghost use Rattle.model.specs.Schedule.{events_of};
-ghost use Rattle.engines.specs.Continuations.{Continues, ContinuesBy, IsContinued, IsGivenUp, IsUncontinued};
+ghost use Rattle.engines.specs.Continuations.{whole_budget, Continues, ContinuesBy, IsContinued, IsGivenUp, IsUncontinued};
 ghost use Rattle.engines.specs.Engines.{CountsFailure};
 ghost use Rattle.engines.specs.Opening.{IsAfterFiles, IsOfSchedule, IsOpened};
 
@@ -45,12 +45,12 @@ pub fn continue_engine<S: Source, W: Sink>(
     // What the run says is written, and nothing else; and the file is that of its schedule.
     ensures continued { IfOk result (λ status. (text : _)
         × Continues (S.remaining schedule.old) (map S.remaining files.old) conditions.now
-        (unwrap_or then_run.now.budget 10000000)
+        then_run.now
         text (option_map vec_items file.new) status
         × Appends (W.contents report.old) (W.contents report.new) text) }
     ensures asked { IfOk result (λ _. IsTrue (is_some then_run.now.record) → IsTrue (is_some file.new)) }
     ensures faulty { IfErr result (IsUncontinued (S.remaining schedule.old) (map S.remaining files.old) conditions.now
-        (unwrap_or then_run.now.budget 10000000) (W.contents report.old) (W.contents report.new)
+        then_run.now (W.contents report.old) (W.contents report.new)
         (option_map vec_items file.old) (option_map vec_items file.new)) }
     ensures schedule_first { IfErr result (λ fault. IsOfSchedule fault → (files.new ≡ files.old)
         ⊎ IsAfterFiles (S.remaining schedule.old) (map S.remaining files.old) conditions.now fault) }
@@ -59,14 +59,7 @@ pub fn continue_engine<S: Source, W: Sink>(
         (S.failures schedule.new + sum_by S.failures files.new + W.failures report.new) }
 {
     let opened = open(alloc, schedule, files, conditions)?;
-    let is_recorded = then_run.record.is_some();
-    let ran = ran_by(
-        alloc,
-        opened,
-        conditions.given,
-        then_run.budget(),
-        is_recorded,
-    )?;
+    let ran = ran_by(alloc, opened, conditions.given, then_run)?;
     *file = ran.file;
     report.write_all(ran.text.as_slice())?;
     Ok(ran.status)
@@ -78,20 +71,19 @@ fn ran_by(
     alloc: Global,
     opened: Opened,
     given: usize,
-    budget: u32,
-    is_recorded: bool,
+    then_run: &ThenRun,
 ) -> Result<Outcome, AllocError>
     requires { IsAccepted (map vec_items opened.files.items) (arc_value opened.verified) }
     ensures run { IfOk result (λ ran. (bytes : _) (options : _)
         → options.given ≡ given
         → IsOpened bytes (map vec_items opened.files.items) options (arc_value opened.verified)
         (events_of opened.schedule) opened.limits opened.gives_up
-        → ContinuesBy bytes (map vec_items opened.files.items) options budget ran.text.items
+        → ContinuesBy bytes (map vec_items opened.files.items) options then_run.now ran.text.items
         (option_map vec_items ran.file) ran.status) }
-    ensures asked { IfOk result (λ ran. IsTrue is_recorded → IsTrue (is_some ran.file)) }
+    ensures asked { IfOk result (λ ran. IsTrue (is_some then_run.now.record) → IsTrue (is_some ran.file)) }
 {
-    if gives_up_within(&opened, budget) {
-        return ran_up_to(alloc, &opened, given, is_recorded);
+    if gives_up_within(&opened, then_run.budget()) {
+        return ran_up_to(alloc, &opened, given, then_run);
     }
     ran_on(
         alloc,
@@ -100,8 +92,7 @@ fn ran_by(
         opened.files.as_slice(),
         given,
         opened.limits,
-        budget,
-        is_recorded,
+        then_run,
     )
 }
 
@@ -117,28 +108,29 @@ fn ran_up_to(
     alloc: Global,
     opened: &Opened,
     given: usize,
-    is_recorded: bool,
+    then_run: &ThenRun,
 ) -> Result<Outcome, AllocError>
     requires { IsAccepted (map vec_items opened.now.files.items) (arc_value opened.now.verified) }
-    ensures run { IfOk result (λ ran. (bytes : _) (options : _) (budget : ℕ)
+    ensures run { IfOk result (λ ran. (bytes : _) (options : _)
         → options.given ≡ given
         → IsOpened bytes (map vec_items opened.now.files.items) options (arc_value opened.now.verified)
         (events_of opened.now.schedule) opened.now.limits true
-        → length (events_of opened.now.schedule) ≤ budget
-        → IsGivenUp bytes (map vec_items opened.now.files.items) options budget ran.text.items
+        → length (events_of opened.now.schedule) ≤ whole_budget then_run.now
+        → IsGivenUp bytes (map vec_items opened.now.files.items) options then_run.now ran.text.items
         (option_map vec_items ran.file) ran.status) }
-    ensures asked { IfOk result (λ ran. IsTrue is_recorded → IsTrue (is_some ran.file)) }
+    ensures asked { IfOk result (λ ran. IsTrue (is_some then_run.now.record) → IsTrue (is_some ran.file)) }
 {
     let (report, end) = replay(alloc, &opened.verified, &opened.schedule, opened.limits)?;
     let (text, status) = told(alloc, &report, end, true)?;
+    let form = RecordForm {
+        given,
+        as_version: then_run.as_version,
+    };
     let file = recorded_file(
         alloc,
-        is_recorded,
+        then_run.record.is_some(),
         opened.files.as_slice(),
-        RecordForm {
-            given,
-            as_version: None,
-        },
+        form,
         opened.limits,
         &opened.schedule,
     )?;
@@ -153,23 +145,23 @@ fn ran_on(
     files: &[Vec<u8>],
     given: usize,
     limits: Limits,
-    budget: u32,
-    is_recorded: bool,
+    then_run: &ThenRun,
 ) -> Result<Outcome, AllocError>
     requires { IsAccepted (map vec_items files.now) (arc_value verified) }
     ensures run { IfOk result (λ ran. (bytes : _) (options : _) (gives_up : _)
         → options.given ≡ given
         → IsOpened bytes (map vec_items files.now) options (arc_value verified) (events_of schedule.now) limits gives_up
-        → (IsTrue gives_up → budget < length (events_of schedule.now))
-        → IsContinued bytes (map vec_items files.now) options budget ran.text.items
+        → (IsTrue gives_up → whole_budget then_run.now < length (events_of schedule.now))
+        → IsContinued bytes (map vec_items files.now) options then_run.now ran.text.items
         (option_map vec_items ran.file) ran.status) }
-    ensures asked { IfOk result (λ ran. IsTrue is_recorded → IsTrue (is_some ran.file)) }
+    ensures asked { IfOk result (λ ran. IsTrue (is_some then_run.now.record) → IsTrue (is_some ran.file)) }
 {
     let form = RecordForm {
         given,
-        as_version: None,
+        as_version: then_run.as_version,
     };
-    match run_on(alloc, verified, schedule, limits, budget)? {
+    let is_recorded = then_run.record.is_some();
+    match run_on(alloc, verified, schedule, limits, then_run.budget())? {
         Continued::Whole(run) => {
             outcome_of(
                 alloc,

@@ -13,7 +13,9 @@
 //!   - `run`, `replay` and `search` hand on all their options; `trace` its window and its form (`IsWindow`); `search`
 //!     its goal (`IsAskedFor`), with the text of the file of `differs`; `verify` whether it is of a library; `disasm`
 //!     whether names are asked for; `schedule` whether a file is made; `run` over seeds its sweep (`IsSweepDone`);
-//!   - the file that is asked for holds the bytes of the schedule, and each other file what it held (`IsWith`).
+//!   - the file that is asked for holds the bytes of the schedule, and each other file what it held (`IsWith`); of
+//!     `run` over seeds one for each outcome, in the folder that is asked for (`written_in`), and after a fault those
+//!     before it (`IsSweepUnrecorded`).
 //! - `run` with a complaint: usage only where the words spell no command, or one that would write a file that it reads
 //!   (`IsReadToo`), and nothing is written then. A fault of files only where the words of the command stand for none,
 //!   or these have no order; nothing is written then, either (`HasNoFiles`). Another fault only where the engine may
@@ -55,7 +57,8 @@
 //!   - with a status, one text was appended and nothing else: what a search over all schedules of the program of these
 //!     bytes answers, within the limits of the options (`searched`, `IsSearched`, with `Answers` of `search_reports`).
 //!     Where a run was found and its schedule is asked for, a file is made, which spells the events, the limits and
-//!     what is recorded of the class files (`recording_over`); else none is;
+//!     what is recorded of the class files, as far as a file of the version that is asked for tells them
+//!     (`recorded_as`); else none is;
 //!   - with a refusal nothing was written, and it is one that linking or verification may give of these bytes; with
 //!     `memory` or `device` nothing was written or made, or the file was made and a beginning of the text was written
 //!     (`faulty`, `IsUnsearched`); `counted` as above.
@@ -81,15 +84,16 @@
 //!     stopped;
 //!   - the text is the report's, the status is its own; and the file spells the events, the limits and what is recorded
 //!     of the class files: the lengths and checksums of those that are given, and the checksum of those that the library
-//!     adds (`recording_over`);
+//!     adds (`recording_over`), as far as a file of the version that is asked for tells them (`recorded_as`);
 //!   - with a refusal nothing was written, and it is one that linking or verification may give of these bytes; with
 //!     `memory` or `device` nothing was written or made, or the file was made and a beginning of the text was written
 //!     (`faulty`, `IsUnrun`);
 //!   - `Device` exactly with one more failure of a device (`counted`).
 //! - `sweep_engine`, over any readers and writer: with a status, one text was appended and nothing else: that of a
-//!   sweep over the seeds that are asked for (`swept`, `IsSwept`, with `Sweeps` of `sweeps`). With a refusal nothing
-//!   was written, with `memory` or `device` nothing or a beginning of the text (`faulty`, `IsUnswept`); `counted` as
-//!   above.
+//!   sweep over the seeds that are asked for (`swept`, `IsSwept`, with `Sweeps` of `sweeps`), which doesn't depend on
+//!   how many workers there are. Where they are asked for, files are made of the schedules of the first runs of the
+//!   outcomes, in the order of these, and of no other (`AreOutcomeFiles`). With a refusal nothing was written, with
+//!   `memory` or `device` nothing or a beginning of the text (`faulty`, `IsUnswept`); `counted` as above.
 //! - `policy_for`, by which a run without workers gives turns: it is the policy that the options ask for, with the seed
 //!   or the quantum of these, or the usual quantum, or a seed of 32 bits (`IsAskedFor`). No clause says where a seed
 //!   that is drawn comes from, nor that it is told.
@@ -168,6 +172,7 @@ mod searching;
 mod seeds;
 mod status;
 mod stopped_runs;
+mod sweep_records;
 mod sweep_runs;
 mod system_folder;
 mod telling;
@@ -200,7 +205,7 @@ pub use search::Progress;
 pub use searching::search_engine;
 pub use seeds::Seeds;
 pub use status::Status;
-pub use sweep_runs::sweep_engine;
+pub use sweep_runs::{SweepTask, MadeSweep, sweep_engine};
 pub use sweeps::Watch;
 pub use system_folder::SystemFolder;
 pub use tracing::trace_engine;

@@ -54,11 +54,13 @@ pub fn run_engine<R: Threads + Wait + Sync, G: Gate + Seeds + Deadline + Sync, S
 ) -> Result<Status, Fault>
     // The report of a run is written, and nothing else; and the file is that of its schedule.
     ensures ran { IfOk result (λ status. (text : _)
-        × Runs (record_form given options.now.as_version) (map S.remaining files.old) options.now.limits options.now.options
+        × Runs (record_form given options.now.as_version)
+        (map S.remaining files.old) options.now.limits options.now.options
         (is_some options.now.seconds) text (option_map vec_items file.new) status
         × Appends (W.contents report.old) (W.contents report.new) text) }
     ensures asked { IfOk result (λ _. IsTrue (is_some options.now.record) → IsTrue (is_some file.new)) }
-    ensures faulty { IfErr result (IsUnrun (record_form given options.now.as_version) (map S.remaining files.old) options.now.limits options.now.options
+    ensures faulty { IfErr result (IsUnrun (record_form given options.now.as_version)
+        (map S.remaining files.old) options.now.limits options.now.options
         (is_some options.now.seconds) (W.contents report.old) (W.contents report.new)
         (option_map vec_items file.old) (option_map vec_items file.new)) }
     ensures counted { CountsFailure result
@@ -93,7 +95,8 @@ fn ran<R: Threads + Wait + Sync, G: Gate + Seeds + Deadline + Sync>(
     options: &Run,
 ) -> Result<Outcome, AllocError>
     requires { IsAccepted (map vec_items files.now) verified }
-    ensures run { IfOk result (λ ran. IsRun (record_form given options.now.as_version) (map vec_items files.now) options.now.limits options.now.options
+    ensures run { IfOk result (λ ran. IsRun (record_form given options.now.as_version)
+        (map vec_items files.now) options.now.limits options.now.options
         (is_some options.now.seconds) ran.text.items (option_map vec_items ran.file) ran.status) }
     ensures asked { IfOk result (λ ran. IsTrue (is_some options.now.record) → IsTrue (is_some ran.file)) }
 {
@@ -223,7 +226,7 @@ pub(crate) fn recorded_file(
 }
 
 /// The schedule file of a run of the class files.
-fn file_of(
+pub(crate) fn file_of(
     alloc: Global,
     files: &[Vec<u8>],
     form: RecordForm,

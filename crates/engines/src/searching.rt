@@ -45,11 +45,13 @@ pub fn search_engine<P: Progress, S: Source, W: Sink>(
     // What can come of the class files is written, or a run whose outcome is wanted, and nothing else; and the file
     // is that of the run's schedule, where it is asked for.
     ensures searched { IfOk result (λ status. (text : _)
-        × Searches (record_form given options.now.as_version) (map S.remaining files.old) options.now.limits wanted.now (P.may_stop progress.now)
+        × Searches (record_form given options.now.as_version)
+        (map S.remaining files.old) options.now.limits wanted.now (P.may_stop progress.now)
         (most_states options.now) (is_some options.now.record) text (option_map vec_items file.new) status
         × Appends (W.contents report.old) (W.contents report.new) text) }
     ensures faulty { IfErr result
-        (IsUnsearched (record_form given options.now.as_version) (map S.remaining files.old) options.now.limits wanted.now (P.may_stop progress.now)
+        (IsUnsearched (record_form given options.now.as_version)
+        (map S.remaining files.old) options.now.limits wanted.now (P.may_stop progress.now)
         (most_states options.now) (is_some options.now.record) (W.contents report.old) (W.contents report.new)
         (option_map vec_items file.old) (option_map vec_items file.new)) }
     ensures counted { CountsFailure result
@@ -77,8 +79,10 @@ fn searched<P: Progress>(
 ) -> Result<Outcome, AllocError>
     requires { IsAccepted (map vec_items files.now) verified }
     ensures { IfOk result (λ searched.
-        IsSearched (record_form given options.now.as_version) (map vec_items files.now) options.now.limits wanted.now (P.may_stop progress.now)
-        (most_states options.now) (is_some options.now.record) searched.text.items (option_map vec_items searched.file) searched.status) }
+        IsSearched (record_form given options.now.as_version)
+        (map vec_items files.now) options.now.limits wanted.now (P.may_stop progress.now)
+        (most_states options.now) (is_some options.now.record) searched.text.items
+        (option_map vec_items searched.file) searched.status) }
 {
     search_of(alloc, progress, &verified, files, given, options, wanted)
 }
@@ -95,8 +99,10 @@ fn search_of<P: Progress>(
 ) -> Result<Outcome, AllocError>
     requires { IsAccepted (map vec_items files.now) verified.now }
     ensures { IfOk result (λ searched.
-        IsSearched (record_form given options.now.as_version) (map vec_items files.now) options.now.limits wanted.now (P.may_stop progress.now)
-        (most_states options.now) (is_some options.now.record) searched.text.items (option_map vec_items searched.file) searched.status) }
+        IsSearched (record_form given options.now.as_version)
+        (map vec_items files.now) options.now.limits wanted.now (P.may_stop progress.now)
+        (most_states options.now) (is_some options.now.record) searched.text.items
+        (option_map vec_items searched.file) searched.status) }
 {
     let limits = options.limits.limits();
     let program = verified_program(alloc, verified)?;

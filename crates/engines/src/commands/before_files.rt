@@ -5,6 +5,7 @@ ghost use Rattle.engines.specs.Commands.{IsKeptFirst, KeepsSchedule};
 ghost use Rattle.engines.specs.Devices.{IsUnable};
 ghost use Rattle.engines.specs.Failures.{FolderMayFail, TellsFailure, TellsFailures};
 
+use crate::commands::outcome_files::try_outcomes;
 use crate::commands::searches::{wanted_by, wanted_for};
 use crate::commands::storing::try_record;
 use crate::explanation::Explanation;
@@ -64,7 +65,10 @@ fn check_run<F: Folder>(
     ensures told { (n : ℕ) → TellsFailures (FolderMayFail F.may_fail) result n n }
 {
     match &options.sweep {
-        Some(sweep) => check_goal(alloc, folder, &sweep.goal),
+        Some(sweep) => {
+            check_goal(alloc, folder, &sweep.goal)?;
+            check_outcomes(alloc, folder, &options.record, explanation)
+        }
         None => check_record(alloc, folder, &options.record, explanation),
     }
 }
@@ -111,6 +115,19 @@ fn check_shrink<F: Folder>(
     check_record(alloc, folder, &options.record, explanation)?;
     let _ = wanted_for(alloc, folder, &options.goal)?;
     check_schedule(alloc, folder, options.schedule.as_str())
+}
+
+/// Whether files of outcomes can be made in the folder that is asked for.
+fn check_outcomes<F: Folder>(
+    alloc: Global,
+    folder: &F,
+    record: &Option<String>,
+    explanation: &mut Explanation,
+) -> Result<(), Fault>
+    ensures kept { IfErr result IsUnable }
+    ensures told { (n : ℕ) → TellsFailures (FolderMayFail F.may_fail) result n n }
+{
+    Ok(try_outcomes(alloc, folder, record, explanation)?)
 }
 
 /// Whether the file that is asked for can be made.

@@ -7,6 +7,7 @@
 mod before_files;
 mod event_traces;
 mod given_files;
+mod outcome_files;
 mod outcome_texts;
 mod placings;
 mod replays;

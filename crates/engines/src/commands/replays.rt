@@ -164,7 +164,7 @@ fn continued<'a, F: Folder, W: Sink>(
     ensures continued { IfOk result (λ status. (text : _)
         × OfSchedule (F.held folder.now) (string_bytes options.now.schedule) (λ left. Continues left
         (known (map vec_items files.now))
-        (conditions_of options.now.limits options.now.any_files given (unwrap_or options.now.budget 10000000)) (unwrap_or then_run.now.budget 10000000) text
+        (conditions_of options.now.limits options.now.any_files given (unwrap_or options.now.budget 10000000)) then_run.now text
         (option_map vec_items file.new) status)
         × Appends (W.contents output.old) (W.contents output.new) text) }
     ensures asked { IfOk result (λ _. IsTrue (is_some then_run.now.record) → IsTrue (is_some file.new)) }
@@ -172,7 +172,7 @@ fn continued<'a, F: Folder, W: Sink>(
         OfSchedule (F.held folder.now) (string_bytes options.now.schedule) (λ left. IsUncontinued left
         (known (map vec_items files.now))
         (conditions_of options.now.limits options.now.any_files given (unwrap_or options.now.budget 10000000))
-        (unwrap_or then_run.now.budget 10000000)
+        then_run.now
         (W.contents output.old) (W.contents output.new) (option_map vec_items file.old)
         (option_map vec_items file.new) fault)) }
     ensures told { TellsFailures (FolderMayFail F.may_fail) result (W.failures output.old) (W.failures output.new) }

@@ -58,7 +58,18 @@ pub(crate) fn run<
     ensures told { TellsFailures (FolderMayFail F.may_fail) result (W.failures output.old) (W.failures output.new) }
 {
     match &options.sweep {
-        Some(sweep) => sweep_files(rt, alloc, gate, folder, files, options, sweep, output),
+        Some(sweep) => sweep_files(
+            rt,
+            alloc,
+            gate,
+            folder,
+            files,
+            given,
+            options,
+            sweep,
+            output,
+            explanation,
+        ),
         None => run_files(
             rt,
             alloc,
@@ -146,7 +157,8 @@ fn ran<R: Threads + Wait + Sync, G: Gate + Seeds + Deadline + Sync, F: Folder, W
     file: &mut Option<Vec<u8>>,
 ) -> Result<Status, Fault>
     ensures ran { IfOk result (λ status. (text : _)
-        × Runs (record_form given options.now.as_version) (known (map vec_items files.now)) options.now.limits options.now.options
+        × Runs (record_form given options.now.as_version)
+        (known (map vec_items files.now)) options.now.limits options.now.options
         (is_some options.now.seconds) text (option_map vec_items file.new) status
         × Appends (W.contents output.old) (W.contents output.new) text) }
     ensures asked { IfOk result (λ _. IsTrue (is_some options.now.record) → IsTrue (is_some file.new)) }

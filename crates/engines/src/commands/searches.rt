@@ -106,11 +106,13 @@ fn searched<P: Progress + Deadline, F: Folder, W: Sink>(
     file: &mut Option<Vec<u8>>,
 ) -> Result<Status, Fault>
     ensures searched { IfOk result (λ status. (text : _)
-        × Searches (record_form given options.now.as_version) (known (map vec_items files.now)) options.now.limits wanted.now
+        × Searches (record_form given options.now.as_version)
+        (known (map vec_items files.now)) options.now.limits wanted.now
         (is_some options.now.seconds) (most_states options.now) (is_some options.now.record) text
         (option_map vec_items file.new) status
         × Appends (W.contents output.old) (W.contents output.new) text) }
-    ensures faulty { IfErr result (IsUnsearched (record_form given options.now.as_version) (known (map vec_items files.now))
+    ensures faulty { IfErr result (IsUnsearched (record_form given options.now.as_version)
+        (known (map vec_items files.now))
         options.now.limits wanted.now (is_some options.now.seconds) (most_states options.now)
         (is_some options.now.record) (W.contents output.old) (W.contents output.new)
         (option_map vec_items file.old) (option_map vec_items file.new)) }

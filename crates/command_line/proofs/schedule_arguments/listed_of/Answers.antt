@@ -19,5 +19,5 @@ returns-in_err-schedule_of-else-clause-none c =
     let p = err_from_is_err_and c.from_residual-else.result c.from_residual-else.ensures.1 in
     rw (p.1, p.2)
     (refuses_more c.in_err-schedule_of.field-0.0 _ _
-    (λ none. only_schedule (rows_of (found_of c.args.matches.now)) none (λ places are. true≢false (sym are.places ∙ sym c.is_set.ensures ∙ c.if-is_set.false)))
+    (λ none. only_schedule (rows_of (found_of c.args.matches.now)) none (λ places are. true≢false (sym are.with_places ∙ sym c.is_set.ensures ∙ c.if-is_set.false)))
     c.in_err-schedule_of.ensures.none)

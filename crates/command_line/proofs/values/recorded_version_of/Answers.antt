@@ -1,4 +1,4 @@
-use Rattle.std.proofs.Common.{Some, None, codes, elim}
+use Rattle.std.proofs.Common.{Some, None, codes}
 use Rattle.std.proofs.lemmas.Result.{IfOk-weaker, err_from_is_err_and}
 use Rattle.clap.specs.Words.{found_of, rows_of}
 use Rattle.command_line.proofs.CommandLineLemmas.{a_version, first_is, no_version, refused_more, refuses_more}

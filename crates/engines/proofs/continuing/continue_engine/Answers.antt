@@ -23,8 +23,7 @@ returns-in_err-write_all-clause-faulty g c =
     let opened = c.in_ok-opened.ensures.opened in
     let given = c.in_ok-opened.opened in
     let ran = c.in_ok-ran.ran in
-    let run = subst (λ budget. ContinuesBy opened.0 (map vec_items given.files.items) c.args.conditions.now budget ran.text.items (option_map vec_items ran.file) ran.status) c.budget.ensures
-    (c.in_ok-ran.ensures.run opened.0 c.args.conditions.now refl opened.3) in
+    let run = c.in_ok-ran.ensures.run opened.0 c.args.conditions.now refl opened.3 in
     let contents = g.W.Sink.contents in
     let front = subst (AppendsFront (contents c.args.report.now) (contents c.write_all.new.self)) c.as_slice.ensures.value c.in_err-write_all.ensures.part in
     rw (p.1, p.2) (part_is_uncontinued _ _ _ _ _ _ _ _ _ (inr (_, _, (opened.0, _, opened.1, opened.2, run), front)))
@@ -39,8 +38,7 @@ returns-clause-continued g c =
     let opened = c.in_ok-opened.ensures.opened in
     let given = c.in_ok-opened.opened in
     let ran = c.in_ok-ran.ran in
-    let run = subst (λ budget. ContinuesBy opened.0 (map vec_items given.files.items) c.args.conditions.now budget ran.text.items (option_map vec_items ran.file) ran.status) c.budget.ensures
-    (c.in_ok-ran.ensures.run opened.0 c.args.conditions.now refl opened.3) in
+    let run = c.in_ok-ran.ensures.run opened.0 c.args.conditions.now refl opened.3 in
     let contents = g.W.Sink.contents in
     let written = subst (Appends (contents c.args.report.now) (contents c.write_all.new.self)) c.as_slice.ensures.value c.in_ok-write_all.ensures.written in
     (_, (opened.0, _, opened.1, opened.2, run), written)
