@@ -47,12 +47,12 @@ words_spell bytes recorded (words.Places deeds) (none, spelled) = inr (none, dee
 pub text_is_unread : (left : Option (List ℕ)) (fault : TextFault) (told : Fault) → IsTextOf fault told → IsMemory (Text fault) ⊎ IsUnspelled left (Text fault)
     → IsUnreadWords left told
 text_is_unread left fault told (inl is) why = subst (IsUnreadWords left) (sym is) (inl refl)
-text_is_unread left fault told (inr (other, why, is)) (inl memory) = absurd (other memory)
-text_is_unread left fault told (inr (other, why, is)) (inr (bytes, read, none, stands)) = subst (IsUnreadWords left) (sym is) (inr (bytes, read, none, stands))
+text_is_unread left fault told (inr (other, (why, is))) (inl memory) = absurd (other memory)
+text_is_unread left fault told (inr (other, (why, is))) (inr (bytes, read, none, stands)) = subst (IsUnreadWords left) (sym is) (inr (bytes, read, none, stands))
 
 pub text_counts : (fault : TextFault) (told : Fault) (n : ℕ) → IsTextOf fault told → CountsWith told n n
 text_counts fault told n (inl is) = subst (λ (f : Fault). CountsWith f n n) (sym is) refl
-text_counts fault told n (inr (other, why, is)) = subst (λ (f : Fault). CountsWith f n n) (sym is) refl
+text_counts fault told n (inr (other, (why, is))) = subst (λ (f : Fault). CountsWith f n n) (sym is) refl
 
 pub unread_is_kept : (fault : Fault) (left : Option (List ℕ)) (lefts : List (Option (List ℕ))) (options : Conditions) → IsUnreadWords left fault
     → IsKeptBy left lefts options fault
