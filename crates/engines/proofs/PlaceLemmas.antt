@@ -1,6 +1,6 @@
 -- What a schedule with places gives, and what keeps it from that.
 use Rattle.std.proofs.Common.{◌≡◌, ◌⊎◌, ◌++◌, ◌<◌, ◌+◌, ℕ, List, [], ◌∷◌, Bool, None, Option, ap, arith, get_or, inl, inr, length, refl, subst, sym, take, drop, ◌∙◌}
-use Rattle.std.proofs.lemmas.List.{drop_more, map-append, take-append-drop}
+use Rattle.std.proofs.lemmas.List.{drop_more, map-append, take-append-drop, take_more}
 use Rattle.model.specs.declared.device.DeviceFault.{DeviceFault}
 use Rattle.model.specs.declared.device.DeviceFault.TheVariants as devices
 use Rattle.model.specs.declared.event.Event.{Event}
@@ -18,7 +18,7 @@ use Rattle.place_texts.specs.Places.{DeedOf, deed_of, deeds_of}
 use Rattle.place_texts.specs.Texts.{SpellDeeds}
 use Rattle.engines.specs.Devices.{fault_of}
 use Rattle.engines.specs.Engines.{CountsWith, Reads, ReadsEach}
-use Rattle.engines.specs.GivenPlaces.{Gives, Spells}
+use Rattle.engines.specs.GivenPlaces.{AreThere, Gives, IsThere, Spells}
 use Rattle.engines.specs.Opening.{IsAfterFiles, IsKeptBy, IsMisplaced, IsOfSchedule, IsUnspelled}
 use Rattle.engines.specs.PlaceWords.{IsMissingAt, IsMissingFor, IsMissingIn, IsTextOf, IsUnfollowed, IsUnreadWords, SpellsWords, WordsGive}
 use Rattle.engines.specs.Placings.{IsUnplaced, PlacesPart}
@@ -34,8 +34,8 @@ use Rattle.engines.specs.declared.recording.Conditions.{Conditions}
 pub words_give : (bytes : List ℕ) (trees : Program) (limits : Limits) (budget : ℕ) (recorded : Option Recording) (given : Words) (events : List Event) (gives_up : Bool)
     → SpellsWords bytes recorded given → WordsGive given trees limits budget events gives_up → Gives bytes trees limits budget recorded events gives_up
 words_give bytes trees limits budget recorded (words.Entries schedule) events gives_up spells (are, none) = inl (subst (GivesEvents bytes recorded) (sym are) spells, none)
-words_give bytes trees limits budget recorded (words.Places deeds) events gives_up (none, spelled) (done, stop, followed, are, is) =
-    inr (none, record { deeds = deeds_of deeds.items; spelled = spelled; done = done; stop = stop; followed = followed; events_are = are; given_up = is })
+words_give bytes trees limits budget recorded (words.Places deeds) events gives_up (none, spelled) (there, (done, stop, followed, are, is)) =
+    inr (none, record { deeds = deeds_of deeds.items; spelled = spelled; there = there; done = done; stop = stop; followed = followed; events_are = are; given_up = is })
 
 pub words_spell : (bytes : List ℕ) (recorded : Option Recording) (given : Words) → SpellsWords bytes recorded given → Spells bytes recorded
 words_spell bytes recorded (words.Entries schedule) spells = inl (events_of schedule, spells)
@@ -79,6 +79,19 @@ of_word given i word less at trees fault missing =
       ap deeds_of parted ∙ map-append (λ (x : PlacedDeed). deed_of x.deed) (take i given) (word ∷ drop (i + 1) given),
       missing,
     )
+
+there_longer : (trees : Program) (deeds : List DeedOf) (deed : DeedOf) → AreThere trees deeds → IsThere trees deed → AreThere trees (deeds ++ deed ∷ [])
+there_longer trees [] deed are is = (is, tt)
+there_longer trees (first ∷ deeds) deed (one, others) is = (one, there_longer trees deeds deed others is)
+
+-- the next word has one that is there, or has none
+pub there_more : (given : List PlacedDeed) (i : ℕ) (word : PlacedDeed) → i < length given → word ≡ get_or given i word → (trees : Program)
+    → AreThere trees (deeds_of (take i given)) → IsThere trees (deed_of word.deed) → AreThere trees (deeds_of (take (i + 1) given))
+there_more given i word less at trees are is =
+    let all : deeds_of (take (i + 1) given) ≡ deeds_of (take i given) ++ deed_of word.deed ∷ [] =
+    ap deeds_of (take_more given i word less ∙ ap (λ (x : PlacedDeed). take i given ++ x ∷ []) (sym at)) ∙ map-append (λ (x : PlacedDeed). deed_of x.deed) (take i given) (word ∷ [])
+    in
+    subst (λ (l : List DeedOf). AreThere trees l) (sym all) (there_longer trees (deeds_of (take i given)) (deed_of word.deed) are is)
 
 -- no device has failed then
 missing_counts : (trees : Program) (deeds : List DeedOf) (fault : Fault) (n : ℕ) → IsMissingIn trees deeds fault → CountsWith fault n n

@@ -1,5 +1,5 @@
 -- What a schedule gives that may have places, and what is told of a run that gave up at one (own).
-use Rattle.std.specs.Prelude.{◌≡◌, ◌⊎◌, ◌++◌, ℕ, ℤ, List, Option, Some, None, Bool, true, false, codes, if◌then◌else◌, map}
+use Rattle.std.specs.Prelude.{◌≡◌, ◌⊎◌, ◌++◌, ℕ, ℤ, List, [], ◌∷◌, Option, Some, None, Bool, true, false, codes, if◌then◌else◌, map}
 use Rattle.std.specs.List.{flat_map}
 use Rattle.model.specs.declared.end.End.{End}
 use Rattle.model.specs.declared.event.Event.{Event}
@@ -11,7 +11,8 @@ use Rattle.schedule.specs.Files.{Recording}
 use Rattle.schedule.specs.schedule_text.Either.{GivesEvents}
 use Rattle.schedule.specs.schedule_text.Text.{text_words}
 use Rattle.machine.specs.machine_replay.Replays.{text_of}
-use Rattle.place_texts.specs.Places.{DeedOf}
+use Rattle.code_places.specs.There.{Misses}
+use Rattle.place_texts.specs.Places.{DeedOf, Entry, Until}
 use Rattle.place_texts.specs.Texts.{SpellDeeds}
 use Rattle.place_runs.specs.declared.following.Stop.{Stop}
 use Rattle.place_runs.specs.declared.following.Stop.TheVariants as stops
@@ -28,11 +29,21 @@ is_given_up stops.Whole = false
 is_given_up (stops.Event event) = false
 is_given_up stops.UsedUp = true
 
--- The words of a text are those of places and entries, and these are their events over these class files: the last one is that which
--- can't be done, if that is why there are no more.
+-- the place of a word, if it has one, is there in these class files
+abbrev pub IsThere : Program → DeedOf → Type 0
+IsThere trees (Entry entry) = Unit {0}
+IsThere trees (Until thread place) = Misses trees place None
+
+abbrev pub AreThere : Program → List DeedOf → Type 0
+AreThere trees [] = Unit {0}
+AreThere trees (deed ∷ deeds) = IsThere trees deed × AreThere trees deeds
+
+-- The words of a text are those of places and entries, the places are there, and these are their events over these class files: the last
+-- one is that which can't be done, if that is why there are no more.
 pub record GivesPlaces (schedule : List ℕ) (trees : Program) (limits : Limits) (budget : ℕ) (events : List Event) (gives_up : Bool) : Type 0 where
   pub deeds : List DeedOf
   pub spelled : SpellDeeds (text_words schedule) deeds
+  pub there : AreThere trees deeds
   pub done : List Event
   pub stop : Stop
   pub followed : IsFollowed trees limits 4294967295 budget deeds done stop

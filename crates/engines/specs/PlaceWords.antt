@@ -16,7 +16,7 @@ use Rattle.place_texts.specs.Texts.{SpellDeeds, place_words}
 use Rattle.place_runs.specs.declared.following.Stop.{Stop}
 use Rattle.place_runs.specs.Following.{IsFollowed, with_stop}
 use Rattle.code_places.specs.There.{Misses}
-use Rattle.engines.specs.GivenPlaces.{is_given_up}
+use Rattle.engines.specs.GivenPlaces.{AreThere, is_given_up}
 use Rattle.engines.specs.Opening.{IsUnspelled}
 use Rattle.engines.specs.declared.fault.Fault.{Fault}
 use Rattle.engines.specs.declared.fault.Fault.TheVariants as faults
@@ -66,8 +66,8 @@ IsMissingFor (words.Places deeds) trees fault = IsUnfollowed trees (deeds_of dee
 
 -- the events of words over these class files, the last of which is that which can't be done, if that is why there are no more
 abbrev pub DeedsGive : List DeedOf → Program → Limits → (budget : ℕ) → List Event → (gives_up : Bool) → Type 0
-DeedsGive deeds trees limits budget events gives_up = (done : List Event) × (stop : Stop)
-    × IsFollowed trees limits 4294967295 budget deeds done stop × (events ≡ with_stop done stop) × (gives_up ≡ is_given_up stop)
+DeedsGive deeds trees limits budget events gives_up = AreThere trees deeds × ((done : List Event) × (stop : Stop)
+    × IsFollowed trees limits 4294967295 budget deeds done stop × (events ≡ with_stop done stop) × (gives_up ≡ is_given_up stop))
 
 abbrev pub WordsGive : Words → Program → Limits → (budget : ℕ) → List Event → (gives_up : Bool) → Type 0
 WordsGive (words.Entries schedule) trees limits budget events gives_up = (events ≡ events_of schedule) × (gives_up ≡ false)

@@ -6,8 +6,8 @@ ghost use Rattle.engines.specs.declared.fault.Fault.TheVariants.{Memory};
 
 use crate::fault::{Fault, device_fault};
 use model::{DeviceFault, Source};
-use program_files::Folder;
 use place_texts::is_places_word;
+use program_files::Folder;
 use schedule::schedule_text::is_schedule_word;
 use std::alloc::Global;
 

@@ -54,8 +54,13 @@ pub(crate) fn open<S: Source>(
     let files = read_class_files(alloc, files)?;
     let limits = limits_of(&recorded, files.as_slice(), conditions)?;
     let verified = Arc::new(alloc, accepted(alloc, files.as_slice())?)?;
-    let GivenSchedule { schedule, gives_up } =
-        followed(alloc, words, &verified, limits, conditions.budget)?;
+    let GivenSchedule { schedule, gives_up } = followed(
+        alloc,
+        words,
+        &verified,
+        limits,
+        conditions.budget,
+    )?;
     Ok(Opened {
         schedule,
         gives_up,

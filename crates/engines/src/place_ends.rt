@@ -34,6 +34,9 @@ fn place_text(alloc: Global, report: &Report) -> Result<Vec<u8>, AllocError>
     push_printed(alloc, &mut text, &report.printed)?;
     push_threads(alloc, &mut text, &report.threads)?;
     push_line(&mut text, format!(in alloc; "events {events}")?.as_bytes())?;
-    push_line(&mut text, format!(in alloc; "end place {events}")?.as_bytes())?;
+    push_line(
+        &mut text,
+        format!(in alloc; "end place {events}")?.as_bytes(),
+    )?;
     Ok(text)
 }

@@ -7,7 +7,7 @@ ghost use Rattle.place_runs.specs.Followed.{AreEventsOf};
 ghost use Rattle.place_texts.specs.Places.{deed_of, deeds_of, place_of};
 ghost use Rattle.place_texts.specs.Texts.{place_words};
 ghost use Rattle.engines.specs.Engines.{CountsFailure, Reads};
-ghost use Rattle.engines.specs.GivenPlaces.{is_given_up};
+ghost use Rattle.engines.specs.GivenPlaces.{AreThere, IsThere, is_given_up};
 ghost use Rattle.engines.specs.PlaceWords.{DeedsGive, IsMissingAt, IsMissingFor, IsTextOf, IsUnfollowed, IsUnreadWords, SpellsWords, WordsGive};
 
 use crate::fault::Fault;
@@ -63,10 +63,7 @@ pub(crate) fn read_words<S: Source>(
 }
 
 /// What the bytes of a schedule say, and with what it was recorded.
-pub(crate) fn words_of(
-    alloc: Global,
-    bytes: &[u8],
-) -> Result<(Words, Option<Recording>), Fault>
+pub(crate) fn words_of(alloc: Global, bytes: &[u8]) -> Result<(Words, Option<Recording>), Fault>
     ensures read { IfOk result (λ read. SpellsWords bytes.now read.1 read.0) }
     ensures kept { (left : Option (List ℕ)) → Reads left bytes.now → IfErr result (IsUnreadWords left) }
     ensures counted { (n : ℕ) → CountsFailure result n n }
@@ -112,7 +109,8 @@ fn missing_place(
 
 /// Whether the place of a word, if it has one, is there.
 fn check_place(alloc: Global, linked: &Linked, placed: &PlacedDeed) -> Result<(), Fault>
-    ensures { IfErr result (IsMissingAt linked.now (deed_of placed.now.deed)) }
+    ensures there { IfOk result (λ _. IsThere linked.now (deed_of placed.now.deed)) }
+    ensures missing { IfErr result (IsMissingAt linked.now (deed_of placed.now.deed)) }
 {
     match &placed.deed {
         Deed::Entry(_) => Ok(()),
@@ -125,7 +123,8 @@ fn check_place(alloc: Global, linked: &Linked, placed: &PlacedDeed) -> Result<()
 
 /// Whether all places of words are there; else the first that isn't.
 fn check_places(alloc: Global, linked: &Linked, deeds: &[PlacedDeed]) -> Result<(), Fault>
-    ensures { IfErr result (IsUnfollowed linked.now (deeds_of deeds.now)) }
+    ensures there { IfOk result (λ _. AreThere linked.now (deeds_of deeds.now)) }
+    ensures missing { IfErr result (IsUnfollowed linked.now (deeds_of deeds.now)) }
 {
     'deeds: for placed in deeds {
         check_place(alloc, linked, placed)?;

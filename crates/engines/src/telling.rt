@@ -24,7 +24,9 @@ pub(crate) fn told_schedule<F: Folder>(
     conditions: &Conditions,
     most: u64,
 ) -> Option<Vec<u8>> {
-    let bytes = schedule_source(alloc, folder, word.as_str()).read_all(alloc).ok()?;
+    let bytes = schedule_source(alloc, folder, word.as_str())
+        .read_all(alloc)
+        .ok()?;
     told_threads(alloc, bytes.as_slice(), files, conditions, most).ok()?
 }
 

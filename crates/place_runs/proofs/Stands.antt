@@ -45,7 +45,6 @@ module _ (trees : Program) (p : LinkedProgram) (place : PlaceOf) (points : List 
   seen [] (entry ∷ stack) result shows top = absurd shows
   seen (shown ∷ others) [] result shows top = absurd shows
 
-
 -- of a thread that is there, and of one that isn't
 abbrev pub IsTopIf : LinkedProgram → List Point → Option (List ShownEntry) → Bool → Type 0
 IsTopIf p points (Some stack) result = IsTopAt p points stack result

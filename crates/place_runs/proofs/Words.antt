@@ -110,8 +110,7 @@ means_more trees frames done [] events deed own none one =
     let at : done ++ events ≡ done = ap (λ l. done ++ l) none ∙ append-nil done in
     (own, [], ap (λ l. l ++ own) none ∙ sym (append-nil own), subst (λ l. MeansOne trees frames l deed own) at one, refl)
 means_more trees frames done (first ∷ deeds) events deed own means one =
-    let at : done ++ events ≡ (done ++ means.0) ++ means.1 = ap (λ l. done ++ l) means.2 ∙ sym (append_assoc done means.0 means.1) in
-    (
+    let at : done ++ events ≡ (done ++ means.0) ++ means.1 = ap (λ l. done ++ l) means.2 ∙ sym (append_assoc done means.0 means.1) in (
       means.0,
       means.1 ++ own,
       ap (λ l. l ++ own) means.2 ∙ append_assoc means.0 means.1 own,

@@ -7,11 +7,11 @@ ghost use Rattle.place_texts.specs.Places.{Entry, PlaceOf, Until, deed_of, deeds
 ghost use Rattle.code_places.specs.Points.{all_points};
 ghost use Rattle.place_runs.specs.Worlds.{DoesDeed, FollowsDeeds, stop_by};
 
-use code_places::{Point, points_of};
 use crate::going_on::{go_on, unless_memory};
-use place_texts::{Deed, PlacedDeed};
+use code_places::{Point, points_of};
 use machine::Stopped;
 use model::{Event, ScheduleEntry};
+use place_texts::{Deed, PlacedDeed};
 use program_runs::worlds::World;
 use std::alloc::{AllocError, Global};
 

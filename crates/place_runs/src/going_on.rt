@@ -6,8 +6,8 @@ ghost use Rattle.place_texts.specs.Places.{PlaceOf};
 ghost use Rattle.code_places.specs.Points.{all_points};
 ghost use Rattle.place_runs.specs.Worlds.{GoesOn};
 
-use code_places::Point;
 use crate::standing::stands_at;
+use code_places::Point;
 use machine::Stopped;
 use machine_state::EventRefusal;
 use model::Event;

@@ -93,7 +93,11 @@ fn word_of(
 }
 
 /// The words of the entries of a schedule: places as far as its events can be done, where there are such.
-fn words_of(alloc: Global, world: &mut World, schedule: &Schedule) -> Result<Vec<Deed>, AllocError> {
+fn words_of(
+    alloc: Global,
+    world: &mut World,
+    schedule: &Schedule,
+) -> Result<Vec<Deed>, AllocError> {
     let mut words = Vec::new(alloc);
     let mut is_whole = true;
     'entries: for entry in schedule.entries() {
@@ -159,8 +163,13 @@ pub fn placed_text(
         IsPlacedText (arc_value verified.now) limits (events_of schedule.now) t.items)) }
 {
     let joined = schedule.joined(alloc)?;
-    let mut world =
-        World::open_linked(alloc, verified.clone()?, program.clone()?, limits, u32::MAX)?;
+    let mut world = World::open_linked(
+        alloc,
+        verified.clone()?,
+        program.clone()?,
+        limits,
+        u32::MAX,
+    )?;
     let words = words_of(alloc, &mut world, &joined)?;
     let text = print_deeds(alloc, words.as_slice())?;
     let Some(deeds) = read_back(alloc, text.as_slice())? else {

@@ -8,9 +8,9 @@ ghost use Rattle.place_runs.specs.Following.{HasRoomFor, with_stop};
 ghost use Rattle.place_runs.specs.Followed.{AreEventsOf};
 
 use crate::following::{Stop, follow};
-use place_texts::PlacedDeed;
 use linked_code::LinkedProgram;
 use model::Limits;
+use place_texts::PlacedDeed;
 use program_runs::worlds::World;
 use schedule::Schedule;
 use schedule::recorded_events::RecordedEvents;

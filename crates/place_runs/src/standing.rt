@@ -5,13 +5,13 @@ ghost use Rattle.machine_state.specs.shown_stacks.Shown.{offset_at, starts_of as
 ghost use Rattle.place_runs.specs.Shown.{IsShownAt, IsTopAt, has_point as has};
 
 use code_places::Point;
-use thread_stacks::{Frame, ThreadStack};
 use linked_code::{LinkedProgram, MethodBody};
 use machine::Machine;
 use machine::top_frames::goes_on;
 use machine_state::Shared;
 use machine_state::method_selection::method_at;
 use model::built_in::NO_OFFSET;
+use thread_stacks::{Frame, ThreadStack};
 
 /// The offsets at which the instructions of a method stand, by their places.
 fn starts_of(body: &MethodBody) -> &[u16]

@@ -1,5 +1,5 @@
 -- Texts with places as they are written (own): each word in a line.
-use Rattle.std.specs.Prelude.{ℕ, List, [], ◌∷◌, ◌++◌, decimal, map}
+use Rattle.std.specs.Prelude.{ℕ, List, [], ◌∷◌, ◌++◌, decimal}
 use Rattle.std.specs.List.{flat_map}
 use Rattle.schedule.specs.schedule_text.Text.{entry_word}
 use Rattle.place_texts.specs.declared.place.Deed.{Deed}

@@ -28,7 +28,7 @@ mod read;
 mod words;
 mod write;
 
-pub use place::{Deed, Place, PlacedDeed, Position};
 pub use command_word::is_places_word;
+pub use place::{Deed, Place, PlacedDeed, Position};
 pub use read::read_deeds;
 pub use write::{place_text, print_deeds};
