@@ -27,7 +27,7 @@ from oracle.shrinks import Shrunk, joined, lines_of, words_of as entry_words
 from oracle.state import NotEnabled, Refused
 from oracle.traces import trace
 from tools.cases import file_lines, store, stored
-from tools.repository import CONFORMANCE, compiled
+from tools.repository import CONFORMANCE, ROOT, compiled
 
 # A method of a class: the names of both, and the descriptor.
 Member = Tuple[str, str, str]
@@ -380,6 +380,37 @@ def traced_and_shrunk(files: Dict[str, Dict[str, bytes]]) -> Tuple[List[str], st
     return lines, shown
 
 
+# A program that uses a class of the library, and a schedule with places in that.
+LATCHED = """class Latched extends Thread {
+    static java.util.concurrent.CountDownLatch latch = new java.util.concurrent.CountDownLatch(1);
+
+    public void run() {
+        latch.countDown();
+    }
+
+    public static void main(String[] words) throws InterruptedException {
+        new Latched().start();
+        latch.await();
+    }
+}
+"""
+LATCH = "java/util/concurrent/CountDownLatch"
+
+
+def with_library() -> Tuple[List[str], str]:
+    """The case of places in a class of the library, whose file is given, too."""
+    with tempfile.TemporaryDirectory() as into:
+        source = pathlib.Path(into, "Latched.java")
+        source.write_text(LATCHED)
+        files = {"latched/Latched.class": compiled([source], into)[0].read_bytes()}
+    files[f"latched/{LATCH}.class"] = (ROOT / f"library/classes/{LATCH}.class").read_bytes()
+    lines = [line for name, data in files.items() for line in file_lines(name, data)]
+    text = f"0@Latched.main+10 1@{LATCH}.countDown+0"
+    shown = Shown("library", "a class of the library has slashes", "latched", [], text)
+    case, printed = replayed(shown, files)
+    return [*lines, *case], printed
+
+
 def write() -> None:
     lines, shown, files = [*HEAD], "", dict[str, bytes]()
     for one in SHOWN:
@@ -391,7 +422,8 @@ def write() -> None:
         lines, shown = [*lines, *case], shown + printed
     own = class_files(*BUFFER)
     lessons = {BUFFER[0]: own, ORDER[0]: class_files(*ORDER)}
-    for case, printed in (refused(list(own)), recorded(own), placed(lessons), traced_and_shrunk(lessons)):
+    others = refused(list(own)), recorded(own), placed(lessons), traced_and_shrunk(lessons), with_library()
+    for case, printed in others:
         lines, shown = [*lines, *case], shown + printed
     (CONFORMANCE / "data/places.cases").write_text("\n".join([*lines, ""]))
     before, _, after = stored().partition("case sweep-")

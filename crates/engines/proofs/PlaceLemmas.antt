@@ -1,5 +1,7 @@
 -- What a schedule with places gives, and what keeps it from that.
-use Rattle.std.proofs.Common.{◌≡◌, ◌⊎◌, ◌++◌, ◌<◌, ◌+◌, ℕ, List, [], ◌∷◌, Bool, None, Option, ap, arith, get_or, inl, inr, length, refl, subst, sym, take, drop, ◌∙◌}
+use Rattle.std.proofs.Common.{◌≡◌, ◌⊎◌, ◌++◌, ◌<◌, ◌+◌, ℕ, List, [], ◌∷◌, Bool, true, None, Option, ap, arith, get_or, inl, inr, length, refl, subst, sym, take, drop, ◌∙◌}
+use Rattle.std.specs.Prelude.{◌==◌}
+use Rattle.std.proofs.lemmas.Bool.{eqb-true}
 use Rattle.std.proofs.lemmas.List.{drop_more, map-append, take-append-drop, take_more}
 use Rattle.model.specs.declared.device.DeviceFault.{DeviceFault}
 use Rattle.model.specs.declared.device.DeviceFault.TheVariants as devices
@@ -185,3 +187,7 @@ spells_none = record { fits = record { count = omega arith; each = tt }; recordi
 pub spells_line : (joined schedule : List ScheduleEntry) (text : List ℕ) → text ≡ 10 ∷ [] → joined ≡ [] → events_of joined ≡ events_of schedule
     → SpellsEvents (events_of schedule) text
 spells_line joined schedule text is none same = ([], subst (λ (t : List ℕ). SpellsSchedule t None []) (sym is) spells_none, ap events_of (sym none) ∙ same)
+
+pub no_entries : (xs : List ScheduleEntry) (b : Bool) → b ≡ (length xs == 0) → b ≡ true → xs ≡ []
+no_entries [] b is empty = refl
+no_entries (x ∷ xs) b is empty = let none : length (x ∷ xs) ≡ 0 = eqb-true (length (x ∷ xs)) 0 (sym is ∙ empty) in absurd (omega (arith, none))
