@@ -215,7 +215,7 @@ pub use search::Progress;
 pub use searching::search_engine;
 pub use seeds::Seeds;
 pub use status::Status;
-pub use sweep_runs::{SweepTask, MadeSweep, sweep_engine};
+pub use sweep_runs::{MadeSweep, SweepTask, sweep_engine};
 pub use sweeps::Watch;
 pub use system_folder::SystemFolder;
 pub use tracing::trace_engine;

@@ -10,7 +10,7 @@ ghost use Rattle.engines.specs.Transcriptions.{IsUnprinted};
 
 use crate::class_files::read_class_files;
 use crate::fault::Fault;
-use crate::place_schedules::{GivenSchedule, followed, read_words};
+use crate::place_schedules::{followed, read_words};
 use crate::recording::{Conditions, limits_of};
 use crate::verification::accepted;
 use model::{DeviceFault, Limits, Source};
@@ -54,16 +54,10 @@ pub(crate) fn open<S: Source>(
     let files = read_class_files(alloc, files)?;
     let limits = limits_of(&recorded, files.as_slice(), conditions)?;
     let verified = Arc::new(alloc, accepted(alloc, files.as_slice())?)?;
-    let GivenSchedule { schedule, gives_up } = followed(
-        alloc,
-        words,
-        &verified,
-        limits,
-        conditions.budget,
-    )?;
+    let given = followed(alloc, words, &verified, limits, conditions.budget)?;
     Ok(Opened {
-        schedule,
-        gives_up,
+        schedule: given.schedule,
+        gives_up: given.gives_up,
         files,
         verified,
         limits,

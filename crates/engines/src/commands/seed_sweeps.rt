@@ -15,7 +15,7 @@ use crate::explanation::Explanation;
 use crate::fault::Fault;
 use crate::named_file::sources;
 use crate::status::Status;
-use crate::sweep_runs::{SweepTask, MadeSweep, sweep_engine};
+use crate::sweep_runs::{MadeSweep, SweepTask, sweep_engine};
 use command_line::{Run, SweepOptions};
 use model::Sink;
 use program_files::Folder;

@@ -52,9 +52,9 @@ returns-in_err-accepted-clause-kept g c =
       refused = refused;
     }))
 
-pub returns-in_err-schedule-clause-kept : goal.returns-in_err-schedule-clause-kept
-returns-in_err-schedule-clause-kept g c =
-    let p = err_from_is_err_and c.from_residual-in_err-schedule.result c.from_residual-in_err-schedule.ensures.1 in
+pub returns-in_err-given-clause-kept : goal.returns-in_err-given-clause-kept
+returns-in_err-given-clause-kept g c =
+    let p = err_from_is_err_and c.from_residual-in_err-given.result c.from_residual-in_err-given.ensures.1 in
     let words = c.in_ok-words.ensures.read in
     let files = map vec_items c.in_ok-files.files.items in
     let trees = arc_value c.in_ok-verified.verified in
@@ -62,11 +62,11 @@ returns-in_err-schedule-clause-kept g c =
     let accepted = subst (λ (t : Program). IsAccepted files t) (sym c.in_ok-verified.ensures.ok) value in
     rw (p.1, p.2)
     (unfollowed_is_kept _ _ c.args.conditions.now words.0 files c.in_ok-words.recorded trees words.1 c.in_ok-files.ensures.read accepted c.in_ok-words.words
-    c.in_err-schedule.field-0.0 words.2 c.in_err-schedule.ensures.missing)
+    c.in_err-given.field-0.0 words.2 c.in_err-given.ensures.missing)
 
-pub returns-in_err-schedule-clause-schedule_first : goal.returns-in_err-schedule-clause-schedule_first
-returns-in_err-schedule-clause-schedule_first g c =
-    let p = err_from_is_err_and c.from_residual-in_err-schedule.result c.from_residual-in_err-schedule.ensures.1 in
+pub returns-in_err-given-clause-schedule_first : goal.returns-in_err-given-clause-schedule_first
+returns-in_err-given-clause-schedule_first g c =
+    let p = err_from_is_err_and c.from_residual-in_err-given.result c.from_residual-in_err-given.ensures.1 in
     let words = c.in_ok-words.ensures.read in
     let files = map vec_items c.in_ok-files.files.items in
     let trees = arc_value c.in_ok-verified.verified in
@@ -74,17 +74,17 @@ returns-in_err-schedule-clause-schedule_first g c =
     let accepted = subst (λ (t : Program). IsAccepted files t) (sym c.in_ok-verified.ensures.ok) value in
     rw (p.1, p.2)
     (λ of_schedule. inr (unfollowed_is_after _ _ c.args.conditions.now words.0 files c.in_ok-words.recorded trees words.1 c.in_ok-files.ensures.read accepted c.in_ok-words.words
-    c.in_err-schedule.field-0.0 words.2 c.in_err-schedule.ensures.missing of_schedule))
+    c.in_err-given.field-0.0 words.2 c.in_err-given.ensures.missing of_schedule))
 
-pub returns-in_err-schedule-clause-counted : goal.returns-in_err-schedule-clause-counted
-returns-in_err-schedule-clause-counted g c =
-    let p = err_from_is_err_and c.from_residual-in_err-schedule.result c.from_residual-in_err-schedule.ensures.1 in
+pub returns-in_err-given-clause-counted : goal.returns-in_err-given-clause-counted
+returns-in_err-given-clause-counted g c =
+    let p = err_from_is_err_and c.from_residual-in_err-given.result c.from_residual-in_err-given.ensures.1 in
     let failures = g.S.Source.failures in
-    let fault = c.in_err-schedule.field-0.0 in
+    let fault = c.in_err-given.field-0.0 in
     let old = failures c.args.schedule.now + sum_by failures c.args.files.now in
     let same = ap (λ n. n + sum_by failures c.read_class_files.new.files) c.in_ok-words.ensures.counted ∙ ap (λ n. failures c.args.schedule.now + n) c.in_ok-files.ensures.counted in
     rw (p.1, p.2)
-    (subst (λ n. CountsWith fault old n) (sym same) (unfollowed_counts c.in_ok-words.words (arc_value c.in_ok-verified.verified) fault old c.in_err-schedule.ensures.missing))
+    (subst (λ n. CountsWith fault old n) (sym same) (unfollowed_counts c.in_ok-words.words (arc_value c.in_ok-verified.verified) fault old c.in_err-given.ensures.missing))
 
 pub returns-clause-opened : goal.returns-clause-opened
 returns-clause-opened g c =
@@ -95,14 +95,13 @@ returns-clause-opened g c =
     let value = subst (λ all. IsAccepted (map vec_items all) c.in_ok-accepted.field-0) c.as_slice-2.ensures.value c.in_ok-accepted.ensures.accepted in
     let accepted = subst (λ (t : Program). IsAccepted files t) (sym c.in_ok-verified.ensures.ok) value in
     let fits = subst (λ all. FitsFiles options.any_files options.given c.in_ok-words.recorded (map vec_items all)) c.as_slice.ensures.value c.in_ok-limits.ensures.files in
-    let run = c.in_ok-schedule in
-    (
+    let run = c.in_ok-given in (
       words.0,
       words.1,
       c.in_ok-files.ensures.read,
       record {
         recorded = c.in_ok-words.recorded;
-        given = words_give words.0 trees c.in_ok-limits.limits options.budget c.in_ok-words.recorded c.in_ok-words.words (events_of run.schedule) run.gives_up words.2 run.ensures.gives;
+        given = words_give words.0 trees c.in_ok-limits.limits options.budget c.in_ok-words.recorded c.in_ok-words.words (events_of run.given.schedule) run.given.gives_up words.2 run.ensures.gives;
         fits_files = fits;
         fits_options = c.in_ok-limits.ensures.options;
         limited = c.in_ok-limits.ensures.limits;

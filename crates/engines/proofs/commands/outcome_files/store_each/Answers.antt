@@ -9,8 +9,7 @@ pub loop-bytes-preserved : goal.loop-bytes-preserved
 loop-bytes-preserved g c =
     let held = g.F.Folder.held in
     let with = subst (λ bytes. IsWith (held c.loop-bytes.folder) (held c.store_outcome.new.folder) (Some ((outcome_path c.args.at.now c.loop-bytes.number, bytes) ∷ [])))
-    c.deref.ensures.value c.in_ok-store_outcome.ensures.stored in
-    (
+    c.deref.ensures.value c.in_ok-store_outcome.ensures.stored in (
       stored_more vec_items c.args.at.now c.args.schedules.now (held c.args.folder.now) (held c.loop-bytes.folder) (held c.store_outcome.new.folder) c.loop-bytes.bytes-index c.loop-bytes.invariant.0
           c.loop-bytes.number c.bytes-item.result (omega (arith, c.loop-bytes-test.true)) c.bytes-item.is c.loop-bytes.invariant.1 with,
       omega (arith, c.loop-bytes.invariant.1),

@@ -55,8 +55,7 @@ returns-clause-done g c =
     let held = g.F.Folder.held in
     let options = c.args.options.now in
     let swept = c.in_ok-swept.ensures.swept in
-    let schedules = map vec_items c.in_ok-swept.swept.schedules.items in
-    (
+    let schedules = map vec_items c.in_ok-swept.swept.schedules.items in (
       swept.0,
       written_in options.record schedules,
       record { want = c.in_ok-wanted.wanted; asked = c.in_ok-wanted.ensures.asked; schedules = schedules; sweeps = swept.1; recorded = refl },
