@@ -27,7 +27,7 @@ from oracle.shrinks import Shrunk, joined, lines_of, words_of as entry_words
 from oracle.state import NotEnabled, Refused
 from oracle.traces import trace
 from tools.cases import file_lines, store, stored
-from tools.repository import CONFORMANCE, compiled
+from tools.repository import CONFORMANCE, ROOT, compiled
 
 # A method of a class: the names of both, and the descriptor.
 Member = Tuple[str, str, str]
@@ -168,7 +168,8 @@ class Followed:
 
 def words_at(member: Member, at: int, files: Sequence[bytes], machine: Machine) -> Iterator[str]:
     """The words of the places at an offset of a method: by its line, if one begins there, and by the offset."""
-    overloads = [one for one in machine.classes[member[0]].methods.values() if one.name == member[1] and one.code is not None]
+    methods = machine.classes[member[0]].methods.values()
+    overloads = [one for one in methods if one.name == member[1] and one.code is not None]
     name = f"{member[0]}.{member[1]}{member[2] if len(overloads) > 1 else ''}"
     begun = [line for data in files for method, offset, line in line_starts(data) if (method, offset) == (member, at)]
     if begun:
@@ -188,13 +189,14 @@ def placed_word(machine: Machine, entry: Entry, files: Sequence[bytes]) -> str:
         found = PLACE.fullmatch(word)
         assert found
         offsets = place_of(found, files, machine).offsets
-        if [at for at, one in enumerate(passed) if one is not None and one[1] in offsets.get(one[0], set())][0] == len(passed) - 1:
+        reached = [one is not None and one[1] in offsets.get(one[0], set()) for one in passed]
+        if reached.index(True) == len(passed) - 1:
             return word
     return entry_words([entry])[0]
 
 
 def placed_text(files: Sequence[bytes], text: str) -> str:
-    """What `schedule --places` prints of a schedule: a word in a line, or the entries alone, where there is no place."""
+    """What `schedule --places` prints of a schedule: a word in a line, or the entries alone."""
     machine, entries = Machine(files), joined(entries_of_text(text))
     try:
         words = [placed_word(machine, entry, files) for entry in entries]
@@ -226,7 +228,10 @@ SHOWN = [
     Shown("line", "main goes on to the line that calls put", *BUFFER, STARTED),
     Shown("offset", "and to the bytecode behind monitorenter", *BUFFER, "0@IfForWhile.put+6"),
     Shown("words", "a thread up to its test, and then main by numbers", *BUFFER, f"{STARTED} 1@IfForWhile.take:9 0*3"),
-    Shown("again", "where the thread stands already, it is the next time", *BUFFER, "0@IfForWhile.put:20 0@IfForWhile.put:20"),
+    Shown(
+        "again", "where the thread stands already, it is the next time",
+        *BUFFER, "0@IfForWhile.put:20 0@IfForWhile.put:20",
+    ),
     Shown("constructor", "a constructor has its name", *BUFFER, "0@IfForWhile.<init>:2"),
     Shown("descriptor", "a method by its descriptor", *BUFFER, "0@IfForWhile.put(I)V:21"),
     Shown("monitor", "a thread that needs a monitor can't go on", *BUFFER, "0@IfForWhile.put:20 1@IfForWhile.take:9"),
@@ -239,16 +244,28 @@ SHOWN = [
     Shown("budget-enough", "behind the place it counts for nothing", *BUFFER, "0@IfForWhile.put:20 0*9", 60),
     Shown("then-run", "behind the last word all threads go on", *BUFFER, f"{STARTED} 1@IfForWhile.take:9", None, True),
     Shown("then-run-budget", "a place gives up, and nothing goes on", *BUFFER, "0@IfForWhile.put:20", 20, True),
-    Shown("deadlock", "each thread up to its second lock", *ORDER, "0@LockOrder.main:25 1@LockOrder.run:16 2@LockOrder.run:16", None, True),
+    Shown(
+        "deadlock", "each thread up to its second lock",
+        *ORDER, "0@LockOrder.main:25 1@LockOrder.run:16 2@LockOrder.run:16", None, True,
+    ),
 ]
 
 # What isn't there: a word, the fault, and what is told of it.
 MISSING = [
     ("class", "0@Nix.main:5", "Class", "Nix.main:5: there is no class of this name"),
     ("method", "0*3 0@IfForWhile.nix:5", "Method", "IfForWhile.nix:5: the class has no method with code of this name"),
-    ("descriptor", "0@IfForWhile.put(Z)V:20", "Method", "IfForWhile.put(Z)V:20: the class has no method with code of this name"),
-    ("native", "0@java/lang/Object.wait:1", "Method", "java/lang/Object.wait:1: the class has no method with code of this name"),
-    ("line", "0@IfForWhile.put:9", "Line", "IfForWhile.put:9: no instruction begins that line, as far as the class file tells its lines"),
+    (
+        "descriptor", "0@IfForWhile.put(Z)V:20", "Method",
+        "IfForWhile.put(Z)V:20: the class has no method with code of this name",
+    ),
+    (
+        "native", "0@java/lang/Object.wait:1", "Method",
+        "java/lang/Object.wait:1: the class has no method with code of this name",
+    ),
+    (
+        "line", "0@IfForWhile.put:9", "Line",
+        "IfForWhile.put:9: no instruction begins that line, as far as the class file tells its lines",
+    ),
     ("offset", "0@IfForWhile.put+1", "Offset", "IfForWhile.put+1: no instruction begins at that offset"),
     ("offset-behind", "0@IfForWhile.put+39", "Offset", "IfForWhile.put+39: no instruction begins at that offset"),
 ]
@@ -348,7 +365,8 @@ def traced_and_shrunk(files: Dict[str, Dict[str, bytes]]) -> Tuple[List[str], st
     own, paths = list(files[BUFFER[0]].values()), " ".join(files[BUFFER[0]])
     text = f"{STARTED} 1@IfForWhile.take:9"
     told, status = trace(own, entries_of_events(Followed(own, text, 10_000_000, False).events))
-    lines += ["text place-traced.text", f"  {text}", "case place-traced", f"  trace --schedule place-traced.text {paths}"]
+    lines += ["text place-traced.text", f"  {text}", "case place-traced"]
+    lines += [f"  trace --schedule place-traced.text {paths}"]
     shown += f"case place-traced\n{told}status {status}\n"
     own, paths = list(files[ORDER[0]].values()), " ".join(files[ORDER[0]])
     text = "0@LockOrder.main:25 1*2 2*2 1@LockOrder.run:16 2@LockOrder.run:16"
@@ -362,6 +380,37 @@ def traced_and_shrunk(files: Dict[str, Dict[str, bytes]]) -> Tuple[List[str], st
     return lines, shown
 
 
+# A program that uses a class of the library, and a schedule with places in that.
+LATCHED = """class Latched extends Thread {
+    static java.util.concurrent.CountDownLatch latch = new java.util.concurrent.CountDownLatch(1);
+
+    public void run() {
+        latch.countDown();
+    }
+
+    public static void main(String[] words) throws InterruptedException {
+        new Latched().start();
+        latch.await();
+    }
+}
+"""
+LATCH = "java/util/concurrent/CountDownLatch"
+
+
+def with_library() -> Tuple[List[str], str]:
+    """The case of places in a class of the library, whose file is given, too."""
+    with tempfile.TemporaryDirectory() as into:
+        source = pathlib.Path(into, "Latched.java")
+        source.write_text(LATCHED)
+        files = {"latched/Latched.class": compiled([source], into)[0].read_bytes()}
+    files[f"latched/{LATCH}.class"] = (ROOT / f"library/classes/{LATCH}.class").read_bytes()
+    lines = [line for name, data in files.items() for line in file_lines(name, data)]
+    text = f"0@Latched.main+10 1@{LATCH}.countDown+0"
+    shown = Shown("library", "a class of the library has slashes", "latched", [], text)
+    case, printed = replayed(shown, files)
+    return [*lines, *case], printed
+
+
 def write() -> None:
     lines, shown, files = [*HEAD], "", dict[str, bytes]()
     for one in SHOWN:
@@ -373,7 +422,8 @@ def write() -> None:
         lines, shown = [*lines, *case], shown + printed
     own = class_files(*BUFFER)
     lessons = {BUFFER[0]: own, ORDER[0]: class_files(*ORDER)}
-    for case, printed in (refused(list(own)), recorded(own), placed(lessons), traced_and_shrunk(lessons)):
+    others = refused(list(own)), recorded(own), placed(lessons), traced_and_shrunk(lessons), with_library()
+    for case, printed in others:
         lines, shown = [*lines, *case], shown + printed
     (CONFORMANCE / "data/places.cases").write_text("\n".join([*lines, ""]))
     before, _, after = stored().partition("case sweep-")

@@ -1,9 +1,12 @@
 -- What a schedule with places gives, and what keeps it from that.
-use Rattle.std.proofs.Common.{◌≡◌, ◌⊎◌, ◌++◌, ◌<◌, ◌+◌, ℕ, List, [], ◌∷◌, Bool, None, Option, ap, arith, get_or, inl, inr, length, refl, subst, sym, take, drop, ◌∙◌}
+use Rattle.std.proofs.Common.{◌≡◌, ◌⊎◌, ◌++◌, ◌<◌, ◌+◌, ℕ, List, [], ◌∷◌, Bool, true, None, Option, ap, arith, get_or, inl, inr, length, refl, subst, sym, take, drop, ◌∙◌}
+use Rattle.std.specs.Prelude.{◌==◌}
+use Rattle.std.proofs.lemmas.Bool.{eqb-true}
 use Rattle.std.proofs.lemmas.List.{drop_more, map-append, take-append-drop, take_more}
 use Rattle.model.specs.declared.device.DeviceFault.{DeviceFault}
 use Rattle.model.specs.declared.device.DeviceFault.TheVariants as devices
 use Rattle.model.specs.declared.event.Event.{Event}
+use Rattle.model.specs.declared.event.ScheduleEntry.{ScheduleEntry}
 use Rattle.model.specs.declared.limits.Limits.{Limits}
 use Rattle.model.specs.Accepted.{IsAccepted}
 use Rattle.model.specs.Classes.{Program}
@@ -21,7 +24,7 @@ use Rattle.engines.specs.Engines.{CountsWith, Reads, ReadsEach}
 use Rattle.engines.specs.GivenPlaces.{AreThere, Gives, IsThere, Spells}
 use Rattle.engines.specs.Opening.{IsAfterFiles, IsKeptBy, IsMisplaced, IsOfSchedule, IsUnspelled}
 use Rattle.engines.specs.PlaceWords.{IsMissingAt, IsMissingFor, IsMissingIn, IsTextOf, IsUnfollowed, IsUnreadWords, SpellsWords, WordsGive}
-use Rattle.engines.specs.Placings.{IsUnplaced, PlacesPart}
+use Rattle.engines.specs.Placings.{IsUnplaced, PlacesPart, SpellsEvents}
 use Rattle.engines.specs.declared.fault.Fault.{Fault}
 use Rattle.engines.specs.declared.fault.Fault.TheVariants as faults
 use Rattle.engines.specs.declared.place_schedules.MissingPlace.{MissingPlace}
@@ -46,12 +49,12 @@ words_spell bytes recorded (words.Places deeds) (none, spelled) = inr (none, dee
 pub text_is_unread : (left : Option (List ℕ)) (fault : TextFault) (told : Fault) → IsTextOf fault told → IsMemory (Text fault) ⊎ IsUnspelled left (Text fault)
     → IsUnreadWords left told
 text_is_unread left fault told (inl is) why = subst (IsUnreadWords left) (sym is) (inl refl)
-text_is_unread left fault told (inr (other, why, is)) (inl memory) = absurd (other memory)
-text_is_unread left fault told (inr (other, why, is)) (inr (bytes, read, none, stands)) = subst (IsUnreadWords left) (sym is) (inr (bytes, read, none, stands))
+text_is_unread left fault told (inr (other, (why, is))) (inl memory) = absurd (other memory)
+text_is_unread left fault told (inr (other, (why, is))) (inr (bytes, read, none, stands)) = subst (IsUnreadWords left) (sym is) (inr (bytes, read, none, stands))
 
 pub text_counts : (fault : TextFault) (told : Fault) (n : ℕ) → IsTextOf fault told → CountsWith told n n
 text_counts fault told n (inl is) = subst (λ (f : Fault). CountsWith f n n) (sym is) refl
-text_counts fault told n (inr (other, why, is)) = subst (λ (f : Fault). CountsWith f n n) (sym is) refl
+text_counts fault told n (inr (other, (why, is))) = subst (λ (f : Fault). CountsWith f n n) (sym is) refl
 
 pub unread_is_kept : (fault : Fault) (left : Option (List ℕ)) (lefts : List (Option (List ℕ))) (options : Conditions) → IsUnreadWords left fault
     → IsKeptBy left lefts options fault
@@ -180,3 +183,11 @@ no_words = refl
 
 pub spells_none : SpellsSchedule (10 ∷ []) None []
 spells_none = record { fits = record { count = omega arith; each = tt }; recording_fits = tt; spelled = no_words }
+
+pub spells_line : (joined schedule : List ScheduleEntry) (text : List ℕ) → text ≡ 10 ∷ [] → joined ≡ [] → events_of joined ≡ events_of schedule
+    → SpellsEvents (events_of schedule) text
+spells_line joined schedule text is none same = ([], subst (λ (t : List ℕ). SpellsSchedule t None []) (sym is) spells_none, ap events_of (sym none) ∙ same)
+
+pub no_entries : (xs : List ScheduleEntry) (b : Bool) → b ≡ (length xs == 0) → b ≡ true → xs ≡ []
+no_entries [] b is empty = refl
+no_entries (x ∷ xs) b is empty = let none : length (x ∷ xs) ≡ 0 = eqb-true (length (x ∷ xs)) 0 (sym is ∙ empty) in absurd (omega (arith, none))

@@ -34,6 +34,11 @@ module _ (given : ℕ) (lefts : List (Option (List ℕ))) (run : Run) (sweep : S
   part_is_unswept devices.Device old new part = part
   part_is_unswept devices.Memory old new part = part
 
+-- a fault of a device is one
+pub unable_of : (fault : DeviceFault) → IsUnable (fault_of fault)
+unable_of devices.Device = tt
+unable_of devices.Memory = tt
+
 -- ---- what is left
 
 module _ (held holds : Held) (given : ℕ) (lefts : List (Option (List ℕ))) (run : Run) (sweep : SweepOptions) (is : run.sweep ≡ Some sweep) (old new : Option (List ℕ)) (result : Result Status Fault) where

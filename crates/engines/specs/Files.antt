@@ -32,9 +32,13 @@ failures_of (There bytes) = 0
 failures_of Behind = 0
 failures_of Failed = 1
 
+-- a word is a schedule, which may have places
+abbrev pub IsGivenWord : List ℕ → Type 0
+IsGivenWord word = IsScheduleWord word ⊎ IsPlacesWord word
+
 -- What the schedule holds that a word is, or whose path it is. A word with places is one, where there is memory to read it.
 abbrev pub IsScheduleAt : Held → (word : List ℕ) → Option (List ℕ) → Type 0
-IsScheduleAt held word left = ((IsScheduleWord word ⊎ IsPlacesWord word) × (left ≡ Some word)) ⊎ ((IsScheduleWord word → ⊥) × (left ≡ held word))
+IsScheduleAt held word left = (IsGivenWord word × (left ≡ Some word)) ⊎ ((IsScheduleWord word → ⊥) × (left ≡ held word))
 
 -- this is so of it
 abbrev pub OfSchedule : Held → (word : List ℕ) → (Option (List ℕ) → Type 0) → Type 0

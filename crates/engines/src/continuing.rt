@@ -1,6 +1,6 @@
 //! A replay that goes on where its schedule ends, over any readers and writers.
 
-ghost use Rattle.std.specs.Prelude.{◌≡◌, ◌+◌, ◌&&◌, ◌⊎◌, ◌<◌, ◌≤◌, ℕ, length, nat_le, IfOk, IfErr, IsTrue, is_some, map, sum_by, unwrap_or, vec_items};
+ghost use Rattle.std.specs.Prelude.{◌≡◌, ◌+◌, ◌&&◌, ◌⊎◌, ◌<◌, ◌≤◌, ℕ, length, nat_le, IfOk, IfErr, IsTrue, is_some, map, sum_by, true, vec_items};
 ghost use Rattle.std.specs.Option.{option_map};
 ghost use Rattle.std.specs.Io.KnownBytes.{Appends};
 ghost use Rattle.std.specs.Arc.{arc_value};

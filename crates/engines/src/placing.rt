@@ -83,7 +83,8 @@ fn plain_text(alloc: Global, schedule: &Schedule) -> Result<Vec<u8>, AllocError>
 {
     let joined = schedule.joined(alloc)?;
     if joined.entries().is_empty() {
-        return Vec::from_slice(alloc, b"\n");
+        let line = Vec::from_slice(alloc, b"\n")?;
+        return Ok(line);
     }
     print(alloc, &joined, None)
 }

@@ -58,12 +58,12 @@ pub fn sweep_engine<R: Threads + Wait + Sync, P: Watch, S: Source, W: Sink>(
 ) -> Result<MadeSweep, Fault>
     // What the runs of the seeds show is written, and nothing else.
     ensures swept { IfOk result (λ swept. (text : _)
-        × SweepsOver task.given (map S.remaining files.old) task.options.now task.sweep.now (P.may_stop watch.now)
-        task.wanted.now text (map vec_items swept.schedules.items) swept.status
+        × SweepsOver task.entry.given (map S.remaining files.old) task.entry.options.now task.entry.sweep.now (P.may_stop watch.now)
+        task.entry.wanted.now text (map vec_items swept.schedules.items) swept.status
         × Appends (W.contents report.old) (W.contents report.new) text) }
     ensures faulty { IfErr result
-        (IsUnswept task.given (map S.remaining files.old) task.options.now task.sweep.now (P.may_stop watch.now)
-        task.wanted.now (W.contents report.old) (W.contents report.new)) }
+        (IsUnswept task.entry.given (map S.remaining files.old) task.entry.options.now task.entry.sweep.now (P.may_stop watch.now)
+        task.entry.wanted.now (W.contents report.old) (W.contents report.new)) }
     ensures counted { CountsFailure result
         (sum_by S.failures files.old + W.failures report.old)
         (sum_by S.failures files.new + W.failures report.new) }
@@ -93,8 +93,8 @@ fn swept<R: Threads + Wait + Sync, P: Watch>(
     task: SweepTask<'_>,
 ) -> Result<ToldSweep, AllocError>
     requires { length files.now < 2 ^ 32 }
-    ensures { IfOk result (λ told. IsSwept task.given (map vec_items files.now) verified task.options.now
-        task.sweep.now (P.may_stop watch.now) task.wanted.now told.text.items
+    ensures { IfOk result (λ told. IsSwept task.entry.given (map vec_items files.now) verified task.entry.options.now
+        task.entry.sweep.now (P.may_stop watch.now) task.entry.wanted.now told.text.items
         (map vec_items told.swept.schedules.items) told.swept.status) }
 {
     let program = verified_program(alloc, &verified)?;
@@ -114,8 +114,8 @@ fn swept_over<R: Threads + Wait + Sync, P: Watch>(
 ) -> Result<ToldSweep, AllocError>
     requires few { length files.now < 2 ^ 32 }
     requires of { IsProgramOf (arc_value verified.now) (arc_value program.now) }
-    ensures { IfOk result (λ told. IsSwept task.given (map vec_items files.now) (arc_value verified.now)
-        task.options.now task.sweep.now (P.may_stop watch.now) task.wanted.now told.text.items
+    ensures { IfOk result (λ told. IsSwept task.entry.given (map vec_items files.now) (arc_value verified.now)
+        task.entry.options.now task.entry.sweep.now (P.may_stop watch.now) task.entry.wanted.now told.text.items
         (map vec_items told.swept.schedules.items) told.swept.status) }
 {
     let SweepTask {

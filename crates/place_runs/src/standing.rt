@@ -11,7 +11,7 @@ use machine::top_frames::goes_on;
 use machine_state::Shared;
 use machine_state::method_selection::method_at;
 use model::built_in::NO_OFFSET;
-use thread_stacks::{Frame, ThreadStack};
+use thread_stacks::ThreadStack;
 
 /// The offsets at which the instructions of a method stand, by their places.
 fn starts_of(body: &MethodBody) -> &[u16]

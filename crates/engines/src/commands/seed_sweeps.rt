@@ -74,12 +74,12 @@ fn sweep_for<R: Threads + Wait + Sync, G: Watch + Deadline, F: Folder, W: Sink>(
     output: &mut W,
 ) -> Result<MadeSweep, Fault>
     ensures swept { IfOk result (λ swept. (text : _)
-        × SweepsOver task.given (known (map vec_items files.now)) task.options.now task.sweep.now
-        (is_some task.options.now.seconds) task.wanted.now text (map vec_items swept.schedules.items) swept.status
+        × SweepsOver task.entry.given (known (map vec_items files.now)) task.entry.options.now task.entry.sweep.now
+        (is_some task.entry.options.now.seconds) task.entry.wanted.now text (map vec_items swept.schedules.items) swept.status
         × Appends (W.contents output.old) (W.contents output.new) text) }
     ensures faulty { IfErr result
-        (IsUnswept task.given (known (map vec_items files.now)) task.options.now task.sweep.now
-        (is_some task.options.now.seconds) task.wanted.now (W.contents output.old) (W.contents output.new)) }
+        (IsUnswept task.entry.given (known (map vec_items files.now)) task.entry.options.now task.entry.sweep.now
+        (is_some task.entry.options.now.seconds) task.entry.wanted.now (W.contents output.old) (W.contents output.new)) }
     ensures told { TellsFailures (FolderMayFail F.may_fail) result (W.failures output.old) (W.failures output.new) }
 {
     let watch = Until {
