@@ -1,7 +1,9 @@
 -- What a schedule with places gives, and what keeps it from that.
-use Rattle.std.proofs.Common.{◌≡◌, ◌⊎◌, ◌++◌, ◌<◌, ◌+◌, ℕ, List, [], ◌∷◌, Bool, true, None, Option, ap, arith, get_or, inl, inr, length, refl, subst, sym, take, drop, ◌∙◌}
-use Rattle.std.specs.Prelude.{◌==◌}
-use Rattle.std.proofs.lemmas.Bool.{eqb-true}
+use Rattle.std.proofs.Common.{◌≡◌, ◌⊎◌, ◌++◌, ◌<◌, ◌≤◌, ◌+◌, ℕ, List, [], ◌∷◌, Bool, false, true, None, Option, ap, arith, get_or, inl, inr, length, refl, subst, sym, take, drop, ◌∙◌}
+use Rattle.std.specs.Prelude.{◌==◌, ◌&&◌, nat_le}
+use Rattle.std.proofs.Math.Dec.{leb}
+use Rattle.std.proofs.lemmas.Bool.{eqb-true, leb-true}
+use Rattle.std.proofs.lemmas.Bool.Decides.{leb_tells}
 use Rattle.std.proofs.lemmas.List.{drop_more, map-append, take-append-drop, take_more}
 use Rattle.model.specs.declared.device.DeviceFault.{DeviceFault}
 use Rattle.model.specs.declared.device.DeviceFault.TheVariants as devices
@@ -191,3 +193,17 @@ spells_line joined schedule text is none same = ([], subst (λ (t : List ℕ). S
 pub no_entries : (xs : List ScheduleEntry) (b : Bool) → b ≡ (length xs == 0) → b ≡ true → xs ≡ []
 no_entries [] b is empty = refl
 no_entries (x ∷ xs) b is empty = let none : length (x ∷ xs) ≡ 0 = eqb-true (length (x ∷ xs)) 0 (sym is ∙ empty) in absurd (omega (arith, none))
+
+-- ---- where a schedule gives up at a place
+
+pub gives_up_few : (gives_up : Bool) (count budget : ℕ) → (gives_up && nat_le count budget) ≡ true → (gives_up ≡ true) × (count ≤ budget)
+gives_up_few true count budget is = (refl, leb-true count budget is)
+gives_up_few false count budget is = absurd cc
+
+pub gives_up_past : (gives_up : Bool) (count budget : ℕ) → (gives_up && nat_le count budget) ≡ false → gives_up ≡ true → budget < count
+gives_up_past false count budget is up = absurd cc
+gives_up_past true count budget is up = by (leb_tells count budget)
+  where
+    by : ((leb count budget ≡ true) × (count ≤ budget)) ⊎ ((leb count budget ≡ false) × (budget < count)) → budget < count
+    by (inl (yes, few)) = let bad : false ≡ true = sym is ∙ yes in absurd cc
+    by (inr (no, past)) = past

@@ -1,4 +1,5 @@
 use Rattle.std.proofs.Common.{◌∙◌, ap, inl, map, refl, subst, sum_by}
+use Rattle.std.specs.Prelude.{unwrap_or}
 use Rattle.std.proofs.lemmas.Result.{IfErr-weaker, IfOk-weaker, err_from_is_err_and}
 use Rattle.engines.specs.Recordings.{conditions_of}
 use Rattle.engines.specs.Replays.{IsFaulty, Replays}
