@@ -9,9 +9,7 @@
 //!   a class, or does the instruction of its frame on top; and the end of the thread belongs to the event that empties
 //!   its stack. Each refusal leaves all as it was. `frame_event` is the same event, of a thread that runs, with no
 //!   exception pending, at an instruction that is known (`RunsAt`). `event_at_once` answers that it is done only where
-//!   it is, with the end of the thread; else nothing has changed. `event_in_frames` does so of a call or a return that
-//!   enters and leaves no monitor, and nothing that is shared changes. That they ever answer so isn't asked: they spare
-//!   time.
+//!   it is, with the end of the thread; else nothing has changed. That it ever answers so isn't asked: it spares time.
 //!
 //! # Not proved
 //!
@@ -22,4 +20,4 @@ mod running;
 mod settling;
 mod unpicked;
 
-pub use events::{event_at_once, event_in_frames, frame_event, thread_event};
+pub use events::{event_at_once, frame_event, thread_event};
