@@ -1,0 +1,75 @@
+-- A state as a list of numbers of its parts (own).
+use Rattle.std.specs.Prelude.{◌≡◌, ℕ, List, [], ◌∷◌, Some, None, Bool, length, slice_get}
+use Rattle.model.specs.State.{Thread}
+use Rattle.heap.specs.Heap.{Heap}
+use Rattle.heap.specs.java_threads.Table.{ThreadTable}
+use Rattle.thread_stacks.specs.Stacks.{ShownEntry}
+use Rattle.word_table.specs.Lists.{StandsFor, Grows}
+use Rattle.kept_parts.specs.Rows.{flags_row}
+use Rattle.kept_parts.specs.Heaps.{IsHeapKept}
+use Rattle.kept_parts.specs.Threads.{IsThreadRow}
+use Rattle.machine_state.specs.declared.state.ClassStatus.{ClassStatus}
+use Rattle.machine_state.specs.declared.state.Shared.{Shared}
+use Rattle.kept_states.specs.Rows.{statuses_row, ints_of}
+
+-- ---- threads
+
+-- each number stands for a thread with its stack
+abbrev pub AreThreads : List (List ℕ) → (numbers : List ℕ) → List Thread → List (List ShownEntry) → Type 0
+AreThreads parts [] [] [] = Unit {0}
+AreThreads parts (number ∷ numbers) (thread ∷ threads) (stack ∷ stacks) =
+    ((row : List ℕ) × StandsFor parts number row × IsThreadRow row thread stack) × AreThreads parts numbers threads stacks
+AreThreads parts numbers threads stacks = ⊥
+
+-- ---- all else
+
+-- the numbers of what is kept beside objects and threads
+pub record GlobalNumbers : Type 0 where
+  pub statics : ℕ
+  pub statuses : ℕ
+  pub ready : ℕ
+  pub printed : ℕ
+
+abbrev pub globals_row : Shared → GlobalNumbers → List ℕ
+globals_row s n =
+    s.heap.opening ∷ s.heap.object_limit ∷ s.heap.cell_limit ∷ s.heap.locks.limit ∷ s.threads.limit ∷ n.statics ∷ n.statuses ∷ n.ready ∷ n.printed ∷ []
+
+pub record AreGlobals (parts : List (List ℕ)) (numbers : GlobalNumbers) (s : Shared) : Type 0 where
+  pub statics : StandsFor parts numbers.statics s.statics.items
+  pub statuses : StandsFor parts numbers.statuses (statuses_row s.statuses.items)
+  pub ready : StandsFor parts numbers.ready (flags_row s.ready.items)
+  pub printed_row : List ℕ
+  pub printed : StandsFor parts numbers.printed printed_row
+  pub printed_are : s.printed.items ≡ ints_of printed_row
+
+-- ---- a state
+
+-- the row of a state: the numbers of what stands beside objects and threads, of the list of its objects, and of its threads
+pub record IsStateRow (parts : List (List ℕ)) (row : List ℕ) (s : Shared) : Type 0 where
+  pub globals : ℕ
+  pub heap : ℕ
+  pub threads : List ℕ
+  pub row_is : row ≡ globals ∷ heap ∷ threads
+  pub numbers : GlobalNumbers
+  pub globals_are : StandsFor parts globals (globals_row s numbers)
+  pub each_is : AreGlobals parts numbers s
+  pub objects : List ℕ
+  pub heap_is : StandsFor parts heap objects
+  pub objects_are : IsHeapKept parts objects s.heap
+  pub threads_are : AreThreads parts threads s.threads.threads s.stacks.items
+
+-- the number stands for the flags of the locks that are inflated
+abbrev pub AreFat : List (List ℕ) → (number : ℕ) → Shared → Type 0
+AreFat parts number s = StandsFor parts number (flags_row s.heap.locks.fat)
+
+-- ---- what is the same
+
+-- all that is kept of two states is the same
+pub record AreTheSame (one other : Shared) : Type 0 where
+  pub heap : one.heap ≡ other.heap
+  pub statics : one.statics.items ≡ other.statics.items
+  pub statuses : one.statuses.items ≡ other.statuses.items
+  pub ready : one.ready.items ≡ other.ready.items
+  pub threads : one.threads ≡ other.threads
+  pub printed : one.printed.items ≡ other.printed.items
+  pub stacks : one.stacks.items ≡ other.stacks.items
