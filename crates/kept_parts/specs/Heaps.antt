@@ -1,13 +1,13 @@
 -- A heap as a list of numbers, each of which stands for the row of an object with its monitor (own).
-use Rattle.std.specs.Prelude.{◌≡◌, ℕ, List, [], ◌∷◌, ◌+◌, Option, Some, None, Bool, length, take}
+use Rattle.std.specs.Prelude.{◌≡◌, ℕ, List, [], ◌∷◌, ◌+◌, ◌<◌, ◌≤◌, Option, Some, None, IfSome, Bool, length, take}
 use Rattle.model.specs.declared.limits.Limits.{Limits}
 use Rattle.model.specs.State.{Monitor}
 use Rattle.heap.specs.monitor.Locks.{Locks}
 use Rattle.heap.specs.Heap.{Object, Heap}
 use Rattle.word_table.specs.Lists.{StandsFor, Grows}
-use Rattle.kept_parts.specs.Rows.{flags_row}
+use Rattle.kept_parts.specs.Rows.{flag_code, flags_row}
 use Rattle.kept_parts.specs.declared.heap_rows.NumberedHeap.{NumberedHeap}
-use Rattle.kept_parts.specs.Objects.{object_row}
+use Rattle.kept_parts.specs.Objects.{object_row, IsObjectRead}
 
 abbrev pub AreObjects : List (List ℕ) → (numbers : List ℕ) → List Object → List Monitor → Type 0
 AreObjects parts [] [] [] = Unit {0}
@@ -44,7 +44,25 @@ pub record AreBefore (parts : List (List ℕ)) (before : NumberedHeap) : Type 0 
 abbrev pub AreFirst : List (List ℕ) → (numbers : List ℕ) → (count : ℕ) → Heap → Type 0
 AreFirst parts numbers count heap = AreObjects parts numbers (take count heap.objects) (take count heap.locks.monitors)
 
--- one more object has a number
-pub record IsObjectNumbered (heap : Heap) (object : ℕ) (old_numbers new_numbers : List ℕ) (old new : List (List ℕ)) : Type 0 where
+-- numbers of the objects from this one up to another, as a heap before has them, are put behind those of the objects before it
+pub record GoOn (heap : Heap) (before : Option NumberedHeap) (object until : ℕ) (old new : List ℕ) : Type 0 where
+  pub from : object ≤ until
+  pub within : until ≤ length heap.objects
+  pub first : (parts : List (List ℕ)) → IfSome before (AreBefore parts) → AreFirst parts old object heap → AreFirst parts new until heap
+
+-- the objects from this one up to another have numbers, as those before it have, and one more has
+pub record AreNumbered (heap : Heap) (object until : ℕ) (numbers : List ℕ) (old new : List (List ℕ)) : Type 0 where
   pub grows : Grows old new
-  pub first : AreFirst old old_numbers object heap → AreFirst new new_numbers (object + 1) heap
+  pub from : object < until
+  pub within : until ≤ length heap.objects
+  pub first : AreFirst new numbers until heap
+
+-- ---- read again
+
+-- an object was read by its number, and a flag says whether its lock is inflated
+pub record IsNumberRead (parts : List (List ℕ)) (number : ℕ) (opening : Bool) (fat : ℕ) (old new : Heap) : Type 0 where
+  pub row : List ℕ
+  pub is_fat : Bool
+  pub stands : StandsFor parts number row
+  pub fat_is : fat ≡ flag_code is_fat
+  pub read : IsObjectRead opening is_fat row old new

@@ -1,5 +1,5 @@
 -- An object with its monitor as a row of words (own): what it is, how many words it has, these, and its monitor.
-use Rattle.std.specs.Prelude.{◌≡◌, ℕ, ◌+◌, List, [], ◌∷◌, ◌++◌, Option, Some, None, Bool, length, slice_set}
+use Rattle.std.specs.Prelude.{◌≡◌, ℕ, ◌+◌, ◌<◌, List, [], ◌∷◌, ◌++◌, Option, Some, None, Bool, length, slice_set}
 use Rattle.model.specs.State.{Monitor, Waiter}
 use Rattle.model.specs.Monitors.{unlocked, owned, monitor_at}
 use Rattle.heap.specs.declared.kind.NarrowKind.{NarrowKind}
@@ -48,6 +48,7 @@ with_monitor object monitor fat heap =
 
 -- a thread has entered so many times
 pub record Enters (object thread count : ℕ) (old new : Heap) : Type 0 where
+  pub there : object < length old.locks.monitors
   pub free : (monitor_at old.locks.monitors object).owner ≡ None
   pub after : new ≡ with_monitor_at object (owned (monitor_at old.locks.monitors object) thread count) old
 
@@ -56,13 +57,27 @@ abbrev pub joined : (thread count : ℕ) → Monitor → Monitor
 joined thread count monitor = record { owner = None; count = 0; waiters = monitor.waiters ++ record { thread = thread; count = count } ∷ [] }
 
 pub record Joins (object thread count : ℕ) (old new : Heap) : Type 0 where
+  pub there : object < length old.locks.monitors
   pub free : (monitor_at old.locks.monitors object).owner ≡ None
   pub after : new ≡ with_monitor object (joined thread count (monitor_at old.locks.monitors object)) Bool.true old
 
 -- the lock is inflated, and no thread waits
 pub record Inflates (object : ℕ) (old new : Heap) : Type 0 where
-  pub free : (monitor_at old.locks.monitors object).owner ≡ None
+  pub there : object < length old.locks.monitors
   pub after : new ≡ with_monitor object unlocked Bool.true old
+
+-- so many waiters were read, and those are all that wait for the object, which no thread owns
+pub record AreWaitersRead (object : ℕ) (fat : Bool) (count : ℕ) (row rest : List ℕ) (old new : Heap) : Type 0 where
+  pub waiters : List Waiter
+  pub many : length waiters ≡ count
+  pub row_is : row ≡ waiters_row waiters ++ rest
+  pub after : new ≡ with_monitor object (record { owner = None; count = 0; waiters = waiters }) fat old
+
+-- the monitor has the owner of a word, with so many entries
+pub record IsOwnerRead (object word count : ℕ) (old new : Heap) : Type 0 where
+  pub owner : Option ℕ
+  pub word_is : word ≡ owner_code owner
+  pub after : new ≡ with_monitor_at object (record (monitor_at old.locks.monitors object) { owner = owner; count = count }) old
 
 -- a monitor was read, and is that of the object
 pub record IsMonitorRead (object : ℕ) (fat : Bool) (row rest : List ℕ) (old new : Heap) : Type 0 where

@@ -4,7 +4,9 @@ use Rattle.std.specs.Prelude.{◌≡◌, ℕ, List, [], ◌∷◌, ◌++◌, Opt
 use Rattle.model.specs.State as model
 use Rattle.model.specs.State.{Thread}
 use Rattle.heap.specs.java_threads.Table.{ThreadTable}
+use Rattle.heap.specs.java_threads.Statuses.{status_of}
 use Rattle.thread_stacks.specs.Stacks.{ShownEntry}
+use Rattle.kept_parts.specs.declared.thread_rows.Fields.{Fields}
 use Rattle.kept_parts.specs.Rows.{option_row, flag_code}
 use Rattle.kept_parts.specs.Stacks.{IsStackRow}
 
@@ -23,6 +25,10 @@ status_row (model.Ended (Some exception)) = 5 ∷ exception ∷ 0 ∷ []
 abbrev pub thread_row : Thread → List ℕ
 thread_row thread =
     status_row thread.status ++ thread.object ∷ flag_code thread.begun ∷ flag_code thread.interrupted ∷ option_row thread.pending
+
+abbrev pub thread_of : Fields → Thread
+thread_of fields =
+    record { object = fields.object; begun = fields.begun; pending = fields.pending; interrupted = fields.interrupted; status = status_of fields.status }
 
 pub record IsThreadRow (row : List ℕ) (thread : Thread) (stack : List ShownEntry) : Type 0 where
   pub stack_words : List ℕ

@@ -1,10 +1,10 @@
 //! Entries of stacks as words.
 
-ghost use Rattle.std.specs.Prelude.{◌≡◌, ◌++◌, OnOk, IfSome};
+ghost use Rattle.std.specs.Prelude.{◌≡◌, ◌++◌, OnOk, IfOk};
 ghost use Rattle.kept_parts.specs.Stacks.{entry_kind_row, entry_row, entries_row};
 
 use crate::reader::Reader;
-use crate::rows::{push, push_number, push_option, push_two, read_option};
+use crate::rows::{push, push_number, push_option, push_two, read_option, short_of};
 use std::alloc::AllocError;
 use thread_stacks::{Entry, EntryKind, Phase};
 
@@ -26,22 +26,22 @@ fn push_entry_kind(row: &mut Vec<u32>, kind: EntryKind) -> Result<(), AllocError
 }
 
 /// What an entry stands for, by the next two words.
-fn read_entry_kind(reader: &mut Reader<'_>) -> Option<EntryKind>
-    ensures { IfSome result (λ kind. reader.old.rest.now ≡ entry_kind_row kind ++ reader.new.rest.now) }
+fn read_entry_kind(reader: &mut Reader<'_>) -> Result<EntryKind, AllocError>
+    ensures { IfOk result (λ kind. reader.old.rest.now ≡ entry_kind_row kind ++ reader.new.rest.now) }
 {
-    let tag = reader.word()?;
-    let class = u16::try_from(reader.word()?).ok()?;
+    let tag = reader.next_word()?;
+    let class = short_of(reader.next_word()?)?;
     match (tag, class) {
-        (0, 0) => Some(EntryKind::Invocation),
-        (1, class) => Some(EntryKind::Initialisation {
+        (0, 0) => Ok(EntryKind::Invocation),
+        (1, class) => Ok(EntryKind::Initialisation {
             class,
             phase: Phase::Super,
         }),
-        (2, class) => Some(EntryKind::Initialisation {
+        (2, class) => Ok(EntryKind::Initialisation {
             class,
             phase: Phase::End,
         }),
-        _ => None,
+        _ => Err(AllocError),
     }
 }
 
@@ -56,16 +56,16 @@ fn push_entry(row: &mut Vec<u32>, entry: Entry) -> Result<(), AllocError>
     push_number(row, entry.operands)
 }
 
-pub(crate) fn read_entry(reader: &mut Reader<'_>) -> Option<Entry>
-    ensures { IfSome result (λ entry. reader.old.rest.now ≡ entry_row entry ++ reader.new.rest.now) }
+pub(crate) fn read_entry(reader: &mut Reader<'_>) -> Result<Entry, AllocError>
+    ensures { IfOk result (λ entry. reader.old.rest.now ≡ entry_row entry ++ reader.new.rest.now) }
 {
     let kind = read_entry_kind(reader)?;
-    let method = reader.word()?;
+    let method = reader.next_word()?;
     let entered = read_option(reader)?;
-    let place = reader.word()?;
-    let locals = reader.word()?;
-    let operands = reader.word()?;
-    Some(Entry {
+    let place = reader.next_word()?;
+    let locals = reader.next_word()?;
+    let operands = reader.next_word()?;
+    Ok(Entry {
         kind,
         method,
         entered,

@@ -1,12 +1,13 @@
 //! Heaps as lists of numbers of objects.
 
-ghost use Rattle.std.specs.Prelude.{◌<◌, ◌≤◌, length, ForSome, IfOk, OnOk};
-ghost use Rattle.word_table.specs.Lists.{IsWritten};
+ghost use Rattle.std.specs.Prelude.{◌≡◌, ◌+◌, ◌<◌, ◌≤◌, ◌++◌, Some, length, IfSome, IfOk, OnOk};
+ghost use Rattle.word_table.specs.Lists.{Grows, IsWritten};
 ghost use Rattle.kept_parts.specs.Rows.{flags_row};
-ghost use Rattle.kept_parts.specs.Heaps.{AreBefore, AreFirst, IsObjectNumbered, IsHeapWritten, IsHeapRead};
+ghost use Rattle.kept_parts.specs.Heaps.{AreBefore, AreFirst, AreNumbered, GoOn, IsHeapKept, IsHeapWritten, IsHeapRead, IsNumberRead};
 
 use crate::object_rows::{push_object, read_object};
 use crate::rows::{flag_code, flag_of, push};
+use crate::same::are_same_words;
 use heap::Heap;
 use model::Limits;
 use std::alloc::{AllocError, Global};
@@ -29,38 +30,119 @@ fn write_object(
     object: u32,
 ) -> Result<(), AllocError>
     requires there { object < length heap.now.objects }
-    ensures { OnOk result (IsObjectNumbered heap.now object numbers.old.items numbers.new.items parts.old parts.new) }
+    requires monitors { length heap.now.locks.monitors ≡ length heap.now.objects }
+    requires first { AreFirst parts.old numbers.old.items object heap.now }
+    ensures { OnOk result (AreNumbered heap.now object (object + 1) numbers.new.items parts.old parts.new) }
 {
     row.clear();
     push_object(row, heap, object)?;
     let number = parts.write(row.as_slice())?;
-    numbers.push(number)?;
-    Ok(())
+    push(numbers, number)
 }
 
 /// Puts the numbers of objects from this one on that are the same in a heap before behind those of the objects before
 /// them. Answers how many objects have numbers then.
 fn same_numbers(
-    parts: &WordTable,
     numbers: &mut Vec<u32>,
     heap: &Heap,
     object: u32,
     before: NumberedHeap<'_>,
 ) -> Result<u32, AllocError>
     requires there { object ≤ length heap.now.objects }
-    requires before { AreBefore parts.now before }
-    requires first { AreFirst parts.now numbers.old.items object heap.now }
-    ensures count { IfOk result (λ until. (object ≤ until) × (until ≤ length heap.now.objects)) }
-    ensures first { IfOk result (λ until. AreFirst parts.now numbers.new.items until heap.now) }
+    requires monitors { length heap.now.locks.monitors ≡ length heap.now.objects }
+    ensures { IfOk result (λ until. GoOn heap.now (Some before.entry) object until numbers.old.items numbers.new.items) }
 {
     let until = heap.same_until(before.heap, object);
-    match before.objects.get(object as usize..until as usize) {
-        Some(same) => {
-            numbers.extend_from_slice(same)?;
-            Ok(until)
+    let mut at = object;
+    'same: while at < until {
+        match before.objects.get(at as usize) {
+            Some(number) => push(numbers, *number)?,
+            None => return Ok(at),
         }
+        at += 1;
+    }
+    Ok(at)
+}
+
+/// The same, if there is a heap before.
+fn numbers_before(
+    numbers: &mut Vec<u32>,
+    heap: &Heap,
+    object: u32,
+    before: Option<NumberedHeap<'_>>,
+) -> Result<u32, AllocError>
+    requires there { object ≤ length heap.now.objects }
+    requires monitors { length heap.now.locks.monitors ≡ length heap.now.objects }
+    ensures { IfOk result (λ until. GoOn heap.now before.entry object until numbers.old.items numbers.new.items) }
+{
+    match before {
+        Some(before) => same_numbers(numbers, heap, object, before),
         None => Ok(object),
     }
+}
+
+/// Puts the number of an object, or those of several from it on, behind those of the objects before it. Answers how
+/// many objects have numbers then.
+fn next_numbers(
+    parts: &mut WordTable,
+    row: &mut Vec<u32>,
+    numbers: &mut Vec<u32>,
+    heap: &Heap,
+    object: u32,
+    before: Option<NumberedHeap<'_>>,
+) -> Result<u32, AllocError>
+    requires next { object < 4294967295 }
+    requires there { object < length heap.now.objects }
+    requires before { IfSome before (AreBefore parts.old) }
+    requires monitors { length heap.now.locks.monitors ≡ length heap.now.objects }
+    requires first { AreFirst parts.old numbers.old.items object heap.now }
+    ensures { IfOk result (λ until. AreNumbered heap.now object until numbers.new.items parts.old parts.new) }
+{
+    let until = numbers_before(numbers, heap, object, before)?;
+    if object < until {
+        return Ok(until);
+    }
+    write_object(parts, row, numbers, heap, object)?;
+    Ok(object + 1)
+}
+
+/// The numbers of all objects.
+fn all_numbers(
+    parts: &mut WordTable,
+    row: &mut Vec<u32>,
+    numbers: &mut Vec<u32>,
+    heap: &Heap,
+    before: Option<NumberedHeap<'_>>,
+) -> Result<(), AllocError>
+    requires { IfSome before (AreBefore parts.old) }
+    ensures grows { OnOk result (Grows parts.old parts.new) }
+    ensures numbers { OnOk result (IsHeapKept parts.new numbers.new.items heap.now) }
+    ensures before { OnOk result (IfSome before.entry (AreBefore parts.new)) }
+{
+    numbers.clear();
+    let count = heap.len();
+    let mut object = 0;
+    'objects: while object < count {
+        object = next_numbers(parts, row, numbers, heap, object, before)?;
+    }
+    Ok(())
+}
+
+/// The number of a list of numbers.
+fn list_number(
+    parts: &mut WordTable,
+    numbers: &[u32],
+    before: Option<NumberedHeap<'_>>,
+) -> Result<u32, AllocError>
+    requires { IfSome before (AreBefore parts.old) }
+    ensures { IfOk result (λ number. IsWritten numbers.now number parts.old parts.new) }
+{
+    if let Some(before) = before {
+        if are_same_words(before.objects, numbers) {
+            return Ok(before.number);
+        }
+    }
+    parts.write(numbers)
 }
 
 /// The number of the list of the numbers of all objects, which is left there.
@@ -71,38 +153,49 @@ pub fn heap_number(
     heap: &Heap,
     before: Option<NumberedHeap<'_>>,
 ) -> Result<u32, AllocError>
-    requires { ForSome before (AreBefore parts.old) }
+    requires { IfSome before (AreBefore parts.old) }
     ensures { IfOk result (λ number. IsHeapWritten heap.now number numbers.new.items parts.old parts.new) }
 {
-    numbers.clear();
-    let count = heap.len();
-    let mut object = 0;
-    'objects: while object < count {
-        if let Some(before) = before {
-            object = same_numbers(parts, numbers, heap, object, before)?;
-        }
-        if object < count {
-            write_object(parts, row, numbers, heap, object)?;
-            object += 1;
-        }
+    all_numbers(parts, row, numbers, heap, before)?;
+    list_number(parts, numbers.as_slice(), before)
+}
+
+/// Puts the flags of locks that are inflated behind other words.
+fn push_fat(row: &mut Vec<u32>, heap: &Heap) -> Result<(), AllocError>
+    requires { length heap.now.locks.fat ≡ length heap.now.objects }
+    ensures { OnOk result (row.new.items ≡ row.old.items ++ flags_row heap.now.locks.fat) }
+{
+    'objects: for object in 0..heap.len() {
+        push(row, flag_code(heap.is_fat(object)))?;
     }
-    if let Some(before) = before {
-        if before.objects == numbers.as_slice() {
-            return Ok(before.number);
-        }
-    }
-    parts.write(numbers.as_slice())
+    Ok(())
 }
 
 /// The number of the flags of locks that are inflated.
 pub fn fat_number(parts: &mut WordTable, row: &mut Vec<u32>, heap: &Heap) -> Result<u32, AllocError>
+    requires { length heap.now.locks.fat ≡ length heap.now.objects }
     ensures { IfOk result (λ number. IsWritten (flags_row heap.now.locks.fat) number parts.old parts.new) }
 {
     row.clear();
-    'objects: for object in 0..heap.len() {
-        push(row, flag_code(heap.is_fat(object)))?;
-    }
+    push_fat(row, heap)?;
     parts.write(row.as_slice())
+}
+
+/// Adds the object of a number to a heap.
+fn read_numbered(
+    heap: &mut Heap,
+    parts: &WordTable,
+    number: u32,
+    opening: bool,
+    fat: u32,
+) -> Result<(), AllocError>
+    requires { length heap.old.locks.fat ≡ length heap.old.objects }
+    ensures { OnOk result (IsNumberRead parts.now number opening fat heap.old heap.new) }
+{
+    match parts.get(number) {
+        Some(row) => read_object(heap, row, opening, flag_of(fat)?),
+        None => Err(AllocError),
+    }
 }
 
 /// A heap of the objects of these numbers, so many of which belong to the opening state. The flags say which locks are
@@ -122,9 +215,11 @@ pub fn read_heap(
     }
     let mut heap = Heap::new(alloc, limits);
     'numbers: for place in 0..numbers.len() {
-        let row = parts.get(numbers[place]).ok_or(AllocError)?;
-        let is_fat = flag_of(fat[place]).ok_or(AllocError)?;
-        read_object(&mut heap, row, place < opening as usize, is_fat)?;
+        if place < opening as usize {
+            read_numbered(&mut heap, parts, numbers[place], true, fat[place])?;
+        } else {
+            read_numbered(&mut heap, parts, numbers[place], false, fat[place])?;
+        }
     }
     Ok(heap)
 }

@@ -1,6 +1,6 @@
 //! What objects are, as words.
 
-ghost use Rattle.std.specs.Prelude.{◌≡◌, ◌++◌, IfSome, OnOk};
+ghost use Rattle.std.specs.Prelude.{◌≡◌, ◌++◌, IfOk, OnOk};
 ghost use Rattle.kept_parts.specs.Objects.{kind_row};
 
 use crate::reader::Reader;
@@ -24,19 +24,19 @@ pub(crate) fn push_kind(row: &mut Vec<u32>, kind: ObjectKind) -> Result<(), Allo
 }
 
 /// What an object is, by the next two words.
-pub(crate) fn read_kind(reader: &mut Reader<'_>) -> Option<ObjectKind>
-    ensures { IfSome result (λ kind. reader.old.rest.now ≡ kind_row kind ++ reader.new.rest.now) }
+pub(crate) fn read_kind(reader: &mut Reader<'_>) -> Result<ObjectKind, AllocError>
+    ensures { IfOk result (λ kind. reader.old.rest.now ≡ kind_row kind ++ reader.new.rest.now) }
 {
-    let tag = reader.word()?;
-    let number = reader.word()?;
+    let tag = reader.next_word()?;
+    let number = reader.next_word()?;
     match (tag, number) {
-        (0, class) => Some(ObjectKind::Instance { class }),
-        (1, of) => Some(ObjectKind::References { of }),
-        (2, 0) => Some(ObjectKind::Ints),
-        (3, 0) => Some(ObjectKind::Narrow(NarrowKind::Boolean)),
-        (4, 0) => Some(ObjectKind::Narrow(NarrowKind::Char)),
-        (5, 0) => Some(ObjectKind::Narrow(NarrowKind::Byte)),
-        (6, 0) => Some(ObjectKind::Narrow(NarrowKind::Short)),
-        _ => None,
+        (0, class) => Ok(ObjectKind::Instance { class }),
+        (1, of) => Ok(ObjectKind::References { of }),
+        (2, 0) => Ok(ObjectKind::Ints),
+        (3, 0) => Ok(ObjectKind::Narrow(NarrowKind::Boolean)),
+        (4, 0) => Ok(ObjectKind::Narrow(NarrowKind::Char)),
+        (5, 0) => Ok(ObjectKind::Narrow(NarrowKind::Byte)),
+        (6, 0) => Ok(ObjectKind::Narrow(NarrowKind::Short)),
+        _ => Err(AllocError),
     }
 }

@@ -1,12 +1,12 @@
 //! Monitors as words.
 
-ghost use Rattle.std.specs.Prelude.{◌≡◌, ◌<◌, ◌++◌, length, false, OnOk, IfOk};
+ghost use Rattle.std.specs.Prelude.{◌≡◌, ◌<◌, ◌++◌, length, false, true, None, OnOk, IfOk};
 ghost use Rattle.model.specs.Monitors.{monitor_at, unlocked};
 ghost use Rattle.heap.specs.monitor.Locks.{is_fat_at};
-ghost use Rattle.kept_parts.specs.Objects.{owner_code, waiters_row, monitor_row, IsMonitorRead, Enters, Joins, Inflates};
+ghost use Rattle.kept_parts.specs.Objects.{owner_code, waiters_row, monitor_row, IsMonitorRead, AreWaitersRead, IsOwnerRead, Enters, Joins, Inflates};
 
 use crate::reader::Reader;
-use crate::rows::{push, push_number};
+use crate::rows::{push, push_number, short_of};
 use heap::Heap;
 use heap::monitor::Call;
 use model::MonitorAnswer;
@@ -62,7 +62,7 @@ fn enter_again(heap: &mut Heap, object: u32, thread: u16, count: u32) -> Result<
     }
     match heap.relock(object, thread, count) {
         MonitorAnswer::Done => Ok(()),
-        _ => Err(AllocError),
+        MonitorAnswer::Held | MonitorAnswer::NotOwner => Err(AllocError),
     }
 }
 
@@ -76,7 +76,7 @@ fn join(heap: &mut Heap, object: u32, thread: u16, count: u32) -> Result<(), All
     }
     match heap.wait(object, thread) {
         Ok(MonitorAnswer::Done) => Ok(()),
-        _ => Err(AllocError),
+        Ok(MonitorAnswer::Held | MonitorAnswer::NotOwner) | Err(_) => Err(AllocError),
     }
 }
 
@@ -92,14 +92,59 @@ fn inflate(heap: &mut Heap, object: u32) -> Result<(), AllocError>
     Ok(())
 }
 
-/// The number of a thread in a word.
-fn thread_in(word: u32) -> Result<u16, AllocError>
-    ensures { IfOk result (λ thread. thread ≡ word) }
+/// So many members of the wait set of an object, whose lock is inflated, by the next words.
+fn read_members(
+    reader: &mut Reader<'_>,
+    heap: &mut Heap,
+    object: u32,
+    count: u32,
+) -> Result<(), AllocError>
+    ensures { OnOk result (AreWaitersRead object true count reader.old.rest.now reader.new.rest.now heap.old heap.new) }
 {
-    u16::try_from(word).map_err(|_| AllocError)
+    inflate(heap, object)?;
+    'members: for _read in 0..count {
+        let thread = reader.next_word()?;
+        let entries = reader.next_word()?;
+        join(heap, object, short_of(thread)?, entries)?;
+    }
+    Ok(())
 }
 
-/// The monitor of the last object, by the next words; its lock is inflated, or is not.
+/// The wait set of an object, by the next words. There is no member where the lock is not inflated.
+fn read_waiters(
+    reader: &mut Reader<'_>,
+    heap: &mut Heap,
+    object: u32,
+    fat: bool,
+    count: u32,
+) -> Result<(), AllocError>
+    requires free { monitor_at heap.old.locks.monitors object ≡ unlocked }
+    requires thin { is_fat_at heap.old.locks object ≡ false }
+    ensures { OnOk result (AreWaitersRead object fat count reader.old.rest.now reader.new.rest.now heap.old heap.new) }
+{
+    if fat {
+        read_members(reader, heap, object, count)
+    } else if count == 0 {
+        Ok(())
+    } else {
+        Err(AllocError)
+    }
+}
+
+/// The thread that a word says owns the monitor of an object, if it says one.
+fn read_owner(heap: &mut Heap, object: u32, owner: u32, count: u32) -> Result<(), AllocError>
+    requires none { (monitor_at heap.old.locks.monitors object).owner ≡ None }
+    requires zero { (monitor_at heap.old.locks.monitors object).count ≡ 0 }
+    ensures { OnOk result (IsOwnerRead object owner count heap.old heap.new) }
+{
+    match owner.checked_sub(1) {
+        Some(thread) => enter_again(heap, object, short_of(thread)?, count),
+        None if count == 0 => Ok(()),
+        None => Err(AllocError),
+    }
+}
+
+/// The monitor of an object, by the next words; its lock is inflated, or is not.
 pub(crate) fn read_monitor(
     reader: &mut Reader<'_>,
     heap: &mut Heap,
@@ -111,22 +156,9 @@ pub(crate) fn read_monitor(
     requires thin { is_fat_at heap.old.locks object ≡ false }
     ensures { OnOk result (IsMonitorRead object fat reader.old.rest.now reader.new.rest.now heap.old heap.new) }
 {
-    let owner = reader.word().ok_or(AllocError)?;
-    let count = reader.word().ok_or(AllocError)?;
-    let waiters = reader.word().ok_or(AllocError)?;
-    if fat {
-        inflate(heap, object)?;
-    } else if waiters != 0 {
-        return Err(AllocError);
-    }
-    'waiters: for _ in 0..waiters {
-        let thread = reader.word().ok_or(AllocError)?;
-        let count = reader.word().ok_or(AllocError)?;
-        join(heap, object, thread_in(thread)?, count)?;
-    }
-    match owner.checked_sub(1) {
-        Some(thread) => enter_again(heap, object, thread_in(thread)?, count),
-        None if count == 0 => Ok(()),
-        None => Err(AllocError),
-    }
+    let owner = reader.next_word()?;
+    let count = reader.next_word()?;
+    let waiters = reader.next_word()?;
+    read_waiters(reader, heap, object, fat, waiters)?;
+    read_owner(heap, object, owner, count)
 }

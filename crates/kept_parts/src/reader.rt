@@ -1,6 +1,8 @@
 //! A reader of words.
 
-ghost use Rattle.std.specs.Prelude.{◌≡◌, ◌∷◌, ◌++◌, [], IfSome, IsTrue};
+ghost use Rattle.std.specs.Prelude.{◌≡◌, ◌∷◌, ◌++◌, [], length, IfOk, IfSome, IsTrue};
+
+use std::alloc::AllocError;
 
 /// Words that are still to be read.
 #[derive(Clone, Copy)]
@@ -31,25 +33,31 @@ impl<'a> Reader<'a> {
         Some(*word)
     }
 
-    /// The next so many words, if there are as many.
-    pub fn words(&mut self, count: u32) -> Option<&'a [u32]>
-        ensures { IfSome result (λ words. self.old.rest.now ≡ words.now ++ self.new.rest.now) }
+    /// The next word. An error where there is none.
+    pub fn next_word(&mut self) -> Result<u32, AllocError>
+        ensures { IfOk result (λ word. self.old.rest.now ≡ word ∷ self.new.rest.now) }
+    {
+        self.word().ok_or(AllocError)
+    }
+
+    /// The next so many words. An error where there are not as many.
+    pub fn words(&mut self, count: u32) -> Result<&'a [u32], AllocError>
+        ensures words { IfOk result (λ words. self.old.rest.now ≡ words.now ++ self.new.rest.now) }
+        ensures many { IfOk result (λ words. length words.now ≡ count) }
     {
         let count = count as usize;
         if count > self.rest.len() {
-            return None;
+            return Err(AllocError);
         }
         let (words, rest) = self.rest.split_at(count);
         self.rest = rest;
-        Some(words)
+        Ok(words)
     }
 
     /// All words that are left.
-    pub fn all(&mut self) -> &'a [u32]
-        ensures { self.old.rest.now ≡ result.now ++ self.new.rest.now }
+    pub fn all(&self) -> &'a [u32]
+        ensures { result.now ≡ self.now.rest.now }
     {
-        let (words, rest) = self.rest.split_at(self.rest.len());
-        self.rest = rest;
-        words
+        self.rest
     }
 }

@@ -1,6 +1,6 @@
 //! Rows of words: numbers and options in them.
 
-ghost use Rattle.std.specs.Prelude.{◌≡◌, ◌++◌, ◌∷◌, [], IfSome, IfOk, OnOk};
+ghost use Rattle.std.specs.Prelude.{◌≡◌, ◌++◌, ◌∷◌, [], IfOk, OnOk};
 ghost use Rattle.kept_parts.specs.Rows.{option_row, flag_code, flags_row};
 
 use crate::reader::Reader;
@@ -56,13 +56,13 @@ pub(crate) fn push_option(row: &mut Vec<u32>, option: Option<u32>) -> Result<(),
 }
 
 /// The option of the next words.
-pub(crate) fn read_option(reader: &mut Reader<'_>) -> Option<Option<u32>>
-    ensures { IfSome result (λ option. reader.old.rest.now ≡ option_row option ++ reader.new.rest.now) }
+pub(crate) fn read_option(reader: &mut Reader<'_>) -> Result<Option<u32>, AllocError>
+    ensures { IfOk result (λ option. reader.old.rest.now ≡ option_row option ++ reader.new.rest.now) }
 {
-    match reader.word()? {
-        0 => Some(None),
-        1 => Some(Some(reader.word()?)),
-        _ => None,
+    match reader.next_word()? {
+        0 => Ok(None),
+        1 => Ok(Some(reader.next_word()?)),
+        _ => Err(AllocError),
     }
 }
 
@@ -75,21 +75,28 @@ pub(crate) fn flag_code(flag: bool) -> u32
 }
 
 /// The flag of a word.
-pub(crate) fn flag_of(word: u32) -> Option<bool>
-    ensures { IfSome result (λ flag. word ≡ flag_code flag) }
+pub(crate) fn flag_of(word: u32) -> Result<bool, AllocError>
+    ensures { IfOk result (λ flag. word ≡ flag_code flag) }
 {
     match word {
-        0 => Some(false),
-        1 => Some(true),
-        _ => None,
+        0 => Ok(false),
+        1 => Ok(true),
+        _ => Err(AllocError),
     }
 }
 
 /// The flag of the next word.
-pub(crate) fn read_flag(reader: &mut Reader<'_>) -> Option<bool>
-    ensures { IfSome result (λ flag. reader.old.rest.now ≡ flag_code flag ∷ reader.new.rest.now) }
+pub(crate) fn read_flag(reader: &mut Reader<'_>) -> Result<bool, AllocError>
+    ensures { IfOk result (λ flag. reader.old.rest.now ≡ flag_code flag ∷ reader.new.rest.now) }
 {
-    flag_of(reader.word()?)
+    flag_of(reader.next_word()?)
+}
+
+/// The number of 16 bits that a word is. An error where it is a larger one.
+pub(crate) fn short_of(word: u32) -> Result<u16, AllocError>
+    ensures { IfOk result (λ number. number ≡ word) }
+{
+    u16::try_from(word).map_err(|_| AllocError)
 }
 
 /// Flags, a word each.
@@ -108,7 +115,7 @@ pub fn read_flags(alloc: Global, row: &[u32]) -> Result<Vec<bool>, AllocError>
 {
     let mut flags = Vec::with_capacity(alloc, row.len())?;
     'words: for word in row {
-        flags.push(flag_of(*word).ok_or(AllocError)?)?;
+        flags.push(flag_of(*word)?)?;
     }
     Ok(flags)
 }

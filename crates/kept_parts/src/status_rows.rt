@@ -1,6 +1,6 @@
 //! What threads are about, as words.
 
-ghost use Rattle.std.specs.Prelude.{◌≡◌, ◌++◌, OnOk, IfSome};
+ghost use Rattle.std.specs.Prelude.{◌≡◌, ◌++◌, OnOk, IfOk};
 ghost use Rattle.heap.specs.java_threads.Statuses.{status_of};
 ghost use Rattle.kept_parts.specs.Threads.{status_row};
 
@@ -30,27 +30,27 @@ pub(crate) fn push_status(row: &mut Vec<u32>, status: ThreadStatus) -> Result<()
     }
 }
 
-pub(crate) fn read_status(reader: &mut Reader<'_>) -> Option<ThreadStatus>
-    ensures { IfSome result (λ status. reader.old.rest.now ≡ status_row (status_of status) ++ reader.new.rest.now) }
+pub(crate) fn read_status(reader: &mut Reader<'_>) -> Result<ThreadStatus, AllocError>
+    ensures { IfOk result (λ status. reader.old.rest.now ≡ status_row (status_of status) ++ reader.new.rest.now) }
 {
-    let tag = reader.word()?;
-    let object = reader.word()?;
-    let count = reader.word()?;
+    let tag = reader.next_word()?;
+    let object = reader.next_word()?;
+    let count = reader.next_word()?;
     match (tag, object, count) {
-        (0, 0, 0) => Some(ThreadStatus::Running),
-        (1, object, count) => Some(ThreadStatus::Waiting { object, count }),
-        (2, object, count) => Some(ThreadStatus::Relock {
+        (0, 0, 0) => Ok(ThreadStatus::Running),
+        (1, object, count) => Ok(ThreadStatus::Waiting { object, count }),
+        (2, object, count) => Ok(ThreadStatus::Relock {
             object,
             count,
             cause: WakeCause::Notified,
         }),
-        (3, object, count) => Some(ThreadStatus::Relock {
+        (3, object, count) => Ok(ThreadStatus::Relock {
             object,
             count,
             cause: WakeCause::Interrupted,
         }),
-        (4, 0, 0) => Some(ThreadStatus::Ended(None)),
-        (5, exception, 0) => Some(ThreadStatus::Ended(Some(exception))),
-        _ => None,
+        (4, 0, 0) => Ok(ThreadStatus::Ended(None)),
+        (5, exception, 0) => Ok(ThreadStatus::Ended(Some(exception))),
+        _ => Err(AllocError),
     }
 }

@@ -1,8 +1,8 @@
 //! Threads with their stacks, as rows of words.
 
-ghost use Rattle.std.specs.Prelude.{[], OnOk, IfOk};
-ghost use Rattle.heap.specs.java_threads.Table.{thread_at};
-ghost use Rattle.kept_parts.specs.Threads.{IsThreadPushed, IsThreadRead};
+ghost use Rattle.std.specs.Prelude.{◌≡◌, ◌<◌, ◌++◌, ◌∷◌, [], length, OnOk, IfOk};
+ghost use Rattle.heap.specs.java_threads.Table.{thread_at, with_thread};
+ghost use Rattle.kept_parts.specs.Threads.{thread_of, thread_row, IsThreadPushed, IsThreadRead};
 
 use crate::reader::Reader;
 use crate::rows::{flag_code, push, push_option, read_flag, read_option};
@@ -30,18 +30,59 @@ pub fn push_thread(
     push_stack(row, stack)
 }
 
-/// Sets what a row says of a thread, but for its object.
-fn set_thread(
-    reader: &mut Reader<'_>,
-    threads: &mut Threads,
-    thread: u16,
-    status: ThreadStatus,
-) -> Option<()> {
-    threads.set_status(thread, status);
-    threads.set_begun(thread, read_flag(reader)?);
-    threads.set_interrupted(thread, read_flag(reader)?);
-    threads.set_pending(thread, read_option(reader)?);
-    Some(())
+/// A thread but for its stack.
+#[derive(Clone, Copy)]
+pub struct Fields {
+    pub object: u32,
+    pub begun: bool,
+    pub pending: Option<u32>,
+    pub interrupted: bool,
+    pub status: ThreadStatus,
+}
+
+/// A thread but for its stack, by the next words.
+fn read_fields(reader: &mut Reader<'_>) -> Result<Fields, AllocError>
+    ensures { IfOk result (λ fields. reader.old.rest.now ≡ thread_row (thread_of fields) ++ reader.new.rest.now) }
+{
+    let status = read_status(reader)?;
+    let object = reader.next_word()?;
+    let begun = read_flag(reader)?;
+    let interrupted = read_flag(reader)?;
+    let pending = read_option(reader)?;
+    Ok(Fields {
+        object,
+        begun,
+        pending,
+        interrupted,
+        status,
+    })
+}
+
+/// Sets all of a thread but its object.
+fn set_fields(threads: &mut Threads, thread: u16, fields: Fields)
+    requires there { thread < length threads.old.threads }
+    requires object { (thread_at threads.old.threads thread).object ≡ fields.object }
+    ensures { threads.new ≡ with_thread threads.old thread (thread_of fields) }
+{
+    threads.set_begun(thread, fields.begun);
+    threads.set_pending(thread, fields.pending);
+    threads.set_interrupted(thread, fields.interrupted);
+    threads.set_status(thread, fields.status);
+}
+
+/// Adds a thread to a table.
+fn add_thread(threads: &mut Threads, fields: Fields) -> Result<(), AllocError>
+    ensures { OnOk result (threads.new
+        ≡ record threads.old { threads = threads.old.threads ++ thread_of fields ∷ [] }) }
+{
+    let thread = threads.len() as u16;
+    match threads.add(fields.object) {
+        Ok(()) => {
+            set_fields(threads, thread, fields);
+            Ok(())
+        }
+        Err(_) => Err(AllocError),
+    }
 }
 
 /// A table with the thread of a row, which is main's, and its stack.
@@ -53,13 +94,12 @@ pub fn read_main(
     ensures { IfOk result (λ r. IsThreadRead row.now (record { threads = []; limit = limit }) r.0 r.1) }
 {
     let mut reader = Reader::new(row);
-    let status = read_status(&mut reader).ok_or(AllocError)?;
-    let object = reader.word().ok_or(AllocError)?;
+    let fields = read_fields(&mut reader)?;
     if limit == 0 || limit > 32_767 {
         return Err(AllocError);
     }
-    let mut threads = Threads::new(alloc, limit, object)?;
-    set_thread(&mut reader, &mut threads, 0, status).ok_or(AllocError)?;
+    let mut threads = Threads::new(alloc, limit, fields.object)?;
+    set_fields(&mut threads, 0, fields);
     let stack = read_stack(alloc, &mut reader)?;
     Ok((threads, stack))
 }
@@ -73,10 +113,7 @@ pub fn read_thread(
     ensures { IfOk result (IsThreadRead row.now threads.old threads.new) }
 {
     let mut reader = Reader::new(row);
-    let status = read_status(&mut reader).ok_or(AllocError)?;
-    let object = reader.word().ok_or(AllocError)?;
-    let thread = threads.len() as u16;
-    threads.add(object).map_err(|_| AllocError)?;
-    set_thread(&mut reader, threads, thread, status).ok_or(AllocError)?;
+    let fields = read_fields(&mut reader)?;
+    add_thread(threads, fields)?;
     read_stack(alloc, &mut reader)
 }
