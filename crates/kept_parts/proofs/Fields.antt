@@ -119,10 +119,10 @@ object_read opening fat object count kind words row first second third rest old 
       object = bare kind words;
       monitor = m.monitor;
       row_is = k
-        ∙ ap (λ (ns : List ℕ). kind_row kind ++ ns) (c ∙ ap (λ (n : ℕ). n ∷ second) (sym many))
-        ∙ ap (λ (ns : List ℕ). kind_row kind ++ length words ∷ ns)
+          ∙ ap (λ (ns : List ℕ). kind_row kind ++ ns) (c ∙ ap (λ (n : ℕ). n ∷ second) (sym many))
+          ∙ ap (λ (ns : List ℕ). kind_row kind ++ length words ∷ ns)
           (w ∙ ap (λ (ns : List ℕ). words ++ ns) (m.row_is ∙ ap (λ (ns : List ℕ). monitor_row m.monitor ++ ns) done ∙ append-nil (monitor_row m.monitor)));
       after = m.after
-        ∙ ap (λ (h : Heap). with_monitor object m.monitor fat h) added
-        ∙ kept_last opening (length old.objects + 1) object (bare kind words) m.monitor fat old a b;
+          ∙ ap (λ (h : Heap). with_monitor object m.monitor fat h) added
+          ∙ kept_last opening (length old.objects + 1) object (bare kind words) m.monitor fat old a b;
     }

@@ -80,7 +80,7 @@ one_written heap at number numbers more row old new there monitors a rows w is =
       from = omega arith;
       within = omega (arith, there);
       first = subst (λ (ns : List ℕ). AreFirst new ns (at + 1) heap) (sym is)
-        (first_more new numbers at number o heap there monitors (object_there heap at there) (first_stays old new numbers at heap w.grows a) stands);
+          (first_more new numbers at number o heap there monitors (object_there heap at there) (first_stays old new numbers at heap w.grows a) stands);
     }
 
 pub one_same : (parts : List (List ℕ)) (heap : Heap) (before : NumberedHeap) (at number : ℕ) (numbers more : List ℕ) → at < length heap.objects
@@ -193,24 +193,24 @@ record AreSo (parts : List (List ℕ)) (limits : Limits) (place : ℕ) (numbers 
 
 so_more : (parts : List (List ℕ)) (limits : Limits) (place number word : ℕ) (numbers fat row : List ℕ) (is_fat : Bool) (o : Object) (m : Monitor) (old : Heap) (opening : ℕ)
     → AreRead parts limits opening place numbers fat old → place < length numbers → length fat ≡ length numbers
-    → number ≡ get_or numbers place number → word ≡ get_or fat place word → StandsFor parts number row → row ≡ object_row o m → word ≡ flag_code is_fat
+    → number ≡ get_or numbers place 0 → word ≡ get_or fat place 0 → StandsFor parts number row → row ≡ object_row o m → word ≡ flag_code is_fat
     → AreSo parts limits (place + 1) numbers fat (with_kept o m is_fat old)
 so_more parts limits place number word numbers fat row is_fat o m old opening a there even n w stands row_is flag =
-    let ns : take (place + 1) numbers ≡ take place numbers ++ number ∷ [] = take_more numbers place number there ∙ ap (λ (x : ℕ). take place numbers ++ x ∷ []) (sym n) in
-    let fs : take (place + 1) fat ≡ take place fat ++ word ∷ [] = take_more fat place word (omega (arith, there, even)) ∙ ap (λ (x : ℕ). take place fat ++ x ∷ []) (sym w) in
+    let ns : take (place + 1) numbers ≡ take place numbers ++ number ∷ [] = take_more numbers place 0 there ∙ ap (λ (x : ℕ). take place numbers ++ x ∷ []) (sym n) in
+    let fs : take (place + 1) fat ≡ take place fat ++ word ∷ [] = take_more fat place 0 (omega (arith, there, even)) ∙ ap (λ (x : ℕ). take place fat ++ x ∷ []) (sym w) in
     record {
       are = rw ns (objects_more parts (take place numbers) old.objects old.locks.monitors number o m a.are (stands ∙ ap (λ (r : List ℕ). Some r) row_is));
       fat_is = fs
-        ∙ ap (λ (xs : List ℕ). xs ++ word ∷ []) a.fat_is
-        ∙ ap (λ (x : ℕ). flags_row old.locks.fat ++ x ∷ []) flag
-        ∙ sym (map-append flag_code old.locks.fat (is_fat ∷ []));
+          ∙ ap (λ (xs : List ℕ). xs ++ word ∷ []) a.fat_is
+          ∙ ap (λ (x : ℕ). flags_row old.locks.fat ++ x ∷ []) flag
+          ∙ sym (map-append flag_code old.locks.fat (is_fat ∷ []));
       many = length_push old.objects o ∙ ap (λ (k : ℕ). k + 1) a.many;
       fat_many = length_push old.locks.fat is_fat ∙ ap (λ (k : ℕ). k + 1) a.fat_many;
     }
 
 pub one_opening : (parts : List (List ℕ)) (limits : Limits) (opening place number word : ℕ) (numbers fat : List ℕ) (old new : Heap)
     → AreRead parts limits opening place numbers fat old → place < length numbers → length fat ≡ length numbers
-    → number ≡ get_or numbers place number → word ≡ get_or fat place word → place < opening → IsNumberRead parts number true word old new
+    → number ≡ get_or numbers place 0 → word ≡ get_or fat place 0 → place < opening → IsNumberRead parts number true word old new
     → AreRead parts limits opening (place + 1) numbers fat new
 one_opening parts limits opening place number word numbers fat old new a there even n w early r =
     let then : Heap = opened true (length old.objects + 1) (with_kept r.read.object r.read.monitor r.is_fat old) in
@@ -230,7 +230,7 @@ one_opening parts limits opening place number word numbers fat old new a there e
 
 pub one_behind : (parts : List (List ℕ)) (limits : Limits) (opening place number word : ℕ) (numbers fat : List ℕ) (old new : Heap)
     → AreRead parts limits opening place numbers fat old → place < length numbers → length fat ≡ length numbers
-    → number ≡ get_or numbers place number → word ≡ get_or fat place word → opening ≤ place → IsNumberRead parts number false word old new
+    → number ≡ get_or numbers place 0 → word ≡ get_or fat place 0 → opening ≤ place → IsNumberRead parts number false word old new
     → AreRead parts limits opening (place + 1) numbers fat new
 one_behind parts limits opening place number word numbers fat old new a there even n w late r =
     let so : AreSo parts limits (place + 1) numbers fat (with_kept r.read.object r.read.monitor r.is_fat old) =

@@ -36,10 +36,7 @@ fn read_entries(
 }
 
 /// The stack of words.
-pub(crate) fn read_stack(
-    alloc: Global,
-    reader: &mut Reader<'_>,
-) -> Result<ThreadStack, AllocError>
+pub(crate) fn read_stack(alloc: Global, reader: &mut Reader<'_>) -> Result<ThreadStack, AllocError>
     ensures { IfOk result (IsStackRow reader.old.rest.now) }
 {
     let count = reader.next_word()?;
