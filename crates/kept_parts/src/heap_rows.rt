@@ -50,7 +50,8 @@ fn same_numbers(
 ) -> Result<u32, AllocError>
     requires there { object ≤ length heap.now.objects }
     requires monitors { length heap.now.locks.monitors ≡ length heap.now.objects }
-    ensures { IfOk result (λ until. GoOn heap.now (Some before.entry) object until numbers.old.items numbers.new.items) }
+    ensures { IfOk result (λ until.
+        GoOn heap.now (Some before.entry) object until numbers.old.items numbers.new.items) }
 {
     let until = heap.same_until(before.heap, object);
     let mut at = object;

@@ -7,8 +7,8 @@
 //!   with their monitors whose rows are the same are the same, and so are two threads with their stacks (`object_one`,
 //!   `thread_one`). So one list of numbers stands for one list of objects (`objects_stand_one`), also once the table
 //!   has grown (`objects_stay`).
-//! - `push_thread` puts the row of a thread behind other words. `heap_number` writes the row of each object, and answers
-//!   a number that stands for the list of their numbers. What is the same in a heap before keeps its number: then the
+//! - `push_thread` puts the row of a thread behind other words. `heap_number` writes the row of each object, and
+//!   answers a number that stands for the list of their numbers. What is the same in a heap before keeps its number: then the
 //!   number stands for it, too. `fat_number` does the same for the flags of inflated locks.
 //! - `read_heap`, `read_main` and `read_thread` answer only what has these rows, under the limits that are given.
 //! - What `is_same_stack` and `is_same_thread` find to be the same is.

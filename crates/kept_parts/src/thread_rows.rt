@@ -20,7 +20,8 @@ pub fn push_thread(
     stack: &ThreadStack,
     thread: u16,
 ) -> Result<(), AllocError>
-    ensures { OnOk result (IsThreadPushed row.old.items row.new.items (thread_at threads.now.threads thread) stack.now) }
+    ensures { OnOk result (IsThreadPushed row.old.items row.new.items
+        (thread_at threads.now.threads thread) stack.now) }
 {
     push_status(row, threads.status(thread))?;
     push(row, threads.object(thread))?;
