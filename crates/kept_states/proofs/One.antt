@@ -15,8 +15,9 @@ use Rattle.machine_state.specs.declared.state.ClassStatus.{ClassStatus}
 use Rattle.machine_state.specs.declared.state.ClassStatus.TheVariants as status
 use Rattle.machine_state.specs.declared.state.Shared.{Shared}
 use Rattle.machine_state.specs.same_states.Same.{AreAlike}
+use Rattle.kept_states.specs.declared.numbered.GlobalNumbers.{GlobalNumbers}
 use Rattle.kept_states.specs.Rows.{status_code, statuses_row, ints_of}
-use Rattle.kept_states.specs.States.{AreThreads, GlobalNumbers, globals_row, AreGlobals, IsStateRow, AreFat, AreTheSame}
+use Rattle.kept_states.specs.States.{AreThreads, globals_row, AreGlobals, IsStateRow, AreFat, AreTheSame}
 
 -- ---- how far classes are
 

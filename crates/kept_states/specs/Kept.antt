@@ -1,24 +1,29 @@
 -- What is kept of states by their numbers (own).
-use Rattle.std.specs.Prelude.{◌≡◌, ℕ, List, [], ◌∷◌, ◌++◌, Some, length, slice_get}
+use Rattle.std.specs.Prelude.{◌≡◌, ℕ, List, [], ◌∷◌, ◌++◌, Some, ◌<◌, length, slice_get, slice_index_or}
 use Rattle.word_table.specs.Lists.{StandsFor, Grows}
 use Rattle.kept_parts.specs.Heaps.{IsHeapKept}
 use Rattle.machine_state.specs.declared.state.Shared.{Shared}
+use Rattle.heap.specs.java_threads.Table.{thread_at}
 use Rattle.kept_states.specs.declared.numbered.Numbered.{Numbered}
 use Rattle.kept_states.specs.declared.states.KeptStates.{KeptStates}
-use Rattle.kept_states.specs.States.{GlobalNumbers, globals_row, AreGlobals, AreThreads, IsStateRow, AreFat}
+use Rattle.kept_states.specs.States.{globals_row, AreGlobals, AreThreads, IsStateRow, AreFat}
 
 -- ---- a state with the numbers of its parts
 
-abbrev pub global_numbers : Numbered → GlobalNumbers
-global_numbers n = record { statics = n.statics; statuses = n.statuses; ready = n.ready; printed = n.printed }
-
 pub record IsNumbered (parts : List (List ℕ)) (n : Numbered) : Type 0 where
-  pub globals : StandsFor parts n.globals (globals_row n.shared (global_numbers n))
-  pub each : AreGlobals parts (global_numbers n) n.shared
+  pub globals : StandsFor parts n.globals (globals_row n.shared n.numbers)
+  pub each : AreGlobals parts n.numbers n.shared
   pub heap : StandsFor parts n.heap n.objects.items
   pub objects : IsHeapKept parts n.objects.items n.shared.heap
   pub threads : AreThreads parts n.threads.items n.shared.threads.threads n.shared.stacks.items
   pub fat : AreFat parts n.fat n.shared
+
+-- the thread, with its stack, is the same in a state before, where it has this number
+pub record IsThreadSame (s : Shared) (thread : ℕ) (before : Numbered) (number : ℕ) : Type 0 where
+  pub number_is : slice_get before.threads.items thread ≡ Some number
+  pub there : thread < length before.shared.threads.threads
+  pub thread_is : thread_at before.shared.threads.threads thread ≡ thread_at s.threads.threads thread
+  pub stack_is : slice_index_or before.shared.stacks.items thread [] ≡ slice_index_or s.stacks.items thread []
 
 -- ---- states by their numbers
 

@@ -1,8 +1,8 @@
 -- A state as a list of numbers of its parts (own).
-use Rattle.std.specs.Prelude.{◌≡◌, ℕ, List, [], ◌∷◌, Some, None, Bool, length, slice_get}
+use Rattle.std.specs.Prelude.{◌≡◌, ℕ, List, [], ◌∷◌, ◌++◌, Some, None, Bool, length, slice_get, slice_index_or, ℤ}
 use Rattle.model.specs.State.{Thread}
 use Rattle.heap.specs.Heap.{Heap}
-use Rattle.heap.specs.java_threads.Table.{ThreadTable}
+use Rattle.heap.specs.java_threads.Table.{ThreadTable, thread_at}
 use Rattle.thread_stacks.specs.Stacks.{ShownEntry}
 use Rattle.word_table.specs.Lists.{StandsFor, Grows}
 use Rattle.kept_parts.specs.Rows.{flags_row}
@@ -10,6 +10,7 @@ use Rattle.kept_parts.specs.Heaps.{IsHeapKept}
 use Rattle.kept_parts.specs.Threads.{IsThreadRow}
 use Rattle.machine_state.specs.declared.state.ClassStatus.{ClassStatus}
 use Rattle.machine_state.specs.declared.state.Shared.{Shared}
+use Rattle.kept_states.specs.declared.numbered.GlobalNumbers.{GlobalNumbers}
 use Rattle.kept_states.specs.Rows.{statuses_row, ints_of}
 
 -- ---- threads
@@ -21,14 +22,23 @@ AreThreads parts (number ∷ numbers) (thread ∷ threads) (stack ∷ stacks) =
     ((row : List ℕ) × StandsFor parts number row × IsThreadRow row thread stack) × AreThreads parts numbers threads stacks
 AreThreads parts numbers threads stacks = ⊥
 
--- ---- all else
+-- the thread of a number has this one
+abbrev pub HasThread : List (List ℕ) → (number : ℕ) → Shared → (thread : ℕ) → Type 0
+HasThread parts number s thread =
+    (row : List ℕ) × StandsFor parts number row × IsThreadRow row (thread_at s.threads.threads thread) (slice_index_or s.stacks.items thread [])
 
--- the numbers of what is kept beside objects and threads
-pub record GlobalNumbers : Type 0 where
-  pub statics : ℕ
-  pub statuses : ℕ
-  pub ready : ℕ
-  pub printed : ℕ
+pub record IsThreadWritten (s : Shared) (thread number : ℕ) (old new : List (List ℕ)) : Type 0 where
+  pub grows : Grows old new
+  pub has : HasThread new number s thread
+
+-- all threads have numbers, put behind other words
+pub record AreThreadsPushed (s : Shared) (before after : List ℕ) (old new : List (List ℕ)) : Type 0 where
+  pub grows : Grows old new
+  pub numbers : List ℕ
+  pub after_is : after ≡ before ++ numbers
+  pub are : AreThreads new numbers s.threads.threads s.stacks.items
+
+-- ---- all else
 
 abbrev pub globals_row : Shared → GlobalNumbers → List ℕ
 globals_row s n =
@@ -41,6 +51,25 @@ pub record AreGlobals (parts : List (List ℕ)) (numbers : GlobalNumbers) (s : S
   pub printed_row : List ℕ
   pub printed : StandsFor parts numbers.printed printed_row
   pub printed_are : s.printed.items ≡ ints_of printed_row
+
+-- these numbers were written
+pub record AreNumbersWritten (s : Shared) (numbers : GlobalNumbers) (old new : List (List ℕ)) : Type 0 where
+  pub grows : Grows old new
+  pub each : AreGlobals new numbers s
+
+-- the number of a row of ints was written
+pub record IsPrintedWritten (ints : List ℤ) (number : ℕ) (old new : List (List ℕ)) : Type 0 where
+  pub grows : Grows old new
+  pub row : List ℕ
+  pub stands : StandsFor new number row
+  pub are : ints ≡ ints_of row
+
+-- the number of the row of such numbers was written
+pub record AreGlobalsWritten (s : Shared) (number : ℕ) (old new : List (List ℕ)) : Type 0 where
+  pub grows : Grows old new
+  pub numbers : GlobalNumbers
+  pub stands : StandsFor new number (globals_row s numbers)
+  pub each : AreGlobals new numbers s
 
 -- ---- a state
 

@@ -1,7 +1,14 @@
 //! What a state keeps beside objects and threads.
 
-use crate::numbered::Numbered;
-use crate::shared_rows::{push_ints, push_statuses};
+ghost use Rattle.std.specs.Prelude.{◌≡◌, [], ◌∷◌, ◌++◌, IfSome, IfOk, OnOk, IsTrue};
+ghost use Rattle.word_table.specs.Lists.{IsWritten};
+ghost use Rattle.kept_parts.specs.Rows.{flags_row};
+ghost use Rattle.kept_states.specs.Rows.{statuses_row};
+ghost use Rattle.kept_states.specs.States.{globals_row, AreGlobalsWritten, IsPrintedWritten, AreNumbersWritten};
+ghost use Rattle.kept_states.specs.Kept.{IsNumbered};
+
+use crate::numbered::{GlobalNumbers, Numbered};
+use crate::shared_rows::{are_same_flags, are_same_ints, are_same_statuses, are_same_words, push_ints, push_statuses};
 use kept_parts::reader::Reader;
 use kept_parts::rows::{push, push_flags};
 use machine_state::Shared;
@@ -9,49 +16,62 @@ use model::Limits;
 use std::alloc::AllocError;
 use word_table::WordTable;
 
-/// The numbers of what a state keeps beside objects and threads.
-#[derive(Clone, Copy)]
-struct Numbers {
-    statics: u32,
-    statuses: u32,
-    ready: u32,
-    printed: u32,
-}
-
 /// What a state keeps beside objects and threads, by numbers.
 #[derive(Clone, Copy)]
-pub(crate) struct Globals {
-    pub(crate) limits: Limits,
-    pub(crate) opening: u32,
-    pub(crate) statics: u32,
-    pub(crate) statuses: u32,
-    pub(crate) ready: u32,
-    pub(crate) printed: u32,
+pub struct Globals {
+    pub limits: Limits,
+    pub opening: u32,
+    pub numbers: GlobalNumbers,
 }
 
-pub(crate) fn read_globals(row: &[u32]) -> Option<Globals> {
+/// The numbers of the next words.
+fn read_numbers(reader: &mut Reader<'_>) -> Result<GlobalNumbers, AllocError>
+    ensures { IfOk result (λ n. reader.old.rest.now
+        ≡ n.statics ∷ n.statuses ∷ n.ready ∷ n.printed ∷ reader.new.rest.now) }
+{
+    let statics = reader.next_word()?;
+    let statuses = reader.next_word()?;
+    let ready = reader.next_word()?;
+    let printed = reader.next_word()?;
+    Ok(GlobalNumbers {
+        statics,
+        statuses,
+        ready,
+        printed,
+    })
+}
+
+/// The limits of the next words. The limit on frames is no part of a state.
+fn read_limits(reader: &mut Reader<'_>) -> Result<Limits, AllocError>
+    ensures { IfOk result (λ l. reader.old.rest.now
+        ≡ l.objects ∷ l.cells ∷ l.monitors ∷ l.threads ∷ reader.new.rest.now) }
+{
+    let objects = reader.next_word()?;
+    let cells = reader.next_word()?;
+    let monitors = reader.next_word()?;
+    let threads = reader.next_word()?;
+    match Limits::new(objects, cells, monitors, threads, 1) {
+        Some(limits) => Ok(limits),
+        None => Err(AllocError),
+    }
+}
+
+pub(crate) fn read_globals(row: &[u32]) -> Result<Globals, AllocError>
+    ensures { IfOk result (λ g. row.now ≡ g.opening ∷ g.limits.objects ∷ g.limits.cells ∷ g.limits.monitors
+        ∷ g.limits.threads ∷ g.numbers.statics ∷ g.numbers.statuses ∷ g.numbers.ready ∷ g.numbers.printed ∷ []) }
+{
     let mut reader = Reader::new(row);
-    let opening = reader.word()?;
-    let objects = reader.word()?;
-    let cells = reader.word()?;
-    let monitors = reader.word()?;
-    let threads = reader.word()?;
-    let limits = Limits::new(objects, cells, monitors, threads, 1)?;
-    let statics = reader.word()?;
-    let statuses = reader.word()?;
-    let ready = reader.word()?;
-    let printed = reader.word()?;
+    let opening = reader.next_word()?;
+    let limits = read_limits(&mut reader)?;
+    let numbers = read_numbers(&mut reader)?;
     if reader.is_done() {
-        Some(Globals {
+        Ok(Globals {
             limits,
             opening,
-            statics,
-            statuses,
-            ready,
-            printed,
+            numbers,
         })
     } else {
-        None
+        Err(AllocError)
     }
 }
 
@@ -59,10 +79,13 @@ fn statics_number(
     parts: &mut WordTable,
     shared: &Shared,
     before: Option<&Numbered>,
-) -> Result<u32, AllocError> {
+) -> Result<u32, AllocError>
+    requires { IfSome before (λ b. IsNumbered parts.old b.now) }
+    ensures { IfOk result (λ number. IsWritten shared.now.statics.items number parts.old parts.new) }
+{
     if let Some(before) = before {
-        if before.shared.statics.as_slice() == shared.statics.as_slice() {
-            return Ok(before.statics);
+        if are_same_words(before.shared.statics.as_slice(), shared.statics.as_slice()) {
+            return Ok(before.numbers.statics);
         }
     }
     parts.write(shared.statics.as_slice())
@@ -73,10 +96,13 @@ fn statuses_number(
     row: &mut Vec<u32>,
     shared: &Shared,
     before: Option<&Numbered>,
-) -> Result<u32, AllocError> {
+) -> Result<u32, AllocError>
+    requires { IfSome before (λ b. IsNumbered parts.old b.now) }
+    ensures { IfOk result (λ number. IsWritten (statuses_row shared.now.statuses.items) number parts.old parts.new) }
+{
     if let Some(before) = before {
-        if before.shared.statuses.as_slice() == shared.statuses.as_slice() {
-            return Ok(before.statuses);
+        if are_same_statuses(before.shared.statuses.as_slice(), shared.statuses.as_slice()) {
+            return Ok(before.numbers.statuses);
         }
     }
     row.clear();
@@ -89,10 +115,13 @@ fn ready_number(
     row: &mut Vec<u32>,
     shared: &Shared,
     before: Option<&Numbered>,
-) -> Result<u32, AllocError> {
+) -> Result<u32, AllocError>
+    requires { IfSome before (λ b. IsNumbered parts.old b.now) }
+    ensures { IfOk result (λ number. IsWritten (flags_row shared.now.ready.items) number parts.old parts.new) }
+{
     if let Some(before) = before {
-        if before.shared.ready.as_slice() == shared.ready.as_slice() {
-            return Ok(before.ready);
+        if are_same_flags(before.shared.ready.as_slice(), shared.ready.as_slice()) {
+            return Ok(before.numbers.ready);
         }
     }
     row.clear();
@@ -105,10 +134,13 @@ fn printed_number(
     row: &mut Vec<u32>,
     shared: &Shared,
     before: Option<&Numbered>,
-) -> Result<u32, AllocError> {
+) -> Result<u32, AllocError>
+    requires { IfSome before (λ b. IsNumbered parts.old b.now) }
+    ensures { IfOk result (λ number. IsPrintedWritten shared.now.printed.items number parts.old parts.new) }
+{
     if let Some(before) = before {
-        if before.shared.printed.as_slice() == shared.printed.as_slice() {
-            return Ok(before.printed);
+        if are_same_ints(before.shared.printed.as_slice(), shared.printed.as_slice()) {
+            return Ok(before.numbers.printed);
         }
     }
     row.clear();
@@ -116,32 +148,79 @@ fn printed_number(
     parts.write(row.as_slice())
 }
 
-/// Whether these are the numbers of a state before, and so are the limits.
-fn are_globals_before(shared: &Shared, numbers: Numbers, before: &Numbered) -> bool {
-    numbers.statics == before.statics
-        && numbers.statuses == before.statuses
-        && numbers.ready == before.ready
-        && numbers.printed == before.printed
-        && shared.heap.opening() == before.shared.heap.opening()
-        && shared.heap.object_limit() == before.shared.heap.object_limit()
-        && shared.heap.cell_limit() == before.shared.heap.cell_limit()
-        && shared.heap.monitor_limit() == before.shared.heap.monitor_limit()
-        && shared.threads.limit() == before.shared.threads.limit()
-}
-
-/// The number of what a state keeps beside objects and threads.
-pub(crate) fn globals_number(
+/// The numbers of what a state keeps beside objects and threads.
+fn numbers_of(
     parts: &mut WordTable,
     row: &mut Vec<u32>,
     shared: &Shared,
     before: Option<&Numbered>,
-) -> Result<u32, AllocError> {
-    let numbers = Numbers {
-        statics: statics_number(parts, shared, before)?,
-        statuses: statuses_number(parts, row, shared, before)?,
-        ready: ready_number(parts, row, shared, before)?,
-        printed: printed_number(parts, row, shared, before)?,
-    };
+) -> Result<GlobalNumbers, AllocError>
+    requires { IfSome before (λ b. IsNumbered parts.old b.now) }
+    ensures { IfOk result (λ numbers. AreNumbersWritten shared.now numbers parts.old parts.new) }
+{
+    let statics = statics_number(parts, shared, before)?;
+    let statuses = statuses_number(parts, row, shared, before)?;
+    let ready = ready_number(parts, row, shared, before)?;
+    let printed = printed_number(parts, row, shared, before)?;
+    Ok(GlobalNumbers {
+        statics,
+        statuses,
+        ready,
+        printed,
+    })
+}
+
+fn are_same_limits(shared: &Shared, before: &Shared) -> bool
+    ensures heap { IsTrue result → (before.now.heap.opening ≡ shared.now.heap.opening)
+        × (before.now.heap.object_limit ≡ shared.now.heap.object_limit)
+        × (before.now.heap.cell_limit ≡ shared.now.heap.cell_limit)
+        × (before.now.heap.locks.limit ≡ shared.now.heap.locks.limit) }
+    ensures threads { IsTrue result → before.now.threads.limit ≡ shared.now.threads.limit }
+{
+    before.heap.opening() == shared.heap.opening()
+        && before.heap.object_limit() == shared.heap.object_limit()
+        && before.heap.cell_limit() == shared.heap.cell_limit()
+        && before.heap.monitor_limit() == shared.heap.monitor_limit()
+        && before.threads.limit() == shared.threads.limit()
+}
+
+/// Whether these are the numbers of a state before, and so are the limits. Then so is the row.
+fn are_globals_before(shared: &Shared, numbers: GlobalNumbers, before: &Numbered) -> bool
+    ensures { IsTrue result → globals_row before.now.shared before.now.numbers ≡ globals_row shared.now numbers }
+{
+    numbers.statics == before.numbers.statics
+        && numbers.statuses == before.numbers.statuses
+        && numbers.ready == before.numbers.ready
+        && numbers.printed == before.numbers.printed
+        && are_same_limits(shared, &before.shared)
+}
+
+/// The row of what a state keeps beside objects and threads.
+fn push_globals(row: &mut Vec<u32>, shared: &Shared, numbers: GlobalNumbers) -> Result<(), AllocError>
+    ensures { OnOk result (row.new.items ≡ row.old.items ++ globals_row shared.now numbers) }
+{
+    push(row, shared.heap.opening())?;
+    push(row, shared.heap.object_limit())?;
+    push(row, shared.heap.cell_limit())?;
+    push(row, shared.heap.monitor_limit())?;
+    push(row, shared.threads.limit())?;
+    push(row, numbers.statics)?;
+    push(row, numbers.statuses)?;
+    push(row, numbers.ready)?;
+    push(row, numbers.printed)
+}
+
+/// The number of the row of these numbers.
+fn row_number(
+    parts: &mut WordTable,
+    row: &mut Vec<u32>,
+    shared: &Shared,
+    numbers: GlobalNumbers,
+    before: Option<&Numbered>,
+) -> Result<u32, AllocError>
+    requires { IfSome before (λ b. IsNumbered parts.old b.now) }
+    ensures { IfOk result (λ number. IsWritten (globals_row shared.now numbers) number parts.old parts.new) }
+{
     if let Some(before) = before {
         if are_globals_before(shared, numbers, before) {
             return Ok(before.globals);
@@ -152,15 +231,16 @@ pub(crate) fn globals_number(
     parts.write(row.as_slice())
 }
 
-/// The row of what a state keeps beside objects and threads.
-fn push_globals(row: &mut Vec<u32>, shared: &Shared, numbers: Numbers) -> Result<(), AllocError> {
-    push(row, shared.heap.opening())?;
-    push(row, shared.heap.object_limit())?;
-    push(row, shared.heap.cell_limit())?;
-    push(row, shared.heap.monitor_limit())?;
-    push(row, shared.threads.limit())?;
-    push(row, numbers.statics)?;
-    push(row, numbers.statuses)?;
-    push(row, numbers.ready)?;
-    push(row, numbers.printed)
+/// The number of what a state keeps beside objects and threads.
+pub(crate) fn globals_number(
+    parts: &mut WordTable,
+    row: &mut Vec<u32>,
+    shared: &Shared,
+    before: Option<&Numbered>,
+) -> Result<u32, AllocError>
+    requires { IfSome before (λ b. IsNumbered parts.old b.now) }
+    ensures { IfOk result (λ number. AreGlobalsWritten shared.now number parts.old parts.new) }
+{
+    let numbers = numbers_of(parts, row, shared, before)?;
+    row_number(parts, row, shared, numbers, before)
 }

@@ -1,7 +1,12 @@
 //! Threads with their stacks, by numbers.
 
+ghost use Rattle.std.specs.Prelude.{◌≡◌, IfSome, IfOk, OnOk};
+ghost use Rattle.kept_states.specs.Kept.{IsNumbered, IsThreadSame};
+ghost use Rattle.kept_states.specs.States.{AreThreads, AreThreadsPushed, IsThreadWritten};
+
 use crate::numbered::Numbered;
 use heap::java_threads::Threads;
+use kept_parts::rows::push;
 use kept_parts::same::{is_same_stack, is_same_thread};
 use kept_parts::thread_rows::{push_thread, read_main, read_thread};
 use machine_state::Shared;
@@ -9,13 +14,18 @@ use std::alloc::{AllocError, Global};
 use thread_stacks::ThreadStack;
 use word_table::WordTable;
 
-fn thread_before(shared: &Shared, thread: u16, before: Option<&Numbered>) -> Option<u32> {
-    let before = before?;
+/// The number of a thread in the state before, if the thread is the same there.
+fn thread_before(shared: &Shared, thread: u16, before: &Numbered) -> Option<u32>
+    ensures { IfSome result (λ number. IsThreadSame shared.now thread before.now number) }
+{
     let number = before.threads.get(usize::from(thread))?;
-    let one = shared.stacks.get(usize::from(thread))?;
-    let other = before.shared.stacks.get(usize::from(thread))?;
+    let one = before.shared.stacks.get(usize::from(thread))?;
+    let other = shared.stacks.get(usize::from(thread))?;
+    if thread as usize >= before.shared.threads.len() || thread as usize >= shared.threads.len() {
+        return None;
+    }
     if is_same_stack(one, other)
-        && is_same_thread(&shared.threads, &before.shared.threads, thread)
+        && is_same_thread(&before.shared.threads, &shared.threads, thread)
     {
         Some(*number)
     } else {
@@ -23,16 +33,15 @@ fn thread_before(shared: &Shared, thread: u16, before: Option<&Numbered>) -> Opt
     }
 }
 
-pub(crate) fn thread_number(
+/// Writes the row of a thread.
+fn written_number(
     parts: &mut WordTable,
     row: &mut Vec<u32>,
     shared: &Shared,
     thread: u16,
-    before: Option<&Numbered>,
-) -> Result<u32, AllocError> {
-    if let Some(number) = thread_before(shared, thread, before) {
-        return Ok(number);
-    }
+) -> Result<u32, AllocError>
+    ensures { IfOk result (λ number. IsThreadWritten shared.now thread number parts.old parts.new) }
+{
     let Some(stack) = shared.stacks.get(usize::from(thread)) else {
         return Err(AllocError);
     };
@@ -41,19 +50,69 @@ pub(crate) fn thread_number(
     parts.write(row.as_slice())
 }
 
+/// The number of a thread with its stack. What is the same in the state before keeps its number.
+pub(crate) fn thread_number(
+    parts: &mut WordTable,
+    row: &mut Vec<u32>,
+    shared: &Shared,
+    thread: u16,
+    before: Option<&Numbered>,
+) -> Result<u32, AllocError>
+    requires { IfSome before (λ b. IsNumbered parts.old b.now) }
+    ensures { IfOk result (λ number. IsThreadWritten shared.now thread number parts.old parts.new) }
+{
+    if let Some(before) = before {
+        if let Some(number) = thread_before(shared, thread, before) {
+            return Ok(number);
+        }
+    }
+    written_number(parts, row, shared, thread)
+}
+
+/// Puts the numbers of all threads behind other words.
+pub(crate) fn push_threads(
+    parts: &mut WordTable,
+    row: &mut Vec<u32>,
+    state: &mut Vec<u32>,
+    shared: &Shared,
+    before: Option<&Numbered>,
+) -> Result<(), AllocError>
+    requires { IfSome before (λ b. IsNumbered parts.old b.now) }
+    ensures { OnOk result (AreThreadsPushed shared.now state.old.items state.new.items parts.old parts.new) }
+{
+    if shared.stacks.len() != shared.threads.len() {
+        return Err(AllocError);
+    }
+    'threads: for thread in 0..shared.threads.len() {
+        let number = thread_number(parts, row, shared, thread as u16, before)?;
+        push(state, number)?;
+    }
+    Ok(())
+}
+
 /// The threads of these numbers, with their stacks.
 pub(crate) fn read_threads(
     alloc: Global,
     parts: &WordTable,
     limit: u32,
     numbers: &[u32],
-) -> Result<(Threads, Vec<ThreadStack>), AllocError> {
-    let (main, others) = numbers.split_first().ok_or(AllocError)?;
-    let (mut threads, stack) = read_main(alloc, parts.get(*main).ok_or(AllocError)?, limit)?;
+) -> Result<(Threads, Vec<ThreadStack>), AllocError>
+    ensures threads { IfOk result (λ r. AreThreads parts.now numbers.now r.0.threads r.1.items) }
+    ensures limit { IfOk result (λ r. r.0.limit ≡ limit) }
+{
+    let Some((main, others)) = numbers.split_first() else {
+        return Err(AllocError);
+    };
+    let Some(row) = parts.get(*main) else {
+        return Err(AllocError);
+    };
+    let (mut threads, stack) = read_main(alloc, row, limit)?;
     let mut stacks = Vec::with_capacity(alloc, numbers.len())?;
     stacks.push(stack)?;
     'others: for number in others {
-        let row = parts.get(*number).ok_or(AllocError)?;
+        let Some(row) = parts.get(*number) else {
+            return Err(AllocError);
+        };
         stacks.push(read_thread(alloc, row, &mut threads)?)?;
     }
     Ok((threads, stacks))
