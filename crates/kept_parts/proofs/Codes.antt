@@ -1,22 +1,20 @@
 -- A row stands for one part.
-use Rattle.std.proofs.Common.{◌≡◌, ℕ, zero, suc, ◌+◌, ◌-◌, ◌<◌, ◌≤◌, List, [], ◌∷◌, ◌++◌, length, map, take, drop, refl, sym, ◌∙◌, ap, Option, Some, None, Bool, true, false, arith, length-append, append_assoc, subst}
+use Rattle.std.proofs.Common.{◌≡◌, ℕ, zero, suc, List, [], ◌∷◌, ◌++◌, length, drop, refl, sym, ◌∙◌, ap, Option, Some, None, Bool, true, false, arith, append_assoc, subst}
 use Rattle.model.specs.State as model
 use Rattle.model.specs.State.{Monitor, Waiter, Thread}
-use Rattle.heap.specs.declared.kind.NarrowKind.{NarrowKind}
 use Rattle.heap.specs.declared.kind.NarrowKind.TheVariants as narrow
 use Rattle.heap.specs.declared.kind.ObjectKind.{ObjectKind}
 use Rattle.heap.specs.declared.kind.ObjectKind.TheVariants as kind
 use Rattle.heap.specs.Heap.{Object}
-use Rattle.thread_stacks.specs.declared.entry.Phase.{Phase}
 use Rattle.thread_stacks.specs.declared.entry.Phase.TheVariants as phase
 use Rattle.thread_stacks.specs.declared.entry.EntryKind.{EntryKind}
 use Rattle.thread_stacks.specs.declared.entry.EntryKind.TheVariants as entry_kind
 use Rattle.thread_stacks.specs.declared.entry.Entry.{Entry}
 use Rattle.thread_stacks.specs.Stacks.{ShownEntry, shown}
 use Rattle.kept_parts.specs.Rows.{option_row, flag_code, flags_row}
-use Rattle.kept_parts.specs.Objects.{narrow_row, kind_row, owner_code, waiters_row, monitor_row, object_row}
-use Rattle.kept_parts.specs.Stacks.{phase_code, entry_kind_row, entry_row, entries_row, stack_row, IsStackRow}
-use Rattle.kept_parts.specs.Threads.{cause_code, status_row, thread_row, IsThreadRow}
+use Rattle.kept_parts.specs.Objects.{kind_row, owner_code, waiters_row, monitor_row, object_row}
+use Rattle.kept_parts.specs.Stacks.{entry_kind_row, entry_row, entries_row, stack_row, IsStackRow}
+use Rattle.kept_parts.specs.Threads.{status_row, thread_row, IsThreadRow}
 
 -- ---- lists
 

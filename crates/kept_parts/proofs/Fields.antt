@@ -1,9 +1,7 @@
 -- The fields of a thread, set one after another; an object, read part by part.
-use Rattle.std.proofs.Common.{◌≡◌, ℕ, ◌+◌, ◌<◌, List, [], ◌∷◌, ◌++◌, length, set, refl, sym, ◌∙◌, ap, Option, Some, None, Bool, true, false, arith, append-nil, add-one}
-use Rattle.std.specs.Prelude.{◌≤◌}
+use Rattle.std.proofs.Common.{◌≡◌, ℕ, ◌+◌, ◌<◌, List, [], ◌∷◌, ◌++◌, length, set, refl, sym, ◌∙◌, ap, Bool, true, false, arith, append-nil}
 use Rattle.std.proofs.lemmas.List.{get_or-set_same, set-set}
 use Rattle.std.proofs.Math.Seq.{get_or-append_seam, set-append_seam}
-use Rattle.model.specs.State as model
 use Rattle.model.specs.State.{Monitor, Thread, new_thread}
 use Rattle.model.specs.Monitors.{monitor_at, unlocked}
 use Rattle.heap.specs.monitor.Locks.{Locks, is_fat_at}
@@ -12,7 +10,7 @@ use Rattle.heap.specs.declared.kind.ObjectKind.{ObjectKind}
 use Rattle.heap.specs.java_threads.Table.{ThreadTable, thread_at, with_thread}
 use Rattle.heap.specs.java_threads.Statuses.{status_of}
 use Rattle.kept_parts.specs.declared.thread_rows.Fields.{Fields}
-use Rattle.kept_parts.specs.Objects.{kind_row, monitor_row, object_row, opened, with_kept, with_monitor, IsMonitorRead, IsObjectRead}
+use Rattle.kept_parts.specs.Objects.{kind_row, monitor_row, opened, with_kept, with_monitor, IsMonitorRead, IsObjectRead}
 use Rattle.kept_parts.specs.Threads.{thread_of}
 
 -- ---- threads

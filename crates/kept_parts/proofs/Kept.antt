@@ -1,8 +1,7 @@
 -- Numbers stand for one heap, and go on to stand for it.
-use Rattle.std.proofs.Common.{◌≡◌, ℕ, List, [], ◌∷◌, ◌++◌, length, refl, sym, ◌∙◌, ap, Some, Option, None}
-use Rattle.std.specs.Prelude.{slice_get}
+use Rattle.std.proofs.Common.{◌≡◌, ℕ, List, [], ◌∷◌, refl, sym, ◌∙◌, Some}
 use Rattle.model.specs.State.{Monitor}
-use Rattle.heap.specs.Heap.{Object, Heap}
+use Rattle.heap.specs.Heap.{Object}
 use Rattle.word_table.specs.Lists.{StandsFor, Grows}
 use Rattle.kept_parts.specs.Objects.{object_row}
 use Rattle.kept_parts.specs.Heaps.{AreObjects}

@@ -1,5 +1,5 @@
 -- The numbers of the objects of a heap, one after another.
-use Rattle.std.proofs.Common.{◌≡◌, ℕ, zero, suc, ◌+◌, ◌<◌, ◌≤◌, List, [], ◌∷◌, ◌++◌, length, take, map, get_or, refl, sym, ◌∙◌, ap, subst, Option, Some, None, Bool, true, false, arith, append_assoc}
+use Rattle.std.proofs.Common.{◌≡◌, ℕ, zero, suc, ◌+◌, ◌<◌, ◌≤◌, List, [], ◌∷◌, ◌++◌, length, take, get_or, refl, sym, ◌∙◌, ap, subst, Option, Some, None, Bool, true, false, arith, append_assoc}
 use Rattle.std.specs.Prelude.{slice_get, IfSome}
 use Rattle.std.proofs.lemmas.List.{take_more, take_all, map-append}
 use Rattle.std.proofs.lemmas.Option.{get_or_from_slice_get, slice_get-get_or}
@@ -10,7 +10,7 @@ use Rattle.heap.specs.declared.kind.ObjectKind.TheVariants as kind
 use Rattle.heap.specs.Heap.{Object, Heap, IsSameAt}
 use Rattle.word_table.specs.Lists.{StandsFor, Grows, IsWritten}
 use Rattle.kept_parts.specs.Rows.{flag_code, flags_row}
-use Rattle.kept_parts.specs.Objects.{object_row, opened, with_kept, IsObjectRead}
+use Rattle.kept_parts.specs.Objects.{object_row, opened, with_kept}
 use Rattle.kept_parts.specs.declared.heap_rows.NumberedHeap.{NumberedHeap}
 use Rattle.kept_parts.specs.Heaps.{AreObjects, AreFirst, AreBefore, AreNumbered, GoOn, IsHeapKept, IsHeapRead, IsHeapWritten, IsNumberRead}
 use Rattle.kept_parts.proofs.Kept.{objects_stay}

@@ -6,11 +6,11 @@ use Rattle.std.proofs.lemmas.List.{get_or-set_same, set-set, set-get_or, take_mo
 use Rattle.std.proofs.lemmas.Option.{get_or_from_slice_get}
 use Rattle.model.specs.State.{Monitor, Waiter}
 use Rattle.model.specs.Monitors.{Answered, answers_done, unlocked, owned, owns, monitor_at, monitor_relock, monitor_wait, relock_from}
-use Rattle.model.specs.declared.monitor_answer.MonitorAnswer.TheVariants.{Done, Held}
+use Rattle.model.specs.declared.monitor_answer.MonitorAnswer.TheVariants.{Done}
 use Rattle.heap.specs.declared.monitor.call.Call.TheVariants.{Relock, Wait, WakeAll}
 use Rattle.heap.specs.monitor.Locks.{Locks, IsDone, is_fat_at}
 use Rattle.heap.specs.Heap.{Heap, HandsOn}
-use Rattle.kept_parts.specs.Objects.{owner_code, waiters_row, monitor_row, with_monitor, with_monitor_at, joined, Enters, Joins, Inflates, AreWaitersRead, IsOwnerRead, IsMonitorRead}
+use Rattle.kept_parts.specs.Objects.{owner_code, waiters_row, with_monitor, with_monitor_at, joined, Enters, Joins, Inflates, AreWaitersRead, IsOwnerRead, IsMonitorRead}
 
 -- ---- rows
 

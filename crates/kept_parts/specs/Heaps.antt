@@ -1,8 +1,7 @@
 -- A heap as a list of numbers, each of which stands for the row of an object with its monitor (own).
-use Rattle.std.specs.Prelude.{◌≡◌, ℕ, List, [], ◌∷◌, ◌+◌, ◌<◌, ◌≤◌, Option, Some, None, IfSome, Bool, length, take}
+use Rattle.std.specs.Prelude.{◌≡◌, ℕ, List, [], ◌∷◌, ◌<◌, ◌≤◌, Option, IfSome, Bool, length, take}
 use Rattle.model.specs.declared.limits.Limits.{Limits}
 use Rattle.model.specs.State.{Monitor}
-use Rattle.heap.specs.monitor.Locks.{Locks}
 use Rattle.heap.specs.Heap.{Object, Heap}
 use Rattle.word_table.specs.Lists.{StandsFor, Grows}
 use Rattle.kept_parts.specs.Rows.{flag_code, flags_row}

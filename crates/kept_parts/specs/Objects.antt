@@ -6,7 +6,6 @@ use Rattle.heap.specs.declared.kind.NarrowKind.{NarrowKind}
 use Rattle.heap.specs.declared.kind.NarrowKind.TheVariants as narrow
 use Rattle.heap.specs.declared.kind.ObjectKind.{ObjectKind}
 use Rattle.heap.specs.declared.kind.ObjectKind.TheVariants as kind
-use Rattle.heap.specs.monitor.Locks.{Locks, is_fat_at}
 use Rattle.heap.specs.Heap.{Object, Heap}
 
 abbrev pub narrow_row : NarrowKind → List ℕ

@@ -1,6 +1,6 @@
 -- A thread with its stack as a row of words (own): what it is about, its object, whether it has begun and is interrupted, the exception
 -- that is pending, and its stack.
-use Rattle.std.specs.Prelude.{◌≡◌, ℕ, List, [], ◌∷◌, ◌++◌, Option, Some, None}
+use Rattle.std.specs.Prelude.{◌≡◌, ℕ, List, [], ◌∷◌, ◌++◌, Some, None}
 use Rattle.model.specs.State as model
 use Rattle.model.specs.State.{Thread}
 use Rattle.heap.specs.java_threads.Table.{ThreadTable}
