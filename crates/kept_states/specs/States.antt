@@ -6,10 +6,11 @@ use Rattle.heap.specs.java_threads.Table.{ThreadTable, thread_at}
 use Rattle.thread_stacks.specs.Stacks.{ShownEntry}
 use Rattle.word_table.specs.Lists.{StandsFor, Grows}
 use Rattle.kept_parts.specs.Rows.{flags_row}
-use Rattle.kept_parts.specs.Heaps.{IsHeapKept}
+use Rattle.kept_parts.specs.Heaps.{IsHeapKept, IsHeapRead}
 use Rattle.kept_parts.specs.Threads.{IsThreadRow}
 use Rattle.machine_state.specs.declared.state.ClassStatus.{ClassStatus}
 use Rattle.machine_state.specs.declared.state.Shared.{Shared}
+use Rattle.kept_states.specs.declared.globals.Globals.{Globals}
 use Rattle.kept_states.specs.declared.numbered.GlobalNumbers.{GlobalNumbers}
 use Rattle.kept_states.specs.Rows.{statuses_row, ints_of}
 
@@ -64,6 +65,11 @@ pub record IsPrintedWritten (ints : List ℤ) (number : ℕ) (old new : List (Li
   pub stands : StandsFor new number row
   pub are : ints ≡ ints_of row
 
+pub record IsPrintedRead (parts : List (List ℕ)) (number : ℕ) (ints : List ℤ) : Type 0 where
+  pub row : List ℕ
+  pub stands : StandsFor parts number row
+  pub are : ints ≡ ints_of row
+
 -- the number of the row of such numbers was written
 pub record AreGlobalsWritten (s : Shared) (number : ℕ) (old new : List (List ℕ)) : Type 0 where
   pub grows : Grows old new
@@ -102,3 +108,12 @@ pub record AreTheSame (one other : Shared) : Type 0 where
   pub threads : one.threads ≡ other.threads
   pub printed : one.printed.items ≡ other.printed.items
   pub stacks : one.stacks.items ≡ other.stacks.items
+
+-- ---- read again
+
+-- a state was read by the numbers of its objects and threads, and what is kept beside them
+pub record IsSharedRead (parts : List (List ℕ)) (globals : Globals) (objects threads fat : List ℕ) (s : Shared) : Type 0 where
+  pub heap : IsHeapRead parts globals.limits globals.opening objects fat s.heap
+  pub each : AreGlobals parts globals.numbers s
+  pub limit : s.threads.limit ≡ globals.limits.threads
+  pub threads_are : AreThreads parts threads s.threads.threads s.stacks.items

@@ -6,6 +6,7 @@
 mod copies;
 mod globals;
 mod numbered;
+mod reading;
 mod shared_rows;
 mod states;
 mod threads;
