@@ -1,5 +1,5 @@
 -- A state as a list of numbers of its parts (own).
-use Rattle.std.specs.Prelude.{◌≡◌, ℕ, List, [], ◌∷◌, ◌++◌, Some, None, Bool, length, slice_get, slice_index_or, ℤ}
+use Rattle.std.specs.Prelude.{◌≡◌, ℕ, List, [], ◌∷◌, ◌++◌, Some, None, Bool, length, take, slice_get, slice_index_or, ℤ}
 use Rattle.model.specs.State.{Thread}
 use Rattle.heap.specs.Heap.{Heap}
 use Rattle.heap.specs.java_threads.Table.{ThreadTable, thread_at}
@@ -7,7 +7,7 @@ use Rattle.thread_stacks.specs.Stacks.{ShownEntry}
 use Rattle.word_table.specs.Lists.{StandsFor, Grows}
 use Rattle.kept_parts.specs.Rows.{flags_row}
 use Rattle.kept_parts.specs.Heaps.{IsHeapKept, IsHeapRead}
-use Rattle.kept_parts.specs.Threads.{IsThreadRow}
+use Rattle.kept_parts.specs.Threads.{IsThreadRow, IsThreadRead}
 use Rattle.machine_state.specs.declared.state.ClassStatus.{ClassStatus}
 use Rattle.machine_state.specs.declared.state.Shared.{Shared}
 use Rattle.kept_states.specs.declared.globals.Globals.{Globals}
@@ -32,12 +32,12 @@ pub record IsThreadWritten (s : Shared) (thread number : ℕ) (old new : List (L
   pub grows : Grows old new
   pub has : HasThread new number s thread
 
--- all threads have numbers, put behind other words
-pub record AreThreadsPushed (s : Shared) (before after : List ℕ) (old new : List (List ℕ)) : Type 0 where
+-- the first so many threads have numbers, put behind other words
+pub record AreThreadsPushed (s : Shared) (count : ℕ) (before after : List ℕ) (old new : List (List ℕ)) : Type 0 where
   pub grows : Grows old new
   pub numbers : List ℕ
   pub after_is : after ≡ before ++ numbers
-  pub are : AreThreads new numbers s.threads.threads s.stacks.items
+  pub are : AreThreads new numbers (take count s.threads.threads) (take count s.stacks.items)
 
 -- ---- all else
 
@@ -117,3 +117,12 @@ pub record IsSharedRead (parts : List (List ℕ)) (globals : Globals) (objects t
   pub each : AreGlobals parts globals.numbers s
   pub limit : s.threads.limit ≡ globals.limits.threads
   pub threads_are : AreThreads parts threads s.threads.threads s.stacks.items
+
+-- the thread of a number was put behind the others, with its stack
+pub record IsThreadAdded (parts : List (List ℕ)) (number : ℕ) (old : ThreadTable) (stacks : List (List ShownEntry)) (new : ThreadTable)
+    (new_stacks : List (List ShownEntry)) : Type 0 where
+  pub row : List ℕ
+  pub stands : StandsFor parts number row
+  pub stack : List ShownEntry
+  pub read : IsThreadRead row old new stack
+  pub stacks_are : new_stacks ≡ stacks ++ stack ∷ []

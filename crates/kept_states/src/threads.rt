@@ -1,10 +1,11 @@
 //! Threads with their stacks, by numbers.
 
-ghost use Rattle.std.specs.Prelude.{◌≡◌, IfSome, IfOk, OnOk};
+ghost use Rattle.std.specs.Prelude.{◌≡◌, length, IfSome, IfOk, OnOk};
 ghost use Rattle.kept_states.specs.Kept.{IsNumbered, IsThreadSame};
-ghost use Rattle.kept_states.specs.States.{AreThreads, AreThreadsPushed, IsThreadWritten};
+ghost use Rattle.kept_states.specs.States.{AreThreads, AreThreadsPushed, IsThreadAdded, IsThreadWritten};
 
 use crate::numbered::Numbered;
+use crate::reading::part;
 use heap::java_threads::Threads;
 use kept_parts::rows::push;
 use kept_parts::same::{is_same_stack, is_same_thread};
@@ -78,7 +79,9 @@ pub(crate) fn push_threads(
     before: Option<&Numbered>,
 ) -> Result<(), AllocError>
     requires { IfSome before (λ b. IsNumbered parts.old b.now) }
-    ensures { OnOk result (AreThreadsPushed shared.now state.old.items state.new.items parts.old parts.new) }
+    ensures pushed { OnOk result (AreThreadsPushed shared.now (length shared.now.threads.threads)
+        state.old.items state.new.items parts.old parts.new) }
+    ensures stacks { OnOk result (length shared.now.stacks.items ≡ length shared.now.threads.threads) }
 {
     if shared.stacks.len() != shared.threads.len() {
         return Err(AllocError);
@@ -87,6 +90,22 @@ pub(crate) fn push_threads(
         let number = thread_number(parts, row, shared, thread as u16, before)?;
         push(state, number)?;
     }
+    Ok(())
+}
+
+/// The thread of a number, with its stack, behind the others.
+fn read_one(
+    alloc: Global,
+    parts: &WordTable,
+    number: u32,
+    threads: &mut Threads,
+    stacks: &mut Vec<ThreadStack>,
+) -> Result<(), AllocError>
+    ensures { OnOk result (IsThreadAdded parts.now number threads.old stacks.old.items threads.new stacks.new.items) }
+{
+    let row = part(parts, number)?;
+    let stack = read_thread(alloc, row, threads)?;
+    stacks.push(stack)?;
     Ok(())
 }
 
@@ -103,17 +122,12 @@ pub(crate) fn read_threads(
     let Some((main, others)) = numbers.split_first() else {
         return Err(AllocError);
     };
-    let Some(row) = parts.get(*main) else {
-        return Err(AllocError);
-    };
+    let row = part(parts, *main)?;
     let (mut threads, stack) = read_main(alloc, row, limit)?;
     let mut stacks = Vec::with_capacity(alloc, numbers.len())?;
     stacks.push(stack)?;
     'others: for number in others {
-        let Some(row) = parts.get(*number) else {
-            return Err(AllocError);
-        };
-        stacks.push(read_thread(alloc, row, &mut threads)?)?;
+        read_one(alloc, parts, *number, &mut threads, &mut stacks)?;
     }
     Ok((threads, stacks))
 }
