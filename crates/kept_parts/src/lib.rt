@@ -8,8 +8,8 @@
 //!   `thread_one`). So one list of numbers stands for one list of objects (`objects_stand_one`), also once the table
 //!   has grown (`objects_stay`).
 //! - `push_thread` puts the row of a thread behind other words. `heap_number` writes the row of each object, and
-//!   answers a number that stands for the list of their numbers. What is the same in a heap before keeps its number: then the
-//!   number stands for it, too. `fat_number` does the same for the flags of inflated locks.
+//!   answers a number that stands for the list of their numbers. What is the same in a heap before keeps its number:
+//!   then the number stands for it, too. `fat_number` does the same for the flags of inflated locks.
 //! - `read_heap`, `read_main` and `read_thread` answer only what has these rows, under the limits that are given.
 //! - What `is_same_stack` and `is_same_thread` find to be the same is.
 //!
@@ -21,8 +21,12 @@
 //!
 //! # Wrong bodies
 //!
-//! - An object keeps the number that another has in the heap before; a list of numbers is taken for one as long; a row
-//!   leaves the monitor out; a stack is the same where an entry has fewer operands; a waiter joins with one entry.
+//! - `number-of-the-next-object`, `list-as-long`: an object has the number that another one has in the heap before, or a
+//!   list of numbers stands for another one; refused by the contracts of `heap_number` and of what it calls.
+//! - `row-without-the-monitor`, `waiter-joins-with-one-entry`: a monitor is left out, or read as another one;
+//!   refused by the contracts of `push_object` and `read_monitor`.
+//! - `operands-are-not-compared`: a stack is found to be the same where an entry has fewer operands; refused by that of
+//!   `is_same_stack`.
 #![tactic(auto)]
 
 mod entry_rows;
