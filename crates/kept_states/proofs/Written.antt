@@ -95,7 +95,7 @@ same_thread parts s thread number before n same =
         had.0,
         had.1,
         subst (λ (t : Thread). IsThreadRow had.0 t (get_or s.stacks.items thread [])) same.thread_is
-        (subst (λ (k : List ShownEntry). IsThreadRow had.0 (thread_at before.shared.threads.threads thread) k) same.stack_is had.2),
+            (subst (λ (k : List ShownEntry). IsThreadRow had.0 (thread_at before.shared.threads.threads thread) k) same.stack_is had.2),
       );
     }
 
@@ -139,7 +139,7 @@ one_pushed s count number before mid after old parts new there even p w is =
       numbers = p.numbers ++ number ∷ [];
       after_is = is ∙ ap (λ (ns : List ℕ). ns ++ number ∷ []) p.after_is ∙ append_assoc before p.numbers (number ∷ []);
       are = rw (ts, ss) (threads_more new p.numbers (take count s.threads.threads) (take count s.stacks.items) number
-        (thread_at s.threads.threads count) (get_or s.stacks.items count []) stay w.has);
+          (thread_at s.threads.threads count) (get_or s.stacks.items count []) stay w.has);
     }
 
 -- ---- threads that are read

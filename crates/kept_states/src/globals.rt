@@ -8,7 +8,9 @@ ghost use Rattle.kept_states.specs.States.{globals_row, AreGlobalsWritten, IsPri
 ghost use Rattle.kept_states.specs.Kept.{IsNumbered};
 
 use crate::numbered::{GlobalNumbers, Numbered};
-use crate::shared_rows::{are_same_flags, are_same_ints, are_same_statuses, are_same_words, push_ints, push_statuses};
+use crate::shared_rows::{
+    are_same_flags, are_same_ints, are_same_statuses, are_same_words, push_ints, push_statuses,
+};
 use kept_parts::reader::Reader;
 use kept_parts::rows::{push, push_flags};
 use machine_state::Shared;
@@ -101,7 +103,10 @@ fn statuses_number(
     ensures { IfOk result (λ number. IsWritten (statuses_row shared.now.statuses.items) number parts.old parts.new) }
 {
     if let Some(before) = before {
-        if are_same_statuses(before.shared.statuses.as_slice(), shared.statuses.as_slice()) {
+        if are_same_statuses(
+            before.shared.statuses.as_slice(),
+            shared.statuses.as_slice(),
+        ) {
             return Ok(before.numbers.statuses);
         }
     }
@@ -196,7 +201,11 @@ fn are_globals_before(shared: &Shared, numbers: GlobalNumbers, before: &Numbered
 }
 
 /// The row of what a state keeps beside objects and threads.
-fn push_globals(row: &mut Vec<u32>, shared: &Shared, numbers: GlobalNumbers) -> Result<(), AllocError>
+fn push_globals(
+    row: &mut Vec<u32>,
+    shared: &Shared,
+    numbers: GlobalNumbers,
+) -> Result<(), AllocError>
     ensures { OnOk result (row.new.items ≡ row.old.items ++ globals_row shared.now numbers) }
 {
     push(row, shared.heap.opening())?;

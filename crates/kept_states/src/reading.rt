@@ -35,7 +35,11 @@ fn statics_of(alloc: Global, parts: &WordTable, number: u32) -> Result<Vec<u32>,
     Ok(statics)
 }
 
-fn statuses_of(alloc: Global, parts: &WordTable, number: u32) -> Result<Vec<ClassStatus>, AllocError>
+fn statuses_of(
+    alloc: Global,
+    parts: &WordTable,
+    number: u32,
+) -> Result<Vec<ClassStatus>, AllocError>
     ensures { IfOk result (λ statuses. StandsFor parts.now number (statuses_row statuses.items)) }
 {
     let row = part(parts, number)?;
