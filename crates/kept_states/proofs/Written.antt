@@ -1,14 +1,16 @@
 -- What is written of a state, and read again.
 use Rattle.std.proofs.Common.{◌≡◌, ℕ, zero, suc, ◌+◌, ◌<◌, ◌≤◌, List, [], ◌∷◌, ◌++◌, length, take, get_or, refl, sym, ◌∙◌, ap, subst, Option, Some, None, Result, Ok, Err, Bor, arith, append_assoc, append-nil}
-use Rattle.std.specs.Prelude.{slice_get, IfSome, OnOk, IfOk}
-use Rattle.std.proofs.lemmas.List.{take_more, take_all}
+use Rattle.std.specs.Prelude.{slice_get, IfSome, OnOk, IfOk, ℤ}
+use Rattle.std.specs.Int.{w32, cast_signed}
+use Rattle.std.proofs.lemmas.List.{take_more, take_all, map-append}
 use Rattle.std.proofs.lemmas.Option.{slice_get-get_or}
 use Rattle.model.specs.State.{Thread, new_thread}
 use Rattle.heap.specs.java_threads.Table.{ThreadTable, thread_at}
 use Rattle.thread_stacks.specs.Stacks.{ShownEntry}
 use Rattle.word_table.specs.Lists.{StandsFor, Grows, IsWritten}
 use Rattle.kept_parts.specs.Rows.{flags_row}
-use Rattle.kept_parts.specs.Heaps.{AreBefore, IsHeapWritten}
+use Rattle.kept_parts.specs.Heaps.{AreBefore, IsHeapKept, IsHeapWritten}
+use Rattle.heap.specs.Heap.{Heap}
 use Rattle.kept_parts.specs.declared.heap_rows.NumberedHeap.{NumberedHeap}
 use Rattle.kept_parts.specs.Threads.{IsThreadRow, IsThreadPushed, IsThreadRead}
 use Rattle.kept_parts.proofs.Kept.{objects_stay}
@@ -16,7 +18,7 @@ use Rattle.machine_state.specs.declared.state.Shared.{Shared}
 use Rattle.kept_states.specs.declared.numbered.GlobalNumbers.{GlobalNumbers}
 use Rattle.kept_states.specs.declared.numbered.Numbered.{Numbered}
 use Rattle.kept_states.specs.declared.globals.Globals.{Globals}
-use Rattle.kept_states.specs.Rows.{statuses_row, ints_of}
+use Rattle.kept_states.specs.Rows.{statuses_row, ints_of, ArePushed}
 use Rattle.kept_states.specs.States.{AreThreads, HasThread, IsThreadWritten, AreThreadsPushed, IsThreadAdded, globals_row, AreGlobals, AreNumbersWritten, IsPrintedWritten, AreGlobalsWritten, IsStateRow, AreFat, IsSharedRead}
 use Rattle.kept_states.specs.Kept.{IsNumbered, IsThreadSame}
 use Rattle.kept_states.proofs.One.{threads_stay}
@@ -67,6 +69,68 @@ AreKeptBefore parts before = IfSome before (λ (b : Bor Numbered). IsNumbered pa
 pub before_stays : (old new : List (List ℕ)) (before : Option (Bor Numbered)) → Grows old new → AreKeptBefore old before → AreKeptBefore new before
 before_stays old new None grows b = tt
 before_stays old new (Some n) grows b = numbered_stays old new n.now grows b
+
+-- what is the same as before keeps its number
+
+pub statics_same : (parts : List (List ℕ)) (before : Numbered) (s : Shared) → IsNumbered parts before → before.shared.statics.items ≡ s.statics.items
+    → IsWritten s.statics.items before.numbers.statics parts parts
+statics_same parts before s is same = same_written parts before.numbers.statics before.shared.statics.items s.statics.items is.each.statics same
+
+pub statuses_same : (parts : List (List ℕ)) (before : Numbered) (s : Shared) → IsNumbered parts before → before.shared.statuses.items ≡ s.statuses.items
+    → IsWritten (statuses_row s.statuses.items) before.numbers.statuses parts parts
+statuses_same parts before s is same =
+    same_written parts before.numbers.statuses (statuses_row before.shared.statuses.items) (statuses_row s.statuses.items) is.each.statuses (ap statuses_row same)
+
+pub ready_same : (parts : List (List ℕ)) (before : Numbered) (s : Shared) → IsNumbered parts before → before.shared.ready.items ≡ s.ready.items
+    → IsWritten (flags_row s.ready.items) before.numbers.ready parts parts
+ready_same parts before s is same =
+    same_written parts before.numbers.ready (flags_row before.shared.ready.items) (flags_row s.ready.items) is.each.ready (ap flags_row same)
+
+pub printed_same : (parts : List (List ℕ)) (before : Numbered) (s : Shared) → IsNumbered parts before → before.shared.printed.items ≡ s.printed.items
+    → IsPrintedWritten s.printed.items before.numbers.printed parts parts
+printed_same parts before s is same = record {
+  grows = grows_not parts;
+  row = is.each.printed_row;
+  stands = is.each.printed;
+  are = sym same ∙ is.each.printed_are;
+}
+
+pub globals_same : (parts : List (List ℕ)) (before : Numbered) (s : Shared) (numbers : GlobalNumbers) → IsNumbered parts before
+    → globals_row before.shared before.numbers ≡ globals_row s numbers → IsWritten (globals_row s numbers) before.globals parts parts
+globals_same parts before s numbers is same =
+    same_written parts before.globals (globals_row before.shared before.numbers) (globals_row s numbers) is.globals same
+
+pub printed_written : (ints : List ℤ) (row : List ℕ) (number : ℕ) (old new : List (List ℕ)) → ArePushed ints [] row → IsWritten row number old new
+    → IsPrintedWritten ints number old new
+printed_written ints row number old new p w = record {
+  grows = w.grows;
+  row = p.words;
+  stands = w.stands ∙ ap (λ (r : List ℕ). Some r) p.new_is;
+  are = p.are;
+}
+
+pub heap_is_before : (parts : List (List ℕ)) (n : Numbered) (h : NumberedHeap) → IsNumbered parts n → h.objects.now ≡ n.objects.items
+    → h.heap.now ≡ n.shared.heap → h.number ≡ n.heap → AreBefore parts h
+heap_is_before parts n h is objects heap number = record {
+  are = subst (λ (ns : List ℕ). IsHeapKept parts ns h.heap.now) (sym objects) (subst (λ (x : Heap). IsHeapKept parts n.objects.items x) (sym heap) is.objects);
+  stands = subst (λ (ns : List ℕ). StandsFor parts h.number ns) (sym objects) (subst (λ (k : ℕ). StandsFor parts k n.objects.items) (sym number) is.heap);
+}
+
+-- ---- ints
+
+pub no_ints : (words : List ℕ) → ArePushed [] words words
+no_ints words = record { words = []; new_is = sym (append-nil words); are = refl }
+
+pub int_more : (ints : List ℤ) (at : ℕ) (int : ℤ) (word : ℕ) (old mid new : List ℕ) → at < length ints → int ≡ get_or ints at int
+    → ArePushed (take at ints) old mid → int ≡ cast_signed w32 word → new ≡ mid ++ word ∷ [] → ArePushed (take (at + 1) ints) old new
+int_more ints at int word old mid new there is p bits step = record {
+  words = p.words ++ word ∷ [];
+  new_is = step ∙ ap (λ (ns : List ℕ). ns ++ word ∷ []) p.new_is ∙ append_assoc old p.words (word ∷ []);
+  are = take_more ints at int there
+    ∙ ap (λ (x : ℤ). take at ints ++ x ∷ []) (sym is ∙ bits)
+    ∙ ap (λ (xs : List ℤ). xs ++ cast_signed w32 word ∷ []) p.are
+    ∙ sym (map-append (λ (n : ℕ). cast_signed w32 n) p.words (word ∷ []));
+}
 
 -- ---- threads
 

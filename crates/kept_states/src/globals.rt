@@ -77,6 +77,7 @@ pub(crate) fn read_globals(row: &[u32]) -> Result<Globals, AllocError>
     }
 }
 
+#[tactic(auto, using(crate::proofs::Written::statics_same))]
 fn statics_number(
     parts: &mut WordTable,
     shared: &Shared,
@@ -93,6 +94,7 @@ fn statics_number(
     parts.write(shared.statics.as_slice())
 }
 
+#[tactic(auto, using(crate::proofs::Written::statuses_same))]
 fn statuses_number(
     parts: &mut WordTable,
     row: &mut Vec<u32>,
@@ -115,6 +117,7 @@ fn statuses_number(
     parts.write(row.as_slice())
 }
 
+#[tactic(auto, using(crate::proofs::Written::ready_same))]
 fn ready_number(
     parts: &mut WordTable,
     row: &mut Vec<u32>,
@@ -134,6 +137,7 @@ fn ready_number(
     parts.write(row.as_slice())
 }
 
+#[tactic(auto, using(crate::proofs::Written::printed_same, crate::proofs::Written::printed_written))]
 fn printed_number(
     parts: &mut WordTable,
     row: &mut Vec<u32>,
@@ -154,6 +158,7 @@ fn printed_number(
 }
 
 /// The numbers of what a state keeps beside objects and threads.
+#[tactic(auto, using(crate::proofs::Written::before_stays, crate::proofs::Written::all_written))]
 fn numbers_of(
     parts: &mut WordTable,
     row: &mut Vec<u32>,
@@ -220,6 +225,7 @@ fn push_globals(
 }
 
 /// The number of the row of these numbers.
+#[tactic(auto, using(crate::proofs::Written::globals_same))]
 fn row_number(
     parts: &mut WordTable,
     row: &mut Vec<u32>,
@@ -241,6 +247,7 @@ fn row_number(
 }
 
 /// The number of what a state keeps beside objects and threads.
+#[tactic(auto, using(crate::proofs::Written::before_stays, crate::proofs::Written::globals_written))]
 pub(crate) fn globals_number(
     parts: &mut WordTable,
     row: &mut Vec<u32>,

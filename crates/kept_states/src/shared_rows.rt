@@ -66,6 +66,7 @@ fn word_of(int: i32) -> Result<u32, AllocError>
 }
 
 /// Ints, by their bits.
+#[tactic(auto, using(crate::proofs::Written::no_ints, crate::proofs::Written::int_more))]
 pub(crate) fn push_ints(row: &mut Vec<u32>, ints: &[i32]) -> Result<(), AllocError>
     ensures { OnOk result (ArePushed ints.now row.old.items row.new.items) }
 {

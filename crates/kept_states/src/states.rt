@@ -34,8 +34,9 @@ pub struct KeptStates {
 }
 
 /// The heap of a state before, with its numbers.
+#[tactic(auto, using(crate::proofs::Written::heap_is_before))]
 fn heap_before(before: Option<&Numbered>) -> Option<NumberedHeap<'_>>
-    ensures { (parts : List (List ℕ)) → IfSome before (λ b. IsNumbered parts b.now) → IfSome result (AreBefore parts) }
+    ensures { (parts : List (List ℕ)) → IfSome before.entry (λ b. IsNumbered parts b.now) → IfSome result (AreBefore parts) }
 {
     match before {
         Some(before) => Some(NumberedHeap {
@@ -96,6 +97,7 @@ impl KeptStates {
 
     /// Writes the parts of a state, and makes its row. Those that are the same in the state before keep their numbers.
     /// On an error, a want of memory, nothing is claimed.
+    #[tactic(auto, using(crate::proofs::Written::row_made, crate::proofs::Written::before_stays))]
     pub fn write(&mut self, shared: &Shared, before: Option<&Numbered>) -> Result<(), AllocError>
         requires { IfSome before (λ b. IsNumbered self.old.parts b.now) }
         ensures { OnOk result (IsRowMade shared.now self.old self.new) }
@@ -137,6 +139,7 @@ impl KeptStates {
     }
 
     /// The state of a number. An error where there is none, or where memory is wanting.
+    #[tactic(auto, using(crate::proofs::Written::row_of))]
     pub fn read(&self, number: u32) -> Result<Numbered, AllocError>
         ensures state { IfOk result (λ n. IsState self.now number n.shared) }
         ensures numbered { IfOk result (IsNumbered self.now.parts) }

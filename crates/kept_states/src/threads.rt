@@ -35,6 +35,7 @@ fn thread_before(shared: &Shared, thread: u16, before: &Numbered) -> Option<u32>
 }
 
 /// Writes the row of a thread.
+#[tactic(auto, using(crate::proofs::Written::thread_written))]
 fn written_number(
     parts: &mut WordTable,
     row: &mut Vec<u32>,
@@ -52,6 +53,7 @@ fn written_number(
 }
 
 /// The number of a thread with its stack. What is the same in the state before keeps its number.
+#[tactic(auto, using(crate::proofs::Written::same_thread))]
 pub(crate) fn thread_number(
     parts: &mut WordTable,
     row: &mut Vec<u32>,
@@ -71,6 +73,7 @@ pub(crate) fn thread_number(
 }
 
 /// Puts the numbers of all threads behind other words.
+#[tactic(auto, using(crate::proofs::Written::none_pushed, crate::proofs::Written::one_pushed, crate::proofs::Written::before_stays))]
 pub(crate) fn push_threads(
     parts: &mut WordTable,
     row: &mut Vec<u32>,
@@ -110,6 +113,7 @@ fn read_one(
 }
 
 /// The threads of these numbers, with their stacks.
+#[tactic(auto, using(crate::proofs::Written::first_read, crate::proofs::Written::one_added))]
 pub(crate) fn read_threads(
     alloc: Global,
     parts: &WordTable,
