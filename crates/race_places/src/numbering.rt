@@ -12,8 +12,9 @@
 //!
 //! # Wrong bodies
 //!
-//! - `numbering-volatile-is-forgotten`, `numbering-element-by-its-array-alone`, `numbering-field-by-its-object-alone`: a
-//!   volatile variable is read as if it were none, or two variables have one number; refused by `IsNumbered`.
+//! - `numbering-volatile-is-forgotten`: a volatile variable is read as if it were none; refused by `IsNumbered`.
+//! - `numbering-element-by-its-array-alone`, `numbering-field-by-its-object-alone`: two variables have one key; refused by
+//!   `variable_key`.
 //! - `numbering-unlock-of-another-monitor`, `numbering-join-finds-the-start`, `numbering-cleared-interrupt-stays`: an
 //!   action leaves or finds something else than it does; refused by `IsNumbered`.
 

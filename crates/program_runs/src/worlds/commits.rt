@@ -83,7 +83,8 @@ impl World {
             return Ok(Commit::Stale);
         }
         self.recorded.reserve()?;
-        if !self.machine.advance(thread, burst)? {
+        let advanced = self.machine.advance(thread, burst)?;
+        if !advanced {
             return Ok(Commit::Stale);
         }
         self.recorded

@@ -12,7 +12,7 @@ pub returns-then-has_local : goal.returns-then-has_local
 returns-then-has_local c = λ is.
     let instruction = c.in-Some-instruction_at.instruction in
     record {
-      shown = shown_frame c.in-Some.frame.now;
+      shown = shown_frame c.in-Some.frame;
       on_top = c.in-Some.ensures;
       instruction = instruction;
       is = c.in-Some-instruction_at.ensures;
