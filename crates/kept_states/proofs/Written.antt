@@ -2,7 +2,7 @@
 use Rattle.std.proofs.Common.{◌≡◌, ℕ, zero, suc, ◌+◌, ◌<◌, ◌≤◌, List, [], ◌∷◌, ◌++◌, length, take, get_or, refl, sym, ◌∙◌, ap, subst, Option, Some, None, Result, Ok, Err, Bor, arith, append_assoc, append-nil}
 use Rattle.std.specs.Prelude.{slice_get, IfSome, OnOk, IfOk, ℤ}
 use Rattle.std.specs.Int.{w32, cast_signed}
-use Rattle.std.proofs.lemmas.List.{take_more, take_all, map-append}
+use Rattle.std.proofs.lemmas.List.{take_more, take_all, map-append, get_or_read}
 use Rattle.std.proofs.lemmas.Option.{slice_get-get_or}
 use Rattle.model.specs.State.{Thread, new_thread}
 use Rattle.heap.specs.java_threads.Table.{ThreadTable, thread_at}
@@ -20,7 +20,8 @@ use Rattle.kept_states.specs.declared.numbered.Numbered.{Numbered}
 use Rattle.kept_states.specs.declared.globals.Globals.{Globals}
 use Rattle.kept_states.specs.Rows.{statuses_row, ints_of, ArePushed}
 use Rattle.kept_states.specs.States.{AreThreads, HasThread, IsThreadWritten, AreThreadsPushed, IsThreadAdded, globals_row, AreGlobals, AreNumbersWritten, IsPrintedWritten, AreGlobalsWritten, IsStateRow, AreFat, IsSharedRead}
-use Rattle.kept_states.specs.Kept.{IsNumbered, IsThreadSame}
+use Rattle.kept_states.specs.Kept.{IsNumbered, IsThreadSame, IsState, IsStateAdded, IsRowMade}
+use Rattle.kept_states.specs.declared.states.KeptStates.{KeptStates}
 use Rattle.kept_states.proofs.One.{threads_stay}
 
 pub on_ok : {T E : Type 0} (r : Result T E) (P Q : Type 0) → (P → Q) → OnOk r P → OnOk r Q
@@ -127,9 +128,9 @@ int_more ints at int word old mid new there is p bits step = record {
   words = p.words ++ word ∷ [];
   new_is = step ∙ ap (λ (ns : List ℕ). ns ++ word ∷ []) p.new_is ∙ append_assoc old p.words (word ∷ []);
   are = take_more ints at int there
-    ∙ ap (λ (x : ℤ). take at ints ++ x ∷ []) (sym is ∙ bits)
-    ∙ ap (λ (xs : List ℤ). xs ++ cast_signed w32 word ∷ []) p.are
-    ∙ sym (map-append (λ (n : ℕ). cast_signed w32 n) p.words (word ∷ []));
+      ∙ ap (λ (x : ℤ). take at ints ++ x ∷ []) (sym is ∙ bits)
+      ∙ ap (λ (xs : List ℤ). xs ++ cast_signed w32 word ∷ []) p.are
+      ∙ sym (map-append (λ (n : ℕ). cast_signed w32 n) p.words (word ∷ []));
 }
 
 -- ---- threads
@@ -292,3 +293,60 @@ pub globals_read : (g : Globals) (objects threads fat row : List ℕ) (parts : L
     → IsSharedRead parts g objects threads fat s → row ≡ globals_row s g.numbers
 globals_read g objects threads fat row parts s is r =
     is ∙ sym (rw (r.heap.opening_is, r.heap.objects_limited, r.heap.cells_limited, r.heap.monitors_limited, r.limit) refl)
+
+pub numbered_read : (parts : List (List ℕ)) (n : Numbered) (g : Globals) (row objects threads fat : List ℕ) → StandsFor parts n.globals row
+    → row ≡ g.opening ∷ g.limits.objects ∷ g.limits.cells ∷ g.limits.monitors ∷ g.limits.threads ∷ g.numbers.statics ∷ g.numbers.statuses ∷ g.numbers.ready ∷ g.numbers.printed ∷ []
+    → StandsFor parts n.heap objects → StandsFor parts n.fat fat → IsSharedRead parts g objects threads fat n.shared → n.numbers ≡ g.numbers
+    → n.objects.items ≡ objects → n.threads.items ≡ threads → IsNumbered parts n
+numbered_read parts n g row objects threads fat globals is heap flags r numbers os ts =
+    let same : row ≡ globals_row n.shared n.numbers =
+    globals_read g objects threads fat row parts n.shared is r ∙ ap (λ (m : GlobalNumbers). globals_row n.shared m) (sym numbers) in
+    record {
+      globals = globals ∙ ap (λ (ws : List ℕ). Some ws) same;
+      each = subst (λ (m : GlobalNumbers). AreGlobals parts m n.shared) (sym numbers) r.each;
+      heap = heap ∙ ap (λ (ws : List ℕ). Some ws) (sym os);
+      objects = subst (λ (ns : List ℕ). IsHeapKept parts ns n.shared.heap) (sym os) r.heap.are;
+      threads = subst (λ (ns : List ℕ). AreThreads parts ns n.shared.threads.threads n.shared.stacks.items) (sym ts) r.threads_are;
+      fat = flags ∙ ap (λ (ws : List ℕ). Some ws) r.heap.fat_is;
+    }
+
+-- ---- what is kept
+
+pub state_read : (k : KeptStates) (number fat : ℕ) (row : List ℕ) (n : Numbered) → StandsFor k.states number row → slice_get k.fat.items number ≡ Some fat
+    → row ≡ n.globals ∷ n.heap ∷ n.threads.items → n.fat ≡ fat → IsNumbered k.parts n → IsState k number n.shared
+state_read k number fat row n stands flags is same m = record {
+  row = row;
+  row_is = stands;
+  is = row_of k.parts row n is m;
+  fat = fat;
+  fat_is = flags;
+  are_fat = subst (λ (f : ℕ). StandsFor k.parts f (flags_row n.shared.heap.locks.fat)) same m.fat;
+}
+
+pub state_added : (s : Shared) (number flags : ℕ) (old new : KeptStates) → IsWritten (flags_row s.heap.locks.fat) flags old.parts new.parts
+    → number ≡ length old.states → new.states ≡ old.states ++ old.state.items ∷ [] → new.fat.items ≡ old.fat.items ++ flags ∷ []
+    → IsStateAdded number s old new
+state_added s number flags old new w is states fat = record {
+  number_is = is;
+  parts = w.grows;
+  states = states;
+  flags = flags;
+  fat = fat;
+  are_fat = w.stands;
+}
+
+pub made : (s : Shared) (heap globals : ℕ) (objects two : List ℕ) (b c : List (List ℕ)) (old new : KeptStates) → AreGlobalsWritten s globals old.parts b
+    → IsHeapWritten s.heap heap objects b c → two ≡ globals ∷ heap ∷ [] → AreThreadsPushed s (length s.threads.threads) two new.state.items c new.parts
+    → length s.stacks.items ≡ length s.threads.threads → new.states ≡ old.states → new.fat.items ≡ old.fat.items → IsRowMade s old new
+made s heap globals objects two b c old new g h is t even states fat = record {
+  keeps = record {
+    parts = grows_on old.parts b new.parts g.grows (grows_on b c new.parts h.grows t.grows);
+    states = states;
+    fat = fat;
+  };
+  row = row_made s heap objects two new.state.items old.parts b c new.parts globals g h is t even;
+}
+
+-- a stack that was read at its place
+pub stack_read : (xs : List (List ShownEntry)) (i : ℕ) (x : List ShownEntry) → i < length xs → x ≡ get_or xs i x → get_or xs i [] ≡ x
+stack_read xs i x h e = sym (get_or_read xs i x h e [])

@@ -50,13 +50,16 @@ pub fn copied(alloc: Global, shared: Shared, other: &Shared) -> Result<Shared, A
     ready.extend_from_slice(other.ready.as_slice())?;
     printed.clear();
     printed.extend_from_slice(other.printed.as_slice())?;
+    let heap = heap.copied(&other.heap)?;
+    let threads = threads.copied(&other.threads)?;
+    let stacks = copied_stacks(alloc, stacks, other.stacks.as_slice())?;
     Ok(Shared {
-        heap: heap.copied(&other.heap)?,
+        heap,
         statics,
         statuses,
         ready,
-        threads: threads.copied(&other.threads)?,
+        threads,
         printed,
-        stacks: copied_stacks(alloc, stacks, other.stacks.as_slice())?,
+        stacks,
     })
 }

@@ -93,7 +93,7 @@ fn read_shared(
 }
 
 /// A state of this row, with the number of the flags of its inflated locks.
-#[tactic(auto, using(crate::proofs::Written::globals_read))]
+#[tactic(auto, using(crate::proofs::Written::numbered_read))]
 pub(crate) fn read_numbered(
     alloc: Global,
     parts: &WordTable,

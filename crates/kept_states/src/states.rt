@@ -97,7 +97,7 @@ impl KeptStates {
 
     /// Writes the parts of a state, and makes its row. Those that are the same in the state before keep their numbers.
     /// On an error, a want of memory, nothing is claimed.
-    #[tactic(auto, using(crate::proofs::Written::row_made, crate::proofs::Written::before_stays))]
+    #[tactic(auto, using(crate::proofs::Written::made, crate::proofs::Written::before_stays))]
     pub fn write(&mut self, shared: &Shared, before: Option<&Numbered>) -> Result<(), AllocError>
         requires { IfSome before (λ b. IsNumbered self.old.parts b.now) }
         ensures { OnOk result (IsRowMade shared.now self.old self.new) }
@@ -128,6 +128,7 @@ impl KeptStates {
     }
 
     /// Keeps the state that was written last. On an error, a want of memory, nothing is claimed.
+    #[tactic(auto, using(crate::proofs::Written::state_added))]
     pub fn push(&mut self, shared: &Shared) -> Result<u32, AllocError>
         requires row { IsStateRow self.old.parts self.old.state.items shared.now }
         requires flags { length shared.now.heap.locks.fat ≡ length shared.now.heap.objects }
@@ -139,14 +140,14 @@ impl KeptStates {
     }
 
     /// The state of a number. An error where there is none, or where memory is wanting.
-    #[tactic(auto, using(crate::proofs::Written::row_of))]
+    #[tactic(auto, using(crate::proofs::Written::state_read))]
     pub fn read(&self, number: u32) -> Result<Numbered, AllocError>
         ensures state { IfOk result (λ n. IsState self.now number n.shared) }
         ensures numbered { IfOk result (IsNumbered self.now.parts) }
     {
         let row = part(&self.states, number)?;
-        match self.fat.get(number as usize) {
-            Some(fat) => read_numbered(self.alloc, &self.parts, row, *fat),
+        match self.fat.get(number as usize).copied() {
+            Some(fat) => read_numbered(self.alloc, &self.parts, row, fat),
             None => Err(AllocError),
         }
     }

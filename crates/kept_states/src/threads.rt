@@ -1,6 +1,6 @@
 //! Threads with their stacks, by numbers.
 
-ghost use Rattle.std.specs.Prelude.{◌≡◌, length, IfSome, IfOk, OnOk};
+ghost use Rattle.std.specs.Prelude.{◌≡◌, [], length, slice_get, slice_index_or, IfSome, IfOk, OnOk};
 ghost use Rattle.kept_states.specs.Kept.{IsNumbered, IsThreadSame};
 ghost use Rattle.kept_states.specs.States.{AreThreads, AreThreadsPushed, IsThreadAdded, IsThreadWritten};
 
@@ -15,20 +15,35 @@ use std::alloc::{AllocError, Global};
 use thread_stacks::ThreadStack;
 use word_table::WordTable;
 
+/// The stack of a thread, if there is one.
+#[tactic(auto, using(crate::proofs::Written::stack_read))]
+fn stack_at(stacks: &[ThreadStack], thread: u16) -> Option<&ThreadStack>
+    ensures { IfSome result (λ stack. slice_index_or stacks.now thread [] ≡ stack.now) }
+{
+    stacks.get(usize::from(thread))
+}
+
+/// The number of this place, if there is one.
+fn number_at(numbers: &[u32], place: u16) -> Option<u32>
+    ensures { result ≡ slice_get numbers.now place }
+{
+    numbers.get(usize::from(place)).copied()
+}
+
 /// The number of a thread in the state before, if the thread is the same there.
 fn thread_before(shared: &Shared, thread: u16, before: &Numbered) -> Option<u32>
     ensures { IfSome result (λ number. IsThreadSame shared.now thread before.now number) }
 {
-    let number = before.threads.get(usize::from(thread))?;
-    let one = before.shared.stacks.get(usize::from(thread))?;
-    let other = shared.stacks.get(usize::from(thread))?;
-    if thread as usize >= before.shared.threads.len() || thread as usize >= shared.threads.len() {
+    let number = number_at(before.threads.as_slice(), thread)?;
+    let one = stack_at(before.shared.stacks.as_slice(), thread)?;
+    let other = stack_at(shared.stacks.as_slice(), thread)?;
+    if usize::from(thread) >= before.shared.threads.len() {
         return None;
     }
     if is_same_stack(one, other)
         && is_same_thread(&before.shared.threads, &shared.threads, thread)
     {
-        Some(*number)
+        Some(number)
     } else {
         None
     }
@@ -44,7 +59,7 @@ fn written_number(
 ) -> Result<u32, AllocError>
     ensures { IfOk result (λ number. IsThreadWritten shared.now thread number parts.old parts.new) }
 {
-    let Some(stack) = shared.stacks.get(usize::from(thread)) else {
+    let Some(stack) = stack_at(shared.stacks.as_slice(), thread) else {
         return Err(AllocError);
     };
     row.clear();
