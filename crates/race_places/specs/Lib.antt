@@ -1,0 +1,2 @@
+pub mod run_actions
+pub mod numbering

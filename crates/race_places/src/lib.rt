@@ -1,0 +1,6 @@
+//! The actions of a run as its machine has them, by the numbers of objects, slots, threads and classes; and each of
+//! them as a step for a detector of races.
+#![tactic(auto)]
+
+pub mod numbering;
+pub mod run_actions;

@@ -1,0 +1,205 @@
+//! Actions of a run as steps of a detector of races: what they leave and find, and what they read and write, by number.
+//!
+//! # Proved
+//!
+//! - `Numbering::step` answers the step of an action, and whatever actions were numbered before, the steps of all race
+//!   alike: two steps race exactly where their actions do (`Numbers`; `steps_race_alike`).
+//! - Where memory is missing, the actions that were numbered before have the same numbers.
+//!
+//! # Not proved
+//!
+//! - That numbers are dense, which keeps the lists of a detector short: each is the place of a key in a list.
+
+ghost use Rattle.std.specs.Prelude.{◌≡◌, []};
+ghost use Rattle.race_places.specs.numbering.Numbers.{AreActionsAlike, IsAdded, IsFound, IsLeft, IsNumbered, IsNumbering, Numbers, NumberingOf};
+ghost use Rattle.race_places.specs.run_actions.Order.{key, variable_key};
+
+use crate::run_actions::{Action, Key, RunAction, Variable};
+use indexmap::IndexSet;
+use race_detection::run_steps;
+use race_detection::run_steps::Step;
+use std::alloc::{AllocError, Global};
+use std::marker::Model;
+
+const INSTANCE_FIELD: u32 = 0;
+
+const STATIC_FIELD: u32 = 1;
+
+const ELEMENT: u32 = 2;
+
+const MONITOR: u32 = 3;
+
+const START: u32 = 4;
+
+const END: u32 = 5;
+
+const INTERRUPTS: u32 = 6;
+
+const CLEARED: u32 = 7;
+
+const WAKE: u32 = 8;
+
+const INITIALISATION: u32 = 9;
+
+fn key_of(kind: u32, first: u32, second: u32, third: u32) -> Key
+    ensures { result ≡ key kind first second third }
+{
+    Key {
+        kind,
+        first,
+        second,
+        third,
+    }
+}
+
+fn variable_key(variable: Variable) -> Key
+    ensures { result ≡ variable_key variable }
+{
+    match variable {
+        Variable::InstanceField {
+            object,
+            class,
+            field,
+        } => key_of(INSTANCE_FIELD, object, u32::from(class), u32::from(field)),
+        Variable::StaticField { class, field } => {
+            key_of(STATIC_FIELD, u32::from(class), u32::from(field), 0)
+        }
+        Variable::Element { array, index } => key_of(ELEMENT, array, index, 0),
+    }
+}
+
+/// The number of a key, which is added where it has none.
+fn number_of(keys: &mut IndexSet<Key>, key: Key) -> Result<usize, AllocError>
+    ensures { IsAdded result key keys.old.keys keys.new.keys }
+{
+    match keys.insert_full(key) {
+        Ok((number, _)) => Ok(number),
+        Err(_) => Err(AllocError),
+    }
+}
+
+/// Which places and variables have numbers.
+#[derive(Drop)]
+pub struct Numbering {
+    places: IndexSet<Key>,
+    variables: IndexSet<Key>,
+}
+
+impl Model for Numbering {
+    ghost Value = { NumberingOf };
+
+    ghost view = { λ n. record { places = n.places.keys; variables = n.variables.keys } };
+}
+
+impl Numbering {
+    /// Nothing has a number.
+    pub fn new(alloc: Global) -> Numbering
+        ensures none { Numbers [] [] result }
+    {
+        Numbering {
+            places: IndexSet::new(alloc),
+            variables: IndexSet::new(alloc),
+        }
+    }
+
+    fn found(&mut self, kind: u32, number: u32) -> Result<run_steps::Action, AllocError>
+        ensures { IsFound result (key kind number 0 0) self.old self.new }
+    {
+        Ok(run_steps::Action::Acquire(number_of(&mut self.places, key_of(kind, number, 0, 0))?))
+    }
+
+    fn left(&mut self, kind: u32, number: u32) -> Result<run_steps::Action, AllocError>
+        ensures { IsLeft result (key kind number 0 0) self.old self.new }
+    {
+        Ok(run_steps::Action::Release(number_of(&mut self.places, key_of(kind, number, 0, 0))?))
+    }
+
+    fn read(
+        &mut self,
+        variable: Variable,
+        is_volatile: bool,
+    ) -> Result<run_steps::Action, AllocError>
+        ensures { IsNumbered result (Action.Read variable is_volatile) self.old self.new }
+    {
+        let key = variable_key(variable);
+        if is_volatile {
+            Ok(run_steps::Action::Acquire(number_of(&mut self.places, key)?))
+        } else {
+            Ok(run_steps::Action::Read(number_of(&mut self.variables, key)?))
+        }
+    }
+
+    fn write(
+        &mut self,
+        variable: Variable,
+        is_volatile: bool,
+    ) -> Result<run_steps::Action, AllocError>
+        ensures { IsNumbered result (Action.Write variable is_volatile) self.old self.new }
+    {
+        let key = variable_key(variable);
+        if is_volatile {
+            Ok(run_steps::Action::Release(number_of(&mut self.places, key)?))
+        } else {
+            Ok(run_steps::Action::Write(number_of(&mut self.variables, key)?))
+        }
+    }
+
+    fn clear(&mut self, thread: u16) -> Result<run_steps::Action, AllocError>
+        ensures { IsNumbered result (Action.ClearInterrupt thread) self.old self.new }
+    {
+        let taken = number_of(
+            &mut self.places,
+            key_of(INTERRUPTS, u32::from(thread), 0, 0),
+        )?;
+        let left = number_of(&mut self.places, key_of(CLEARED, u32::from(thread), 0, 0))?;
+        Ok(run_steps::Action::Clear { taken, left })
+    }
+
+    fn action(&mut self, action: Action) -> Result<run_steps::Action, AllocError>
+        ensures { IsNumbered result action self.old self.new }
+    {
+        match action {
+            Action::Read {
+                variable,
+                is_volatile,
+            } => self.read(variable, is_volatile),
+            Action::Write {
+                variable,
+                is_volatile,
+            } => self.write(variable, is_volatile),
+            Action::Lock(object) => self.found(MONITOR, object),
+            Action::Unlock(object) => self.left(MONITOR, object),
+            Action::Begin(thread) | Action::FindStarted(thread) => self.found(
+                START,
+                u32::from(thread),
+            ),
+            Action::Start(thread) => self.left(START, u32::from(thread)),
+            Action::Finish(thread) => self.left(END, u32::from(thread)),
+            Action::FindFinished(thread) => self.found(END, u32::from(thread)),
+            Action::Interrupt(thread) => self.left(INTERRUPTS, u32::from(thread)),
+            Action::FindInterrupted(thread) => self.found(INTERRUPTS, u32::from(thread)),
+            Action::ClearInterrupt(thread) => self.clear(thread),
+            Action::FindNotInterrupted(thread) => self.found(CLEARED, u32::from(thread)),
+            Action::Wake(thread) => self.left(WAKE, u32::from(thread)),
+            Action::FindWoken(thread) => self.found(WAKE, u32::from(thread)),
+            Action::FinishInitialisation(class) => self.left(INITIALISATION, u32::from(class)),
+            Action::FindInitialised(class) => self.found(INITIALISATION, u32::from(class)),
+        }
+    }
+
+    /// The step of the next action of a run. The only error is a want of memory.
+    pub fn step(&mut self, action: RunAction) -> Result<Step, AllocError>
+        ensures numbering { IsNumbering result action self.old self.new }
+    {
+        Ok(Step {
+            thread: usize::from(action.thread),
+            event: action.event,
+            action: self.action(action.action)?,
+        })
+    }
+}
+
+/// Steps of actions race where the actions do.
+pub fn steps_race_alike()
+    ensures holds { AreActionsAlike }
+{}
