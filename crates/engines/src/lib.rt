@@ -157,6 +157,7 @@ mod names;
 mod open;
 mod opening;
 mod program;
+mod racing;
 mod recording;
 mod repeat_words;
 mod replaying;

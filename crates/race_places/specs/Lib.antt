@@ -1,2 +1,3 @@
 pub mod run_actions
 pub mod numbering
+pub mod named_actions

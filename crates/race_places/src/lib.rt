@@ -2,5 +2,6 @@
 //! them as a step for a detector of races.
 #![tactic(auto)]
 
+pub mod named_actions;
 pub mod numbering;
 pub mod run_actions;

@@ -11,7 +11,7 @@
 //! - That numbers are dense, which keeps the lists of a detector short: each is the place of a key in a list.
 
 ghost use Rattle.std.specs.Prelude.{◌≡◌, []};
-ghost use Rattle.race_places.specs.numbering.Numbers.{AreActionsAlike, IsAdded, IsFound, IsLeft, IsNumbered, IsNumbering, Numbers, NumberingOf};
+ghost use Rattle.race_places.specs.numbering.Numbers.{AreActionsAlike, IsAdded, IsFound, IsLeft, IsNumbered, IsRead, IsWritten, IsNumbering, IsPlaceNumber, Numbers, NumberingOf};
 ghost use Rattle.race_places.specs.run_actions.Order.{key, variable_key};
 
 use crate::run_actions::{Action, Key, RunAction, Variable};
@@ -102,16 +102,41 @@ impl Numbering {
         }
     }
 
-    fn found(&mut self, kind: u32, number: u32) -> Result<run_steps::Action, AllocError>
-        ensures { IsFound result (key kind number 0 0) self.old self.new }
+    fn found(&mut self, key: Key) -> Result<run_steps::Action, AllocError>
+        ensures { IsFound result key self.old self.new }
     {
-        Ok(run_steps::Action::Acquire(number_of(&mut self.places, key_of(kind, number, 0, 0))?))
+        Ok(run_steps::Action::Acquire(number_of(&mut self.places, key)?))
     }
 
-    fn left(&mut self, kind: u32, number: u32) -> Result<run_steps::Action, AllocError>
+    fn left(&mut self, key: Key) -> Result<run_steps::Action, AllocError>
+        ensures { IsLeft result key self.old self.new }
+    {
+        Ok(run_steps::Action::Release(number_of(&mut self.places, key)?))
+    }
+
+    fn read_plain(&mut self, key: Key) -> Result<run_steps::Action, AllocError>
+        ensures { IsRead result key self.old self.new }
+    {
+        Ok(run_steps::Action::Read(number_of(&mut self.variables, key)?))
+    }
+
+    fn written_plain(&mut self, key: Key) -> Result<run_steps::Action, AllocError>
+        ensures { IsWritten result key self.old self.new }
+    {
+        Ok(run_steps::Action::Write(number_of(&mut self.variables, key)?))
+    }
+
+    /// A place of a thread or of a class is found.
+    fn found_of(&mut self, kind: u32, number: u16) -> Result<run_steps::Action, AllocError>
+        ensures { IsFound result (key kind number 0 0) self.old self.new }
+    {
+        self.found(key_of(kind, u32::from(number), 0, 0))
+    }
+
+    fn left_of(&mut self, kind: u32, number: u16) -> Result<run_steps::Action, AllocError>
         ensures { IsLeft result (key kind number 0 0) self.old self.new }
     {
-        Ok(run_steps::Action::Release(number_of(&mut self.places, key_of(kind, number, 0, 0))?))
+        self.left(key_of(kind, u32::from(number), 0, 0))
     }
 
     fn read(
@@ -123,9 +148,9 @@ impl Numbering {
     {
         let key = variable_key(variable);
         if is_volatile {
-            Ok(run_steps::Action::Acquire(number_of(&mut self.places, key)?))
+            self.found(key)
         } else {
-            Ok(run_steps::Action::Read(number_of(&mut self.variables, key)?))
+            self.read_plain(key)
         }
     }
 
@@ -138,20 +163,24 @@ impl Numbering {
     {
         let key = variable_key(variable);
         if is_volatile {
-            Ok(run_steps::Action::Release(number_of(&mut self.places, key)?))
+            self.left(key)
         } else {
-            Ok(run_steps::Action::Write(number_of(&mut self.variables, key)?))
+            self.written_plain(key)
         }
+    }
+
+    /// The number of a place of a thread.
+    fn place_of(&mut self, kind: u32, thread: u16) -> Result<usize, AllocError>
+        ensures { IsPlaceNumber result (key kind thread 0 0) self.old self.new }
+    {
+        number_of(&mut self.places, key_of(kind, u32::from(thread), 0, 0))
     }
 
     fn clear(&mut self, thread: u16) -> Result<run_steps::Action, AllocError>
         ensures { IsNumbered result (Action.ClearInterrupt thread) self.old self.new }
     {
-        let taken = number_of(
-            &mut self.places,
-            key_of(INTERRUPTS, u32::from(thread), 0, 0),
-        )?;
-        let left = number_of(&mut self.places, key_of(CLEARED, u32::from(thread), 0, 0))?;
+        let taken = self.place_of(INTERRUPTS, thread)?;
+        let left = self.place_of(CLEARED, thread)?;
         Ok(run_steps::Action::Clear { taken, left })
     }
 
@@ -167,23 +196,21 @@ impl Numbering {
                 variable,
                 is_volatile,
             } => self.write(variable, is_volatile),
-            Action::Lock(object) => self.found(MONITOR, object),
-            Action::Unlock(object) => self.left(MONITOR, object),
-            Action::Begin(thread) | Action::FindStarted(thread) => self.found(
-                START,
-                u32::from(thread),
-            ),
-            Action::Start(thread) => self.left(START, u32::from(thread)),
-            Action::Finish(thread) => self.left(END, u32::from(thread)),
-            Action::FindFinished(thread) => self.found(END, u32::from(thread)),
-            Action::Interrupt(thread) => self.left(INTERRUPTS, u32::from(thread)),
-            Action::FindInterrupted(thread) => self.found(INTERRUPTS, u32::from(thread)),
+            Action::Lock(object) => self.found(key_of(MONITOR, object, 0, 0)),
+            Action::Unlock(object) => self.left(key_of(MONITOR, object, 0, 0)),
+            Action::Begin(thread) => self.found_of(START, thread),
+            Action::FindStarted(thread) => self.found_of(START, thread),
+            Action::Start(thread) => self.left_of(START, thread),
+            Action::Finish(thread) => self.left_of(END, thread),
+            Action::FindFinished(thread) => self.found_of(END, thread),
+            Action::Interrupt(thread) => self.left_of(INTERRUPTS, thread),
+            Action::FindInterrupted(thread) => self.found_of(INTERRUPTS, thread),
             Action::ClearInterrupt(thread) => self.clear(thread),
-            Action::FindNotInterrupted(thread) => self.found(CLEARED, u32::from(thread)),
-            Action::Wake(thread) => self.left(WAKE, u32::from(thread)),
-            Action::FindWoken(thread) => self.found(WAKE, u32::from(thread)),
-            Action::FinishInitialisation(class) => self.left(INITIALISATION, u32::from(class)),
-            Action::FindInitialised(class) => self.found(INITIALISATION, u32::from(class)),
+            Action::FindNotInterrupted(thread) => self.found_of(CLEARED, thread),
+            Action::Wake(thread) => self.left_of(WAKE, thread),
+            Action::FindWoken(thread) => self.found_of(WAKE, thread),
+            Action::FinishInitialisation(class) => self.left_of(INITIALISATION, class),
+            Action::FindInitialised(class) => self.found_of(INITIALISATION, class),
         }
     }
 
@@ -191,11 +218,20 @@ impl Numbering {
     pub fn step(&mut self, action: RunAction) -> Result<Step, AllocError>
         ensures numbering { IsNumbering result action self.old self.new }
     {
-        Ok(Step {
-            thread: usize::from(action.thread),
-            event: action.event,
-            action: self.action(action.action)?,
-        })
+        match self.action(action.action) {
+            Ok(numbered) => Ok(step_of(action, numbered)),
+            Err(fault) => Err(fault),
+        }
+    }
+}
+
+fn step_of(action: RunAction, numbered: run_steps::Action) -> Step
+    ensures { result ≡ record { thread = action.thread; event = action.event; action = numbered } }
+{
+    Step {
+        thread: usize::from(action.thread),
+        event: action.event,
+        action: numbered,
     }
 }
 

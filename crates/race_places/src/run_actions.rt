@@ -4,12 +4,10 @@
 /// A variable that threads share (JLS 17.4.1).
 #[derive(Clone, Copy, PartialEq, Eq)]
 pub enum Variable {
-    /// A field of an object, by its slot there.
-    InstanceField { object: u32, slot: u32 },
-    /// A static field, by its slot.
-    StaticField(u32),
-    /// `System.out`, which has no slot.
-    SystemOut,
+    /// A field of an object, by the class that declares it and its place among the fields of that class.
+    InstanceField { object: u32, class: u16, field: u16 },
+    /// A static field, by class and place.
+    StaticField { class: u16, field: u16 },
     /// An element of an array.
     Element { array: u32, index: u32 },
 }

@@ -98,7 +98,7 @@ impl<'a> ProgramNames<'a> {
     }
 
     /// Writes the name of a method as it stands in a line.
-    pub(crate) fn push_printed_method(
+    pub fn push_printed_method(
         &self,
         text: &mut Vec<u8>,
         number: u32,

@@ -54,7 +54,9 @@ number_first : (k x : Key) (keys : List Key) → is_same_key k x ≡ true → nu
 number_first k x keys e = ap (λ b. cond (not b) (1 + number_in keys k) 0) e
 
 number_later : (k x : Key) (keys : List Key) → is_same_key k x ≡ false → number_in (x ∷ keys) k ≡ suc (number_in keys k)
-number_later k x keys e = ap (λ b. cond (not b) (1 + number_in keys k) 0) e
+number_later k x keys e =
+    let one : 1 + number_in keys k ≡ suc (number_in keys k) = omega arith in
+    ap (λ b. cond (not b) (1 + number_in keys k) 0) e ∙ one
 
 in_later : (k x : Key) (keys : List Key) → is_same_key k x ≡ false → is_in (x ∷ keys) k ≡ is_in keys k
 in_later k x keys e = ap (λ b. b || is_in keys k) e

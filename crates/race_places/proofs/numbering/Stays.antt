@@ -70,3 +70,11 @@ numbers_next run steps a n numbers h =
         | inr p ↦ subst (λ c. HasNumbers n c.action) (sym p.1) h
       ];
     }
+
+-- the step of the next action
+pub next_step : (a : RunAction) (old new : NumberingOf) (x : Numbered) (s : Step) → s ≡ record { thread = a.thread; event = a.event; action = x }
+    → (x ≡ numbered_action new a.action) × HasNumbers new a.action × IsLonger old new → (run : List RunAction) (steps : List Step) → Numbers run steps old
+    → Numbers (run ++ a ∷ []) (steps ++ s ∷ []) new
+next_step a old new x s is h run steps numbers =
+    let same : s ≡ numbered_step new a = is ∙ (λ i. record { thread = a.thread; event = a.event; action = h.0 i }) in
+    subst (λ (t : Step). Numbers (run ++ a ∷ []) (steps ++ t ∷ []) new) (sym same) (numbers_next run steps a new (numbers_stay old new h.2 run steps numbers) h.1)

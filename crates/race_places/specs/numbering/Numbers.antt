@@ -1,5 +1,5 @@
 -- Actions of a run as steps of a detector: places and variables have numbers, each the place of its key in a list.
-use Rattle.std.specs.Prelude.{◌≡◌, ℕ, List, [], ◌∷◌, ◌++◌, Option, Some, None, Bool, true, false, IsTrue, Result, Ok, Err, map, slice_get, ◌↔◌}
+use Rattle.std.specs.Prelude.{◌≡◌, ℕ, List, [], ◌∷◌, ◌++◌, Option, Some, None, Bool, true, false, IsTrue, ⊤, Result, Ok, Err, map, slice_get, ◌↔◌}
 use Rattle.std.specs.List.{list_any, position_or_len}
 use Rattle.race_detection.specs.declared.run_steps.Action.{Action as Numbered}
 use Rattle.race_detection.specs.declared.run_steps.Action.TheVariants as numbered
@@ -88,6 +88,11 @@ abbrev pub IsAdded : {E : Type 0} → Result ℕ E → Key → List Key → List
 IsAdded (Ok number) k old new = (number ≡ number_in new k) × IsTrue (is_in new k) × (more : List Key) × (new ≡ old ++ more)
 IsAdded (Err e) k old new = new ≡ old
 
+-- a place has a number
+abbrev pub IsPlaceNumber : {E : Type 0} → Result ℕ E → Key → NumberingOf → NumberingOf → Type 0
+IsPlaceNumber (Ok number) k old new = (number ≡ number_in new.places k) × IsTrue (is_in new.places k) × IsLonger old new
+IsPlaceNumber (Err e) k old new = new ≡ old
+
 -- a place has a number, and it is found or left there
 abbrev pub IsPlace : {E : Type 0} → (ℕ → Numbered) → Result Numbered E → Key → NumberingOf → NumberingOf → Type 0
 IsPlace step (Ok a) k old new = (a ≡ step (number_in new.places k)) × IsTrue (is_in new.places k) × IsLonger old new
@@ -98,6 +103,17 @@ IsFound result k old new = IsPlace numbered.Acquire result k old new
 
 abbrev pub IsLeft : {E : Type 0} → Result Numbered E → Key → NumberingOf → NumberingOf → Type 0
 IsLeft result k old new = IsPlace numbered.Release result k old new
+
+-- a variable has a number, and it is read or written
+abbrev pub IsVariable : {E : Type 0} → (ℕ → Numbered) → Result Numbered E → Key → NumberingOf → NumberingOf → Type 0
+IsVariable step (Ok a) k old new = (a ≡ step (number_in new.variables k)) × IsTrue (is_in new.variables k) × IsLonger old new
+IsVariable step (Err e) k old new = new ≡ old
+
+abbrev pub IsRead : {E : Type 0} → Result Numbered E → Key → NumberingOf → NumberingOf → Type 0
+IsRead result k old new = IsVariable numbered.Read result k old new
+
+abbrev pub IsWritten : {E : Type 0} → Result Numbered E → Key → NumberingOf → NumberingOf → Type 0
+IsWritten result k old new = IsVariable numbered.Write result k old new
 
 -- the step of an action; in any case numbers stay
 abbrev pub IsNumbered : {E : Type 0} → Result Numbered E → Action → NumberingOf → NumberingOf → Type 0

@@ -7,7 +7,7 @@ use machine_state::Shared;
 use machine_state::method_selection::method_at;
 
 /// The built-in method of a number, if it is one.
-pub(crate) fn built_in_called(
+pub fn built_in_called(
     program: &LinkedProgram,
     method: Option<u32>,
 ) -> Option<BuiltInMethod> {
