@@ -128,10 +128,7 @@ pub(crate) fn found_by_rule(rule: Rule, thread: u16) -> Option<Action> {
             cause: WakeCause::Interrupted,
             ..
         } => Some(Action::FindInterrupted(thread)),
-        Rule::NoEvent
-        | Rule::Pending { .. }
-        | Rule::Initialisation { .. }
-        | Rule::Bytecode => None,
+        Rule::NoEvent | Rule::Pending { .. } | Rule::Initialisation { .. } | Rule::Bytecode => None,
     }
 }
 
@@ -175,14 +172,20 @@ fn element(word: u32, index: u32) -> Option<Variable> {
 fn field_access(before: &Before, field: NamedField) -> Option<Action> {
     match before.instruction? {
         LinkedInstruction::GetField(_) => {
-            read(instance_field(field, before.operands[0])?, field.is_volatile)
+            read(
+                instance_field(field, before.operands[0])?,
+                field.is_volatile,
+            )
         }
         LinkedInstruction::PutField(_)
         | LinkedInstruction::PutBooleanField(_)
         | LinkedInstruction::PutByteField(_)
         | LinkedInstruction::PutCharField(_)
         | LinkedInstruction::PutShortField(_) => {
-            write(instance_field(field, before.operands[1])?, field.is_volatile)
+            write(
+                instance_field(field, before.operands[1])?,
+                field.is_volatile,
+            )
         }
         LinkedInstruction::GetStatic { .. } | LinkedInstruction::GetSystemOut => {
             read(static_field(field), field.is_volatile)

@@ -24,10 +24,8 @@ pub(crate) fn owns_once(heap: &Heap, object: Option<u32>, thread: u16) -> bool {
 pub(crate) fn object_of(before: &Before, built_in: Option<BuiltInMethod>) -> Option<u32> {
     match (before.rule, before.instruction) {
         (Rule::Relock { object, .. }, _) => Some(object),
-        (
-            Rule::Bytecode,
-            Some(LinkedInstruction::MonitorEnter | LinkedInstruction::MonitorExit),
-        ) => before.operands[0].checked_sub(1),
+        (Rule::Bytecode, Some(LinkedInstruction::MonitorEnter | LinkedInstruction::MonitorExit)) =>
+            before.operands[0].checked_sub(1),
         _ => match built_in {
             Some(BuiltInMethod::ObjectWait) => before.receiver.checked_sub(1),
             _ => None,

@@ -9,6 +9,11 @@
 //! # Not proved
 //!
 //! - That numbers are dense, which keeps the lists of a detector short: each is the place of a key in a list.
+//!
+//! # Wrong bodies
+//!
+//! - A volatile variable read as if it were none; an element numbered by its array alone, a field by its class alone; an
+//!   unlock of another monitor; a join that finds the start; a cleared status that leaves interrupts to be found.
 
 ghost use Rattle.std.specs.Prelude.{◌≡◌, []};
 ghost use Rattle.race_places.specs.numbering.Numbers.{AreActionsAlike, IsAdded, IsFound, IsLeft, IsNumbered, IsRead, IsWritten, IsNumbering, IsPlaceNumber, Numbers, NumberingOf};

@@ -3,9 +3,9 @@
 use crate::access_sites::{Access, AccessSites, Site};
 use crate::lines::push_race;
 use crate::told_races::{Race, ToldRaces};
+use linked_code::LinkedProgram;
 use linker::Linked;
 use machine_state::Shared;
-use linked_code::LinkedProgram;
 use race_actions::{EventActions, FieldNames};
 use race_detection::race_detector::Detector;
 use race_detection::run_steps::{self, Step};

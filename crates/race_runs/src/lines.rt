@@ -62,14 +62,28 @@ fn push_access(
     names: &ProgramNames<'_>,
     access: Access,
 ) -> Result<(), AllocError> {
-    push_words(text, if access.is_write { "write at " } else { "read at " })?;
+    push_words(
+        text,
+        if access.is_write {
+            "write at "
+        } else {
+            "read at "
+        },
+    )?;
     let site = access.site;
     let is_told = names.push_source_line(text, site.method, site.offset)?;
     push_words(text, if is_told { " (" } else { "" })?;
     names.push_printed_method(text, site.method)?;
     push_words(text, " ")?;
     push_number(text, u64::from(site.offset))?;
-    push_words(text, if is_told { ") by thread " } else { " by thread " })?;
+    push_words(
+        text,
+        if is_told {
+            ") by thread "
+        } else {
+            " by thread "
+        },
+    )?;
     push_number(text, u64::from(access.thread))
 }
 

@@ -7,7 +7,7 @@ use Rattle.race_places.specs.declared.run_actions.Action.{Action}
 use Rattle.race_places.specs.declared.run_actions.Action.TheVariants.{ClearInterrupt}
 use Rattle.race_places.specs.declared.run_actions.Key.{Key}
 use Rattle.race_places.specs.run_actions.Order.{interrupts_key, cleared_key, left_by, found_by, taken_by, read_by, written_by}
-use Rattle.race_places.specs.numbering.Numbers.{NumberingOf, number_in, is_in, numbered_action, HasNumbers, AreIn, IsLonger, IsFound, IsLeft, IsPlaceNumber, IsRead, IsWritten, IsNumbered}
+use Rattle.race_places.specs.numbering.Numbers.{NumberingOf, number_in, is_in, numbered_action, HasNumbers, AreIn, IsLonger, IsFound, IsLeft, IsRead, IsWritten, IsNumbered}
 use Rattle.race_places.proofs.numbering.Keys.{in_longer, number_longer}
 
 append_none : {A : Type 0} (xs : List A) → xs ≡ xs ++ []
@@ -119,8 +119,10 @@ longer_again a b c g h =
       variables = (g.variables.0 ++ h.variables.0, chain a.variables b.variables c.variables g.variables.0 h.variables.0 g.variables.1 h.variables.1);
     }
 
-pub clear_numbered : {E : Type 0} (thread : ℕ) (old mid new : NumberingOf) (taken left : ℕ) → IsPlaceNumber {E = E} (Ok taken) (interrupts_key thread) old mid
-    → IsPlaceNumber {E = E} (Ok left) (cleared_key thread) mid new → IsNumbered {E = E} (Ok (numbered.Clear taken left)) (ClearInterrupt thread) old new
+pub clear_numbered : (thread : ℕ) (old mid new : NumberingOf) (taken left : ℕ)
+    → (taken ≡ number_in mid.places (interrupts_key thread)) × IsTrue (is_in mid.places (interrupts_key thread)) × IsLonger old mid
+    → (left ≡ number_in new.places (cleared_key thread)) × IsTrue (is_in new.places (cleared_key thread)) × IsLonger mid new
+    → (numbered.Clear taken left ≡ numbered_action new (ClearInterrupt thread)) × HasNumbers new (ClearInterrupt thread) × IsLonger old new
 clear_numbered thread old mid new taken left g h =
     let place = ap (λ keys. number_in keys (interrupts_key thread)) h.2.places.1 ∙ number_longer mid.places h.2.places.0 (interrupts_key thread) g.1 in (
       λ i. numbered.Clear ((g.0 ∙ sym place) i) (h.0 i),
