@@ -2,6 +2,7 @@
 //! them as a step for a detector of races.
 #![tactic(auto)]
 
+pub mod action_detector;
 pub mod named_actions;
 pub mod numbering;
 pub mod run_actions;

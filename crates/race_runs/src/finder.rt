@@ -7,9 +7,8 @@ use linked_code::LinkedProgram;
 use linker::Linked;
 use machine_state::Shared;
 use race_actions::{EventActions, FieldNames};
-use race_detection::race_detector::Detector;
 use race_detection::run_steps::{self, Step};
-use race_places::numbering::Numbering;
+use race_places::action_detector::ActionDetector;
 use race_places::run_actions::{Action, RunAction, Variable};
 use std::alloc::{AllocError, Global};
 use traces::ProgramNames;
@@ -20,8 +19,7 @@ pub(crate) struct Finder<'a> {
     names: ProgramNames<'a>,
     fields: FieldNames<'a>,
     actions: EventActions,
-    numbering: Numbering,
-    detector: Detector,
+    detector: ActionDetector,
     sites: AccessSites,
     told: ToldRaces,
     /// The lines of the races that were found.
@@ -55,8 +53,7 @@ impl<'a> Finder<'a> {
             names: ProgramNames::new(alloc, linked, program)?,
             fields: FieldNames::new(alloc, linked)?,
             actions: EventActions::new(alloc),
-            numbering: Numbering::new(alloc),
-            detector: Detector::new(alloc),
+            detector: ActionDetector::new(alloc),
             sites: AccessSites::new(alloc),
             told: ToldRaces::new(alloc),
             lines: Vec::new(alloc),
@@ -102,8 +99,7 @@ impl<'a> Finder<'a> {
     }
 
     fn action(&mut self, shared: &Shared, action: RunAction) -> Result<(), AllocError> {
-        let step = self.numbering.step(action)?;
-        let earlier = self.detector.watch(step)?;
+        let (step, earlier) = self.detector.watch(action)?;
         let Some((number, is_write)) = access_of(step) else {
             return Ok(());
         };
