@@ -10,8 +10,8 @@
 //!
 //! - Which action is told where several race. That the actions are those of a run.
 
-ghost use Rattle.std.specs.Prelude.{[]};
-ghost use Rattle.race_places.specs.action_detector.Watched.{ActionDetectorOf, IsWatchingActions, WatchesActions};
+ghost use Rattle.std.specs.Prelude.{◌≡◌, []};
+ghost use Rattle.race_places.specs.action_detector.Watched.{ActionDetectorOf, IsWatchingActions, WatchesActions, with_step};
 
 use crate::numbering::Numbering;
 use crate::run_actions::RunAction;
@@ -50,11 +50,24 @@ impl ActionDetector {
         ensures watched { IsWatchingActions result action self.old self.new }
     {
         match self.numbering.step(action) {
-            Ok(step) => match self.detector.watch(step) {
-                Ok(earlier) => Ok((step, earlier)),
-                Err(fault) => Err(fault),
-            },
+            Ok(step) => {
+                let answer = self.detector.watch(step);
+                with_step(step, answer)
+            }
             Err(fault) => Err(fault),
         }
+    }
+}
+
+/// What was answered of a step, with the step.
+fn with_step(
+    step: Step,
+    answer: Result<Option<Step>, AllocError>,
+) -> Result<(Step, Option<Step>), AllocError>
+    ensures { result ≡ with_step step answer }
+{
+    match answer {
+        Ok(earlier) => Ok((step, earlier)),
+        Err(fault) => Err(fault),
     }
 }

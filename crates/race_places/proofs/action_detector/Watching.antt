@@ -10,7 +10,7 @@ use Rattle.race_detection.specs.race_detector.Watched.{DetectorOf, Watches, Tell
 use Rattle.race_places.specs.declared.run_actions.RunAction.{RunAction}
 use Rattle.race_places.specs.run_actions.Order.{run_order}
 use Rattle.race_places.specs.numbering.Numbers.{NumberingOf, Numbers, numbered_step, HasNumbers, Has, IsNext, IsNumbering}
-use Rattle.race_places.specs.action_detector.Watched.{ActionDetectorOf, WatchesActions, IsEarlier, TellsAction, IsActionTold}
+use Rattle.race_places.specs.action_detector.Watched.{ActionDetectorOf, WatchesActions, IsEarlier, TellsAction, IsActionTold, with_step}
 use Rattle.race_places.proofs.numbering.Renamed.{alike}
 
 -- ---- lists
@@ -100,10 +100,10 @@ module _ (next : RunAction) (old new : ActionDetectorOf) where
       → (s ≡ numbered_step new.numbering next) × WatchesActions (run ++ next ∷ []) new × TellsAction run next told
   watched {E} {F} numbered s answer told is_s is_told g h run w =
       let numbers = subst (λ (r : Result Step E). IsNext r run w.steps next new.numbering) is_s (g run w.steps w.numbers) in
-      let told = subst (λ (r : Result (Option Step) F). IsTold r w.steps s new.detector) is_told (h w.steps w.watches) in (
+      let known = subst (λ (r : Result (Option Step) F). IsTold r w.steps s new.detector) is_told (h w.steps w.watches) in (
         last_step run w.steps next s new.numbering numbers,
-        record { steps = w.steps ++ s ∷ []; numbers = numbers; watches = told.0 },
-        tells run w.steps next s new.numbering numbers told told.1,
+        record { steps = w.steps ++ s ∷ []; numbers = numbers; watches = known.0 },
+        tells run w.steps next s new.numbering numbers told known.1,
       )
 
   pub not_watched : {E F : Type 0} (numbered : Result Step E) (s : Step) (answer : Result (Option Step) F) (fault : F) → numbered ≡ Ok s → answer ≡ Err fault
@@ -125,3 +125,9 @@ module _ (next : RunAction) (old new : ActionDetectorOf) where
         numbers = subst (λ (r : Result Step E). IsNext r run w.steps next new.numbering) is_fault (g run w.steps w.numbers);
         watches = subst (λ (d : DetectorOf). Watches w.steps d) (sym same) w.watches;
       }
+
+  pub watched_by : {E F : Type 0} (numbered : Result Step E) (s : Step) (answer : Result (Option Step) F) → numbered ≡ Ok s
+      → IsNumbering numbered next old.numbering new.numbering → IsWatching answer s old.detector new.detector
+      → (run : List RunAction) → WatchesActions run old → IsActionTold (with_step s answer) run next new
+  watched_by {E} {F} numbered s (Ok told) is_s g h run w = watched {E = E} {F = F} numbered s (Ok told) told is_s refl g h run w
+  watched_by {E} {F} numbered s (Err fault) is_s g h run w = not_watched {E = E} {F = F} numbered s (Err fault) fault is_s refl g h run w

@@ -30,6 +30,10 @@ abbrev pub TellsAction : List RunAction → RunAction → Option Step → Type 0
 TellsAction run next None = (i : ℕ) → IsRace run_order (run ++ next ∷ []) i (length run) → ⊥
 TellsAction run next (Some told) = IsEarlier run next told
 
+abbrev pub with_step : {E : Type 0} → Step → Result (Option Step) E → Result (Step × Option Step) E
+with_step step (Ok told) = Ok (step, told)
+with_step step (Err e) = Err e
+
 -- it was told of the next action, and answers its step; where memory is missing it wasn't
 abbrev pub IsActionTold : {E : Type 0} → Result (Step × Option Step) E → List RunAction → RunAction → ActionDetectorOf → Type 0
 IsActionTold (Ok told) run next d = (told.0 ≡ numbered_step d.numbering next) × WatchesActions (run ++ next ∷ []) d × TellsAction run next told.1
