@@ -1,4 +1,4 @@
-//! The actions of a run as its machine has them, by the numbers of objects, slots, threads and classes; and each of
+//! The actions of a run as its machine has them, by the numbers of objects, threads, classes and fields; and each of
 //! them as a step for a detector of races.
 #![tactic(auto)]
 

@@ -1,5 +1,5 @@
 -- One more action: the detector knows the longer run, and what it tells is right.
-use Rattle.std.proofs.Common.{◌≡◌, refl, sym, ◌∙◌, ap, subst, ℕ, zero, suc, ◌<◌, List, [], ◌∷◌, ◌++◌, length, map}
+use Rattle.std.proofs.Common.{◌≡◌, refl, sym, ◌∙◌, ap, subst, ℕ, zero, suc, List, [], ◌∷◌, ◌++◌, length, map}
 use Rattle.std.specs.Prelude.{Option, Some, None, Result, Ok, Err, slice_get}
 use Rattle.data_races.specs.HappensBefore.{IsRace}
 use Rattle.data_races.proofs.Order.{get_left}
@@ -9,8 +9,8 @@ use Rattle.race_detection.specs.run_steps.Synchronization.{step_order}
 use Rattle.race_detection.specs.race_detector.Watched.{DetectorOf, Watches, Tells, IsTold, IsWatching}
 use Rattle.race_places.specs.declared.run_actions.RunAction.{RunAction}
 use Rattle.race_places.specs.run_actions.Order.{run_order}
-use Rattle.race_places.specs.numbering.Numbers.{NumberingOf, Numbers, numbered_step, HasNumbers, Has, IsNext, IsNumbering}
-use Rattle.race_places.specs.action_detector.Watched.{ActionDetectorOf, WatchesActions, IsEarlier, TellsAction, IsActionTold, with_step}
+use Rattle.race_places.specs.numbering.Numbers.{NumberingOf, Numbers, numbered_step, IsNext, IsNumbering}
+use Rattle.race_places.specs.action_detector.Watched.{ActionDetectorOf, WatchesActions, TellsAction, IsActionTold, with_step}
 use Rattle.race_places.proofs.numbering.Renamed.{alike}
 
 -- ---- lists

@@ -1,20 +1,19 @@
 -- Actions race exactly where they do with the names of classes and fields.
-use Rattle.std.proofs.Common.{◌≡◌, refl, sym, ◌∙◌, ap, subst, ℕ, zero, suc, ◌⊎◌, inl, inr, List, [], ◌∷◌, map}
-use Rattle.std.specs.Prelude.{Option, Some, None, slice_get, Bool, true, false, not, ◌&&◌, ◌||◌, ◌==◌, ◌↔◌, IsTrue}
-use Rattle.model.specs.Names.{name_eq, member_eq}
+use Rattle.std.proofs.Common.{◌≡◌, refl, sym, ◌∙◌, ap, ℕ, inl, inr, List, map}
+use Rattle.std.specs.Prelude.{Some, slice_get, Bool, true, false, not, ◌&&◌, ◌||◌, ◌==◌, ◌↔◌, IsTrue}
 use Rattle.model.specs.Classes.{Program}
 use Rattle.data_races.specs.HappensBefore.{IsRace}
 use Rattle.data_races.specs.Variables as named
 use Rattle.data_races.specs.Actions as actions
-use Rattle.data_races.specs.Races.{ActionOfRun, memory_order}
-use Rattle.data_races.proofs.Mapped.{Has, IsRenaming, race_to, race_from}
+use Rattle.data_races.specs.Races.{memory_order}
+use Rattle.data_races.proofs.Mapped.{IsRenaming, race_to, race_from}
 use Rattle.race_places.specs.declared.run_actions.Variable.{Variable}
 use Rattle.race_places.specs.declared.run_actions.Variable.TheVariants.{InstanceField, StaticField, Element}
 use Rattle.race_places.specs.declared.run_actions.Action.{Action}
 use Rattle.race_places.specs.declared.run_actions.Action.TheVariants.{Read, Write, Lock, Unlock, Begin, Finish, Start, Interrupt, ClearInterrupt, Wake, FinishInitialisation, FindStarted, FindFinished, FindInterrupted, FindNotInterrupted, FindWoken, FindInitialised}
 use Rattle.race_places.specs.declared.run_actions.RunAction.{RunAction}
 use Rattle.race_places.specs.declared.run_actions.Key.{Key}
-use Rattle.race_places.specs.run_actions.Order.{is_same_key, variable_key, monitor_key, start_key, end_key, interrupts_key, cleared_key, wake_key, initialisation_key, only_key, left_by, found_by, taken_by, read_by, written_by, is_one, conflicts, run_order}
+use Rattle.race_places.specs.run_actions.Order.{is_same_key, variable_key, monitor_key, start_key, end_key, interrupts_key, cleared_key, wake_key, initialisation_key, left_by, found_by, taken_by, read_by, written_by, is_one, conflicts, run_order}
 use Rattle.race_places.specs.named_actions.Names.{Names, AreApart, named_variable, named_action, named_in_run, IsOfField, IsRight}
 use Rattle.race_places.proofs.numbering.Keys.{same_self, same_or_not}
 

@@ -1,7 +1,6 @@
 -- Numbers of keys: they are equal where the keys are, and stay where keys are added.
-use Rattle.std.proofs.Common.{◌≡◌, refl, sym, ◌∙◌, ap, subst, ℕ, zero, suc, ◌+◌, ◌⊎◌, inl, inr, List, [], ◌∷◌, ◌++◌, length, cond, arith}
-use Rattle.std.specs.Prelude.{Some, None, slice_get, Bool, true, false, not, ◌&&◌, ◌||◌, ◌==◌, IsTrue}
-use Rattle.std.specs.List.{list_any, position_or_len}
+use Rattle.std.proofs.Common.{◌≡◌, refl, sym, ◌∙◌, ap, subst, suc, ◌+◌, ◌⊎◌, inl, inr, List, [], ◌∷◌, ◌++◌, cond, arith}
+use Rattle.std.specs.Prelude.{Some, slice_get, Bool, true, false, not, ◌&&◌, ◌||◌, ◌==◌, IsTrue}
 use Rattle.std.proofs.lemmas.Bool.{eq-eqb}
 use Rattle.std.proofs.lemmas.Bool.Decides.{eqb_tells}
 use Rattle.race_places.specs.declared.run_actions.Key.{Key}

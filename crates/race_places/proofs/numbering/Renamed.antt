@@ -1,9 +1,8 @@
 -- The steps of actions are these under other names, where all that they ask for has a number.
-use Rattle.std.proofs.Common.{◌≡◌, refl, sym, ◌∙◌, ap, subst, ℕ, zero, suc, ◌⊎◌, inl, inr, List, [], ◌∷◌, ◌++◌, length, map}
-use Rattle.std.specs.Prelude.{Option, Some, None, slice_get, Bool, true, false, not, ◌&&◌, ◌||◌, ◌==◌, ◌↔◌, IsTrue}
+use Rattle.std.proofs.Common.{◌≡◌, refl, sym, ◌∙◌, ap, subst, ℕ, List, ◌++◌}
+use Rattle.std.specs.Prelude.{Option, Some, None, Bool, true, false, not, ◌&&◌, ◌||◌, ◌==◌, ◌↔◌, IsTrue}
 use Rattle.data_races.specs.HappensBefore.{IsRace}
 use Rattle.data_races.proofs.Mapped.{IsRenaming, race_to, race_from}
-use Rattle.data_races.proofs.Order.{at_next}
 use Rattle.race_detection.specs.declared.run_steps.Step.{Step}
 use Rattle.race_detection.specs.run_steps.Synchronization as steps
 use Rattle.race_detection.specs.run_steps.Synchronization.{step_order}
@@ -13,7 +12,7 @@ use Rattle.race_places.specs.declared.run_actions.RunAction.{RunAction}
 use Rattle.race_places.specs.declared.run_actions.Key.{Key}
 use Rattle.race_places.specs.run_actions.Order.{is_one, left_by, found_by, taken_by, read_by, written_by, conflicts, run_order}
 use Rattle.race_places.specs.numbering.Numbers.{NumberingOf, number_in, is_in, numbered_action, numbered_step, AreIn, HasNumbers, IsLonger, Has, Numbers}
-use Rattle.race_places.proofs.numbering.Keys.{number_tells, in_longer, number_longer}
+use Rattle.race_places.proofs.numbering.Keys.{number_tells, in_longer}
 
 -- ---- what steps leave, find, take away, read and write
 

@@ -1,6 +1,6 @@
 -- Where keys are added, the actions that were numbered have the same steps.
-use Rattle.std.proofs.Common.{◌≡◌, refl, sym, ◌∙◌, ap, subst, ℕ, zero, suc, ◌<◌, ◌⊎◌, inl, inr, List, [], ◌∷◌, ◌++◌, length, map}
-use Rattle.std.specs.Prelude.{Option, Some, None, slice_get, Bool, true, false, IsTrue}
+use Rattle.std.proofs.Common.{◌≡◌, refl, sym, ◌∙◌, ap, subst, zero, suc, inl, inr, List, [], ◌∷◌, ◌++◌, map}
+use Rattle.std.specs.Prelude.{true, false, IsTrue}
 use Rattle.data_races.proofs.Order.{at_next}
 use Rattle.race_detection.specs.declared.run_steps.Action.{Action as Numbered}
 use Rattle.race_detection.specs.declared.run_steps.Action.TheVariants as numbered

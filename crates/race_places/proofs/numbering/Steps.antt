@@ -1,6 +1,6 @@
 -- The step of an action, by the place that it finds or leaves or the variable that it reads or writes.
 use Rattle.std.proofs.Common.{◌≡◌, refl, sym, ◌∙◌, ap, subst, ℕ, List, [], ◌∷◌, ◌++◌}
-use Rattle.std.specs.Prelude.{Option, Some, None, Bool, true, false, IsTrue, ⊤, Result, Ok, Err}
+use Rattle.std.specs.Prelude.{Option, Some, None, IsTrue, Result, Ok, Err}
 use Rattle.race_detection.specs.declared.run_steps.Action.{Action as Numbered}
 use Rattle.race_detection.specs.declared.run_steps.Action.TheVariants as numbered
 use Rattle.race_places.specs.declared.run_actions.Action.{Action}
