@@ -5,6 +5,8 @@ from __future__ import annotations
 import struct
 from typing import TYPE_CHECKING, Any, Dict, List, Optional, Sequence, Tuple
 
+from tools.repository import built_in_file, built_in_names
+
 if TYPE_CHECKING:
     from oracle.state import JavaThread, Object, Value
 
@@ -147,6 +149,11 @@ class ClassReader(Reader):
         name: str = self.pool[self.pool[self.number(2)][1]][1]
         return name
 
+    def superclass_name(self) -> Optional[str]:
+        """None where no class is named, as in Object."""
+        index = self.number(2)
+        return self.pool[self.pool[index][1]][1] if index else None
+
     def attributes(self) -> List[Tuple[str, bytes]]:
         return [(self.text(), self.take(self.number(4))) for _ in range(self.number(2))]
 
@@ -167,7 +174,7 @@ def read_class(data: bytes) -> Class:
     """The class that the bytes of a class file spell."""
     reader = ClassReader(data)
     flags = reader.number(2)
-    name, superclass = reader.class_name(), reader.class_name()
+    name, superclass = reader.class_name(), reader.superclass_name()
     found = Class(name, superclass, [reader.class_name() for _ in range(reader.number(2))], flags)
     found.pool = resolved_pool(reader.pool)
     for _ in range(reader.number(2)):
@@ -184,55 +191,9 @@ def read_class(data: bytes) -> Class:
     return found
 
 
-THROWABLES = """
-Throwable:Object Error:Throwable Exception:Throwable LinkageError:Error VirtualMachineError:Error
-IncompatibleClassChangeError:LinkageError NoClassDefFoundError:LinkageError ExceptionInInitializerError:LinkageError
-AbstractMethodError:IncompatibleClassChangeError StackOverflowError:VirtualMachineError RuntimeException:Exception
-InterruptedException:Exception ArithmeticException:RuntimeException ArrayStoreException:RuntimeException
-ClassCastException:RuntimeException IllegalMonitorStateException:RuntimeException
-IllegalArgumentException:RuntimeException IllegalStateException:RuntimeException
-IndexOutOfBoundsException:RuntimeException NegativeArraySizeException:RuntimeException
-NullPointerException:RuntimeException IllegalThreadStateException:IllegalArgumentException
-ArrayIndexOutOfBoundsException:IndexOutOfBoundsException
-"""
-
-
-def built_in_thread() -> Class:
-    thread = Class("java/lang/Thread", "java/lang/Object", ["java/lang/Runnable"])
-    thread.fields.append((0, "target", "Ljava/lang/Runnable;", None))
-    for name, descriptor in (("<init>", "()V"), ("<init>", "(Ljava/lang/Runnable;)V"), ("start", "()V")):
-        thread.add(name, descriptor)
-    for name, descriptor in (("interrupt", "()V"), ("isInterrupted", "()Z"), ("join", "()V"), ("isAlive", "()Z")):
-        thread.add(name, descriptor)
-    for name, descriptor in (("interrupted", "()Z"), ("yield", "()V"), ("currentThread", "()Ljava/lang/Thread;")):
-        thread.add(name, descriptor, PUBLIC | STATIC)
-    run = thread.add("run", "()V")
-    # aload_0, getfield target, ifnull to the return, aload_0, getfield target, invokeinterface run, return
-    run.code, run.local_count = bytes.fromhex("2ab40001c6000c2ab40001b900020100b1"), 1
-    thread.pool = {
-        1: ("member", ("java/lang/Thread", "target", "Ljava/lang/Runnable;")),
-        2: ("member", ("java/lang/Runnable", "run", "()V")),
-    }
-    return thread
-
-
 def built_in_classes() -> List[Class]:
-    """The classes that the machine brings along, all of them initialised."""
-    found = [Class("java/lang/Object", None)]
-    for name in ("<init>", "wait", "notify", "notifyAll"):
-        found[0].add(name, "()V")
-    runnable = Class("java/lang/Runnable", "java/lang/Object", flags=INTERFACE)
-    runnable.add("run", "()V", PUBLIC | ABSTRACT)
-    system = Class("java/lang/System", "java/lang/Object")
-    system.fields.append((STATIC, "out", "Ljava/io/PrintStream;", None))
-    stream = Class("java/io/PrintStream", "java/lang/Object")
-    stream.add("println", "(I)V")
-    found += [runnable, built_in_thread(), system, stream]
-    found += [Class(f"java/lang/{name}", "java/lang/Object") for name in ("String", "Class")]
-    for one in THROWABLES.split():
-        name, superclass = one.split(":")
-        found.append(Class(f"java/lang/{name}", f"java/lang/{superclass}"))
-        found[-1].add("<init>", "()V")
+    """The classes that the machine brings along, all of them initialised, by their class files."""
+    found = [read_class(built_in_file(name).read_bytes()) for name in built_in_names()]
     for known in found:
         known.state = "initialised"
     return found

@@ -12,7 +12,7 @@ COLUMNS = 120
 WORDS = 30
 
 # The folders at the top whose files are named in documents.
-FOLDERS = ("bench", "compare", "constructs", "crates", "docs", "lessons", "oracle", "programs", "tests", "tools")
+FOLDERS = ("bench", "builtin", "compare", "constructs", "crates", "docs", "lessons", "oracle", "programs", "tests", "tools")
 
 PARTS_OF_A_CRATE = ("src", "specs", "proofs", "data", "must-fail", "wrong-bodies", "stdout")
 
@@ -82,7 +82,7 @@ def anchor_of(heading: str) -> str:
 def documents() -> Dict[str, Document]:
     """The documents of the repository, by their paths."""
     paths = [ROOT / "README.md", ROOT / "CONTRIBUTING.md", *sorted(ROOT.glob("docs/*.md"))]
-    paths += [ROOT / "programs/README.md", *sorted(ROOT.glob("lessons/**/README.md"))]
+    paths += [ROOT / "builtin/README.md", ROOT / "programs/README.md", *sorted(ROOT.glob("lessons/**/README.md"))]
     names = [str(path.relative_to(ROOT)) for path in paths]
     return {name: Document(name, (ROOT / name).read_text(encoding="utf-8")) for name in names}
 

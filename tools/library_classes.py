@@ -5,7 +5,7 @@ import re
 import struct
 from typing import Dict, Iterable, Iterator, List, Set, Tuple
 
-from tools.repository import ROOT
+from tools.repository import ROOT, built_in_names
 
 CLASSES = ROOT / "library/classes"
 
@@ -166,12 +166,6 @@ def needed(given: Iterable[bytes], classes: pathlib.Path = CLASSES) -> List[path
     return [added[name] for name in sorted(added, key=lambda one: one.encode("utf-8"))]
 
 
-def built_in() -> Set[str]:
-    """The names of the built-in classes."""
-    texts = [(ROOT / f"crates/model/specs/{name}.antt").read_text(encoding="utf-8") for name in ("BuiltIn", "Names")]
-    return set(re.findall(r'codes "(java/[\w/$]+)"', " ".join(texts)))
-
-
 def unmet(classes: pathlib.Path = CLASSES) -> List[str]:
     """What is wrong with the class files of a library: other names than their files have, and needs that nobody meets."""
     found = []
@@ -179,6 +173,6 @@ def unmet(classes: pathlib.Path = CLASSES) -> List[str]:
         name, needs = path.relative_to(classes).as_posix()[: -len(".class")], Needs(path.read_bytes())
         if needs.name != name:
             found.append(f"classes/{name}.class has the class {needs.name}")
-        absent = {one for one in needs.found if one and not (classes / (one + ".class")).is_file()} - built_in()
+        absent = {one for one in needs.found if one and not (classes / (one + ".class")).is_file()} - {*built_in_names()}
         found += [f"classes/{name}.class needs {one}, which isn't there" for one in sorted(absent)]
     return found

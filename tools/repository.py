@@ -7,6 +7,9 @@ from typing import Dict, List, Sequence, Union
 ROOT = pathlib.Path(__file__).resolve().parent.parent
 CONFORMANCE = ROOT / "crates/conformance"
 
+# The class files of the built-in classes, beside their sources.
+BUILT_IN = ROOT / "builtin"
+
 # The built programs.
 JVM = ROOT / "crates/jvm/out/jvm"
 BENCH = ROOT / "crates/bench/out/bench"
@@ -25,6 +28,16 @@ def crates() -> Dict[str, List[str]]:
         if colon and head.split():
             found[head.split()[0]] = below.split()
     return {name: [one for one in below if one in found] for name, below in found.items()}
+
+
+def built_in_names() -> List[str]:
+    """The names of the built-in classes, in their order."""
+    return (BUILT_IN / "order").read_text(encoding="ascii").split()
+
+
+def built_in_file(name: str) -> pathlib.Path:
+    """The class file of a built-in class."""
+    return BUILT_IN / f"classes/{name}.class"
 
 
 def scripts() -> List[pathlib.Path]:

@@ -1,6 +1,6 @@
 -- The words of objects in the list of all cells.
 use Rattle.std.proofs.Common.{◌≡◌, ℕ, zero, suc, ◌+◌, ◌-◌, ◌<◌, ◌≤◌, ◌^◌, List, [], ◌∷◌, ◌++◌, length, get_or, set, take, drop, refl, sym, ◌∙◌, ap, Option, Some, None, arith, length-append, length-drop, add-one}
-use Rattle.std.specs.Prelude.{slice_get, slice_range, slice_index, slice_set, option_map}
+use Rattle.std.specs.Prelude.{slice_get, slice_range, slice_set, option_map}
 use Rattle.std.proofs.Math.Nat.{sub_self}
 use Rattle.std.proofs.Math.Seq.{take-set-lt, take-length, drop-append_seam}
 use Rattle.std.proofs.lemmas.List.{take-append-le, drop-append-le, length-set, length-take, set_past, get_or-take, get_or-drop, get_or_past, drop-set-lt, drop-set-add, take-set-le}
@@ -8,7 +8,7 @@ use Rattle.std.proofs.lemmas.List.Sums.{sum_by-cons}
 use Rattle.heap.specs.declared.kind.ObjectKind.{ObjectKind}
 use Rattle.heap.specs.declared.layout.Entry.{Entry}
 use Rattle.heap.specs.Elements.{stored}
-use Rattle.heap.specs.Heap.{Object, cell_count, words_of, words_at, word_at, changed, change_at, with_word, put_field, put_element, kind_of}
+use Rattle.heap.specs.Heap.{Object, cell_count, words_at, word_at, changed, with_word, put_field, put_element, kind_of}
 use Rattle.heap.specs.Layout.{first_start, object_of, objects_of, AreLaid, start_at, entry_kind}
 
 -- ---- parts of the list of cells

@@ -3,7 +3,6 @@ use Rattle.std.proofs.Common.{◌≡◌, ℕ, ◌+◌, ◌-◌, subst, ◌<◌, 
 use Rattle.std.specs.Prelude.{replicate}
 use Rattle.std.proofs.lemmas.List.{length-replicate}
 use Rattle.heap.specs.monitor.Locks.{Locks}
-use Rattle.model.specs.State.{Monitor}
 use Rattle.model.specs.Monitors.{unlocked}
 use Rattle.heap.specs.declared.kind.ObjectKind.{ObjectKind}
 use Rattle.heap.specs.declared.layout.Entry.{Entry}

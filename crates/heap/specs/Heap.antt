@@ -1,6 +1,6 @@
 -- Objects by their references, as lists of words, with their monitors (own): what each call of the heap makes of them.
 use Rattle.std.specs.Prelude.{◌≡◌, ℕ, ◌+◌, ◌-◌, ◌<◌, ◌≤◌, ◌^◌, List, [], ◌∷◌, ◌++◌, Option, Some, None, Result, Ok, Err, false, length, drop, replicate, sum_by, slice_get, slice_index, slice_set}
-use Rattle.model.specs.Monitors.{unlocked}
+use Rattle.model.specs.Monitors.{unlocked, monitor_at}
 use Rattle.model.specs.declared.monitor_answer.MonitorAnswer.{MonitorAnswer}
 use Rattle.heap.specs.monitor.Locks.{Locks, Answers}
 use Rattle.heap.specs.declared.monitor.call.Call.{Call}
@@ -116,3 +116,10 @@ put_element objects reference index word =
 pub record HandsOn (result : Result MonitorAnswer MonitorRefusal) (call : Call) (old new : Heap) : Type 0 where
   pub answers : Answers result call old.locks new.locks
   pub rest : new ≡ record old { locks = new.locks }
+
+-- ---- two heaps
+
+-- an object and its monitor are the same in both
+pub record IsSameAt (object : ℕ) (one other : Heap) : Type 0 where
+  pub objects : slice_get one.objects object ≡ slice_get other.objects object
+  pub monitors : monitor_at one.locks.monitors object ≡ monitor_at other.locks.monitors object

@@ -5,6 +5,8 @@ ghost use Rattle.model.specs.Monitors.{monitor_at};
 ghost use Rattle.heap.specs.monitor.Locks.{IsAllowed, is_fat_at};
 ghost use Rattle.heap.specs.Heap.{made, cells_made, Allocates, IsOpened, words_at, word_at, put_field, put_element, HandsOn, kind_of};
 
+mod parts;
+
 use crate::kind::{NarrowKind, ObjectKind};
 use crate::layout::{self, Entry};
 use crate::monitor::{Call, MonitorCalls, MonitorRefusal, Monitors, Waiter};
@@ -84,14 +86,14 @@ impl Heap {
     }
 
     /// How many objects may still be allocated.
-    fn objects_left(&self) -> u32
+    pub(crate) fn objects_left(&self) -> u32
         ensures { result + made self.now ≡ self.now.object_limit }
     {
         self.object_limit - (self.table.len() - self.opening as usize) as u32
     }
 
     /// How many cells the objects may still have that are allocated.
-    fn cells_left(&self) -> usize
+    pub(crate) fn cells_left(&self) -> usize
         ensures { result + cells_made self.now ≡ self.now.cell_limit }
     {
         let table = self.table.as_slice();

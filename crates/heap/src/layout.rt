@@ -1,7 +1,7 @@
 //! Where the words of objects lie, among the cells of all objects.
 
-ghost use Rattle.std.specs.Prelude.{◌≡◌, ◌+◌, ◌<◌, ◌≤◌, [], ◌∷◌, ◌++◌, OnOk, OnErr, IfSome, IfNone, length, replicate, slice_get, option_map};
-ghost use Rattle.heap.specs.Heap.{with_lock, word_at, put_field};
+ghost use Rattle.std.specs.Prelude.{◌≡◌, ◌+◌, ◌<◌, ◌≤◌, [], ◌∷◌, ◌++◌, OnOk, OnErr, IfSome, IfNone, IsTrue, length, replicate, slice_get, slice_range, option_map};
+ghost use Rattle.heap.specs.Heap.{with_lock, words_at, word_at, put_field};
 ghost use Rattle.heap.specs.Layout.{AreLaid, IsPlace, start_at, entry_kind, objects_of};
 
 use crate::kind::ObjectKind;
@@ -110,5 +110,104 @@ pub fn add(
     match cells.resize(start + count, 0) {
         Ok(()) => Ok(()),
         Err(_) => unreachable!(),
+    }
+}
+
+/// The words of this object; none of one that is not there.
+#[inline]
+pub fn words<'a>(table: &[Entry], cells: &'a [u32], object: u32) -> &'a [u32]
+    requires { AreLaid table.now (length cells.now) }
+    ensures { result.now ≡ words_at (objects_of table.now cells.now) object }
+{
+    let first = start(table, cells, object as usize);
+    let next = start(table, cells, object as usize + 1);
+    part(cells, first, next)
+}
+
+/// The cells from a place up to another.
+#[inline]
+fn part(cells: &[u32], first: usize, next: usize) -> &[u32]
+    requires up { first ≤ next }
+    requires within { next ≤ length cells.now }
+    ensures { result.now ≡ slice_range cells.now first next }
+{
+    &cells[first..next]
+}
+
+/// One more object, with these words; without memory nothing changes.
+pub fn add_words(
+    table: &mut Vec<Entry>,
+    cells: &mut Vec<u32>,
+    monitors: &mut Monitors,
+    kind: ObjectKind,
+    words: &[u32],
+) -> Result<(), AllocError>
+    ensures entry { OnOk result (table.new.items
+        ≡ table.old.items ++ record { kind = kind; start = length cells.old.items } ∷ []) }
+    ensures words { OnOk result (cells.new.items ≡ cells.old.items ++ words.now) }
+    ensures monitor { OnOk result (monitors.new ≡ with_lock monitors.old) }
+    ensures err { OnErr result ((table.new.items ≡ table.old.items) × (cells.new.items ≡ cells.old.items)
+        × (monitors.new ≡ monitors.old)) }
+{
+    let start = cells.len();
+    cells.reserve(words.len())?;
+    table.reserve(1)?;
+    monitors.add()?;
+    table.push_reserved(Entry { kind, start });
+    match cells.extend_from_slice(words) {
+        Ok(()) => Ok(()),
+        Err(_) => unreachable!(),
+    }
+}
+
+/// Whether these are the same words.
+#[inline]
+fn are_same(one: &[u32], other: &[u32]) -> bool
+    ensures { IsTrue result → one.now ≡ other.now }
+{
+    let count = one.len();
+    if other.len() != count {
+        return false;
+    }
+    'words: for place in 0..count {
+        if one[place] != other[place] {
+            return false;
+        }
+    }
+    true
+}
+
+/// Whether these are the same kind.
+#[inline]
+fn are_same_kinds(one: ObjectKind, other: ObjectKind) -> bool
+    ensures { IsTrue result → one ≡ other }
+{
+    one == other
+}
+
+/// Whether an object is the same in two lists of objects, in both of which it is.
+#[inline]
+pub fn is_same_object(
+    table: &[Entry],
+    cells: &[u32],
+    others: &[Entry],
+    other_cells: &[u32],
+    object: u32,
+) -> bool
+    requires one { AreLaid table.now (length cells.now) }
+    requires other { AreLaid others.now (length other_cells.now) }
+    ensures { IsTrue result → slice_get (objects_of table.now cells.now) object
+        ≡ slice_get (objects_of others.now other_cells.now) object }
+{
+    let place = object as usize;
+    match (table.get(place), others.get(place)) {
+        (Some(one), Some(other)) => {
+            are_same_kinds(one.kind, other.kind)
+                && are_same(
+                    words(table, cells, object),
+                    words(others, other_cells, object),
+                )
+        }
+        _ => false,
     }
 }

@@ -70,6 +70,32 @@ impl Machine {
         })
     }
 
+    /// A machine of a program, under these limits, in a state that its threads share: one in which a machine was.
+    pub fn resume(
+        alloc: Global,
+        program: Arc<LinkedProgram>,
+        limits: Limits,
+        shared: Shared,
+    ) -> Machine
+        requires { IsMachine (record { program = arc_value program; limits = limits; shared = shared }) }
+        ensures { result ≡ record { program = arc_value program; limits = limits; shared = shared } }
+    {
+        Machine {
+            program,
+            limits,
+            shared,
+            spare: ThreadStack::new(alloc),
+        }
+    }
+
+    /// The program that it ran, and what its threads shared, once it is to do no more events.
+    pub fn into_parts(self) -> (Arc<LinkedProgram>, Shared)
+        ensures program { arc_value result.0 ≡ self.program }
+        ensures shared { result.1 ≡ self.shared }
+    {
+        (self.program, self.shared)
+    }
+
     /// The program that it runs.
     pub fn program(&self) -> &Arc<LinkedProgram>
         ensures { arc_value result.now ≡ self.now.program }

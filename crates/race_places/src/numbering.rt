@@ -12,8 +12,11 @@
 //!
 //! # Wrong bodies
 //!
-//! - A volatile variable read as if it were none; an element numbered by its array alone, a field by its class alone; an
-//!   unlock of another monitor; a join that finds the start; a cleared status that leaves interrupts to be found.
+//! - `numbering-element-by-its-array-alone`, `numbering-field-by-its-object-alone`: two variables have one number;
+//!   refused by the clause of `variable_key`.
+//! - `numbering-volatile-is-forgotten`, `numbering-unlock-of-another-monitor`, `numbering-join-finds-the-start`,
+//!   `numbering-cleared-interrupt-stays`: an action leaves, finds or reads something else than it does; refused by
+//!   `IsNumbered`.
 
 ghost use Rattle.std.specs.Prelude.{◌≡◌, []};
 ghost use Rattle.race_places.specs.numbering.Numbers.{AreActionsAlike, IsAdded, IsFound, IsLeft, IsNumbered, IsRead, IsWritten, IsNumbering, IsPlaceNumber, Numbers, NumberingOf};

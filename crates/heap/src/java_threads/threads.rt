@@ -61,6 +61,29 @@ impl Threads {
         Ok(Threads { threads, limit })
     }
 
+    /// How many threads there may be, main's included.
+    pub fn limit(&self) -> u32
+        ensures { result ≡ self.now.limit }
+    {
+        self.limit
+    }
+
+    /// What another table is, in the room of this one. The only error is a want of memory.
+    pub fn copied(self, other: &Threads) -> Result<Threads, AllocError>
+        ensures { IfOk result (λ threads. threads ≡ other.now) }
+    {
+        let Threads {
+            mut threads,
+            limit: _limit,
+        } = self;
+        threads.clear();
+        threads.extend_from_slice(other.threads.as_slice())?;
+        Ok(Threads {
+            threads,
+            limit: other.limit,
+        })
+    }
+
     /// How many threads there are, main's included: 1 to 32,767.
     pub fn len(&self) -> usize
         ensures length { result ≡ length self.now.threads }

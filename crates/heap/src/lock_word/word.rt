@@ -62,6 +62,7 @@ impl LockWord {
     }
 
     /// The bits of the word.
+    #[inline]
     pub fn bits(self) -> u32
         ensures { result ≡ bits_of self }
     {

@@ -39,6 +39,7 @@ impl Model for Monitors {
 }
 
 /// The lock word of an object.
+#[inline]
 fn word_of(words: &[LockWord], object: u32) -> LockWord
     requires { object < length words.now }
     ensures { result.lock ≡ lock_at words.now object }
@@ -91,6 +92,43 @@ impl Monitors {
     {
         self.words.push(LockWord::unlocked(0))?;
         Ok(())
+    }
+
+    /// At most so many locks become fat.
+    pub fn limit(&self) -> u32
+        ensures { result ≡ self.now.limit }
+    {
+        self.limit
+    }
+
+    /// Whether the monitor of an object is the same among others, and its lock is not inflated.
+    #[inline]
+    pub fn is_same_at(&self, other: &Monitors, object: u32) -> bool
+        requires one { object < length self.now.monitors }
+        requires other { object < length other.now.monitors }
+        ensures { IsTrue result → monitor_at self.now.monitors object ≡ monitor_at other.now.monitors object }
+    {
+        let one = word_of(self.words.as_slice(), object).bits();
+        let other = word_of(other.words.as_slice(), object).bits();
+        one == other && one >> 31 == 0
+    }
+
+    /// What other monitors are, in the room of these. The only error is a want of memory.
+    pub fn copied(self, other: &Monitors) -> Result<Monitors, AllocError>
+        ensures { IfOk result (λ monitors. monitors ≡ other.now) }
+    {
+        let Monitors {
+            mut words,
+            table,
+            limit: _limit,
+        } = self;
+        words.clear();
+        words.extend_from_slice(other.words.as_slice())?;
+        Ok(Monitors {
+            words,
+            table: table.copied(&other.table)?,
+            limit: other.limit,
+        })
     }
 
     /// How many objects have a monitor here.

@@ -1,6 +1,6 @@
 //! The records of fat locks, with the waiters of all of them in one slab.
 
-ghost use Rattle.std.specs.Prelude.{◌≡◌, ◌<◌, [], ◌∷◌, ◌++◌, length, true, false, Some, None, IfOk, OnOk, OnErr, IfErr, slice_get, slice_set, slice_index};
+ghost use Rattle.std.specs.Prelude.{◌≡◌, ◌<◌, ◌≤◌, [], ◌∷◌, ◌++◌, length, true, false, Some, None, IfOk, OnOk, OnErr, IfErr, slice_get, slice_set, slice_index};
 ghost use Rattle.std.specs.List.{remove};
 ghost use Rattle.model.specs.Monitors.{monitor_at};
 
@@ -91,6 +91,43 @@ impl Records {
         ensures { result ≡ length self.now }
     {
         self.listings.len()
+    }
+
+    /// What other records are, of which there are at most 8,388,608. The only error is a want of memory.
+    pub fn copied(self, other: &Records) -> Result<Records, AllocError>
+        requires { length other.now ≤ 8388608 }
+        ensures { IfOk result (λ records. records ≡ other.now) }
+    {
+        let mut copy = Records::new(self.alloc);
+        'records: for index in 0..other.len() {
+            copy.add_like(other, index as u32)?;
+        }
+        Ok(copy)
+    }
+
+    /// One more record, like one of others.
+    fn add_like(&mut self, other: &Records, index: u32) -> Result<(), AllocError>
+        requires few { length self.old < 8388608 }
+        requires there { index < length other.now }
+        ensures { OnOk result (self.new ≡ self.old ++ monitor_at other.now index ∷ []) }
+    {
+        let at = self.len() as u32;
+        self.add(other.owner(index), other.count(index))?;
+        self.join_all(at, other, index)
+    }
+
+    /// The wait set, which is empty, becomes that of a record of others.
+    fn join_all(&mut self, at: u32, other: &Records, index: u32) -> Result<(), AllocError>
+        requires here { at < length self.old }
+        requires empty { (monitor_at self.old at).waiters ≡ [] }
+        requires there { index < length other.now }
+        ensures { OnOk result (self.new ≡ slice_set self.old at
+            (record (monitor_at self.old at) { waiters = (monitor_at other.now index).waiters })) }
+    {
+        'waiters: for pick in 0..other.waiter_count(index) {
+            self.join(at, other.member(index, pick))?;
+        }
+        Ok(())
     }
 
     pub fn owner(&self, index: u32) -> Option<u16>

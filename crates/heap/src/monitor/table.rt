@@ -1,6 +1,6 @@
 //! What the monitors of fat locks answer.
 
-ghost use Rattle.std.specs.Prelude.{◌≡◌, ◌<◌, [], ◌∷◌, ◌++◌, length, true, false, Some, None, IfOk, OnOk, OnErr, IfErr, IfSome, MatchOption, slice_get, slice_set};
+ghost use Rattle.std.specs.Prelude.{◌≡◌, ◌<◌, ◌≤◌, [], ◌∷◌, ◌++◌, length, true, false, Some, None, IfOk, OnOk, OnErr, IfErr, IfSome, MatchOption, slice_get, slice_set};
 ghost use Rattle.std.specs.List.{remove};
 ghost use Rattle.heap.specs.monitor.Locks.{is_at_most_entries};
 ghost use Rattle.model.specs.Monitors.{owned, unlocked, owns, without, monitor_at, monitor_enter, monitor_exit, monitor_wait, monitor_notify, monitor_notify_all, monitor_wake_all, monitor_interrupt, monitor_relock};
@@ -75,6 +75,17 @@ impl Table {
         ensures { result ≡ length self.now }
     {
         self.records.len()
+    }
+
+    /// What another table is, which has at most 8,388,608 monitors. The only error is a want of memory.
+    pub fn copied(self, other: &Table) -> Result<Table, AllocError>
+        requires { length other.now ≤ 8388608 }
+        ensures { IfOk result (λ table. table ≡ other.now) }
+    {
+        let Table { records } = self;
+        Ok(Table {
+            records: records.copied(&other.records)?,
+        })
     }
 
     /// One more monitor that a thread has entered so often, with an empty wait set.

@@ -1,4 +1,3 @@
-use Rattle.std.proofs.Common.{sym, ◌∙◌}
 use Rattle.heap.proofs.Laid.{kind-objects_of}
 use Rattle.heap.proofs.heap.Heap.class_of.Goals as goal
 
