@@ -2,6 +2,8 @@
 
 from __future__ import annotations
 
+import copy
+import functools
 import struct
 from typing import TYPE_CHECKING, Any, Dict, List, Optional, Sequence, Tuple
 
@@ -191,9 +193,22 @@ def read_class(data: bytes) -> Class:
     return found
 
 
+@functools.lru_cache(None)
+def built_in_files() -> List[Class]:
+    """The classes that the class files of the built-in classes spell."""
+    return [read_class(built_in_file(name).read_bytes()) for name in built_in_names()]
+
+
 def built_in_classes() -> List[Class]:
-    """The classes that the machine brings along, all of them initialised, by their class files."""
-    found = [read_class(built_in_file(name).read_bytes()) for name in built_in_names()]
-    for known in found:
-        known.state = "initialised"
+    """The classes that the machine brings along, all of them initialised, each time anew."""
+    return [anew(one) for one in built_in_files()]
+
+
+def anew(one: Class) -> Class:
+    """The same class, initialised."""
+    found = Class(one.name, one.superclass, one.interfaces, one.flags)
+    found.pool, found.fields, found.state = one.pool, one.fields, "initialised"
+    for key, method in one.methods.items():
+        found.methods[key] = copied = copy.copy(method)
+        copied.owner = found
     return found

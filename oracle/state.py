@@ -1,10 +1,12 @@
 """The state of a run: classes, objects with their monitors, and threads."""
 
+import re
 from typing import Any, Callable, Dict, Iterator, List, Mapping, Optional, Sequence, Tuple, Union
 
 from oracle.classes import PRIVATE, STATIC, Class, Method, built_in_classes, narrowed, read_class
 from oracle.frames import Frame, short
 from oracle.opcodes import LOCAL, MNEMONICS
+from oracle.units import decoded
 
 # What an event does.
 Action = Callable[[], None]
@@ -33,6 +35,10 @@ class Object:
         self.kind = kind
         self.fields: Dict[Tuple[str, str, str], Value] = {}
         self.elements: Optional[List[Value]] = None
+        # The text of a String, once its constructor is done.
+        self.text: Optional[str] = None
+        # The reference number, once it is made.
+        self.number = -1
         self.owner: Optional[JavaThread] = None
         self.entries = 0
         self.waiters: List[JavaThread] = []
@@ -89,9 +95,12 @@ class JavaThread:
 class State:
     """Classes, objects and threads, with what events share."""
 
-    def __init__(self, files: Sequence[bytes], limits: Optional[Mapping[str, int]] = None) -> None:
+    def __init__(
+        self, files: Sequence[bytes], limits: Optional[Mapping[str, int]] = None, words: Sequence[str] = ()
+    ) -> None:
         self.limits = {**LIMITS, **(limits or {})}
         self.classes = {one.name: one for one in built_in_classes()}
+        self.built_in_names = set(self.classes)
         read = [read_class(data) for data in files]
         self.classes.update((one.name, one) for one in read)
         for one in self.classes.values():
@@ -103,10 +112,42 @@ class State:
             }
         self.classes["java/lang/System"].statics["out"] = Object("java/io/PrintStream")
         self.initial, self.done = read[0], 0
+        self.classes["java/lang/System"].statics["err"] = Object("java/io/PrintStream")
+        # The texts of constants, by the bytes of their entries, and the Strings that were interned.
         self.strings: Dict[str, Object] = {}
-        self.printed: List[int] = []
-        self.objects = self.cells = self.monitors = 0
+        self.interned: List[Object] = []
+        # All that was printed, and how many constructors of Thread without a name are done.
+        self.text, self.constructed = "", 0
+        self.objects = self.cells = self.monitors = self.all_objects = 0
         self.threads = [JavaThread(self.made("java/lang/Thread"))]
+        self.arguments = Object("[Ljava/lang/String;")
+        self.arguments.elements = [self.constant_string(word) for word in words]
+        self.number_opening(read)
+
+    @property
+    def printed(self) -> List[Any]:
+        """The lines that were printed, each an int where it is the decimal of one."""
+        lines = self.text.split("\n")
+        found: List[Any] = lines if lines[-1] else lines[:-1]
+        return [int(line) if re.fullmatch(r"0|-?[1-9][0-9]*", line) else line for line in found]
+
+    @staticmethod
+    def constant_string(text: str) -> Object:
+        thing = Object("java/lang/String")
+        thing.text = text
+        return thing
+
+    def number_opening(self, read: Sequence[Class]) -> None:
+        """Makes the Strings of constants, and numbers the objects that are there before any event."""
+        spelled = [value for one in [*read, *built_in_classes()] for sort, value in one.pool.values() if sort == "string"]
+        for value in [*spelled, "main", "/ by zero"]:
+            self.strings.setdefault(value, self.constant_string(decoded(value.encode("latin-1"))))
+        self.threads[0].object.fields["java/lang/Thread", "name", "Ljava/lang/String;"] = self.strings["main"]
+        streams = self.classes["java/lang/System"].statics
+        things = [streams["out"], self.arguments, self.threads[0].object]
+        things += [*(one.object for one in self.classes.values()), *self.strings.values(), streams["err"]]
+        for thing in [*things, *(self.arguments.elements or [])]:
+            thing.number, self.all_objects = self.all_objects, self.all_objects + 1
 
     # Classes
 
@@ -175,16 +216,24 @@ class State:
                     thing.fields[one.name, name, descriptor] = None if descriptor[0] in "L[" else 0
         return thing
 
+    def counted(self, thing: Object) -> int:
+        """How many cells the fields of an object are: those of built-in classes that are hidden are none, but `target`."""
+        return sum(1 for owner, name, _ in thing.fields if owner not in self.built_in_names or name == "target")
+
     def room(self, cells: int) -> None:
         """Refuses where a limit stands at one more object with so many cells."""
         if self.objects + 1 > self.limits["objects"]:
             raise Refused("objects")
+        self.cell_room(cells)
+
+    def cell_room(self, cells: int) -> None:
         if self.cells + cells > self.limits["cells"]:
             raise Refused("cells")
 
     def allocated(self, thing: Object, cells: int) -> Object:
         self.objects += 1
         self.cells += cells
+        thing.number, self.all_objects = self.all_objects, self.all_objects + 1
         return thing
 
     def entering(self, thread: JavaThread, thing: Object) -> Action:
@@ -215,12 +264,18 @@ class State:
         if thing.entries == 0:
             thing.owner = None
 
-    def throwing(self, thread: JavaThread, name: str) -> Action:
+    def throwing(
+        self, thread: JavaThread, name: str, message: Optional[str] = None, cause: Optional[Object] = None
+    ) -> Action:
         """What leaves a new exception of the machine pending."""
         self.room(0)
 
         def throw() -> None:
-            thread.pending = self.allocated(Object(f"java/lang/{name}"), 0)
+            thing = self.allocated(self.made(f"java/lang/{name}"), 0)
+            fields = {"message": message and self.strings[message], "cause": cause}
+            for (owner, field, descriptor) in thing.fields:
+                thing.fields[owner, field, descriptor] = fields.get(field)
+            thread.pending = thing
 
         return throw
 

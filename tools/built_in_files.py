@@ -12,7 +12,7 @@ from tools.library_classes import NAMING, NAMING_BY_BYTE, Reader, length_at
 Tree = Dict[str, Any]
 Entry = Tuple[Any, ...]
 
-PRIVATE, NATIVE = 0x0002, 0x0100
+PUBLIC, PRIVATE, PROTECTED, NATIVE = 0x0001, 0x0002, 0x0004, 0x0100
 
 # The entries of a constant pool that are read: their tags, by their names in the model.
 TAGS = {"Utf8": 1, "Integer": 3, "Class": 7, "String": 8, "Field": 9, "Method": 10, "InterfaceMethod": 11}
@@ -288,7 +288,8 @@ def laid_field(layout: Layout, field: Declared) -> Tree:
 
 def laid_method(layout: Layout, method: Declared, code: Optional[Tree]) -> Tree:
     text = layout.added if code is None else layout.text
-    found: Tree = {"flags": method.flags, "name": text(method.name), "descriptor": text(method.descriptor)}
+    flags = method.flags if method.flags & (PUBLIC | PROTECTED) else method.flags | PRIVATE
+    found: Tree = {"flags": flags, "name": text(method.name), "descriptor": text(method.descriptor)}
     found["parts"] = [] if code is None else [("CodeOf", layout.text(b"Code"), code)]
     return found
 

@@ -3,4 +3,14 @@ package java.lang;
 /** The initialisation of a class ended with what is no Error (JVMS 5.5). */
 public class ExceptionInInitializerError extends LinkageError {
     public ExceptionInInitializerError() {}
+
+    public ExceptionInInitializerError(String message) {}
+
+    public ExceptionInInitializerError(Throwable thrown) {
+        super(null, thrown);
+    }
+
+    public Throwable getException() {
+        return getCause();
+    }
 }

@@ -9,4 +9,18 @@ public class Object {
     public final native void notify();
 
     public final native void notifyAll();
+
+    public native int hashCode();
+
+    public final native Class getClass();
+
+    protected native Object clone() throws CloneNotSupportedException;
+
+    public boolean equals(Object other) {
+        return this == other;
+    }
+
+    public String toString() {
+        return String.described(this, hashCode());
+    }
 }
