@@ -43,4 +43,13 @@ public class PrintStream {
     }
 
     public void flush() {}
+
+    public PrintStream printf(String form, Object[] arguments) {
+        return format(form, arguments);
+    }
+
+    public PrintStream format(String form, Object[] arguments) {
+        print(String.format(form, arguments));
+        return this;
+    }
 }

@@ -277,4 +277,159 @@ public final class String implements Comparable, CharSequence {
         } while (number != 0);
         return new String(digits, at, 8 - at);
     }
+
+    public String[] split(String separator) {
+        return split(separator, 0);
+    }
+
+    /** The separator is a text, in which a backslash stands before a special sign, or {@code \\s+}. */
+    public String[] split(String separator, int limit) {
+        boolean isSpace = separator.equals("\\s+");
+        StringBuilder plain = new StringBuilder();
+        for (int at = 0; at < separator.length() && !isSpace; at++) {
+            char sign = separator.charAt(at);
+            if (sign == '\\') {
+                at++;
+                if (at == separator.length()) {
+                    throw new IllegalArgumentException();
+                }
+                sign = separator.charAt(at);
+                char low = lower(sign);
+                if (low >= 'a' && low <= 'z' || low >= '0' && low <= '9') {
+                    throw new IllegalArgumentException();
+                }
+            } else if (".$|()[{^?*+".indexOf(sign, 0) >= 0) {
+                throw new IllegalArgumentException();
+            }
+            plain.append(sign);
+        }
+        String sought = plain.toString();
+        String[] parts = new String[4];
+        int count = 0;
+        int from = 0;
+        int at = 0;
+        while (at <= length() && (limit <= 0 || count < limit - 1)) {
+            int end = at;
+            if (isSpace) {
+                while (end < length() && (charAt(end) == ' ' || charAt(end) >= '\t' && charAt(end) <= '\r')) {
+                    end++;
+                }
+            } else if (regionMatches(at, sought, 0, sought.length())) {
+                end = at + sought.length();
+            }
+            boolean isEmpty = !isSpace && sought.length() == 0;
+            if (end > at || isEmpty && at > 0 && length() > 0) {
+                if (count + 1 >= parts.length) {
+                    String[] more = new String[2 * count + 2];
+                    System.arraycopy(parts, 0, more, 0, count);
+                    parts = more;
+                }
+                parts[count] = substring(from, at);
+                count++;
+                from = end;
+            }
+            at = end > at ? end : at + 1;
+        }
+        parts[count] = substring(from, length());
+        count++;
+        if (limit == 0 && count > 1) {
+            while (count > 0 && parts[count - 1].length() == 0) {
+                count--;
+            }
+        }
+        String[] made = new String[count];
+        System.arraycopy(parts, 0, made, 0, count);
+        return made;
+    }
+
+    /** Of d, s, S, c, b, x, X, n and %, with a number of an argument, a minus sign, a zero, and a width. */
+    public static String format(String form, Object[] arguments) {
+        StringBuilder made = new StringBuilder();
+        int next = 0;
+        int at = 0;
+        while (at < form.length()) {
+            char sign = form.charAt(at);
+            at++;
+            if (sign != '%') {
+                made.append(sign);
+                continue;
+            }
+            boolean isLeft = false;
+            boolean isZero = false;
+            int number = 0;
+            int width = 0;
+            while (true) {
+                if (at == form.length()) {
+                    throw new IllegalArgumentException();
+                }
+                sign = form.charAt(at);
+                at++;
+                if (sign == '-' && width == 0 && !isLeft) {
+                    isLeft = true;
+                } else if (sign == '0' && width == 0 && !isZero) {
+                    isZero = true;
+                } else if (sign >= '0' && sign <= '9' && width < 100000) {
+                    width = 10 * width + sign - '0';
+                } else if (sign == '$' && number == 0 && width > 0 && !isLeft && !isZero) {
+                    number = width;
+                    width = 0;
+                } else {
+                    break;
+                }
+            }
+            if ((isLeft || isZero) && width == 0 || isLeft && isZero || isZero && "dxX".indexOf(sign, 0) < 0) {
+                throw new IllegalArgumentException();
+            }
+            String told;
+            if (sign == 'n' || sign == '%') {
+                told = sign == 'n' ? "\n" : "%";
+            } else {
+                if (number == 0) {
+                    next++;
+                    number = next;
+                }
+                if (arguments == null || number > arguments.length || "dsScbxX".indexOf(sign, 0) < 0) {
+                    throw new IllegalArgumentException();
+                }
+                Object argument = arguments[number - 1];
+                told = valueOf(argument);
+                if (sign == 'b') {
+                    boolean isFalse = argument == null;
+                    if (told.equals("false")) {
+                        isFalse = argument.getClass().getName().equals("java.lang.Boolean");
+                    }
+                    told = isFalse ? "false" : "true";
+                }
+                if (argument != null && (sign == 'x' || sign == 'X' || sign == 'c' && told.length() != 1)) {
+                    int value = 0;
+                    int first = told.startsWith("-") ? 1 : 0;
+                    for (int digit = first; digit < told.length(); digit++) {
+                        char unit = told.charAt(digit);
+                        if (unit < '0' || unit > '9') {
+                            throw new IllegalArgumentException();
+                        }
+                        value = 10 * value - (unit - '0');
+                    }
+                    value = first == 1 ? value : -value;
+                    told = sign == 'c' ? valueOf((char) value) : hexadecimal(value);
+                }
+                if (sign == 'S' || sign == 'X') {
+                    told = told.toUpperCase();
+                }
+            }
+            int missing = width - told.length();
+            if (isZero && told.startsWith("-")) {
+                made.append('-');
+                told = told.substring(1, told.length());
+            }
+            for (int more = 0; more < missing && !isLeft; more++) {
+                made.append(isZero ? '0' : ' ');
+            }
+            made.append(told);
+            for (int more = 0; more < missing && isLeft; more++) {
+                made.append(' ');
+            }
+        }
+        return made.toString();
+    }
 }
