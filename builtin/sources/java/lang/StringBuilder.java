@@ -136,6 +136,18 @@ public final class StringBuilder implements CharSequence {
         return insert(at, String.valueOf(units));
     }
 
+    public StringBuilder insert(int at, char[] units, int from, int count) {
+        return insert(at, String.valueOf(units, from, count));
+    }
+
+    public StringBuilder insert(int at, CharSequence other, int begin, int end) {
+        String all = String.valueOf(other);
+        if (begin < 0 || begin > end || end > all.length()) {
+            throw new IndexOutOfBoundsException();
+        }
+        return insert(at, all.substring(begin, end));
+    }
+
     public StringBuilder insert(int at, char unit) {
         return insert(at, String.valueOf(unit));
     }
