@@ -47,6 +47,7 @@ pub mod Calls
 pub mod Meanings
 pub mod Step
 pub mod Run
+pub mod Texts
 pub mod Report
 pub mod Schedule
 pub mod Meaning
