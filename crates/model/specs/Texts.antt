@@ -1,5 +1,5 @@
 -- Texts: lists of UTF-16 code units, each below 65,536 (JLS 3.1, 4.3.3), and how they are read and written.
-use Rattle.std.specs.Prelude.{◌≡◌, ℕ, ◌+◌, ◌*◌, ◌%◌, List, [], ◌∷◌, ◌++◌, Option, Some, None, Bool, true, ◌&&◌, ◌||◌, ◌==◌, if◌then◌else◌, nat_lt, nat_le, length, map, take, flat_map, unwrap_or, codes, chars, refl}
+use Rattle.std.specs.Prelude.{◌≡◌, ℕ, ◌+◌, ◌*◌, ◌%◌, List, [], ◌∷◌, ◌++◌, Option, Some, None, Bool, true, false, ◌&&◌, ◌||◌, ◌==◌, if◌then◌else◌, nat_lt, nat_le, length, map, take, flat_map, unwrap_or, codes, chars, refl}
 use Rattle.std.specs.Fmt.{digits, signed_decimal}
 use Rattle.std.specs.Char.{encode_utf8}
 use Rattle.std.specs.Char.Escape.{encode_utf16}
