@@ -48,6 +48,7 @@ pub mod Meanings
 pub mod Step
 pub mod Run
 pub mod Texts
+pub mod TextMethods
 pub mod Report
 pub mod Schedule
 pub mod Meaning
