@@ -1,7 +1,0 @@
-pub mod ClashLemmas
-pub mod CommandLineLemmas
-pub mod GoalLemmas
-pub mod ParserLemmas
-pub mod PathLemmas
-pub mod PolicyLemmas
-mod SweepLemmas

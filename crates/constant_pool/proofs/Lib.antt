@@ -1,4 +1,0 @@
-mod Places
-pub mod TextLaws
-pub mod PoolLaws
-pub mod Passing

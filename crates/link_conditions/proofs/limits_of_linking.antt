@@ -1,3 +1,0 @@
-pub mod TextLaws
-pub mod ClimbLaws
-pub mod MainLaws

@@ -1,4 +1,0 @@
-mod Enabled
-mod Tops
-mod Statuses
-mod States

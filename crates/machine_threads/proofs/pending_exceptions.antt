@@ -1,4 +1,0 @@
-pub mod NoRoom
-pub mod Handled
-pub mod Caught
-pub mod Tops

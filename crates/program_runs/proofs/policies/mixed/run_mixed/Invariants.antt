@@ -1,6 +1,0 @@
-use Rattle.program_runs.specs.worlds.Worlds.{IsOfSame}
-use Rattle.program_runs.proofs.policies.mixed.run_mixed.Given as goal
-
--- files, limits and budget stay
-abbrev pub invariant-turns : goal.invariant-turns
-invariant-turns g l = IsOfSame l.fn.world l.world

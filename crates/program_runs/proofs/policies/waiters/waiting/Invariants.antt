@@ -1,5 +1,0 @@
-use Rattle.std.proofs.Common.{◌≤◌}
-use Rattle.program_runs.proofs.policies.waiters.waiting.Given as goal
-
-abbrev pub invariant-threads : goal.invariant-threads
-invariant-threads l = l.count ≤ l.thread

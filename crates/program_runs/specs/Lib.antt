@@ -1,5 +1,0 @@
-pub mod continued_runs
-pub mod policies
-pub mod traced_runs
-pub mod workers
-pub mod worlds

@@ -1,4 +1,0 @@
-pub mod Fits
-pub mod Picks
-pub mod TypingProofs
-pub mod TableProofs

@@ -1,6 +1,0 @@
-mod Shown
-mod Schedules
-mod Growth
-mod Expanded
-mod Visits
-mod Whole

@@ -1,4 +1,0 @@
-mod Orders
-mod Lists
-mod Places
-pub mod SameLaws

@@ -1,2 +1,0 @@
-mod OutcomeTexts
-mod Reported

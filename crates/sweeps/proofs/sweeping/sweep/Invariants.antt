@@ -1,6 +1,0 @@
-use Rattle.sweeps.proofs.RunsSwept.{HasSwept}
-use Rattle.sweeps.proofs.sweeping.sweep.Given as goal
-
--- one run is done for each seed below this one
-abbrev pub invariant-seeds : goal.invariant-seeds
-invariant-seeds g l = HasSwept (g.S.SeedRuns.is_run l.runs) l.wanted l.first l.seed l.tally

@@ -1,4 +1,0 @@
-mod Counts
-mod Escapes
-mod MethodPlaces
-mod OneLine

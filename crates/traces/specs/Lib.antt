@@ -1,4 +1,0 @@
-pub mod JsonTexts
-pub mod Lines
-pub mod Methods
-pub mod traced_events
