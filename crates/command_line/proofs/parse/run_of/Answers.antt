@@ -21,6 +21,7 @@ returns-clause-values c = record {
   seconds = c.in_ok-seconds.ensures.number;
   sweep = c.in_ok-sweep.ensures.sweep;
   recording = c.in_ok-record.ensures;
+  version = c.in_ok-as_version.ensures.version;
   limits = c.in_ok-limits.ensures.limits;
   main = c.in_ok-main.ensures;
   files = c.in_ok-files.ensures.files;

@@ -34,6 +34,7 @@ returns-clause-values c = record {
   memory = c.in_ok-memory.ensures.number;
   seconds = c.in_ok-seconds.ensures.number;
   recording = c.in_ok-record.ensures;
+  version = c.in_ok-as_version.ensures.version;
   limits = c.in_ok-limits.ensures.limits;
   main = c.in_ok-main.ensures;
   files = c.in_ok-files.ensures.files;

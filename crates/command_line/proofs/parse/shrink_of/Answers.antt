@@ -41,6 +41,7 @@ returns-clause-values c = record {
   any_files = c.is_set.ensures;
   budget = c.in_ok-budget.ensures.number;
   recording = c.in_ok-record.ensures;
+  version = c.in_ok-as_version.ensures.version;
   limits = c.in_ok-limits.ensures.limits;
   main = c.in_ok-main.ensures;
   files = c.in_ok-files.ensures.files;

@@ -1,7 +1,7 @@
 use Rattle.std.proofs.Common.{◌∙◌, ap, ap₂, codes}
 use Rattle.std.proofs.lemmas.Result.{IfOk-weaker}
 use Rattle.clap.specs.Words.{new_app}
-use Rattle.command_line.specs.CommandLine.{with_files, with_program}
+use Rattle.command_line.specs.CommandLine.{with_files, with_program, with_record}
 use Rattle.command_line.proofs.ParserLemmas.{IsParser, with_argument}
 use Rattle.command_line.proofs.parsers.run_parser.Goals as goal
 
@@ -15,8 +15,8 @@ returns c =
     let policy = with_argument _ _ _ _ _ seed c.policy_argument.ensures.rule c.policy_argument.ensures.local c.in_ok-arg-5.ensures in
     let seconds = with_argument _ _ _ _ _ policy c.argument-4.ensures.rule c.argument-4.ensures.local c.in_ok-arg-6.ensures in
     let seeds = with_argument _ _ _ _ _ seconds c.seeds_argument.ensures.rule c.seeds_argument.ensures.local c.in_ok-arg-7.ensures in
-    let wanted = with_argument _ _ _ _ _ seeds c.goal_argument.ensures.rule c.goal_argument.ensures.local c.in_ok-arg-8.ensures in
-    let recording = with_argument _ _ _ _ _ wanted c.record_argument.ensures.rule c.record_argument.ensures.local c.in_ok-run.ensures in
+    let wanted = with_argument _ _ _ _ _ seeds c.goal_argument.ensures.rule c.goal_argument.ensures.local c.in_ok-run.ensures in
+    let recording : IsParser c.in_ok-run-2.run (with_record _) = (c.in_ok-run-2.ensures.app ∙ ap with_record wanted.0, c.in_ok-run-2.ensures.local wanted.1) in
     let limited = c.in_ok-with_program.ensures.app ∙ ap with_program recording.0 in
     IfOk-weaker c.with_files.result _ _ (λ whole is. (is.0 ∙ ap₂ with_files limited c.files_argument.ensures.rule, is.1))
     (c.with_files.ensures (c.in_ok-with_program.ensures.local recording.1) c.files_argument.ensures.local)

@@ -1,0 +1,13 @@
+use Rattle.std.proofs.lemmas.Result.{err_from_is_err_and}
+use Rattle.command_line.proofs.CommandLineLemmas.{refuses_more}
+use Rattle.command_line.proofs.schedule_arguments.places_of.Goals as goal
+
+pub returns-in_err-schedule-clause-none : goal.returns-in_err-schedule-clause-none
+returns-in_err-schedule-clause-none c =
+    let p = err_from_is_err_and c.from_residual-in_err-schedule.result c.from_residual-in_err-schedule.ensures.1 in
+    rw (p.1, p.2) (refuses_more c.in_err-schedule.field-0.0 _ _ (λ none places are. none _ are.schedule) c.in_err-schedule.ensures.none)
+
+pub returns-in_err-files-clause-none : goal.returns-in_err-files-clause-none
+returns-in_err-files-clause-none c =
+    let p = err_from_is_err_and c.from_residual-in_err-files.result c.from_residual-in_err-files.ensures.1 in
+    rw (p.1, p.2) (refuses_more c.in_err-files.field-0.0 _ _ (λ none places are. none _ are.files) c.in_err-files.ensures.none)
