@@ -28,7 +28,7 @@
 //!   object with given words last, with a monitor that has no owner; the first says of a refusal what `Allocates` says,
 //!   and the other doesn't change anything on an error. `copied` is the other heap, whatever this one was.
 //! - `same_until`: each object from the first of a range up to the answer is the same in both heaps, it and its
-//!   monitor. The answer may come early: a search stops at a monitor for which threads wait.
+//!   monitor. The answer may come early: the search stops at an inflated lock.
 //! - `are_same_words`: two lists that are found to be the same are the same.
 //! - An entry of the table has 16 bytes. Beside it an object has a lock word of 4 bytes, and each cell 4 bytes.
 //!
