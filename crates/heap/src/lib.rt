@@ -25,10 +25,11 @@
 //! - The calls of monitors are handed on with their contract, and the rest of the heap stays (`HandsOn`); so are the
 //!   getters.
 //! - Of states that are kept: `words` is the list of an object's words. `add_words` and `add_opening_words` put an
-//!   object with given words last, with a monitor that has no owner, and don't change anything on an error. `copied` is
-//!   the other heap, whatever this one was.
+//!   object with given words last, with a monitor that has no owner; the first says of a refusal what `Allocates` says,
+//!   and the other doesn't change anything on an error. `copied` is the other heap, whatever this one was.
 //! - `same_until`: each object from the first of a range up to the answer is the same in both heaps, it and its
 //!   monitor. The answer may come early: the search stops at an inflated lock.
+//! - `are_same_words`: two lists that are found to be the same are the same.
 //! - An entry of the table has 16 bytes. Beside it an object has a lock word of 4 bytes, and each cell 4 bytes.
 //!
 //! # Not proved
@@ -53,4 +54,5 @@ mod refusal;
 
 pub use heap::{Heap, MOST_OPENING};
 pub use kind::{NarrowKind, ObjectKind};
+pub use layout::are_same_words;
 pub use refusal::AllocRefusal;
