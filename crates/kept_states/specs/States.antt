@@ -23,6 +23,12 @@ AreThreads parts (number ∷ numbers) (thread ∷ threads) (stack ∷ stacks) =
     ((row : List ℕ) × StandsFor parts number row × IsThreadRow row thread stack) × AreThreads parts numbers threads stacks
 AreThreads parts numbers threads stacks = ⊥
 
+-- threads with these numbers were put behind whatever threads there were
+abbrev pub AreThreadsBehind : List (List ℕ) → (others : List ℕ) → (old : List Thread) → (old_stacks : List (List ShownEntry)) → (new : List Thread)
+    → (new_stacks : List (List ShownEntry)) → Type 0
+AreThreadsBehind parts others old old_stacks new new_stacks =
+    (numbers : List ℕ) → AreThreads parts numbers old old_stacks → AreThreads parts (numbers ++ others) new new_stacks
+
 -- the thread of a number has this one
 abbrev pub HasThread : List (List ℕ) → (number : ℕ) → Shared → (thread : ℕ) → Type 0
 HasThread parts number s thread =
