@@ -1,5 +1,5 @@
 -- What the parser found, and the values of a command.
-use Rattle.std.proofs.Common.{◌≡◌, ℕ, ◌≤◌, ◌<◌, ◌+◌, ◌∷◌, ◌++◌, List, Option, None, Some, Result, Ok, Err, option_map, unwrap_or, get_or, eqb, map, take, length, Bor, arith, [], true, false, codes, ◌⊎◌, inl, inr, refl, sym, ap, subst, ◌∙◌, Box, Global}
+use Rattle.std.proofs.Common.{◌≡◌, ℕ, ◌≤◌, ◌<◌, ◌+◌, ◌∷◌, ◌++◌, List, Option, None, Some, Result, Ok, Err, option_map, unwrap_or, get_or, map, take, length, Bor, arith, [], true, false, codes, ◌⊎◌, inl, inr, refl, sym, ap, subst, ◌∙◌, Box, Global}
 use Rattle.std.proofs.lemmas.List.{get_or-map, length-map, map-append, take_more}
 use Rattle.std.proofs.lemmas.List.Elements.{All-get_or, All-more}
 use Rattle.std.specs.Box.{box_value}

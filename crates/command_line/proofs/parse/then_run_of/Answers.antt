@@ -1,7 +1,7 @@
 use Rattle.std.proofs.Common.{sym, ◌∙◌}
 use Rattle.std.proofs.lemmas.Result.{err_from_is_err_and}
 use Rattle.clap.specs.Words.{found_of, rows_of}
-use Rattle.command_line.proofs.CommandLineLemmas.{no_budget, no_version_behind, refuses_more, unversioned}
+use Rattle.command_line.proofs.CommandLineLemmas.{no_budget, no_version_behind, refuses_more}
 use Rattle.command_line.proofs.parse.then_run_of.Goals as goal
 
 pub returns-in_err-budget-clause-none : goal.returns-in_err-budget-clause-none
