@@ -125,7 +125,7 @@ module _ (in_order : ArePicksInOrder) (files : List (List ℕ)) (trees : Program
   did [] is (ends.NotEnabled i) fits = absurd fits.1
   did (event ∷ more) is (ends.NotEnabled i) fits = absurd (enabled event more is fits.1)
   did [] is (ends.Refused i why) fits = absurd fits.1
-  did (event ∷ more) is (ends.Refused i why) fits = inl (refused event more is i why fits.1.1.0)
+  did (event ∷ more) is (ends.Refused i why) fits = inl (refused event more is i why fits.1.1)
   did left is ends.Budget fits = absurd fits
 
   -- all of them: it came to the state of the run
@@ -149,7 +149,7 @@ module _ (in_order : ArePicksInOrder) (files : List (List ℕ)) (trees : Program
   end_is : (e : End) → RecordEndFits trees b r.state budget events (Some e) → ends_at (is_quiet trees limits.frames r.state) ≡ end_of_replay e
   end_is ends.Quiet fits = ap ends_at fits
   end_is ends.Budget fits = ap ends_at fits.1
-  end_is (ends.Refused i why) fits = ap ends_at (enabled_not_quiet in_order trees limits.frames r.state fits.1.1.0 typed fits.1.1.1.0)
+  end_is (ends.Refused i why) fits = ap ends_at (enabled_not_quiet in_order trees limits.frames r.state fits.2.0 typed fits.2.1)
   end_is ends.Schedule fits = absurd fits
   end_is (ends.NotEnabled i) fits = absurd fits
 
