@@ -1,9 +1,8 @@
 -- What is written of a state, and read again.
-use Rattle.std.proofs.Common.{◌≡◌, ℕ, zero, suc, ◌+◌, ◌<◌, ◌≤◌, List, [], ◌∷◌, ◌++◌, length, take, get_or, refl, sym, ◌∙◌, ap, subst, Option, Some, None, Result, Ok, Err, Bor, arith, append_assoc, append-nil}
+use Rattle.std.proofs.Common.{◌≡◌, ℕ, zero, suc, ◌+◌, ◌<◌, List, [], ◌∷◌, ◌++◌, length, take, get_or, refl, sym, ◌∙◌, ap, subst, Option, Some, None, Result, Ok, Err, Bor, arith, append_assoc, append-nil}
 use Rattle.std.specs.Prelude.{slice_get, IfSome, OnOk, IfOk, ℤ}
 use Rattle.std.specs.Int.{w32, cast_signed}
 use Rattle.std.proofs.lemmas.List.{take_more, take_all, map-append, get_or_read}
-use Rattle.std.proofs.lemmas.Option.{slice_get-get_or}
 use Rattle.model.specs.State.{Thread, new_thread}
 use Rattle.heap.specs.java_threads.Table.{ThreadTable, thread_at}
 use Rattle.thread_stacks.specs.Stacks.{ShownEntry}
@@ -18,8 +17,8 @@ use Rattle.machine_state.specs.declared.state.Shared.{Shared}
 use Rattle.kept_states.specs.declared.numbered.GlobalNumbers.{GlobalNumbers}
 use Rattle.kept_states.specs.declared.numbered.Numbered.{Numbered}
 use Rattle.kept_states.specs.declared.globals.Globals.{Globals}
-use Rattle.kept_states.specs.Rows.{statuses_row, ints_of, ArePushed}
-use Rattle.kept_states.specs.States.{AreThreads, AreThreadsBehind, HasThread, IsThreadWritten, AreThreadsPushed, IsThreadAdded, globals_row, AreGlobals, AreNumbersWritten, IsPrintedWritten, AreGlobalsWritten, IsStateRow, AreFat, IsSharedRead}
+use Rattle.kept_states.specs.Rows.{statuses_row, ArePushed}
+use Rattle.kept_states.specs.States.{AreThreads, AreThreadsBehind, IsThreadWritten, AreThreadsPushed, IsThreadAdded, globals_row, AreGlobals, AreNumbersWritten, IsPrintedWritten, AreGlobalsWritten, IsStateRow, IsSharedRead}
 use Rattle.kept_states.specs.Kept.{IsNumbered, IsThreadSame, IsState, IsStateAdded, IsRowMade}
 use Rattle.kept_states.specs.declared.states.KeptStates.{KeptStates}
 use Rattle.kept_states.proofs.One.{threads_stay}

@@ -1,14 +1,12 @@
 -- A state as a list of numbers of its parts (own).
-use Rattle.std.specs.Prelude.{◌≡◌, ℕ, List, [], ◌∷◌, ◌++◌, Some, None, Bool, length, take, slice_get, slice_index_or, ℤ}
+use Rattle.std.specs.Prelude.{◌≡◌, ℕ, List, [], ◌∷◌, ◌++◌, take, slice_index_or, ℤ}
 use Rattle.model.specs.State.{Thread}
-use Rattle.heap.specs.Heap.{Heap}
 use Rattle.heap.specs.java_threads.Table.{ThreadTable, thread_at}
 use Rattle.thread_stacks.specs.Stacks.{ShownEntry}
 use Rattle.word_table.specs.Lists.{StandsFor, Grows}
 use Rattle.kept_parts.specs.Rows.{flags_row}
 use Rattle.kept_parts.specs.Heaps.{IsHeapKept, IsHeapRead}
 use Rattle.kept_parts.specs.Threads.{IsThreadRow, IsThreadRead}
-use Rattle.machine_state.specs.declared.state.ClassStatus.{ClassStatus}
 use Rattle.machine_state.specs.declared.state.Shared.{Shared}
 use Rattle.kept_states.specs.declared.globals.Globals.{Globals}
 use Rattle.kept_states.specs.declared.numbered.GlobalNumbers.{GlobalNumbers}
