@@ -1,5 +1,6 @@
 """Schedules: the text of one, its file (docs/REFERENCE.md), and its entries."""
 
+import hashlib
 import re
 import struct
 from typing import Iterable, List, NamedTuple, Sequence, Tuple
@@ -61,6 +62,23 @@ def text_of_events(events: Iterable[Event]) -> str:
         f"{thread}.{pick}" if pick else f"{thread}*{repeat}" if repeat > 1 else f"{thread}"
         for thread, pick, repeat in entries_of_events(events)
     )
+
+
+def lines_of_words(words: Sequence[str], most: int = 16) -> List[str]:
+    """Words in lines of so many at most."""
+    return [" ".join(words[i : i + most]) for i in range(0, len(words), most)]
+
+
+def recorded_lines(files: Sequence[bytes], events: Iterable[Event], version: int) -> List[str]:
+    """The text of events that were recorded with the usual limits over these files, by a version (docs/REFERENCE.md)."""
+    entries = lines_of_words(text_of_events(events).split())
+    if version == 1:
+        return entries
+    lines = ["#limits objects=1000000 cells=16000000 monitors=65536 threads=256 frames=1024"]
+    lines += lines_of_words(["#lengths", *(str(len(file)) for file in files)], 17)
+    if version == 3:
+        lines += lines_of_words(["#checksums", *(hashlib.sha256(file).hexdigest()[:16] for file in files)], 17)
+    return [*lines, "#events", *entries]
 
 
 def front(entries: Sequence[Entry], events: int) -> List[Entry]:

@@ -19,6 +19,7 @@ sys.path.insert(0, str(pathlib.Path(__file__).resolve().parent.parent))
 
 from oracle.lessons import LESSONS, class_files
 from oracle.searches import TEXTS, Outcome, is_wanted, lines_of
+from oracle.schedules import recorded_lines
 from oracle.seeds import Run, mixed, random
 from tools.cases import store, stored
 from tools.repository import CONFORMANCE
@@ -41,6 +42,7 @@ class Sweep:
         self.files, self.words = files, words
         self.first, self.last = (int(seed) for seed in words.seeds.split(".."))
         self.shown: Dict[Shown, List[int]] = {}
+        self.first_runs: Dict[Shown, Run] = {}
         self.runs = self.events = 0
         self.is_found = False
         self.sweep()
@@ -52,9 +54,16 @@ class Sweep:
             self.runs, self.events = self.runs + 1, self.events + len(run.events)
             shown = shown_by(run)
             self.shown.setdefault(shown, []).append(seed)
+            self.first_runs.setdefault(shown, run)
             if shown[1] is not None and is_wanted(self.words.goal, shown[1]):
                 self.is_found = True
                 return
+
+    def schedules(self) -> List[str]:
+        """The text of the schedule of each outcome's first run."""
+        runs = [run for (_, outcome), run in self.first_runs.items() if outcome is not None]
+        version = self.words.as_version
+        return ["".join(f"{line}\n" for line in recorded_lines(self.files, run.events, version)) for run in runs]
 
     def text(self, repeated: str) -> str:
         """The text, of which the last line has these words behind the seed where one shows what is wanted."""
@@ -84,12 +93,20 @@ SWEPT = [
     ("lost-update", ["LostUpdate"], "--seeds 1..20 --policy random"),
     ("lost-update", ["LostUpdate"], "--seeds 1..20 --for output=1"),
     ("lost-update", ["LostUpdate"], "--seeds 1..20 --policy random --for differs=two"),
+    ("lost-update", ["LostUpdate"], "--seeds 1..20 --policy random --workers 3"),
+    ("lost-update", ["LostUpdate"], "--seeds 1..20 --workers 64 --for output=1"),
     ("lost-update", ["LostUpdate"], "--seeds 7..7"),
     ("lost-update", ["LostUpdate"], "--seeds 1..20 --budget 33"),
     ("lost-update", ["LostUpdate"], "--seeds 18446744073709551610..18446744073709551615"),
+    ("lost-update", ["LostUpdate"], "--seeds 18446744073709551610..18446744073709551615 --workers 4"),
     ("bounded-buffer", ["IfForWhile"], "--seeds 1..40 --for uncaught"),
     ("class-initialisation", ["Initialisers", "Left", "Right"], "--seeds 1..20"),
     ("philosophers", ["Philosophers"], "--seeds 1..10"),
+    ("lost-update", ["LostUpdate"], "--seeds 1..20 --record outcomes"),
+    ("lost-update", ["LostUpdate"], "--seeds 1..20 --workers 4 --as-version 2 --record outcomes"),
+    ("lock-order", ["LockOrder"], "--seeds 2..20 --budget 70 --as-version 1 --record outcomes"),
+    ("lock-order", ["LockOrder"], "--seeds 2..20 --for deadlock --record outcomes"),
+    ("class-initialisation", ["Initialisers", "Left", "Right"], "--seeds 1..20 --as-version 3 --record outcomes"),
 ]
 
 HEAD = [
@@ -106,6 +123,9 @@ def words_of(words: Sequence[str]) -> argparse.Namespace:
     parser.add_argument("--seeds", required=True)
     parser.add_argument("--policy", choices=["mixed", "random"], default="mixed")
     parser.add_argument("--budget", type=int, default=10_000_000)
+    parser.add_argument("--workers", type=int, help="changes nothing of what is told")
+    parser.add_argument("--record", help="the schedules of the outcomes are cases of their own")
+    parser.add_argument("--as-version", type=int, default=3)
     parser.add_argument("--for", dest="goal")
     parser.add_argument("files", nargs="+")
     return parser.parse_args(words)
@@ -124,14 +144,18 @@ def cases_of(folder: str, names: List[str], options: str) -> Tuple[List[str], st
     name = "-".join([folder, names[0], re.sub("[ =]", "-", options.replace("--for ", "").replace("--", "").replace("..", "-to-"))])
     paths = " ".join(f"{folder}/{one}.class" for one in names)
     text = [f"case sweep-{name}", f"  run {options} {paths}"]
-    told = sweep.text(repeated(words.policy, paths))
-    return text, f"case sweep-{name}\n{told}status {int(sweep.is_found)}\n"
+    told = f"case sweep-{name}\n{sweep.text(repeated(words.policy, paths))}status {int(sweep.is_found)}\n"
+    for number, schedule in enumerate(sweep.schedules() if words.record else [], 1):
+        text += [f"case sweep-{name}-outcome-{number}", f"  schedule {words.record}/outcome-{number}.schedule"]
+        told += f"case sweep-{name}-outcome-{number}\n{schedule}status 0\n"
+    return text, told
 
 
 def write() -> None:
     lines, shown = [*HEAD], ""
     for name, numbers in TEXTS.items():
         lines += [f"text {name}", *(f"  {number}" for number in numbers), ""]
+    lines += ["# A folder for the schedules of outcomes.", "text outcomes/none", "  no schedule", ""]
     for row in SWEPT:
         text, printed = cases_of(*row)
         lines, shown = [*lines, *text], shown + printed

@@ -1,9 +1,10 @@
 -- The words of a run have one number and one policy for each option.
 use Rattle.std.proofs.Common.{◌≡◌, ◌∙◌, ℕ, List, Option, None, Some, ap, sym, refl, subst, codes, true, false}
+use Rattle.std.specs.Prelude.{MatchOption}
 use Rattle.std.proofs.lemmas.Bool.{true≢false}
 use Rattle.std.specs.Str.{bytes_eq}
 use Rattle.clap.specs.Words.{Row, Text, first_of}
-use Rattle.command_line.specs.CommandLine.{AreRunNumbers, IsNumber}
+use Rattle.command_line.specs.CommandLine.{AreRunNumbers, IsNumber, UnlessSweep}
 use Rattle.command_line.specs.Policies.{GoTogether, IsPolicy, IsPolicyWord}
 use Rattle.command_line.specs.declared.run_options.PolicyName.{PolicyName}
 use Rattle.command_line.specs.declared.run_options.PolicyName.TheVariants.{Mixed, Random, Rotation}
@@ -45,13 +46,21 @@ one_name (Some word) (Some one) (Some other) is also = ap Some (one_policy word 
 pub clashing : (rows : List Row) (workers quantum seed : Option ℕ) (policy : Option PolicyName)
     → IsNumber 1 64 (first_of (codes "workers") rows) workers → IsNumber 1 4294967295 (first_of (codes "quantum") rows) quantum
     → IsNumber 0 18446744073709551615 (first_of (codes "seed") rows) seed → IsPolicy (first_of (codes "policy") rows) policy
-    → (GoTogether workers quantum seed policy → ⊥) → (options : RunOptions) → AreRunNumbers rows options → ⊥
+    → (UnlessSweep (first_of (codes "seeds") rows) (GoTogether workers quantum seed policy) → ⊥) → (options : RunOptions) → AreRunNumbers rows options → ⊥
 clashing rows workers quantum seed policy of_workers of_quantum of_seed of_policy clash options are =
     let same_workers = one_number 1 64 (first_of (codes "workers") rows) options.workers workers are.workers of_workers in
     let same_quantum = one_number 1 4294967295 (first_of (codes "quantum") rows) options.quantum quantum are.quantum of_quantum in
     let same_seed = one_number 0 18446744073709551615 (first_of (codes "seed") rows) options.seed seed are.seed of_seed in
     let same_policy = one_name (first_of (codes "policy") rows) options.policy policy are.policy of_policy in
-    clash (subst (λ number. GoTogether number quantum seed policy) same_workers
-    (subst (λ number. GoTogether options.workers number seed policy) same_quantum
-    (subst (λ number. GoTogether options.workers options.quantum number policy) same_seed
-    (subst (λ name. GoTogether options.workers options.quantum options.seed name) same_policy are.together))))
+    clash (subst (λ number. UnlessSweep (first_of (codes "seeds") rows) (GoTogether number quantum seed policy)) same_workers
+    (subst (λ number. UnlessSweep (first_of (codes "seeds") rows) (GoTogether options.workers number seed policy)) same_quantum
+    (subst (λ number. UnlessSweep (first_of (codes "seeds") rows) (GoTogether options.workers options.quantum number policy)) same_seed
+    (subst (λ name. UnlessSweep (first_of (codes "seeds") rows) (GoTogether options.workers options.quantum options.seed name)) same_policy are.together))))
+
+-- of a sweep nothing clashes
+pub none_of_sweep : (seeds : Option Text) (word : Text) (P : Type 0) → seeds ≡ Some word → UnlessSweep seeds P
+none_of_sweep seeds word P is = subst (λ o. UnlessSweep o P) (sym is) tt
+
+-- without one it is as it is told
+pub told_of_run : (seeds : Option Text) (P : Type 0) {A : Type 0} (o : Option A) → seeds ≡ None → MatchOption o P (λ _. P → ⊥) → MatchOption o (UnlessSweep seeds P) (λ _. UnlessSweep seeds P → ⊥)
+told_of_run seeds P o is told = subst (λ (s : Option Text). MatchOption o (UnlessSweep s P) (λ _. UnlessSweep s P → ⊥)) (sym is) told

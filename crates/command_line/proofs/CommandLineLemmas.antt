@@ -1,5 +1,5 @@
 -- What the parser found, and the values of a command.
-use Rattle.std.proofs.Common.{◌≡◌, ℕ, ◌≤◌, ◌<◌, ◌+◌, ◌∷◌, ◌++◌, List, Option, None, Some, Result, Ok, Err, option_map, unwrap_or, get_or, eqb, map, take, length, Bor, arith, [], true, false, codes, ◌⊎◌, inl, inr, refl, sym, ap, subst, ◌∙◌, Box, Global}
+use Rattle.std.proofs.Common.{◌≡◌, ℕ, ◌≤◌, ◌<◌, ◌+◌, ◌∷◌, ◌++◌, List, Option, None, Some, Result, Ok, Err, option_map, unwrap_or, get_or, map, take, length, Bor, arith, [], true, false, codes, ◌⊎◌, inl, inr, refl, sym, ap, subst, ◌∙◌, Box, Global}
 use Rattle.std.proofs.lemmas.List.{get_or-map, length-map, map-append, take_more}
 use Rattle.std.proofs.lemmas.List.Elements.{All-get_or, All-more}
 use Rattle.std.specs.Box.{box_value}
@@ -14,21 +14,12 @@ use Rattle.clap.specs.declared.parser.matches.SubCommand.{SubCommand}
 use Rattle.clap.specs.declared.error.Error.{Error}
 use Rattle.clap.specs.declared.error.kind.ErrorKind.{ErrorKind}
 use Rattle.clap.specs.declared.error.kind.ErrorKind.TheVariants as errors
-use Rattle.command_line.specs.CommandLine.{AreDisasmValues, AreNumbers, AreNumerals, AreRunValues, AreScheduleValues, AreSearchValues, AreShrinkValues, AreTraceValues, AreValues, AreVerifyValues, Asks, Fails, IsNumber, IsThenRun, Refuses, Spells, SpellsNothing, jvm, parts_of, usage_by, usage_of}
+use Rattle.command_line.specs.CommandLine.{AreNumbers, AreNumerals, AreValuesOf, Asks, Fails, IsNumber, IsRecordedVersion, IsThenRun, Refuses, Spells, SpellsNothing, jvm, name_of, is_set, parts_of, usage_by, usage_of}
 use Rattle.command_line.specs.Numerals.{IsNumeralWithin}
 use Rattle.command_line.specs.declared.usage.Usage.{Usage}
 use Rattle.command_line.specs.declared.usage.Usage.TheVariants.{Parser, Number, Asked, OutOfMemory}
 use Rattle.command_line.specs.declared.options.Command.{Command}
-use Rattle.command_line.specs.declared.options.Command.TheVariants as commands
-use Rattle.command_line.specs.declared.options.Disasm.{Disasm}
-use Rattle.command_line.specs.declared.options.Replay.{Replay}
-use Rattle.command_line.specs.declared.options.Run.{Run}
-use Rattle.command_line.specs.declared.options.Schedule.{Schedule}
-use Rattle.command_line.specs.declared.options.Search.{Search}
-use Rattle.command_line.specs.declared.options.Shrink.{Shrink}
 use Rattle.command_line.specs.declared.options.ThenRun.{ThenRun}
-use Rattle.command_line.specs.declared.options.Trace.{Trace}
-use Rattle.command_line.specs.declared.options.Verify.{Verify}
 
 -- a mistake is refused for a reason that holds
 pub refuses : (usage : Usage) (reason : Type 0) → (Asks usage → ⊥) → reason → Refuses usage reason
@@ -44,6 +35,12 @@ fails words OutOfMemory reason known on = tt
 fails words (Parser error) reason known on = on known
 fails words (Number text) reason known on = on known
 fails words (Asked error) reason known on = elim known [ ]
+
+-- so it is of what a function answers
+pub fails_all : {A : Type 0} (words : List Text) (result : Result A Usage) (reason : Type 0) → IfErr result (λ usage. Refuses usage reason) → (reason → SpellsNothing words)
+    → IfErr result (Fails words)
+fails_all words (Ok value) reason known on = tt
+fails_all words (Err usage) reason known on = fails words usage reason known on
 
 -- the first value of an option
 pub first_is : (matches : ArgMatches) (id : Text) (text : Option Text) → text ≡ first_value (found_of matches) id
@@ -96,6 +93,10 @@ all_is matches id texts found = sym (found ∙ raw_values-rows (found_of matches
 -- what isn't there is no value
 pub no_value : {A : Type 0} (there : Option A) → there ≡ None → (value : A) → there ≡ Some value → ⊥
 no_value there none value some = let bad : None ≡ Some value = sym none ∙ some in cc
+
+-- values that are there are the same where they are said to be
+pub some_same : {A : Type 0} (one other : A) → Some one ≡ Some other → one ≡ other
+some_same one other same = ap (λ there. unwrap_or there one) same
 
 pub is_free_jvm : is_simple_and_free jvm ≡ true
 unfolding clap_on_literals
@@ -171,327 +172,27 @@ pub rows_met : (matches : ArgMatches) (words : List Text) (name : Text) (rows : 
     → subcommand_of jvm words ≡ Some (name, rows)
 rows_met matches words name rows has met rows_are = sym (has is_simple_jvm).1 ∙ both_of (subcommand_rows_of matches) name rows (named_rows matches ∙ met) rows_are
 
--- where no subcommand is met, the words spell no command
-pub spells_none : (matches : ArgMatches) (words : List Text) → HasMatchesOf jvm words matches
-    → (subcommand_name_of matches ≡ Some (codes "run") → ⊥) → (subcommand_name_of matches ≡ Some (codes "replay") → ⊥)
-    → (subcommand_name_of matches ≡ Some (codes "trace") → ⊥) → (subcommand_name_of matches ≡ Some (codes "search") → ⊥)
-    → (subcommand_name_of matches ≡ Some (codes "shrink") → ⊥) → (subcommand_name_of matches ≡ Some (codes "verify") → ⊥)
-    → (subcommand_name_of matches ≡ Some (codes "disasm") → ⊥) → (subcommand_name_of matches ≡ Some (codes "schedule") → ⊥) → (command : Command) → Spells words command → ⊥
-spells_none matches words has no_run no_replay no_trace no_search no_shrink no_verify no_disasm no_schedule (commands.Run run) spelled =
-    no_run (sym (named_rows matches) ∙ ap (option_map (λ p. p.0)) ((has is_simple_jvm).1 ∙ spelled.1))
-spells_none matches words has no_run no_replay no_trace no_search no_shrink no_verify no_disasm no_schedule (commands.Replay replay) spelled =
-    no_replay (sym (named_rows matches) ∙ ap (option_map (λ p. p.0)) ((has is_simple_jvm).1 ∙ spelled.1))
-spells_none matches words has no_run no_replay no_trace no_search no_shrink no_verify no_disasm no_schedule (commands.Trace trace) spelled =
-    no_trace (sym (named_rows matches) ∙ ap (option_map (λ p. p.0)) ((has is_simple_jvm).1 ∙ spelled.1))
-spells_none matches words has no_run no_replay no_trace no_search no_shrink no_verify no_disasm no_schedule (commands.Search search) spelled =
-    no_search (sym (named_rows matches) ∙ ap (option_map (λ p. p.0)) ((has is_simple_jvm).1 ∙ spelled.1))
-spells_none matches words has no_run no_replay no_trace no_search no_shrink no_verify no_disasm no_schedule (commands.Shrink shrink) spelled =
-    no_shrink (sym (named_rows matches) ∙ ap (option_map (λ p. p.0)) ((has is_simple_jvm).1 ∙ spelled.1))
-spells_none matches words has no_run no_replay no_trace no_search no_shrink no_verify no_disasm no_schedule (commands.Verify verify) spelled =
-    no_verify (sym (named_rows matches) ∙ ap (option_map (λ p. p.0)) ((has is_simple_jvm).1 ∙ spelled.1))
-spells_none matches words has no_run no_replay no_trace no_search no_shrink no_verify no_disasm no_schedule (commands.Disasm disasm) spelled =
-    no_disasm (sym (named_rows matches) ∙ ap (option_map (λ p. p.0)) ((has is_simple_jvm).1 ∙ spelled.1))
-spells_none matches words has no_run no_replay no_trace no_search no_shrink no_verify no_disasm no_schedule (commands.Schedule schedule) spelled =
-    no_schedule (sym (named_rows matches) ∙ ap (option_map (λ p. p.0)) ((has is_simple_jvm).1 ∙ spelled.1))
+-- so has the subcommand that is spelled its name
+pub name_met : (matches : ArgMatches) (words : List Text) (name : Text) (rows : List Row) → HasMatchesOf jvm words matches
+    → subcommand_of jvm words ≡ Some (name, rows) → subcommand_name_of matches ≡ Some name
+name_met matches words name rows has spelled = sym (named_rows matches) ∙ ap (option_map (λ p. p.0)) ((has is_simple_jvm).1 ∙ spelled)
 
--- the two first bytes of the name of a subcommand
-first_byte : Option (Text × List Row) → ℕ
-first_byte met = get_or (unwrap_or (option_map (λ p. p.0) met) []) 0 0
-
-second_byte : Option (Text × List Row) → ℕ
-second_byte met = get_or (unwrap_or (option_map (λ p. p.0) met) []) 1 0
+-- the name and the rows of a subcommand
+name_in : Option (Text × List Row) → Text
+name_in met = unwrap_or (option_map (λ p. p.0) met) []
 
 rows_in : Option (Text × List Row) → List Row
 rows_in met = unwrap_or (option_map (λ p. p.1) met) []
 
--- where the rows are those of no command, the words spell none
-pub spells_other_run : (words : List Text) (rows : List Row) → subcommand_of jvm words ≡ Some (codes "run", rows)
-    → ((run : Run) → AreRunValues rows run → ⊥) → (command : Command) → Spells words command → ⊥
-unfolding first_byte second_byte rows_in
-spells_other_run words rows met none (commands.Run run) spelled =
-    let same : Some (codes "run", rows) ≡ Some (codes "run", spelled.0) = sym met ∙ spelled.1 in
+-- where no command of its name has the values of these rows, the words spell none
+pub spells_other : (words : List Text) (name : Text) (rows : List Row) → subcommand_of jvm words ≡ Some (name, rows)
+    → ((command : Command) → name_of command ≡ name → AreValuesOf rows command → ⊥) → (command : Command) → Spells words command → ⊥
+unfolding name_in rows_in
+spells_other words name rows met none command spelled =
+    let same : Some (name, rows) ≡ Some (name_of command, spelled.0) = sym met ∙ spelled.1 in
+    let name_is : name ≡ name_of command = ap name_in same in
     let rows_are : rows ≡ spelled.0 = ap rows_in same in
-    none run (subst (λ r. AreRunValues r run) (sym rows_are) spelled.2)
-spells_other_run words rows met none (commands.Replay replay) spelled =
-    let same : Some (codes "run", rows) ≡ Some (codes "replay", spelled.0) = sym met ∙ spelled.1 in
-    let bad : true ≡ false = ap (λ met. eqb (second_byte met) 117) same in
-    cc
-spells_other_run words rows met none (commands.Trace trace) spelled =
-    let same : Some (codes "run", rows) ≡ Some (codes "trace", spelled.0) = sym met ∙ spelled.1 in
-    let bad : true ≡ false = ap (λ met. eqb (first_byte met) 114) same in
-    cc
-spells_other_run words rows met none (commands.Search search) spelled =
-    let same : Some (codes "run", rows) ≡ Some (codes "search", spelled.0) = sym met ∙ spelled.1 in
-    let bad : true ≡ false = ap (λ met. eqb (first_byte met) 114) same in
-    cc
-spells_other_run words rows met none (commands.Shrink shrink) spelled =
-    let same : Some (codes "run", rows) ≡ Some (codes "shrink", spelled.0) = sym met ∙ spelled.1 in
-    let bad : true ≡ false = ap (λ met. eqb (first_byte met) 114) same in
-    cc
-spells_other_run words rows met none (commands.Verify verify) spelled =
-    let same : Some (codes "run", rows) ≡ Some (codes "verify", spelled.0) = sym met ∙ spelled.1 in
-    let bad : true ≡ false = ap (λ met. eqb (first_byte met) 114) same in
-    cc
-spells_other_run words rows met none (commands.Disasm disasm) spelled =
-    let same : Some (codes "run", rows) ≡ Some (codes "disasm", spelled.0) = sym met ∙ spelled.1 in
-    let bad : true ≡ false = ap (λ met. eqb (first_byte met) 114) same in
-    cc
-spells_other_run words rows met none (commands.Schedule schedule) spelled =
-    let same : Some (codes "run", rows) ≡ Some (codes "schedule", spelled.0) = sym met ∙ spelled.1 in
-    let bad : true ≡ false = ap (λ met. eqb (first_byte met) 114) same in
-    cc
-
-pub spells_other_replay : (words : List Text) (rows : List Row) → subcommand_of jvm words ≡ Some (codes "replay", rows)
-    → ((replay : Replay) → AreValues rows replay → ⊥) → (command : Command) → Spells words command → ⊥
-unfolding first_byte second_byte rows_in
-spells_other_replay words rows met none (commands.Run run) spelled =
-    let same : Some (codes "replay", rows) ≡ Some (codes "run", spelled.0) = sym met ∙ spelled.1 in
-    let bad : true ≡ false = ap (λ met. eqb (second_byte met) 101) same in
-    cc
-spells_other_replay words rows met none (commands.Replay replay) spelled =
-    let same : Some (codes "replay", rows) ≡ Some (codes "replay", spelled.0) = sym met ∙ spelled.1 in
-    let rows_are : rows ≡ spelled.0 = ap rows_in same in
-    none replay (subst (λ r. AreValues r replay) (sym rows_are) spelled.2)
-spells_other_replay words rows met none (commands.Trace trace) spelled =
-    let same : Some (codes "replay", rows) ≡ Some (codes "trace", spelled.0) = sym met ∙ spelled.1 in
-    let bad : true ≡ false = ap (λ met. eqb (first_byte met) 114) same in
-    cc
-spells_other_replay words rows met none (commands.Search search) spelled =
-    let same : Some (codes "replay", rows) ≡ Some (codes "search", spelled.0) = sym met ∙ spelled.1 in
-    let bad : true ≡ false = ap (λ met. eqb (first_byte met) 114) same in
-    cc
-spells_other_replay words rows met none (commands.Shrink shrink) spelled =
-    let same : Some (codes "replay", rows) ≡ Some (codes "shrink", spelled.0) = sym met ∙ spelled.1 in
-    let bad : true ≡ false = ap (λ met. eqb (first_byte met) 114) same in
-    cc
-spells_other_replay words rows met none (commands.Verify verify) spelled =
-    let same : Some (codes "replay", rows) ≡ Some (codes "verify", spelled.0) = sym met ∙ spelled.1 in
-    let bad : true ≡ false = ap (λ met. eqb (first_byte met) 114) same in
-    cc
-spells_other_replay words rows met none (commands.Disasm disasm) spelled =
-    let same : Some (codes "replay", rows) ≡ Some (codes "disasm", spelled.0) = sym met ∙ spelled.1 in
-    let bad : true ≡ false = ap (λ met. eqb (first_byte met) 114) same in
-    cc
-spells_other_replay words rows met none (commands.Schedule schedule) spelled =
-    let same : Some (codes "replay", rows) ≡ Some (codes "schedule", spelled.0) = sym met ∙ spelled.1 in
-    let bad : true ≡ false = ap (λ met. eqb (first_byte met) 114) same in
-    cc
-
-pub spells_other_trace : (words : List Text) (rows : List Row) → subcommand_of jvm words ≡ Some (codes "trace", rows)
-    → ((trace : Trace) → AreTraceValues rows trace → ⊥) → (command : Command) → Spells words command → ⊥
-unfolding first_byte second_byte rows_in
-spells_other_trace words rows met none (commands.Run run) spelled =
-    let same : Some (codes "trace", rows) ≡ Some (codes "run", spelled.0) = sym met ∙ spelled.1 in
-    let bad : true ≡ false = ap (λ met. eqb (first_byte met) 116) same in
-    cc
-spells_other_trace words rows met none (commands.Replay replay) spelled =
-    let same : Some (codes "trace", rows) ≡ Some (codes "replay", spelled.0) = sym met ∙ spelled.1 in
-    let bad : true ≡ false = ap (λ met. eqb (first_byte met) 116) same in
-    cc
-spells_other_trace words rows met none (commands.Trace trace) spelled =
-    let same : Some (codes "trace", rows) ≡ Some (codes "trace", spelled.0) = sym met ∙ spelled.1 in
-    let rows_are : rows ≡ spelled.0 = ap rows_in same in
-    none trace (subst (λ r. AreTraceValues r trace) (sym rows_are) spelled.2)
-spells_other_trace words rows met none (commands.Search search) spelled =
-    let same : Some (codes "trace", rows) ≡ Some (codes "search", spelled.0) = sym met ∙ spelled.1 in
-    let bad : true ≡ false = ap (λ met. eqb (first_byte met) 116) same in
-    cc
-spells_other_trace words rows met none (commands.Shrink shrink) spelled =
-    let same : Some (codes "trace", rows) ≡ Some (codes "shrink", spelled.0) = sym met ∙ spelled.1 in
-    let bad : true ≡ false = ap (λ met. eqb (first_byte met) 116) same in
-    cc
-spells_other_trace words rows met none (commands.Verify verify) spelled =
-    let same : Some (codes "trace", rows) ≡ Some (codes "verify", spelled.0) = sym met ∙ spelled.1 in
-    let bad : true ≡ false = ap (λ met. eqb (first_byte met) 116) same in
-    cc
-spells_other_trace words rows met none (commands.Disasm disasm) spelled =
-    let same : Some (codes "trace", rows) ≡ Some (codes "disasm", spelled.0) = sym met ∙ spelled.1 in
-    let bad : true ≡ false = ap (λ met. eqb (first_byte met) 116) same in
-    cc
-spells_other_trace words rows met none (commands.Schedule schedule) spelled =
-    let same : Some (codes "trace", rows) ≡ Some (codes "schedule", spelled.0) = sym met ∙ spelled.1 in
-    let bad : true ≡ false = ap (λ met. eqb (first_byte met) 116) same in
-    cc
-
-pub spells_other_search : (words : List Text) (rows : List Row) → subcommand_of jvm words ≡ Some (codes "search", rows)
-    → ((search : Search) → AreSearchValues rows search → ⊥) → (command : Command) → Spells words command → ⊥
-unfolding first_byte second_byte rows_in
-spells_other_search words rows met none (commands.Run run) spelled =
-    let same : Some (codes "search", rows) ≡ Some (codes "run", spelled.0) = sym met ∙ spelled.1 in
-    let bad : true ≡ false = ap (λ met. eqb (first_byte met) 115) same in
-    cc
-spells_other_search words rows met none (commands.Replay replay) spelled =
-    let same : Some (codes "search", rows) ≡ Some (codes "replay", spelled.0) = sym met ∙ spelled.1 in
-    let bad : true ≡ false = ap (λ met. eqb (first_byte met) 115) same in
-    cc
-spells_other_search words rows met none (commands.Trace trace) spelled =
-    let same : Some (codes "search", rows) ≡ Some (codes "trace", spelled.0) = sym met ∙ spelled.1 in
-    let bad : true ≡ false = ap (λ met. eqb (first_byte met) 115) same in
-    cc
-spells_other_search words rows met none (commands.Search search) spelled =
-    let same : Some (codes "search", rows) ≡ Some (codes "search", spelled.0) = sym met ∙ spelled.1 in
-    let rows_are : rows ≡ spelled.0 = ap rows_in same in
-    none search (subst (λ r. AreSearchValues r search) (sym rows_are) spelled.2)
-spells_other_search words rows met none (commands.Shrink shrink) spelled =
-    let same : Some (codes "search", rows) ≡ Some (codes "shrink", spelled.0) = sym met ∙ spelled.1 in
-    let bad : true ≡ false = ap (λ met. eqb (second_byte met) 101) same in
-    cc
-spells_other_search words rows met none (commands.Verify verify) spelled =
-    let same : Some (codes "search", rows) ≡ Some (codes "verify", spelled.0) = sym met ∙ spelled.1 in
-    let bad : true ≡ false = ap (λ met. eqb (first_byte met) 115) same in
-    cc
-spells_other_search words rows met none (commands.Disasm disasm) spelled =
-    let same : Some (codes "search", rows) ≡ Some (codes "disasm", spelled.0) = sym met ∙ spelled.1 in
-    let bad : true ≡ false = ap (λ met. eqb (first_byte met) 115) same in
-    cc
-spells_other_search words rows met none (commands.Schedule schedule) spelled =
-    let same : Some (codes "search", rows) ≡ Some (codes "schedule", spelled.0) = sym met ∙ spelled.1 in
-    let bad : true ≡ false = ap (λ met. eqb (second_byte met) 101) same in
-    cc
-
-pub spells_other_shrink : (words : List Text) (rows : List Row) → subcommand_of jvm words ≡ Some (codes "shrink", rows)
-    → ((shrink : Shrink) → AreShrinkValues rows shrink → ⊥) → (command : Command) → Spells words command → ⊥
-unfolding first_byte second_byte rows_in
-spells_other_shrink words rows met none (commands.Run run) spelled =
-    let same : Some (codes "shrink", rows) ≡ Some (codes "run", spelled.0) = sym met ∙ spelled.1 in
-    let bad : true ≡ false = ap (λ met. eqb (first_byte met) 115) same in
-    cc
-spells_other_shrink words rows met none (commands.Replay replay) spelled =
-    let same : Some (codes "shrink", rows) ≡ Some (codes "replay", spelled.0) = sym met ∙ spelled.1 in
-    let bad : true ≡ false = ap (λ met. eqb (first_byte met) 115) same in
-    cc
-spells_other_shrink words rows met none (commands.Trace trace) spelled =
-    let same : Some (codes "shrink", rows) ≡ Some (codes "trace", spelled.0) = sym met ∙ spelled.1 in
-    let bad : true ≡ false = ap (λ met. eqb (first_byte met) 115) same in
-    cc
-spells_other_shrink words rows met none (commands.Search search) spelled =
-    let same : Some (codes "shrink", rows) ≡ Some (codes "search", spelled.0) = sym met ∙ spelled.1 in
-    let bad : true ≡ false = ap (λ met. eqb (second_byte met) 104) same in
-    cc
-spells_other_shrink words rows met none (commands.Shrink shrink) spelled =
-    let same : Some (codes "shrink", rows) ≡ Some (codes "shrink", spelled.0) = sym met ∙ spelled.1 in
-    let rows_are : rows ≡ spelled.0 = ap rows_in same in
-    none shrink (subst (λ r. AreShrinkValues r shrink) (sym rows_are) spelled.2)
-spells_other_shrink words rows met none (commands.Verify verify) spelled =
-    let same : Some (codes "shrink", rows) ≡ Some (codes "verify", spelled.0) = sym met ∙ spelled.1 in
-    let bad : true ≡ false = ap (λ met. eqb (first_byte met) 115) same in
-    cc
-spells_other_shrink words rows met none (commands.Disasm disasm) spelled =
-    let same : Some (codes "shrink", rows) ≡ Some (codes "disasm", spelled.0) = sym met ∙ spelled.1 in
-    let bad : true ≡ false = ap (λ met. eqb (first_byte met) 115) same in
-    cc
-spells_other_shrink words rows met none (commands.Schedule schedule) spelled =
-    let same : Some (codes "shrink", rows) ≡ Some (codes "schedule", spelled.0) = sym met ∙ spelled.1 in
-    let bad : true ≡ false = ap (λ met. eqb (second_byte met) 104) same in
-    cc
-
-pub spells_other_verify : (words : List Text) (rows : List Row) → subcommand_of jvm words ≡ Some (codes "verify", rows)
-    → ((verify : Verify) → AreVerifyValues rows verify → ⊥) → (command : Command) → Spells words command → ⊥
-unfolding first_byte second_byte rows_in
-spells_other_verify words rows met none (commands.Run run) spelled =
-    let same : Some (codes "verify", rows) ≡ Some (codes "run", spelled.0) = sym met ∙ spelled.1 in
-    let bad : true ≡ false = ap (λ met. eqb (first_byte met) 118) same in
-    cc
-spells_other_verify words rows met none (commands.Replay replay) spelled =
-    let same : Some (codes "verify", rows) ≡ Some (codes "replay", spelled.0) = sym met ∙ spelled.1 in
-    let bad : true ≡ false = ap (λ met. eqb (first_byte met) 118) same in
-    cc
-spells_other_verify words rows met none (commands.Trace trace) spelled =
-    let same : Some (codes "verify", rows) ≡ Some (codes "trace", spelled.0) = sym met ∙ spelled.1 in
-    let bad : true ≡ false = ap (λ met. eqb (first_byte met) 118) same in
-    cc
-spells_other_verify words rows met none (commands.Search search) spelled =
-    let same : Some (codes "verify", rows) ≡ Some (codes "search", spelled.0) = sym met ∙ spelled.1 in
-    let bad : true ≡ false = ap (λ met. eqb (first_byte met) 118) same in
-    cc
-spells_other_verify words rows met none (commands.Shrink shrink) spelled =
-    let same : Some (codes "verify", rows) ≡ Some (codes "shrink", spelled.0) = sym met ∙ spelled.1 in
-    let bad : true ≡ false = ap (λ met. eqb (first_byte met) 118) same in
-    cc
-spells_other_verify words rows met none (commands.Verify verify) spelled =
-    let same : Some (codes "verify", rows) ≡ Some (codes "verify", spelled.0) = sym met ∙ spelled.1 in
-    let rows_are : rows ≡ spelled.0 = ap rows_in same in
-    none verify (subst (λ r. AreVerifyValues r verify) (sym rows_are) spelled.2)
-spells_other_verify words rows met none (commands.Disasm disasm) spelled =
-    let same : Some (codes "verify", rows) ≡ Some (codes "disasm", spelled.0) = sym met ∙ spelled.1 in
-    let bad : true ≡ false = ap (λ met. eqb (first_byte met) 118) same in
-    cc
-spells_other_verify words rows met none (commands.Schedule schedule) spelled =
-    let same : Some (codes "verify", rows) ≡ Some (codes "schedule", spelled.0) = sym met ∙ spelled.1 in
-    let bad : true ≡ false = ap (λ met. eqb (first_byte met) 118) same in
-    cc
-
-pub spells_other_disasm : (words : List Text) (rows : List Row) → subcommand_of jvm words ≡ Some (codes "disasm", rows)
-    → ((disasm : Disasm) → AreDisasmValues rows disasm → ⊥) → (command : Command) → Spells words command → ⊥
-unfolding first_byte second_byte rows_in
-spells_other_disasm words rows met none (commands.Run run) spelled =
-    let same : Some (codes "disasm", rows) ≡ Some (codes "run", spelled.0) = sym met ∙ spelled.1 in
-    let bad : true ≡ false = ap (λ met. eqb (first_byte met) 100) same in
-    cc
-spells_other_disasm words rows met none (commands.Replay replay) spelled =
-    let same : Some (codes "disasm", rows) ≡ Some (codes "replay", spelled.0) = sym met ∙ spelled.1 in
-    let bad : true ≡ false = ap (λ met. eqb (first_byte met) 100) same in
-    cc
-spells_other_disasm words rows met none (commands.Trace trace) spelled =
-    let same : Some (codes "disasm", rows) ≡ Some (codes "trace", spelled.0) = sym met ∙ spelled.1 in
-    let bad : true ≡ false = ap (λ met. eqb (first_byte met) 100) same in
-    cc
-spells_other_disasm words rows met none (commands.Search search) spelled =
-    let same : Some (codes "disasm", rows) ≡ Some (codes "search", spelled.0) = sym met ∙ spelled.1 in
-    let bad : true ≡ false = ap (λ met. eqb (first_byte met) 100) same in
-    cc
-spells_other_disasm words rows met none (commands.Shrink shrink) spelled =
-    let same : Some (codes "disasm", rows) ≡ Some (codes "shrink", spelled.0) = sym met ∙ spelled.1 in
-    let bad : true ≡ false = ap (λ met. eqb (first_byte met) 100) same in
-    cc
-spells_other_disasm words rows met none (commands.Verify verify) spelled =
-    let same : Some (codes "disasm", rows) ≡ Some (codes "verify", spelled.0) = sym met ∙ spelled.1 in
-    let bad : true ≡ false = ap (λ met. eqb (first_byte met) 100) same in
-    cc
-spells_other_disasm words rows met none (commands.Disasm disasm) spelled =
-    let same : Some (codes "disasm", rows) ≡ Some (codes "disasm", spelled.0) = sym met ∙ spelled.1 in
-    let rows_are : rows ≡ spelled.0 = ap rows_in same in
-    none disasm (subst (λ r. AreDisasmValues r disasm) (sym rows_are) spelled.2)
-spells_other_disasm words rows met none (commands.Schedule schedule) spelled =
-    let same : Some (codes "disasm", rows) ≡ Some (codes "schedule", spelled.0) = sym met ∙ spelled.1 in
-    let bad : true ≡ false = ap (λ met. eqb (first_byte met) 100) same in
-    cc
-
-pub spells_other_schedule : (words : List Text) (rows : List Row) → subcommand_of jvm words ≡ Some (codes "schedule", rows)
-    → ((schedule : Schedule) → AreScheduleValues rows schedule → ⊥) → (command : Command) → Spells words command → ⊥
-unfolding first_byte second_byte rows_in
-spells_other_schedule words rows met none (commands.Run run) spelled =
-    let same : Some (codes "schedule", rows) ≡ Some (codes "run", spelled.0) = sym met ∙ spelled.1 in
-    let bad : true ≡ false = ap (λ met. eqb (first_byte met) 115) same in
-    cc
-spells_other_schedule words rows met none (commands.Replay replay) spelled =
-    let same : Some (codes "schedule", rows) ≡ Some (codes "replay", spelled.0) = sym met ∙ spelled.1 in
-    let bad : true ≡ false = ap (λ met. eqb (first_byte met) 115) same in
-    cc
-spells_other_schedule words rows met none (commands.Trace trace) spelled =
-    let same : Some (codes "schedule", rows) ≡ Some (codes "trace", spelled.0) = sym met ∙ spelled.1 in
-    let bad : true ≡ false = ap (λ met. eqb (first_byte met) 115) same in
-    cc
-spells_other_schedule words rows met none (commands.Search search) spelled =
-    let same : Some (codes "schedule", rows) ≡ Some (codes "search", spelled.0) = sym met ∙ spelled.1 in
-    let bad : true ≡ false = ap (λ met. eqb (second_byte met) 99) same in
-    cc
-spells_other_schedule words rows met none (commands.Shrink shrink) spelled =
-    let same : Some (codes "schedule", rows) ≡ Some (codes "shrink", spelled.0) = sym met ∙ spelled.1 in
-    let bad : true ≡ false = ap (λ met. eqb (second_byte met) 99) same in
-    cc
-spells_other_schedule words rows met none (commands.Verify verify) spelled =
-    let same : Some (codes "schedule", rows) ≡ Some (codes "verify", spelled.0) = sym met ∙ spelled.1 in
-    let bad : true ≡ false = ap (λ met. eqb (first_byte met) 115) same in
-    cc
-spells_other_schedule words rows met none (commands.Disasm disasm) spelled =
-    let same : Some (codes "schedule", rows) ≡ Some (codes "disasm", spelled.0) = sym met ∙ spelled.1 in
-    let bad : true ≡ false = ap (λ met. eqb (first_byte met) 115) same in
-    cc
-spells_other_schedule words rows met none (commands.Schedule schedule) spelled =
-    let same : Some (codes "schedule", rows) ≡ Some (codes "schedule", spelled.0) = sym met ∙ spelled.1 in
-    let rows_are : rows ≡ spelled.0 = ap rows_in same in
-    none schedule (subst (λ r. AreScheduleValues r schedule) (sym rows_are) spelled.2)
+    none command (sym name_is) (subst (λ r. AreValuesOf r command) (sym rows_are) spelled.2)
 
 pub refuses_more : (usage : Usage) (reason other : Type 0) → (reason → other) → Refuses usage reason → Refuses usage other
 refuses_more OutOfMemory reason other on known = tt
@@ -500,13 +201,47 @@ refuses_more (Number text) reason other on known = on known
 refuses_more (Asked error) reason other on known = elim known [ ]
 
 -- where the option is no number there is no command
-pub no_budget : (rows : List Row) → ((number : Option ℕ) → IsNumber 0 4294967295 (first_of (codes "budget") rows) number → ⊥)
+pub no_budget : (rows : List Row) → is_set (first_of (codes "then-run") rows) ≡ true → ((number : Option ℕ) → IsNumber 0 4294967295 (first_of (codes "budget") rows) number → ⊥)
     → (then_run : Option ThenRun) → IsThenRun rows then_run → ⊥
-no_budget rows none None are = none None (subst (λ text. IsNumber 0 4294967295 text None) (sym are.1) tt)
-no_budget rows none (Some then_run) are = none then_run.budget are.1.budget
+no_budget rows set none None are = let bad : true ≡ false = sym set ∙ are.0 in absurd cc
+no_budget rows set none (Some then_run) are = none then_run.budget are.1.budget
 
 -- so is what a function answers
 pub refused_more : {A : Type 0} (result : Result A Usage) (reason other : Type 0) → (reason → other) → IfErr result (λ usage. Refuses usage reason)
     → IfErr result (λ usage. Refuses usage other)
 refused_more (Ok value) reason other on known = tt
 refused_more (Err usage) reason other on known = refuses_more usage reason other on known
+
+-- an option that is there has its number
+number_there : (text : Option Text) (number : ℕ) (other : Option ℕ) → IsNumber 1 3 text (Some number) → IsNumber 1 3 text other → other ≡ None → ⊥
+number_there None number other is also none = is
+number_there (Some text) number None is also none = also
+number_there (Some text) number (Some other) is also none = let bad : None ≡ Some other = sym none in cc
+
+-- where nothing is recorded, a version that is asked for is none
+pub no_version : (rows : List Row) (found : Option ℕ) → IsNumber 1 3 (first_of (codes "as-version") rows) found → first_of (codes "record") rows ≡ None
+    → (found ≡ None → ⊥) → (version : Option ℕ) → IsRecordedVersion rows version → ⊥
+no_version rows None is none asked version are = asked refl
+no_version rows (Some number) is none asked version are =
+    number_there (first_of (codes "as-version") rows) number version is are.number (are.recording none)
+
+-- a version is that of what is recorded
+pub a_version : (rows : List Row) (found same : Option ℕ) → IsNumber 1 3 (first_of (codes "as-version") rows) found → same ≡ None → found ≡ None
+    → IsRecordedVersion rows same
+a_version rows found same is none also =
+    record { number = subst (IsNumber 1 3 (first_of (codes "as-version") rows)) (also ∙ sym none) is; recording = λ _. none }
+
+-- and where nothing is, none is asked for
+pub unversioned : (rows : List Row) (version : Option ℕ) → IsRecordedVersion rows version → first_of (codes "record") rows ≡ None → first_of (codes "as-version") rows ≡ None
+unversioned rows version are none =
+    not_there (first_of (codes "as-version") rows) (subst (IsNumber 1 3 (first_of (codes "as-version") rows)) (are.recording none) are.number)
+  where
+    not_there : (text : Option Text) → IsNumber 1 3 text None → text ≡ None
+    not_there None is = refl
+    not_there (Some text) is = elim is [ ]
+
+-- where no version is that of what is recorded, there is no run behind the schedule
+pub no_version_behind : (rows : List Row) → ((version : Option ℕ) → IsRecordedVersion rows version → ⊥) → (then_run : Option ThenRun) → IsThenRun rows then_run → ⊥
+no_version_behind rows none None are =
+    none None (record { number = subst (λ t. IsNumber 1 3 t None) (sym are.2) tt; recording = λ _. refl })
+no_version_behind rows none (Some then_run) are = none then_run.as_version are.1.version

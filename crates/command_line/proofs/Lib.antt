@@ -1,5 +1,6 @@
 pub mod ClashLemmas
 pub mod CommandLineLemmas
+mod CommandNames
 pub mod GoalLemmas
 pub mod ParserLemmas
 pub mod PathLemmas

@@ -1,6 +1,6 @@
 -- The command line (own), in the words of the crate `clap`: which options there are, and which command the words
 -- spell.
-use Rattle.std.specs.Prelude.{◌≡◌, ◌≤◌, ◌⊎◌, ℕ, ◌-◌, ◌^◌, ◌==◌, Bool, List, map, true, false, codes, Option, Some, None, string_bytes, vec_items}
+use Rattle.std.specs.Prelude.{◌≡◌, ◌≤◌, ◌⊎◌, ℕ, ◌-◌, ◌^◌, ◌==◌, Bool, List, [], ◌∷◌, map, true, false, codes, Option, Some, None, string_bytes, vec_items}
 use Rattle.std.specs.List.{All, slice_split}
 use Rattle.std.specs.Option.{option_map, option_map_or}
 use Rattle.std.specs.Str.{bytes_eq}
@@ -26,6 +26,7 @@ use Rattle.command_line.specs.declared.options.Command.TheVariants as commands
 use Rattle.command_line.specs.declared.options.Disasm.{Disasm}
 use Rattle.command_line.specs.declared.options.Goal.{Goal}
 use Rattle.command_line.specs.declared.options.LimitOptions.{LimitOptions}
+use Rattle.command_line.specs.declared.options.Places.{Places}
 use Rattle.command_line.specs.declared.options.Replay.{Replay}
 use Rattle.command_line.specs.declared.options.Run.{Run}
 use Rattle.command_line.specs.declared.options.Schedule.{Schedule}
@@ -66,6 +67,10 @@ goal_option = path_option (codes "for")
 abbrev pub required_goal_option : Rule
 required_goal_option = record goal_option { required = true }
 
+-- the version that a schedule file is of at most
+abbrev pub version_option : Rule
+version_option = number_option (codes "as-version") 1 3
+
 -- `--schedule FILE`, which has to be there
 abbrev pub schedule_option : Rule
 schedule_option = record (path_option (codes "schedule")) { required = true }
@@ -75,14 +80,6 @@ abbrev pub flag : Text → Rule
 flag name = record (new_rule name) {
   long = Some name;
   action = Some SetTrue;
-}
-
--- `FILE`, which has to be there
-abbrev pub one_file : Rule
-one_file = record (new_rule (codes "file")) {
-  value_names = 1;
-  required = true;
-  action = Some Set;
 }
 
 -- `FILE..`, at least one
@@ -132,19 +129,20 @@ with_run_options app = with_rule (with_rule (with_rule (with_rule (with_rule (wi
 abbrev pub with_sweep_options : App → App
 with_sweep_options app = with_rule (with_rule app (path_option (codes "seeds"))) goal_option
 
+-- where schedules are recorded, and in which version at most
+abbrev pub with_record : App → App
+with_record app = with_rule (with_rule app record_option) version_option
+
 -- where a run goes on behind its schedule, up to how many events in all, and where it is recorded
 abbrev pub with_then_run : App → App
-with_then_run app = with_rule (with_rule (with_rule app
-    (flag (codes "then-run")))
-    (number_option (codes "budget") 0 4294967295))
-    record_option
+with_then_run app = with_record (with_rule (with_rule app (flag (codes "then-run"))) (number_option (codes "budget") 0 4294967295))
 
 -- `--explain`, `--quiet`, and files behind all options
 abbrev pub with_files : App → Rule → App
 with_files app files = with_rule (with_rule (with_rule app (flag (codes "explain"))) (flag (codes "quiet"))) files
 
 abbrev pub jvm_run : App
-jvm_run = with_files (with_program (with_rule (with_sweep_options (with_run_options (new_app (codes "run")))) record_option)) class_files
+jvm_run = with_files (with_program (with_record (with_sweep_options (with_run_options (new_app (codes "run")))))) class_files
 
 -- under which schedule they run, and whether over any class files
 abbrev pub with_schedule : App → App
@@ -169,19 +167,18 @@ jvm_trace = with_files (with_program (with_form (with_window (with_schedule (new
 
 -- which outcome is to be found, among how many states, in how much memory and how many seconds, and where its schedule is recorded
 abbrev pub with_search_options : App → App
-with_search_options app = with_rule (with_rule (with_rule (with_rule (with_rule app
+with_search_options app = with_record (with_rule (with_rule (with_rule (with_rule app
     goal_option)
     (number_option (codes "states") 0 4294967295))
     (number_option (codes "memory") 0 4294967295))
     (number_option (codes "seconds") 1 4294967295))
-    record_option
 
 abbrev pub jvm_search : App
 jvm_search = with_files (with_program (with_search_options (new_app (codes "search")))) class_files
 
 -- which outcome is to be kept, under which schedule, with how many events a try, and where the schedule is recorded
 abbrev pub with_shrink_options : App → App
-with_shrink_options app = with_rule (with_rule (with_schedule (with_rule app required_goal_option)) (number_option (codes "budget") 0 4294967295)) record_option
+with_shrink_options app = with_record (with_rule (with_schedule (with_rule app required_goal_option)) (number_option (codes "budget") 0 4294967295))
 
 abbrev pub jvm_shrink : App
 jvm_shrink = with_files (with_program (with_shrink_options (new_app (codes "shrink")))) class_files
@@ -192,8 +189,19 @@ jvm_verify = with_files (with_rule (with_rule (with_rule (new_app (codes "verify
 abbrev pub jvm_disasm : App
 jvm_disasm = with_files (with_rule (new_app (codes "disasm")) (flag (codes "names"))) class_files
 
+-- a schedule as text; with `--write` a file of a text; and with `--places` a text with places, of a schedule of class files
+abbrev pub with_schedule_options : App → App
+with_schedule_options app = with_rule (with_rule (with_rule (with_rule (with_rule (with_rule (with_rule app
+    (flag (codes "write")))
+    version_option)
+    (flag (codes "places")))
+    (path_option (codes "schedule")))
+    (flag (codes "any-files")))
+    main_option)
+    alone_flag
+
 abbrev pub jvm_schedule : App
-jvm_schedule = with_files (with_rule (with_rule (new_app (codes "schedule")) (flag (codes "write"))) (number_option (codes "as-version") 1 3)) one_file
+jvm_schedule = with_files (with_schedule_options (new_app (codes "schedule"))) class_files
 
 -- it has `--version`, and a command has to be there
 abbrev pub with_version : Shape → Shape
@@ -249,6 +257,16 @@ pub record AreLimitNumbers (rows : List Row) (limits : LimitOptions) : Type 0 wh
 abbrev pub is_set : Option Text → Bool
 is_set text = option_map_or (λ text. bytes_eq text (codes "true")) text false
 
+-- this is so, unless the words name seeds: of a sweep the workers are cores, and go with any policy
+abbrev pub UnlessSweep : (seeds : Option Text) → Type 0 → Type 0
+UnlessSweep (Some word) P = Unit {0}
+UnlessSweep None P = P
+
+-- the version that a recorded schedule is of at most, where one is recorded
+pub record IsRecordedVersion (rows : List Row) (version : Option ℕ) : Type 0 where
+  pub number : IsNumber 1 3 (first_of (codes "as-version") rows) version
+  pub recording : first_of (codes "record") rows ≡ None → version ≡ None
+
 -- who gives the threads turns, and up to how many events, by the words of a run
 pub record AreRunNumbers (rows : List Row) (options : RunOptions) : Type 0 where
   pub workers : IsNumber 1 64 (first_of (codes "workers") rows) options.workers
@@ -256,7 +274,7 @@ pub record AreRunNumbers (rows : List Row) (options : RunOptions) : Type 0 where
   pub quantum : IsNumber 1 4294967295 (first_of (codes "quantum") rows) options.quantum
   pub seed : IsNumber 0 18446744073709551615 (first_of (codes "seed") rows) options.seed
   pub policy : IsPolicy (first_of (codes "policy") rows) options.policy
-  pub together : GoTogether options.workers options.quantum options.seed options.policy
+  pub together : UnlessSweep (first_of (codes "seeds") rows) (GoTogether options.workers options.quantum options.seed options.policy)
 
 -- the values that the words give to `jvm run`
 pub record AreRunValues (rows : List Row) (run : Run) : Type 0 where
@@ -264,6 +282,7 @@ pub record AreRunValues (rows : List Row) (run : Run) : Type 0 where
   pub seconds : IsNumber 1 4294967295 (first_of (codes "seconds") rows) run.seconds
   pub sweep : IsSweep rows run.sweep
   pub recording : first_of (codes "record") rows ≡ option_map string_bytes run.record
+  pub version : IsRecordedVersion rows run.as_version
   pub limits : AreLimitNumbers rows run.limits
   pub main : first_of (codes "main") rows ≡ option_map string_bytes run.main
   pub files : all_of (codes "files") rows ≡ Some (map string_bytes run.files.items)
@@ -276,18 +295,19 @@ pub record AreRunValues (rows : List Row) (run : Run) : Type 0 where
 pub record AreThenRunValues (rows : List Row) (then_run : ThenRun) : Type 0 where
   pub budget : IsNumber 0 4294967295 (first_of (codes "budget") rows) then_run.budget
   pub recording : first_of (codes "record") rows ≡ option_map string_bytes then_run.record
+  pub version : IsRecordedVersion rows then_run.as_version
 
 -- the words ask for a run behind the schedule, or for none of it
 abbrev pub IsThenRun : List Row → Option ThenRun → Type 0
 IsThenRun rows (Some then_run) = (is_set (first_of (codes "then-run") rows) ≡ true) × AreThenRunValues rows then_run
-IsThenRun rows None = (is_set (first_of (codes "then-run") rows) ≡ false)
-    × (first_of (codes "budget") rows ≡ None) × (first_of (codes "record") rows ≡ None)
+IsThenRun rows None = (is_set (first_of (codes "then-run") rows) ≡ false) × (first_of (codes "record") rows ≡ None) × (first_of (codes "as-version") rows ≡ None)
 
 -- the values that the words give to `jvm replay`
 pub record AreValues (rows : List Row) (replay : Replay) : Type 0 where
   pub schedule : first_of (codes "schedule") rows ≡ Some (string_bytes replay.schedule)
   pub any_files : replay.any_files ≡ is_set (first_of (codes "any-files") rows)
   pub then_run : IsThenRun rows replay.then_run
+  pub budget : IsNumber 0 4294967295 (first_of (codes "budget") rows) replay.budget
   pub limits : AreLimitNumbers rows replay.limits
   pub main : first_of (codes "main") rows ≡ option_map string_bytes replay.main
   pub files : all_of (codes "files") rows ≡ Some (map string_bytes replay.files.items)
@@ -326,6 +346,7 @@ pub record AreSearchValues (rows : List Row) (search : Search) : Type 0 where
   pub memory : IsNumber 0 4294967295 (first_of (codes "memory") rows) search.memory
   pub seconds : IsNumber 1 4294967295 (first_of (codes "seconds") rows) search.seconds
   pub recording : first_of (codes "record") rows ≡ option_map string_bytes search.record
+  pub version : IsRecordedVersion rows search.as_version
   pub limits : AreLimitNumbers rows search.limits
   pub main : first_of (codes "main") rows ≡ option_map string_bytes search.main
   pub files : all_of (codes "files") rows ≡ Some (map string_bytes search.files.items)
@@ -346,6 +367,7 @@ pub record AreShrinkValues (rows : List Row) (shrink : Shrink) : Type 0 where
   pub any_files : shrink.any_files ≡ is_set (first_of (codes "any-files") rows)
   pub budget : IsNumber 0 4294967295 (first_of (codes "budget") rows) shrink.budget
   pub recording : first_of (codes "record") rows ≡ option_map string_bytes shrink.record
+  pub version : IsRecordedVersion rows shrink.as_version
   pub limits : AreLimitNumbers rows shrink.limits
   pub main : first_of (codes "main") rows ≡ option_map string_bytes shrink.main
   pub files : all_of (codes "files") rows ≡ Some (map string_bytes shrink.files.items)
@@ -371,24 +393,59 @@ pub record AreDisasmValues (rows : List Row) (disasm : Disasm) : Type 0 where
   pub explain : disasm.explain ≡ is_set (first_of (codes "explain") rows)
   pub quiet : disasm.quiet ≡ is_set (first_of (codes "quiet") rows)
 
--- the values that the words give to `jvm schedule`
+-- the values that the words give to `jvm schedule` without `--places`: one file, and nothing of class files
 pub record AreScheduleValues (rows : List Row) (schedule : Schedule) : Type 0 where
-  pub file : first_of (codes "file") rows ≡ Some (string_bytes schedule.file)
+  pub no_places : is_set (first_of (codes "places") rows) ≡ false
+  pub no_schedule : first_of (codes "schedule") rows ≡ None
+  pub no_main : first_of (codes "main") rows ≡ None
+  pub no_any_files : is_set (first_of (codes "any-files") rows) ≡ false
+  pub no_files_alone : is_set (first_of (codes "files-alone") rows) ≡ false
+  pub file : all_of (codes "files") rows ≡ Some (string_bytes schedule.file ∷ [])
   pub write : schedule.write ≡ is_set (first_of (codes "write") rows)
   pub as_version : IsNumber 1 3 (first_of (codes "as-version") rows) schedule.as_version
   pub explain : schedule.explain ≡ is_set (first_of (codes "explain") rows)
   pub quiet : schedule.quiet ≡ is_set (first_of (codes "quiet") rows)
 
+-- those with `--places`: no file is made
+pub record ArePlacesValues (rows : List Row) (places : Places) : Type 0 where
+  pub with_places : is_set (first_of (codes "places") rows) ≡ true
+  pub no_write : is_set (first_of (codes "write") rows) ≡ false
+  pub no_version : first_of (codes "as-version") rows ≡ None
+  pub schedule : first_of (codes "schedule") rows ≡ Some (string_bytes places.schedule)
+  pub any_files : places.any_files ≡ is_set (first_of (codes "any-files") rows)
+  pub main : first_of (codes "main") rows ≡ option_map string_bytes places.main
+  pub files : all_of (codes "files") rows ≡ Some (map string_bytes places.files.items)
+  pub explain : places.explain ≡ is_set (first_of (codes "explain") rows)
+  pub quiet : places.quiet ≡ is_set (first_of (codes "quiet") rows)
+  pub files_alone : places.files_alone ≡ is_set (first_of (codes "files-alone") rows)
+
+-- the subcommand by which a command is spelled
+abbrev pub name_of : Command → Text
+name_of (commands.Run run) = codes "run"
+name_of (commands.Replay replay) = codes "replay"
+name_of (commands.Trace trace) = codes "trace"
+name_of (commands.Search search) = codes "search"
+name_of (commands.Shrink shrink) = codes "shrink"
+name_of (commands.Verify verify) = codes "verify"
+name_of (commands.Disasm disasm) = codes "disasm"
+name_of (commands.Schedule schedule) = codes "schedule"
+name_of (commands.Places places) = codes "schedule"
+
+-- the values that the words behind it give to the command
+abbrev pub AreValuesOf : List Row → Command → Type 0
+AreValuesOf rows (commands.Run run) = AreRunValues rows run
+AreValuesOf rows (commands.Replay replay) = AreValues rows replay
+AreValuesOf rows (commands.Trace trace) = AreTraceValues rows trace
+AreValuesOf rows (commands.Search search) = AreSearchValues rows search
+AreValuesOf rows (commands.Shrink shrink) = AreShrinkValues rows shrink
+AreValuesOf rows (commands.Verify verify) = AreVerifyValues rows verify
+AreValuesOf rows (commands.Disasm disasm) = AreDisasmValues rows disasm
+AreValuesOf rows (commands.Schedule schedule) = AreScheduleValues rows schedule
+AreValuesOf rows (commands.Places places) = ArePlacesValues rows places
+
 -- the words, the program's name first, spell the command
 abbrev pub Spells : List Text → Command → Type 0
-Spells words (commands.Run run) = (rows : List Row) × (subcommand_of jvm words ≡ Some (codes "run", rows)) × AreRunValues rows run
-Spells words (commands.Replay replay) = (rows : List Row) × (subcommand_of jvm words ≡ Some (codes "replay", rows)) × AreValues rows replay
-Spells words (commands.Trace trace) = (rows : List Row) × (subcommand_of jvm words ≡ Some (codes "trace", rows)) × AreTraceValues rows trace
-Spells words (commands.Search search) = (rows : List Row) × (subcommand_of jvm words ≡ Some (codes "search", rows)) × AreSearchValues rows search
-Spells words (commands.Shrink shrink) = (rows : List Row) × (subcommand_of jvm words ≡ Some (codes "shrink", rows)) × AreShrinkValues rows shrink
-Spells words (commands.Verify verify) = (rows : List Row) × (subcommand_of jvm words ≡ Some (codes "verify", rows)) × AreVerifyValues rows verify
-Spells words (commands.Disasm disasm) = (rows : List Row) × (subcommand_of jvm words ≡ Some (codes "disasm", rows)) × AreDisasmValues rows disasm
-Spells words (commands.Schedule schedule) = (rows : List Row) × (subcommand_of jvm words ≡ Some (codes "schedule", rows)) × AreScheduleValues rows schedule
+Spells words command = (rows : List Row) × (subcommand_of jvm words ≡ Some (name_of command, rows)) × AreValuesOf rows command
 
 -- what an error of the parser comes to
 abbrev pub usage_by : ErrorKind → Error → Usage

@@ -34,13 +34,11 @@ IsSweepPolicy (Some word) policies.Random = word ≡ codes "random"
 
 -- ---- the sweep
 
--- beside the seeds of this word there is no seed, there are no workers and no quantum, and nothing is recorded
+-- beside the seeds of this word there is no seed and no quantum
 pub record IsSweepOf (word : Text) (rows : List Row) (sweep : SweepOptions) : Type 0 where
   pub seeds : IsSeedRange word sweep.seeds
   pub no_seed : first_of (codes "seed") rows ≡ None
-  pub no_workers : first_of (codes "workers") rows ≡ None
   pub no_quantum : first_of (codes "quantum") rows ≡ None
-  pub no_record : first_of (codes "record") rows ≡ None
   pub policy : IsSweepPolicy (first_of (codes "policy") rows) sweep.policy
   pub goal : IsGoal (first_of (codes "for") rows) sweep.goal
 

@@ -32,6 +32,17 @@ pub(crate) const FILES_HELP: &str =
 /// What class files are that are listed.
 pub(crate) const LISTED_HELP: &str = "The class files, and folders of them";
 
+/// What is recorded.
+pub(crate) const RECORD_HELP: &str = "The file that the schedule of the run is written to";
+
+/// What is recorded of runs.
+pub(crate) const RUN_RECORD_HELP: &str =
+    "The file that the schedule of the run is written to; with --seeds the folder for those of the outcomes";
+
+/// What files `schedule` takes.
+pub(crate) const SCHEDULE_HELP: &str =
+    "The schedule file; with --places the class files, and folders of them";
+
 /// What stands below the options of `run`.
 pub(crate) const RUN_PAGE: &str = "\
 What it does:
@@ -55,6 +66,7 @@ What it does:
   stand is listed once, with how many runs show it and the first seed. --for ends
   the sweep at the first seed that shows an outcome: deadlock, uncaught,
   output=NUMBERS (what is printed, with commas), or differs=FILE (another text).
+  --record FOLDER keeps the first schedule of each: FOLDER/outcome-1.schedule ..
   With --seconds the run ends behind so many, or the sweep behind the run that it
   is at, and says so: `end seconds`, `sweep gave up: seconds`.
 
@@ -198,7 +210,9 @@ pub(crate) const SCHEDULE_PAGE: &str = "\
 What it does:
   Prints a schedule file as text: a word such as `1`, `1*20` or `0.2` for each
   entry, which is an event of thread 1, 20 of them, and one of thread 0 with the
-  pick 2. With --write it makes the file of such a text on standard input.
+  pick 2. With --write it makes the file of such a text on standard input. With
+  --places --schedule a.schedule it prints the schedule of class files as a text
+  in which places of the code stand for events, as far as they do.
 
 Statuses:
   0  the schedule is printed, or made
@@ -208,4 +222,5 @@ Statuses:
 
 Example:
   jvm schedule a.schedule > a.text
-  jvm schedule --write b.schedule < a.text";
+  jvm schedule --write b.schedule < a.text
+  jvm schedule --places --schedule a.schedule A.class";

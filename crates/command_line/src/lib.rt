@@ -8,13 +8,18 @@
 //!   answer to the words (`refused`).
 //! - In both clauses: what `search --for` seeks is what its word names (`IsGoalWord`). Behind `output=` stand ints,
 //!   each as a report prints it; there is no command where an item is none.
+//! - In both clauses: `schedule` has one file; or with `--places` class files, a schedule of them, and neither
+//!   `--write` nor a version (`AreScheduleValues`, `ArePlacesValues`). Of all others `--as-version` stands beside
+//!   `--record` alone (`IsRecordedVersion`).
 //! - In both clauses: the file that `--record` names is none that the command reads, by the words alone (`IsApart`);
 //!   there is no command where it is one.
 //! - The limits are the options or the defaults (`LimitOptions::limits`); `LimitOptions::allow` tells whether none is
 //!   asked for that is another one than these limits; workers, budget and quantum are the options or the defaults, and
 //!   the policy is the one that is named, `rotation` beside a quantum, and else `mixed` (`RunOptions`).
 //! - In both clauses: workers have neither a seed nor a policy, a policy that goes by a seed has no quantum, and a
-//!   rotation has no seed (`GoTogether`); there is no command where options don't go together.
+//!   rotation has no seed (`GoTogether`); there is no command where options don't go together. Beside `--seeds` each is
+//!   looked at by itself (`UnlessSweep`): workers go with any policy, and there is no seed and no quantum
+//!   (`IsSweepOf`).
 //!
 //! # Not proved
 //!
@@ -31,13 +36,15 @@ mod parsers;
 mod paths;
 mod run_arguments;
 mod run_options;
+mod schedule_arguments;
 mod sweep_arguments;
 mod sweep_options;
 mod usage;
+mod values;
 
 pub use options::{
-    Command, Disasm, Goal, LimitOptions, Replay, Run, Schedule, Search, Shrink, ThenRun, Trace,
-    TraceForm, Verify,
+    Command, Disasm, Goal, LimitOptions, Places, Replay, Run, Schedule, Search, Shrink, ThenRun,
+    Trace, TraceForm, Verify,
 };
 pub use parse::command;
 pub use paths::is_same_path;

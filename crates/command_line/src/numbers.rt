@@ -26,7 +26,7 @@ pub(crate) const WORKERS: NumberOption = NumberOption {
     name: "workers",
     least: 1,
     most: 64,
-    help: "How many workers run the threads side by side, by no policy",
+    help: "How many workers run the threads side by side, by no policy; with --seeds the runs",
 };
 
 pub(crate) const BUDGET: NumberOption = NumberOption {
@@ -47,7 +47,7 @@ pub(crate) const WHOLE_BUDGET: NumberOption = NumberOption {
     name: "budget",
     least: 0,
     most: u32::MAX,
-    help: "How many events there may be, those of the schedule included [default: 10000000]",
+    help: "How many events there may be, those of the schedule included; behind them a place gives up, too [default: 10000000]",
 };
 
 pub(crate) const QUANTUM: NumberOption = NumberOption {
@@ -238,26 +238,33 @@ impl NumberOption {
     }
 }
 
-/// The names of the options of `replay`, `run`, `search` and `trace` that take a number.
+/// The names of the options of `replay`, `run`, `search`, `shrink` and `trace` that take a number.
 const OF_ALL: [&str; 5] = ["objects", "cells", "monitors", "threads", "frames"];
 
 /// The options of `run` that take a number.
-const OF_RUN: [&str; 4] = ["workers", "budget", "quantum", SEED];
+const OF_RUN: [&str; 6] = [
+    "workers",
+    "budget",
+    "quantum",
+    SEED,
+    "seconds",
+    "as-version",
+];
 
-/// The options of `replay` that take a number.
-const OF_REPLAY: [&str; 1] = ["budget"];
+/// The options of `replay` and `shrink` that take a number.
+const OF_REPLAY: [&str; 2] = ["budget", "as-version"];
 
 /// The options of `trace` that take numbers.
 const OF_TRACE: [&str; 3] = ["from", "to", "only"];
 
 /// The options of `search` that take a number.
-const OF_SEARCH: [&str; 2] = ["states", "memory"];
+const OF_SEARCH: [&str; 4] = ["states", "memory", "seconds", "as-version"];
 
 /// The name behind two hyphens, where it is that of an option of the subcommand which takes a number.
 fn number_option(subcommand: &str, word: &str) -> Option<&'static str> {
     let name = word.strip_prefix("--")?;
     match subcommand {
-        "replay" => named(&OF_ALL, name).or(named(&OF_REPLAY, name)),
+        "replay" | "shrink" => named(&OF_ALL, name).or(named(&OF_REPLAY, name)),
         "trace" => named(&OF_ALL, name).or(named(&OF_TRACE, name)),
         "search" => named(&OF_ALL, name).or(named(&OF_SEARCH, name)),
         "run" => named(&OF_ALL, name).or(named(&OF_RUN, name)),

@@ -18,9 +18,11 @@ pub enum Command {
     Verify(Verify),
     Disasm(Disasm),
     Schedule(Schedule),
+    Places(Places),
 }
 
-/// The usual budget of a run of a sweep, of one that goes on behind a schedule, and of a try of `shrink`, in events.
+/// The usual budget of a run of a sweep, of one that goes on behind a schedule, of a try of `shrink`, and of places, in
+/// events.
 pub(crate) const USUAL_BUDGET: u32 = 10_000_000;
 
 /// How many states a search may meet, unless another number is asked for.
@@ -37,8 +39,11 @@ pub struct Run {
     pub seconds: Option<u32>,
     /// A run for each of some seeds, where these are asked for.
     pub sweep: Option<SweepOptions>,
-    /// The path of the file that the schedule of the run is written to, if any.
+    /// The path of the file that the schedule of the run is written to, if any; of a sweep that of the folder for
+    /// the schedules of its outcomes.
     pub record: Option<String>,
+    /// The version that a schedule is written in at most, and `None` for any.
+    pub as_version: Option<u32>,
     pub limits: LimitOptions,
     /// The name of the class whose `main` is run, with dots or slashes, if it is given.
     pub main: Option<String>,
@@ -61,6 +66,8 @@ pub struct Replay {
     pub any_files: bool,
     /// How the run goes on where the schedule ends, if it does.
     pub then_run: Option<ThenRun>,
+    /// Behind how many events a place of the schedule gives up, and `None` for the usual number.
+    pub budget: Option<u32>,
     pub limits: LimitOptions,
     /// The name of the class whose `main` is run, with dots or slashes, if it is given.
     pub main: Option<String>,
@@ -127,6 +134,8 @@ pub struct Search {
     pub seconds: Option<u32>,
     /// The path of the file that the schedule that is found is written to, if any.
     pub record: Option<String>,
+    /// The version that the schedule is written in at most, and `None` for any.
+    pub as_version: Option<u32>,
     pub limits: LimitOptions,
     /// The name of the class whose `main` is run, with dots or slashes, if it is given.
     pub main: Option<String>,
@@ -182,6 +191,8 @@ pub struct Shrink {
     pub budget: Option<u32>,
     /// The path of the file that the schedule is written to, if any.
     pub record: Option<String>,
+    /// The version that the schedule is written in at most, and `None` for any.
+    pub as_version: Option<u32>,
     pub limits: LimitOptions,
     /// The name of the class whose `main` is run, with dots or slashes, if it is given.
     pub main: Option<String>,
@@ -204,6 +215,15 @@ impl Shrink {
     }
 }
 
+impl Replay {
+    /// The budget of places, in events.
+    pub fn budget(&self) -> u32
+        ensures { result ≡ unwrap_or self.now.budget 10000000 }
+    {
+        self.budget.unwrap_or(USUAL_BUDGET)
+    }
+}
+
 /// How a run goes on where a schedule ends.
 #[derive(Drop)]
 pub struct ThenRun {
@@ -211,6 +231,8 @@ pub struct ThenRun {
     pub budget: Option<u32>,
     /// The path of the file that the whole schedule is written to, if any.
     pub record: Option<String>,
+    /// The version that the whole schedule is written in at most, and `None` for any.
+    pub as_version: Option<u32>,
 }
 
 impl ThenRun {
@@ -266,6 +288,25 @@ pub struct Schedule {
     pub explain: bool,
     /// Whether standard error tells no more than why there is no output.
     pub quiet: bool,
+}
+
+/// `jvm schedule --places`: a schedule of class files is printed as a text with places.
+#[derive(Drop)]
+pub struct Places {
+    /// The path of the schedule file, or the schedule itself.
+    pub schedule: String,
+    /// Whether any class files will do, whatever the schedule was recorded over.
+    pub any_files: bool,
+    /// The name of the class whose `main` is run, with dots or slashes, if it is given.
+    pub main: Option<String>,
+    /// The paths of the class files, and of folders of them.
+    pub files: Vec<String>,
+    /// Whether a refusal is explained.
+    pub explain: bool,
+    /// Whether standard error tells no more than why there is no output.
+    pub quiet: bool,
+    /// Whether no class is added from the library.
+    pub files_alone: bool,
 }
 
 /// The limits that are asked for, each in its range, and `None` for the usual one.

@@ -1,31 +1,32 @@
 //! The reading of the command line.
 
-ghost use Rattle.std.specs.Prelude.{◌≡◌, ◌⊎◌, List, false, Some, codes, map, string_bytes, IfOk, IfErr};
-ghost use Rattle.std.specs.Option.{option_map};
-ghost use Rattle.clap.specs.Words.{HasMatchesOf, all_of, first_of, found_of, kind_of, rows_of, Text};
+ghost use Rattle.std.specs.Prelude.{◌≡◌, ◌⊎◌, List, codes, map, string_bytes, IfOk, IfErr, MatchOption};
+ghost use Rattle.clap.specs.Words.{HasMatchesOf, first_of, found_of, kind_of, rows_of, Text};
 ghost use Rattle.clap.specs.declared.error.kind.ErrorKind.TheVariants.{UnknownArgument as unknown_argument};
-ghost use Rattle.command_line.specs.CommandLine.{AreDisasmValues, AreLimitNumbers, AreRunNumbers, AreRunValues, AreScheduleValues, AreSearchValues, AreShrinkValues, AreTraceValues, AreValues, AreVerifyValues, Asks, Fails, IsRequiredGoal, IsThenRun, IsTraceForm, Refuses, Spells, is_set as is_true, jvm, usage_of};
-ghost use Rattle.command_line.specs.Goals.{IsGoal};
+ghost use Rattle.command_line.specs.CommandLine.{AreDisasmValues, AreRunNumbers, AreRunValues, AreSearchValues, AreShrinkValues, AreTraceValues, AreValues, AreVerifyValues, Asks, Fails, IsRequiredGoal, IsThenRun, IsTraceForm, Refuses, Spells, UnlessSweep, jvm, usage_of};
+ghost use Rattle.command_line.specs.Policies.{GoTogether};
 
-use crate::goal::goal_by;
 use crate::numbers::{
-    AS_VERSION, BUDGET, CELLS, FRAMES, FROM, MEMORY, MONITORS, OBJECTS, ONLY, QUANTUM, SECONDS,
-    STATES, THREADS, TO, WHOLE_BUDGET, WORKERS, negative_number,
+    BUDGET, FROM, MEMORY, ONLY, QUANTUM, SECONDS, STATES, TO, WHOLE_BUDGET, WORKERS,
+    negative_number,
 };
 use crate::options;
 use crate::options::{
-    Disasm, Goal, LimitOptions, Replay, Run, Schedule, Search, Shrink, ThenRun, Trace, TraceForm,
-    Verify,
+    Disasm, Goal, Replay, Run, Search, Shrink, ThenRun, Trace, TraceForm, Verify,
 };
 use crate::parsers::program;
 use crate::paths::{check_file, check_files, check_goal};
 use crate::run_arguments::{policy_of, seed_of};
-use crate::run_options::RunOptions;
-use crate::sweep_arguments::sweep_of;
+use crate::run_options::{Clash, RunOptions};
+use crate::schedule_arguments::listed_of;
+use crate::sweep_arguments::{SEEDS, sweep_of};
 use crate::usage::Usage;
+use crate::values::{
+    files_of, goal_of, is_set, limits_of, missing, path_of, recorded_version_of, required_path_of,
+};
 use clap::ArgMatches;
 use clap::error::ErrorKind;
-use std::alloc::{AllocError, Global};
+use std::alloc::Global;
 
 /// The command that the words spell, the program's name first.
 pub fn command(alloc: Global, words: &[String]) -> Result<options::Command, Usage>
@@ -63,7 +64,7 @@ fn command_of(alloc: Global, matches: &ArgMatches<'_>) -> Result<options::Comman
         return Ok(options::Command::Disasm(disasm_of(alloc, disasm)?));
     }
     match matches.subcommand_matches("schedule") {
-        Some(schedule) => Ok(options::Command::Schedule(schedule_of(alloc, schedule)?)),
+        Some(schedule) => listed_of(alloc, schedule),
         None => Err(missing(alloc, "a subcommand is missing")),
     }
 }
@@ -91,31 +92,6 @@ fn parser_usage(alloc: Global, words: &[String], error: clap::Error) -> Usage
     Usage::from(error)
 }
 
-/// The fault that the words lack something. The parser says so first, so that this text is never seen.
-fn missing(alloc: Global, what: &str) -> Usage
-    ensures { Asks result → ⊥ }
-{
-    match missing_argument(alloc, what) {
-        Ok(error) => Usage::Parser(error),
-        Err(_) => Usage::OutOfMemory,
-    }
-}
-
-fn missing_argument(alloc: Global, what: &str) -> Result<clap::Error, clap::Error> {
-    let mut program = program(alloc)?;
-    Ok(program.error(ErrorKind::MissingRequiredArgument, what)?)
-}
-
-/// Whether a flag is there.
-fn is_set(matches: &ArgMatches<'_>, flag: &str) -> bool
-    ensures { result ≡ is_true (first_of flag.now (rows_of (found_of matches.now))) }
-{
-    match matches.get_str(flag) {
-        Some(text) => text == "true",
-        None => false,
-    }
-}
-
 fn run_of(alloc: Global, matches: &ArgMatches<'_>) -> Result<Run, Usage>
     ensures values { IfOk result (AreRunValues (rows_of (found_of matches.now))) }
     ensures none { IfErr result (λ usage. Refuses usage ((run : _)
@@ -125,6 +101,7 @@ fn run_of(alloc: Global, matches: &ArgMatches<'_>) -> Result<Run, Usage>
     let seconds = SECONDS.number(alloc, matches)?;
     let sweep = sweep_of(alloc, matches)?;
     let record = path_of(alloc, matches, "record")?;
+    let as_version = recorded_version_of(alloc, matches)?;
     let limits = limits_of(alloc, matches)?;
     let main = path_of(alloc, matches, "main")?;
     let files = files_of(alloc, matches)?;
@@ -134,6 +111,7 @@ fn run_of(alloc: Global, matches: &ArgMatches<'_>) -> Result<Run, Usage>
         seconds,
         sweep,
         record,
+        as_version,
         limits,
         main,
         files,
@@ -150,6 +128,7 @@ fn replay_of(alloc: Global, matches: &ArgMatches<'_>) -> Result<Replay, Usage>
 {
     let schedule = required_path_of(alloc, matches, "schedule")?;
     let then_run = then_run_of(alloc, matches)?;
+    let budget = WHOLE_BUDGET.number(alloc, matches)?;
     let limits = limits_of(alloc, matches)?;
     let main = path_of(alloc, matches, "main")?;
     let files = files_of(alloc, matches)?;
@@ -158,6 +137,7 @@ fn replay_of(alloc: Global, matches: &ArgMatches<'_>) -> Result<Replay, Usage>
     Ok(Replay {
         schedule,
         then_run,
+        budget,
         limits,
         main,
         files,
@@ -208,6 +188,7 @@ fn search_of(alloc: Global, matches: &ArgMatches<'_>) -> Result<Search, Usage>
     let memory = MEMORY.number(alloc, matches)?;
     let seconds = SECONDS.number(alloc, matches)?;
     let record = path_of(alloc, matches, "record")?;
+    let as_version = recorded_version_of(alloc, matches)?;
     let limits = limits_of(alloc, matches)?;
     let main = path_of(alloc, matches, "main")?;
     let files = files_of(alloc, matches)?;
@@ -219,6 +200,7 @@ fn search_of(alloc: Global, matches: &ArgMatches<'_>) -> Result<Search, Usage>
         memory,
         seconds,
         record,
+        as_version,
         limits,
         main,
         files,
@@ -237,6 +219,7 @@ fn shrink_of(alloc: Global, matches: &ArgMatches<'_>) -> Result<Shrink, Usage>
     let schedule = required_path_of(alloc, matches, "schedule")?;
     let budget = WHOLE_BUDGET.number(alloc, matches)?;
     let record = path_of(alloc, matches, "record")?;
+    let as_version = recorded_version_of(alloc, matches)?;
     let limits = limits_of(alloc, matches)?;
     let main = path_of(alloc, matches, "main")?;
     let files = files_of(alloc, matches)?;
@@ -248,6 +231,7 @@ fn shrink_of(alloc: Global, matches: &ArgMatches<'_>) -> Result<Shrink, Usage>
         any_files: is_set(matches, "any-files"),
         budget,
         record,
+        as_version,
         limits,
         main,
         files,
@@ -268,18 +252,6 @@ fn required_goal_of(alloc: Global, matches: &ArgMatches<'_>) -> Result<Goal, Usa
     match goal {
         Some(goal) => Ok(goal),
         None => Err(missing(alloc, "an outcome is missing")),
-    }
-}
-
-/// The outcome that a search is to find, where one is asked for.
-pub(crate) fn goal_of(alloc: Global, matches: &ArgMatches<'_>) -> Result<Option<Goal>, Usage>
-    ensures goal { IfOk result (IsGoal (first_of (codes "for") (rows_of (found_of matches.now)))) }
-    ensures none { IfErr result (λ usage. Refuses usage ((goal : _)
-        → IsGoal (first_of (codes "for") (rows_of (found_of matches.now))) goal → ⊥)) }
-{
-    match matches.get_str("for") {
-        None => Ok(None),
-        Some(word) => Ok(Some(goal_by(alloc, word)?)),
     }
 }
 
@@ -314,22 +286,6 @@ fn disasm_of(alloc: Global, matches: &ArgMatches<'_>) -> Result<Disasm, Usage>
     })
 }
 
-fn schedule_of(alloc: Global, matches: &ArgMatches<'_>) -> Result<Schedule, Usage>
-    ensures values { IfOk result (AreScheduleValues (rows_of (found_of matches.now))) }
-    ensures none { IfErr result (λ usage. Refuses usage ((schedule : _)
-        → AreScheduleValues (rows_of (found_of matches.now)) schedule → ⊥)) }
-{
-    let file = required_path_of(alloc, matches, "file")?;
-    let as_version = AS_VERSION.number(alloc, matches)?;
-    Ok(Schedule {
-        file,
-        write: is_set(matches, "write"),
-        explain: is_set(matches, "explain"),
-        quiet: is_set(matches, "quiet"),
-        as_version,
-    })
-}
-
 /// The form in which a trace is asked for. It is at most one.
 fn form_of(alloc: Global, matches: &ArgMatches<'_>) -> Result<TraceForm, Usage>
     ensures form { IfOk result (IsTraceForm (rows_of (found_of matches.now))) }
@@ -349,18 +305,24 @@ fn form_of(alloc: Global, matches: &ArgMatches<'_>) -> Result<TraceForm, Usage>
     }
 }
 
-/// How the run goes on where the schedule ends. Its options stand beside `--then-run` alone.
+/// How the run goes on where the schedule ends. `--record` stands beside `--then-run` alone, and so does
+/// `--as-version`.
 fn then_run_of(alloc: Global, matches: &ArgMatches<'_>) -> Result<Option<ThenRun>, Usage>
     ensures values { IfOk result (IsThenRun (rows_of (found_of matches.now))) }
     ensures none { IfErr result (λ usage. Refuses usage ((then_run : _)
         → IsThenRun (rows_of (found_of matches.now)) then_run → ⊥)) }
 {
-    let budget = WHOLE_BUDGET.number(alloc, matches)?;
     let record = path_of(alloc, matches, "record")?;
+    let as_version = recorded_version_of(alloc, matches)?;
     if is_set(matches, "then-run") {
-        Ok(Some(ThenRun { budget, record }))
-    } else if budget.is_some() || record.is_some() {
-        Err(Usage::no_then_run(alloc))
+        let budget = WHOLE_BUDGET.number(alloc, matches)?;
+        Ok(Some(ThenRun {
+            budget,
+            record,
+            as_version,
+        }))
+    } else if record.is_some() {
+        Err(Usage::not_provided(alloc, "--then-run"))
     } else {
         Ok(None)
     }
@@ -378,77 +340,21 @@ fn run_options_of(alloc: Global, matches: &ArgMatches<'_>) -> Result<RunOptions,
         seed: seed_of(alloc, matches)?,
         policy: policy_of(alloc, matches)?,
     };
-    match options.clash() {
+    match clash_of(matches, &options) {
         None => Ok(options),
         Some((one, other)) => Err(Usage::not_together(alloc, one, other)),
     }
 }
 
-fn limits_of(alloc: Global, matches: &ArgMatches<'_>) -> Result<LimitOptions, Usage>
-    ensures limits { IfOk result (AreLimitNumbers (rows_of (found_of matches.now))) }
-    ensures none { IfErr result (λ usage. Refuses usage ((limits : _)
-        → AreLimitNumbers (rows_of (found_of matches.now)) limits → ⊥)) }
+/// Two of the options of a run that don't go together, if there are such. Of a sweep each is looked at by itself.
+fn clash_of(matches: &ArgMatches<'_>, options: &RunOptions) -> Option<Clash>
+    ensures { MatchOption result (UnlessSweep (first_of (codes "seeds") (rows_of (found_of matches.now)))
+        (GoTogether options.now.workers options.now.quantum options.now.seed options.now.policy))
+        (λ _. UnlessSweep (first_of (codes "seeds") (rows_of (found_of matches.now)))
+        (GoTogether options.now.workers options.now.quantum options.now.seed options.now.policy) → ⊥) }
 {
-    Ok(LimitOptions {
-        objects: OBJECTS.number(alloc, matches)?,
-        cells: CELLS.number(alloc, matches)?,
-        monitors: MONITORS.number(alloc, matches)?,
-        threads: THREADS.number(alloc, matches)?,
-        frames: FRAMES.number(alloc, matches)?,
-    })
-}
-
-/// The path that an argument has which has to be there.
-fn required_path_of(
-    alloc: Global,
-    matches: &ArgMatches<'_>,
-    argument: &str,
-) -> Result<String, Usage>
-    ensures path { IfOk result (λ path.
-        first_of argument.now (rows_of (found_of matches.now)) ≡ Some (string_bytes path)) }
-    ensures none { IfErr result (λ usage. Refuses usage ((path : _)
-        → first_of argument.now (rows_of (found_of matches.now)) ≡ Some path → ⊥)) }
-{
-    match path_of(alloc, matches, argument)? {
-        Some(path) => Ok(path),
-        None => Err(missing(alloc, "a file is missing")),
+    match matches.get_str(SEEDS) {
+        Some(_) => None,
+        None => options.clash(),
     }
-}
-
-/// The text that an option has, as a path or a name, where it is there.
-fn path_of(
-    alloc: Global,
-    matches: &ArgMatches<'_>,
-    option: &str,
-) -> Result<Option<String>, AllocError>
-    ensures { IfOk result (λ path.
-        first_of option.now (rows_of (found_of matches.now)) ≡ option_map string_bytes path) }
-{
-    match matches.get_str(option) {
-        Some(path) => Ok(Some(String::from_str(alloc, path)?)),
-        None => Ok(None),
-    }
-}
-
-/// The paths of the class files.
-fn files_of(alloc: Global, matches: &ArgMatches<'_>) -> Result<Vec<String>, Usage>
-    ensures files { IfOk result (λ files. all_of (codes "files") (rows_of (found_of matches.now))
-        ≡ Some (map string_bytes files.items)) }
-    ensures none { IfErr result (λ usage. Refuses usage ((files : _)
-        → all_of (codes "files") (rows_of (found_of matches.now)) ≡ Some files → ⊥)) }
-{
-    match matches.get_strs("files") {
-        Some(paths) => Ok(copied(alloc, paths)?),
-        None => Err(missing(alloc, "the class files are missing")),
-    }
-}
-
-fn copied(alloc: Global, texts: &[&str]) -> Result<Vec<String>, AllocError>
-    ensures { IfOk result (λ copies. map string_bytes copies.items ≡ map (λ text. text.now) texts.now) }
-{
-    let mut copies = Vec::with_capacity(alloc, texts.len())?;
-    for text in texts {
-        copies.push(String::from_str(alloc, text)?)?;
-    }
-    Ok(copies)
 }

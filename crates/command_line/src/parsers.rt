@@ -3,11 +3,12 @@
 ghost use Rattle.std.specs.Prelude.{◌≡◌, codes, false, IfOk, IfErr};
 ghost use Rattle.clap.specs.Words.{App, app_of, kind_of, new_app, rule_of, with_subcommand};
 ghost use Rattle.clap.specs.declared.error.kind.ErrorKind.TheVariants.{OutOfMemory as no_memory};
-ghost use Rattle.command_line.specs.CommandLine.{IsLocal, class_files, flag, goal_option, jvm, jvm_disasm, jvm_replay, jvm_run, jvm_schedule, jvm_search, jvm_shrink, jvm_trace, jvm_verify, main_option, one_file, path_option, record_option, required_goal_option, schedule_option, with_files as over_files, with_limits as limited, with_main as started, with_program as programmed, alone_flag};
+ghost use Rattle.command_line.specs.CommandLine.{IsLocal, class_files, flag, goal_option, jvm, jvm_disasm, jvm_replay, jvm_run, jvm_schedule, jvm_search, jvm_shrink, jvm_trace, jvm_verify, main_option, path_option, record_option, required_goal_option, schedule_option, with_files as over_files, with_limits as limited, with_main as started, with_program as programmed, alone_flag, with_record as recorded};
 
 use crate::help::{
-    ABOUT, AFTER, DISASM_PAGE, FILES_HELP, LISTED_HELP, REPLAY_PAGE, RUN_PAGE, SCHEDULE_PAGE,
-    SEARCH_PAGE, SHRINK_PAGE, TRACE_PAGE, VERIFY_PAGE, VERSION,
+    ABOUT, AFTER, DISASM_PAGE, FILES_HELP, LISTED_HELP, RECORD_HELP, REPLAY_PAGE, RUN_PAGE,
+    RUN_RECORD_HELP, SCHEDULE_HELP, SCHEDULE_PAGE, SEARCH_PAGE, SHRINK_PAGE, TRACE_PAGE,
+    VERIFY_PAGE, VERSION,
 };
 use crate::numbers::{
     AS_VERSION, BUDGET, CELLS, FRAMES, FROM, MEMORY, MONITORS, OBJECTS, ONLY, QUANTUM, SECONDS,
@@ -79,8 +80,8 @@ fn run_parser<'a>(alloc: Global) -> Result<clap::Command<'a>, AllocError>
     .arg(policy_argument(alloc))?
     .arg(SECONDS.argument(alloc))?
     .arg(seeds_argument(alloc))?
-    .arg(goal_argument(alloc))?
-    .arg(record_argument(alloc))?;
+    .arg(goal_argument(alloc))?;
+    let run = with_record(alloc, run, RUN_RECORD_HELP)?;
     with_files(
         alloc,
         with_program(alloc, run)?,
@@ -104,8 +105,8 @@ fn replay_parser<'a>(alloc: Global) -> Result<clap::Command<'a>, AllocError>
         "then-run",
         "Goes on where the schedule ends: the threads take turns",
     ))?
-    .arg(WHOLE_BUDGET.argument(alloc))?
-    .arg(record_argument(alloc))?;
+    .arg(WHOLE_BUDGET.argument(alloc))?;
+    let replay = with_record(alloc, replay, RECORD_HELP)?;
     with_files(
         alloc,
         with_program(alloc, replay)?,
@@ -153,8 +154,8 @@ fn search_parser<'a>(alloc: Global) -> Result<clap::Command<'a>, AllocError>
     .arg(goal_argument(alloc))?
     .arg(STATES.argument(alloc))?
     .arg(MEMORY.argument(alloc))?
-    .arg(SECONDS.argument(alloc))?
-    .arg(record_argument(alloc))?;
+    .arg(SECONDS.argument(alloc))?;
+    let search = with_record(alloc, search, RECORD_HELP)?;
     with_files(
         alloc,
         with_program(alloc, search)?,
@@ -174,8 +175,8 @@ fn shrink_parser<'a>(alloc: Global) -> Result<clap::Command<'a>, AllocError>
     .arg(required_goal_argument(alloc))?
     .arg(schedule_argument(alloc))?
     .arg(any_files_argument(alloc))?
-    .arg(WHOLE_BUDGET.argument(alloc))?
-    .arg(record_argument(alloc))?;
+    .arg(WHOLE_BUDGET.argument(alloc))?;
+    let shrink = with_record(alloc, shrink, RECORD_HELP)?;
     with_files(
         alloc,
         with_program(alloc, shrink)?,
@@ -219,6 +220,11 @@ fn schedule_parser<'a>(alloc: Global) -> Result<clap::Command<'a>, AllocError>
         "write",
         "Makes the schedule file of the text on standard input",
     );
+    let places = flag_argument(
+        alloc,
+        "places",
+        "Prints a schedule of class files as a text with places",
+    );
     let schedule = titled(
         alloc,
         "schedule",
@@ -226,8 +232,17 @@ fn schedule_parser<'a>(alloc: Global) -> Result<clap::Command<'a>, AllocError>
         SCHEDULE_PAGE,
     )
     .arg(write)?
-    .arg(AS_VERSION.argument(alloc))?;
-    with_files(alloc, schedule, file_argument(alloc, "The schedule file"))
+    .arg(AS_VERSION.argument(alloc))?
+    .arg(places)?
+    .arg(path_argument(
+        alloc,
+        "schedule",
+        "The schedule of --places: a file, or its text, or '0*22 1'",
+    ))?
+    .arg(any_files_argument(alloc))?
+    .arg(main_argument(alloc))?
+    .arg(alone_argument(alloc))?;
+    with_files(alloc, schedule, files_argument(alloc, SCHEDULE_HELP))
 }
 
 /// The file of the schedule, which has to be there.
@@ -255,16 +270,12 @@ fn any_files_argument<'a>(alloc: Global) -> Arg<'a>
     )
 }
 
-/// The file that a schedule is written to.
-fn record_argument<'a>(alloc: Global) -> Arg<'a>
+/// The file that a schedule is written to, or the folder for several.
+fn record_argument<'a>(alloc: Global, help: &'a str) -> Arg<'a>
     ensures rule { rule_of result ≡ record_option }
     ensures local { result.global ≡ false }
 {
-    path_argument(
-        alloc,
-        "record",
-        "The file that the schedule of the run is written to",
-    )
+    path_argument(alloc, "record", help)
 }
 
 /// The class whose main is run.
@@ -324,18 +335,6 @@ fn files_argument<'a>(alloc: Global, help: &'a str) -> Arg<'a>
         .help(help)
 }
 
-/// The one file of a command.
-fn file_argument<'a>(alloc: Global, help: &'a str) -> Arg<'a>
-    ensures rule { rule_of result ≡ one_file }
-    ensures local { result.global ≡ false }
-{
-    Arg::new(alloc, "file")
-        .value_name("FILE")
-        .required(true)
-        .action(ArgAction::Set)
-        .help(help)
-}
-
 /// An option that takes the path of a file.
 fn path_argument<'a>(alloc: Global, name: &'a str, help: &'a str) -> Arg<'a>
     ensures rule { rule_of result ≡ path_option name.now }
@@ -373,6 +372,20 @@ fn with_limits<'a>(
         .arg(MONITORS.argument(alloc))?
         .arg(THREADS.argument(alloc))?
         .arg(FRAMES.argument(alloc))
+}
+
+/// The command with the options by which schedules are recorded.
+fn with_record<'a>(
+    alloc: Global,
+    command: clap::Command<'a>,
+    help: &'a str,
+) -> Result<clap::Command<'a>, AllocError>
+    ensures app { IfOk result (λ whole. app_of whole ≡ recorded (app_of command.entry)) }
+    ensures local { IsLocal command.entry → IfOk result IsLocal }
+{
+    command
+        .arg(record_argument(alloc, help))?
+        .arg(AS_VERSION.argument(alloc))
 }
 
 /// The command with the options of the limits, and with the one that names the class whose main is run.

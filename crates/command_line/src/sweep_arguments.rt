@@ -6,15 +6,15 @@ ghost use Rattle.clap.specs.Words.{first_of, found_of, rows_of, rule_of};
 ghost use Rattle.command_line.specs.CommandLine.{Refuses, path_option};
 ghost use Rattle.command_line.specs.Sweeps.{AreSeeds, IsSeedRange, IsSweep, IsSweepOf, IsSweepPolicy};
 
-use crate::parse::goal_of;
 use crate::run_arguments::{SEED, seed_by};
 use crate::sweep_options::{SeedRange, SweepOptions, SweepPolicy};
 use crate::usage::Usage;
+use crate::values::goal_of;
 use clap::{Arg, ArgAction, ArgMatches};
 use std::alloc::{AllocError, Global};
 
 /// The name of the option that takes seeds.
-const SEEDS: &str = "seeds";
+pub(crate) const SEEDS: &str = "seeds";
 
 /// The option that takes seeds, for the parser, which takes any text for them.
 pub(crate) fn seeds_argument<'a>(alloc: Global) -> Arg<'a>
@@ -53,7 +53,7 @@ fn no_goal_of(alloc: Global, matches: &ArgMatches<'_>) -> Result<(), Usage>
         (first_of (codes "for") (rows_of (found_of matches.now)) ≡ None → ⊥)) }
 {
     match matches.get_str("for") {
-        Some(_) => Err(Usage::no_sweep(alloc)),
+        Some(_) => Err(Usage::not_provided(alloc, "--seeds <A..B>")),
         None => Ok(()),
     }
 }
@@ -65,10 +65,14 @@ fn sweep_by(alloc: Global, matches: &ArgMatches<'_>, word: &str) -> Result<Sweep
         → IsSweepOf word.now (rows_of (found_of matches.now)) sweep → ⊥)) }
 {
     let seeds = seeds_by(alloc, word)?;
-    check_alone(alloc, matches, SEED, "--seed <NUMBER>")?;
-    check_alone(alloc, matches, "workers", "--workers <NUMBER>")?;
-    check_alone(alloc, matches, "quantum", "--quantum <NUMBER>")?;
-    check_alone(alloc, matches, "record", "--record <FILE>")?;
+    check_alone(alloc, matches, SEED, "--seed <NUMBER>", "--seeds <A..B>")?;
+    check_alone(
+        alloc,
+        matches,
+        "quantum",
+        "--quantum <NUMBER>",
+        "--seeds <A..B>",
+    )?;
     let policy = sweep_policy_of(alloc, matches)?;
     let goal = goal_of(alloc, matches)?;
     Ok(SweepOptions {
@@ -78,19 +82,20 @@ fn sweep_by(alloc: Global, matches: &ArgMatches<'_>, word: &str) -> Result<Sweep
     })
 }
 
-/// Refuses an option beside seeds.
-fn check_alone(
+/// Refuses an option beside another one. As help tells them, these are their names.
+pub(crate) fn check_alone(
     alloc: Global,
     matches: &ArgMatches<'_>,
     name: &str,
-    told: &'static str,
+    told: &str,
+    other: &str,
 ) -> Result<(), Usage>
     ensures ok { IfOk result (λ _. first_of name.now (rows_of (found_of matches.now)) ≡ None) }
     ensures none { IfErr result (λ usage. Refuses usage
         (first_of name.now (rows_of (found_of matches.now)) ≡ None → ⊥)) }
 {
     match matches.get_str(name) {
-        Some(_) => Err(Usage::not_together(alloc, told, "--seeds <A..B>")),
+        Some(_) => Err(Usage::not_together(alloc, told, other)),
         None => Ok(()),
     }
 }

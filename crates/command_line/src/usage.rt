@@ -100,22 +100,20 @@ impl Usage {
         ))
     }
 
-    /// The fault that `--then-run` is missing, in the parser's words for what has to be there.
-    pub(crate) fn no_then_run(alloc: Global) -> Usage
+    /// The fault that an option is missing, in the parser's words for what has to be there.
+    pub(crate) fn not_provided(alloc: Global, option: &str) -> Usage
         ensures { Asks result → ⊥ }
     {
         Usage::told(format!(in alloc;
-            "error: the following required arguments were not provided:\n  --then-run\n\n{MORE}\n"
+            "error: the following required arguments were not provided:\n  {option}\n\n{MORE}\n"
         ))
     }
 
-    /// That `--seeds` is missing, in the parser's words for what has to be there.
-    pub(crate) fn no_sweep(alloc: Global) -> Usage
+    /// The fault that a word is one too many, in the parser's words.
+    pub(crate) fn not_expected(alloc: Global, word: &str) -> Usage
         ensures { Asks result → ⊥ }
     {
-        Usage::told(format!(in alloc;
-            "error: the following required arguments were not provided:\n  --seeds <A..B>\n\n{MORE}\n"
-        ))
+        Usage::told(format!(in alloc; "error: unexpected argument '{word}' found\n\n{MORE}\n"))
     }
 
     /// That a text names no seeds, in the parser's words for a value that it refuses.

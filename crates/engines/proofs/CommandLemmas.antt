@@ -9,7 +9,7 @@ use Rattle.command_line.specs.CommandLine.{Refuses, Spells}
 use Rattle.command_line.proofs.CommandLineLemmas.{refuses_more}
 use Rattle.command_line.specs.declared.options.Command.{Command}
 use Rattle.command_line.specs.declared.usage.Usage.{Usage}
-use Rattle.program_files.specs.Folders.{Held, Listed, Written}
+use Rattle.program_files.specs.Folders.{Held, Listed}
 use Rattle.program_files.specs.declared.files_fault.FilesFault.{FilesFault}
 use Rattle.program_files.specs.declared.files_fault.FilesFault.TheVariants as files
 use Rattle.engines.specs.Commands.{AreFiles, HasNoFiles, IsDone, IsDoneOver, IsKeptFirst, IsReadToo, IsUndone, IsUndoneAs, IsUndoneOver, IsUnread, Stops, record_path}
@@ -18,7 +18,7 @@ use Rattle.engines.specs.Complaints.{complaint_of}
 use Rattle.engines.specs.Devices.{IsUnable}
 use Rattle.engines.specs.Handed.{AreHanded, IsComplaint, IsUnread as IsUnreadFile, refused_name}
 use Rattle.engines.specs.Failures.{TellsComplaint, TellsFailure}
-use Rattle.engines.specs.Files.{held_at, known}
+use Rattle.engines.specs.Files.{Written, held_at, known}
 use Rattle.engines.specs.declared.fault.Fault.{Fault}
 use Rattle.engines.specs.declared.status.Status.{Status}
 use Rattle.engines.specs.declared.complaint.Complaint.{Complaint}

@@ -41,6 +41,7 @@ counts_among failures faults.Device total sources i y d within so_far counted = 
 counts_among failures faults.Memory total sources i y d within so_far counted = omega (arith, sum_by-set failures sources i y d within, so_far, counted)
 counts_among failures (faults.Schedule fault) total sources i y d within so_far counted = omega (arith, sum_by-set failures sources i y d within, so_far, counted)
 counts_among failures (faults.Text fault) total sources i y d within so_far counted = omega (arith, sum_by-set failures sources i y d within, so_far, counted)
+counts_among failures (faults.Place missing) total sources i y d within so_far counted = omega (arith, sum_by-set failures sources i y d within, so_far, counted)
 counts_among failures (faults.Refusal refusal) total sources i y d within so_far counted = omega (arith, sum_by-set failures sources i y d within, so_far, counted)
 
 pub none_failed : {S : Type 0} (failures : S → ℕ) (total : ℕ) (sources : List S) (i : ℕ) (y d : S) → i < length sources

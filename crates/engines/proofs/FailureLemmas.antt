@@ -25,6 +25,7 @@ counts_with faults.Memory old new n counted = omega (arith, counted)
 counts_with (faults.Refusal refusal) old new n counted = omega (arith, counted)
 counts_with (faults.Schedule fault) old new n counted = omega (arith, counted)
 counts_with (faults.Text fault) old new n counted = omega (arith, counted)
+counts_with (faults.Place missing) old new n counted = omega (arith, counted)
 
 counts_besides : {A : Type 0} (result : Result A Fault) (old new n : ℕ) → CountsFailure result old new → CountsFailure result (old + n) (new + n)
 counts_besides (Ok value) old new n counted = omega (arith, counted)
@@ -57,6 +58,7 @@ module _ {S : Type 0} (failures : S → ℕ) where
     fault_told (faults.Refusal refusal) counted = omega (arith, none, counted)
     fault_told (faults.Schedule fault) counted = omega (arith, none, counted)
     fault_told (faults.Text fault) counted = omega (arith, none, counted)
+    fault_told (faults.Place missing) counted = omega (arith, none, counted)
 
     -- what an engine counts is told, that of its sources as what is elsewhere
     pub told_by : {A : Type 0} (result : Result A Fault) → CountsFailure result (before + old) (sum_by failures sources + new)
@@ -97,6 +99,7 @@ fault_besides elsewhere faults.Memory n old new counted = omega (arith, counted)
 fault_besides elsewhere (faults.Refusal refusal) n old new counted = omega (arith, counted)
 fault_besides elsewhere (faults.Schedule fault) n old new counted = omega (arith, counted)
 fault_besides elsewhere (faults.Text fault) n old new counted = omega (arith, counted)
+fault_besides elsewhere (faults.Place missing) n old new counted = omega (arith, counted)
 
 -- what is told stays so where others have so many failures
 pub told_besides : (elsewhere : Type 0) {A : Type 0} (result : Result A Fault) (n old new : ℕ) → TellsFailures elsewhere result old new

@@ -7,7 +7,9 @@ pub mod FileLemmas
 pub mod LibraryLemmas
 pub mod ListingLemmas
 pub mod OpeningLemmas
+pub mod OutcomeFileLemmas
 pub mod OutcomeLemmas
+pub mod PlaceLemmas
 pub mod RecordLemmas
 pub mod RunLemmas
 pub mod ScheduleLemmas

@@ -16,6 +16,7 @@ unread_is_no_library faults.Device given own lefts held file within of_file = in
 unread_is_no_library faults.Memory given own lefts held file within of_file = absurd of_file
 unread_is_no_library (faults.Schedule fault) given own lefts held file within of_file = absurd of_file
 unread_is_no_library (faults.Text fault) given own lefts held file within of_file = absurd of_file
+unread_is_no_library (faults.Place missing) given own lefts held file within of_file = absurd of_file
 unread_is_no_library (faults.Refusal refusal) given own lefts held file within of_file = (refl, inl (file, within, of_file))
 
 -- the writing stops

@@ -22,6 +22,7 @@ unread_is_unlisted faults.Device lefts held file within of_file = inl refl
 unread_is_unlisted faults.Memory lefts held file within of_file = absurd of_file
 unread_is_unlisted (faults.Schedule fault) lefts held file within of_file = absurd of_file
 unread_is_unlisted (faults.Text fault) lefts held file within of_file = absurd of_file
+unread_is_unlisted (faults.Place missing) lefts held file within of_file = absurd of_file
 unread_is_unlisted (faults.Refusal refusal) lefts held file within of_file = (refl, inl (file, within, of_file))
 
 -- as many sources are read as there are
@@ -57,6 +58,7 @@ unread_is_unnamed faults.Device lefts held file within of_file = inl refl
 unread_is_unnamed faults.Memory lefts held file within of_file = absurd of_file
 unread_is_unnamed (faults.Schedule fault) lefts held file within of_file = absurd of_file
 unread_is_unnamed (faults.Text fault) lefts held file within of_file = absurd of_file
+unread_is_unnamed (faults.Place missing) lefts held file within of_file = absurd of_file
 unread_is_unnamed (faults.Refusal refusal) lefts held file within of_file = (refl, inl (file, within, of_file))
 
 pub undecoded_is_unnamed : (lefts : List (Option (List ℕ))) (files : List (List ℕ)) (held : Option (List ℕ)) (refusal : Refusal)

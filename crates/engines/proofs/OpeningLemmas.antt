@@ -8,6 +8,7 @@ use Rattle.schedule.specs.Outcomes.{StandsIn}
 use Rattle.schedule.specs.declared.schedule_text.either.EitherFault.{EitherFault}
 use Rattle.schedule.specs.declared.schedule_text.either.EitherFault.TheVariants.{File, Text}
 use Rattle.schedule.specs.schedule_text.Either.{GivesEvents, IsFaultOf, IsMemory, begins_text}
+use Rattle.command_line.specs.declared.options.ThenRun.{ThenRun}
 use Rattle.engines.specs.Continuations.{ContinuesPart, IsUncontinued}
 use Rattle.engines.specs.Devices.{either_fault, fault_of}
 use Rattle.engines.specs.Engines.{Reads}
@@ -25,16 +26,18 @@ kept_is_faulty faults.Device left lefts options held kept = inl refl
 kept_is_faulty faults.Memory left lefts options held kept = inl refl
 kept_is_faulty (faults.Schedule fault) left lefts options held kept = (refl, kept)
 kept_is_faulty (faults.Text fault) left lefts options held kept = (refl, kept)
+kept_is_faulty (faults.Place missing) left lefts options held kept = (refl, kept)
 kept_is_faulty (faults.Refusal refusal) left lefts options held kept = (refl, kept)
 
-pub kept_is_uncontinued : (fault : Fault) (left : Option (List ℕ)) (lefts : List (Option (List ℕ))) (options : Conditions) (budget : ℕ)
+pub kept_is_uncontinued : (fault : Fault) (left : Option (List ℕ)) (lefts : List (Option (List ℕ))) (options : Conditions) (then_run : ThenRun)
     (held : Option (List ℕ)) (made : Option (List ℕ))
-    → IsKeptBy left lefts options fault → IsUncontinued left lefts options budget held held made made fault
-kept_is_uncontinued faults.Device left lefts options budget held made kept = inl (refl, refl)
-kept_is_uncontinued faults.Memory left lefts options budget held made kept = inl (refl, refl)
-kept_is_uncontinued (faults.Schedule fault) left lefts options budget held made kept = (refl, refl, kept)
-kept_is_uncontinued (faults.Text fault) left lefts options budget held made kept = (refl, refl, kept)
-kept_is_uncontinued (faults.Refusal refusal) left lefts options budget held made kept = (refl, refl, kept)
+    → IsKeptBy left lefts options fault → IsUncontinued left lefts options then_run held held made made fault
+kept_is_uncontinued faults.Device left lefts options then_run held made kept = inl (refl, refl)
+kept_is_uncontinued faults.Memory left lefts options then_run held made kept = inl (refl, refl)
+kept_is_uncontinued (faults.Schedule fault) left lefts options then_run held made kept = (refl, refl, kept)
+kept_is_uncontinued (faults.Text fault) left lefts options then_run held made kept = (refl, refl, kept)
+kept_is_uncontinued (faults.Place missing) left lefts options then_run held made kept = (refl, refl, kept)
+kept_is_uncontinued (faults.Refusal refusal) left lefts options then_run held made kept = (refl, refl, kept)
 
 -- where a device fails, or there is no memory for what it does, a part may be written
 pub part_is_faulty : (fault : DeviceFault) (left : Option (List ℕ)) (lefts : List (Option (List ℕ))) (options : Conditions)
@@ -43,10 +46,10 @@ part_is_faulty devices.Device left lefts options old new part = part
 part_is_faulty devices.Memory left lefts options old new part = part
 
 pub part_is_uncontinued : (fault : DeviceFault) (left : Option (List ℕ)) (lefts : List (Option (List ℕ))) (options : Conditions)
-    (budget : ℕ) (old new : Option (List ℕ)) (kept made : Option (List ℕ))
-    → ContinuesPart left lefts options budget old new kept made → IsUncontinued left lefts options budget old new kept made (fault_of fault)
-part_is_uncontinued devices.Device left lefts options budget old new kept made part = part
-part_is_uncontinued devices.Memory left lefts options budget old new kept made part = part
+    (then_run : ThenRun) (old new : Option (List ℕ)) (kept made : Option (List ℕ))
+    → ContinuesPart left lefts options then_run old new kept made → IsUncontinued left lefts options then_run old new kept made (fault_of fault)
+part_is_uncontinued devices.Device left lefts options then_run old new kept made part = part
+part_is_uncontinued devices.Memory left lefts options then_run old new kept made part = part
 
 pub part_is_untranscribed : (fault : DeviceFault) (as_version : Option ℕ) (left old new : Option (List ℕ)) → TranscribesPart as_version left old new
     → IsUntranscribed as_version left old new (fault_of fault)
@@ -71,7 +74,7 @@ file_is_no_text : (bytes : List ℕ) (recorded : Option Recording) (events : Lis
 file_is_no_text bytes recorded events text file = let bad : false ≡ true = sym (ap begins_text file.spelled) ∙ text in cc
 
 -- memory apart, its bytes give none
-unspelled : (fault : EitherFault) (left : Option (List ℕ)) (bytes : List ℕ) → Reads left bytes
+pub unspelled : (fault : EitherFault) (left : Option (List ℕ)) (bytes : List ℕ) → Reads left bytes
     → ((recorded : Option Recording) (events : List Event) → GivesEvents bytes recorded events → IsMemory fault) → IsFaultOf bytes fault
     → IsMemory fault ⊎ IsUnspelled left fault
 unspelled fault left bytes read only (inl memory) = inl memory

@@ -16,6 +16,7 @@ use Rattle.engines.specs.Commands.{IsContinuationUndone, IsRunUndone, IsSearchUn
 use Rattle.engines.specs.Continuations.{Continues, IsUncontinued}
 use Rattle.engines.specs.Devices.{IsUnable}
 use Rattle.engines.specs.Files.{OfSchedule, written_at}
+use Rattle.engines.specs.RecordForms.{record_form}
 use Rattle.engines.specs.Recordings.{conditions_of}
 use Rattle.engines.specs.Goals.{IsAskedFor}
 use Rattle.engines.specs.Runs.{IsUnrun, Runs}
@@ -24,6 +25,7 @@ use Rattle.engines.specs.declared.fault.Fault.{Fault}
 use Rattle.engines.specs.declared.fault.Fault.TheVariants as faults
 use Rattle.engines.specs.declared.status.Status.{Status}
 use Rattle.engines.specs.declared.recording.Conditions.{Conditions}
+use Rattle.engines.specs.declared.recording.RecordForm.{RecordForm}
 
 -- all of a text is a front of it
 all_front : (old new : Option (List ℕ)) (text : List ℕ) → Appends old new text → AppendsFront old new text
@@ -31,42 +33,45 @@ all_front old new text all = (text, [], sym (append-nil text), all)
 
 -- ---- the command is done, but for the record
 
-whole_is_unrun : (given : ℕ) (lefts : List (Option (List ℕ))) (asked : LimitOptions) (options : RunOptions) (may_stop : Bool) (old new made : Option (List ℕ)) (fault : Fault)
-    → IsUnable fault → (text : List ℕ) × (status : Status) × Runs given lefts asked options may_stop text made status × Appends old new text
-    → IsUnrun given lefts asked options may_stop old new None made fault
-whole_is_unrun given lefts asked options may_stop old new made faults.Device unable (text, status, runs, all) = inr (text, status, runs, all_front old new text all)
-whole_is_unrun given lefts asked options may_stop old new made faults.Memory unable (text, status, runs, all) = inr (text, status, runs, all_front old new text all)
-whole_is_unrun given lefts asked options may_stop old new made (faults.Refusal refusal) unable whole = absurd unable
-whole_is_unrun given lefts asked options may_stop old new made (faults.Schedule fault) unable whole = absurd unable
-whole_is_unrun given lefts asked options may_stop old new made (faults.Text fault) unable whole = absurd unable
+whole_is_unrun : (form : RecordForm) (lefts : List (Option (List ℕ))) (asked : LimitOptions) (options : RunOptions) (may_stop : Bool) (old new made : Option (List ℕ)) (fault : Fault)
+    → IsUnable fault → (text : List ℕ) × (status : Status) × Runs form lefts asked options may_stop text made status × Appends old new text
+    → IsUnrun form lefts asked options may_stop old new None made fault
+whole_is_unrun form lefts asked options may_stop old new made faults.Device unable (text, status, runs, all) = inr (text, status, runs, all_front old new text all)
+whole_is_unrun form lefts asked options may_stop old new made faults.Memory unable (text, status, runs, all) = inr (text, status, runs, all_front old new text all)
+whole_is_unrun form lefts asked options may_stop old new made (faults.Refusal refusal) unable whole = absurd unable
+whole_is_unrun form lefts asked options may_stop old new made (faults.Schedule fault) unable whole = absurd unable
+whole_is_unrun form lefts asked options may_stop old new made (faults.Text fault) unable whole = absurd unable
+whole_is_unrun form lefts asked options may_stop old new made (faults.Place missing) unable whole = absurd unable
 
-whole_is_uncontinued : (left : Option (List ℕ)) (lefts : List (Option (List ℕ))) (asked : Conditions) (budget : ℕ) (old new made : Option (List ℕ))
-    (fault : Fault) → IsUnable fault → (text : List ℕ) × (status : Status) × Continues left lefts asked budget text made status × Appends old new text
-    → IsUncontinued left lefts asked budget old new None made fault
-whole_is_uncontinued left lefts asked budget old new made faults.Device unable (text, status, runs, all) = inr (text, status, runs, all_front old new text all)
-whole_is_uncontinued left lefts asked budget old new made faults.Memory unable (text, status, runs, all) = inr (text, status, runs, all_front old new text all)
-whole_is_uncontinued left lefts asked budget old new made (faults.Refusal refusal) unable whole = absurd unable
-whole_is_uncontinued left lefts asked budget old new made (faults.Schedule fault) unable whole = absurd unable
-whole_is_uncontinued left lefts asked budget old new made (faults.Text fault) unable whole = absurd unable
+whole_is_uncontinued : (left : Option (List ℕ)) (lefts : List (Option (List ℕ))) (asked : Conditions) (then_run : ThenRun) (old new made : Option (List ℕ))
+    (fault : Fault) → IsUnable fault → (text : List ℕ) × (status : Status) × Continues left lefts asked then_run text made status × Appends old new text
+    → IsUncontinued left lefts asked then_run old new None made fault
+whole_is_uncontinued left lefts asked then_run old new made faults.Device unable (text, status, runs, all) = inr (text, status, runs, all_front old new text all)
+whole_is_uncontinued left lefts asked then_run old new made faults.Memory unable (text, status, runs, all) = inr (text, status, runs, all_front old new text all)
+whole_is_uncontinued left lefts asked then_run old new made (faults.Refusal refusal) unable whole = absurd unable
+whole_is_uncontinued left lefts asked then_run old new made (faults.Schedule fault) unable whole = absurd unable
+whole_is_uncontinued left lefts asked then_run old new made (faults.Text fault) unable whole = absurd unable
+whole_is_uncontinued left lefts asked then_run old new made (faults.Place missing) unable whole = absurd unable
 
-whole_is_unsearched : (given : ℕ) (lefts : List (Option (List ℕ))) (asked : LimitOptions) (want : Wanted) (may_stop : Bool) (most : ℕ) (recorded : Bool) (old new made : Option (List ℕ))
-    (fault : Fault) → IsUnable fault → (text : List ℕ) × (status : Status) × Searches given lefts asked want may_stop most recorded text made status × Appends old new text
-    → IsUnsearched given lefts asked want may_stop most recorded old new None made fault
-whole_is_unsearched given lefts asked want may_stop most recorded old new made faults.Device unable (text, status, runs, all) = inr (text, status, runs, all_front old new text all)
-whole_is_unsearched given lefts asked want may_stop most recorded old new made faults.Memory unable (text, status, runs, all) = inr (text, status, runs, all_front old new text all)
-whole_is_unsearched given lefts asked want may_stop most recorded old new made (faults.Refusal refusal) unable whole = absurd unable
-whole_is_unsearched given lefts asked want may_stop most recorded old new made (faults.Schedule fault) unable whole = absurd unable
-whole_is_unsearched given lefts asked want may_stop most recorded old new made (faults.Text fault) unable whole = absurd unable
+whole_is_unsearched : (form : RecordForm) (lefts : List (Option (List ℕ))) (asked : LimitOptions) (want : Wanted) (may_stop : Bool) (most : ℕ) (recorded : Bool) (old new made : Option (List ℕ))
+    (fault : Fault) → IsUnable fault → (text : List ℕ) × (status : Status) × Searches form lefts asked want may_stop most recorded text made status × Appends old new text
+    → IsUnsearched form lefts asked want may_stop most recorded old new None made fault
+whole_is_unsearched form lefts asked want may_stop most recorded old new made faults.Device unable (text, status, runs, all) = inr (text, status, runs, all_front old new text all)
+whole_is_unsearched form lefts asked want may_stop most recorded old new made faults.Memory unable (text, status, runs, all) = inr (text, status, runs, all_front old new text all)
+whole_is_unsearched form lefts asked want may_stop most recorded old new made (faults.Refusal refusal) unable whole = absurd unable
+whole_is_unsearched form lefts asked want may_stop most recorded old new made (faults.Schedule fault) unable whole = absurd unable
+whole_is_unsearched form lefts asked want may_stop most recorded old new made (faults.Text fault) unable whole = absurd unable
+whole_is_unsearched form lefts asked want may_stop most recorded old new made (faults.Place missing) unable whole = absurd unable
 
 -- ---- a fault of the command, or of the record
 
 module _ (held holds : Held) (given : ℕ) (lefts : List (Option (List ℕ))) (old new made : Option (List ℕ)) (outcome : Result Status Fault) (fault : Fault) where
   module _ (run : Run) where
     abbrev RunDone : Status → Type 0
-    RunDone status = (text : List ℕ) × Runs given lefts run.limits run.options (is_some run.seconds) text made status × Appends old new text
+    RunDone status = (text : List ℕ) × Runs (record_form given run.as_version) lefts run.limits run.options (is_some run.seconds) text made status × Appends old new text
 
     abbrev RunUndone : Fault → Type 0
-    RunUndone told = IsUnrun given lefts run.limits run.options (is_some run.seconds) old new None made told
+    RunUndone told = IsUnrun (record_form given run.as_version) lefts run.limits run.options (is_some run.seconds) old new None made told
 
     run_whole : (status : Status) → IsUnable fault → RunDone status → RunUndone fault
     run_whole status unable (text, runs, all) = whole_is_unrun _ _ _ _ _ old new made fault unable (text, status, runs, all)
@@ -83,12 +88,12 @@ module _ (held holds : Held) (given : ℕ) (lefts : List (Option (List ℕ))) (o
 
   module _ (replay : Replay) (then_run : ThenRun) where
     abbrev ReplayDone : Status → Type 0
-    ReplayDone status = (text : List ℕ) × OfSchedule held (string_bytes replay.schedule) (λ left. Continues left lefts (conditions_of replay.limits replay.any_files given)
-        (unwrap_or then_run.budget 10000000) text made status) × Appends old new text
+    ReplayDone status = (text : List ℕ) × OfSchedule held (string_bytes replay.schedule) (λ left. Continues left lefts (conditions_of replay.limits replay.any_files given (unwrap_or replay.budget 10000000))
+        then_run text made status) × Appends old new text
 
     abbrev ReplayUndone : Fault → Type 0
-    ReplayUndone told = OfSchedule held (string_bytes replay.schedule) (λ left. IsUncontinued left lefts (conditions_of replay.limits replay.any_files given)
-        (unwrap_or then_run.budget 10000000) old new None made told)
+    ReplayUndone told = OfSchedule held (string_bytes replay.schedule) (λ left. IsUncontinued left lefts (conditions_of replay.limits replay.any_files given (unwrap_or replay.budget 10000000))
+        then_run old new None made told)
 
     replay_whole : (status : Status) → IsUnable fault → ReplayDone status → ReplayUndone fault
     replay_whole status unable (text, (left, at, continues), all) =
@@ -106,11 +111,11 @@ module _ (held holds : Held) (given : ℕ) (lefts : List (Option (List ℕ))) (o
 
   module _ (search : Search) (want : Wanted) (asked : IsAskedFor held search.goal want) where
     abbrev SearchDone : Status → Type 0
-    SearchDone status = (text : List ℕ) × Searches given lefts search.limits want (is_some search.seconds) (most_states search)
+    SearchDone status = (text : List ℕ) × Searches (record_form given search.as_version) lefts search.limits want (is_some search.seconds) (most_states search)
         (is_some search.record) text made status × Appends old new text
 
     abbrev SearchUndone : Fault → Type 0
-    SearchUndone told = IsUnsearched given lefts search.limits want (is_some search.seconds) (most_states search)
+    SearchUndone told = IsUnsearched (record_form given search.as_version) lefts search.limits want (is_some search.seconds) (most_states search)
         (is_some search.record) old new None made told
 
     search_whole : (status : Status) → IsUnable fault → SearchDone status → SearchUndone fault
@@ -129,9 +134,9 @@ module _ (held holds : Held) (given : ℕ) (lefts : List (Option (List ℕ))) (o
 -- the same of what is answered, whatever that is
 pub search_undone_of : (held holds : Held) (given : ℕ) (lefts : List (Option (List ℕ))) (old new made : Option (List ℕ)) (outcome result : Result Status Fault) (search : Search) (want : Wanted)
     → IsAskedFor held search.goal want → IfErr result (IsUnrecorded outcome held holds (written_at search.record made))
-    → IfOk outcome (λ status. (text : List ℕ) × Searches given lefts search.limits want (is_some search.seconds) (most_states search)
+    → IfOk outcome (λ status. (text : List ℕ) × Searches (record_form given search.as_version) lefts search.limits want (is_some search.seconds) (most_states search)
     (is_some search.record) text made status × Appends old new text)
-    → IfErr outcome (IsUnsearched given lefts search.limits want (is_some search.seconds) (most_states search) (is_some search.record) old new None made)
+    → IfErr outcome (IsUnsearched (record_form given search.as_version) lefts search.limits want (is_some search.seconds) (most_states search) (is_some search.record) old new None made)
     → IfErr result (LeavesAt (IsSearchUndone held given lefts search old new) held holds)
 search_undone_of held holds given lefts old new made outcome (Ok status) search want asked unrecorded done undone = tt
 search_undone_of held holds given lefts old new made outcome (Err fault) search want asked unrecorded done undone =

@@ -1,6 +1,6 @@
 -- What the engine of shrinking answers and writes, where it comes to a fault.
 use Rattle.std.proofs.Common.{◌≡◌, ℕ, List, [], Bool, Option, None, Some, inl, inr, refl, subst, sym}
-use Rattle.std.specs.Prelude.{IfErr, IfOk, Result, Ok, Err, IfSome, is_some, string_bytes, vec_items}
+use Rattle.std.specs.Prelude.{IfErr, IfOk, Result, Ok, Err, IfSome, is_some, string_bytes, unwrap_or, vec_items}
 use Rattle.std.specs.Option.{option_map}
 use Rattle.std.specs.Io.KnownBytes.{Appends}
 use Rattle.std.proofs.lemmas.List.{append-nil}
@@ -23,11 +23,12 @@ use Rattle.engines.specs.declared.status.Status.{Status}
 
 pub kept_is_unshrunk : (fault : Fault) (left : Option (List ℕ)) (given : ℕ) (lefts : List (Option (List ℕ))) (options : Shrink) (want : Wanted)
     (held : Option (List ℕ)) (made : Option (List ℕ))
-    → IsKeptBy left lefts (conditions_of options.limits options.any_files given) fault → IsUnshrunk left given lefts options want held held made made fault
+    → IsKeptBy left lefts (conditions_of options.limits options.any_files given (unwrap_or options.budget 10000000)) fault → IsUnshrunk left given lefts options want held held made made fault
 kept_is_unshrunk faults.Device left given lefts options want held made kept = inl (refl, refl)
 kept_is_unshrunk faults.Memory left given lefts options want held made kept = inl (refl, refl)
 kept_is_unshrunk (faults.Schedule fault) left given lefts options want held made kept = (refl, refl, kept)
 kept_is_unshrunk (faults.Text fault) left given lefts options want held made kept = (refl, refl, kept)
+kept_is_unshrunk (faults.Place missing) left given lefts options want held made kept = (refl, refl, kept)
 kept_is_unshrunk (faults.Refusal refusal) left given lefts options want held made kept = (refl, refl, kept)
 
 pub part_is_unshrunk : (fault : DeviceFault) (left : Option (List ℕ)) (given : ℕ) (lefts : List (Option (List ℕ))) (options : Shrink) (want : Wanted)
@@ -50,6 +51,7 @@ whole_is_unshrunk left given lefts options want old new made faults.Memory unabl
 whole_is_unshrunk left given lefts options want old new made (faults.Refusal refusal) unable whole = absurd unable
 whole_is_unshrunk left given lefts options want old new made (faults.Schedule fault) unable whole = absurd unable
 whole_is_unshrunk left given lefts options want old new made (faults.Text fault) unable whole = absurd unable
+whole_is_unshrunk left given lefts options want old new made (faults.Place missing) unable whole = absurd unable
 
 module _ (held holds : Held) (given : ℕ) (lefts : List (Option (List ℕ))) (old new made : Option (List ℕ)) (outcome : Result Status Fault) (fault : Fault)
     (shrink : Shrink) (want : Wanted) (asked : IsAskedFor held (Some shrink.goal) want) where

@@ -120,6 +120,7 @@ unread_is_unaccepted faults.Device given own lefts held file within of_file = in
 unread_is_unaccepted faults.Memory given own lefts held file within of_file = absurd of_file
 unread_is_unaccepted (faults.Schedule fault) given own lefts held file within of_file = absurd of_file
 unread_is_unaccepted (faults.Text fault) given own lefts held file within of_file = absurd of_file
+unread_is_unaccepted (faults.Place missing) given own lefts held file within of_file = absurd of_file
 unread_is_unaccepted (faults.Refusal refusal) given own lefts held file within of_file = (refl, inl (file, within, of_file))
 
 -- nothing is a front of each text

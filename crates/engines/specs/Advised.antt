@@ -33,6 +33,7 @@ is_quiet (commands.Shrink shrink) = shrink.quiet
 is_quiet (commands.Verify verify) = verify.quiet
 is_quiet (commands.Disasm disasm) = disasm.quiet
 is_quiet (commands.Schedule schedule) = schedule.quiet
+is_quiet (commands.Places places) = places.quiet
 
 -- What is told of a fault of a command, which isn't to be quiet: a text of which nothing is said, with no more behind it than advice.
 abbrev pub IsToldOf : List LibraryFile → Held → Listed → Command → Fault → (new : List ℕ) → Type 0

@@ -1,6 +1,6 @@
--- What a command does, by what the files hold that its words stand for: the text that it writes to the output, the file that it writes, and
+-- What a command does, by what the files hold that its words stand for: the text that it writes to the output, the files that it writes, and
 -- its status (own). Each does what its engine does, with these files in their order.
-use Rattle.std.specs.Prelude.{◌≡◌, ◌⊎◌, ℕ, ◌-◌, ◌^◌, Bool, true, false, List, [], length, map, Option, Some, None, IsTrue, is_some, string_bytes, unwrap_or, vec_items, Result, Ok, Err}
+use Rattle.std.specs.Prelude.{◌≡◌, ◌⊎◌, ℕ, ◌-◌, ◌^◌, Bool, true, false, List, [], ◌∷◌, length, map, Option, Some, None, IsTrue, is_some, string_bytes, take, unwrap_or, vec_items, Result, Ok, Err}
 use Rattle.std.specs.Option.{option_and_then, option_map}
 use Rattle.std.specs.Io.KnownBytes.{Appends}
 use Rattle.model.specs.Devices.{AppendsFront}
@@ -33,10 +33,13 @@ use Rattle.engines.specs.Goals.{IsAskedFor}
 use Rattle.engines.specs.Libraries.{IsUnacceptedLibrary, VerifiesLibrary}
 use Rattle.engines.specs.Listings.{AreClassFiles, IsUnlisted, IsUnnamed, Lists}
 use Rattle.engines.specs.Opening.{IsKeptBy}
+use Rattle.engines.specs.OutcomeFiles.{written_in}
+use Rattle.engines.specs.RecordForms.{record_form}
 use Rattle.engines.specs.Recordings.{conditions_of}
 use Rattle.engines.specs.Replays.{IsFaulty, Replays}
 use Rattle.engines.specs.Runs.{IsUnrun, Runs}
 use Rattle.engines.specs.Searches.{IsUnsearched, Searches, most_states}
+use Rattle.engines.specs.Placings.{IsPlacesDone, IsPlacesUndone}
 use Rattle.engines.specs.Shrinks.{IsShrinkDone, IsShrinkUndone}
 use Rattle.engines.specs.Sweeps.{IsUnswept, SweepsOver}
 use Rattle.engines.specs.Traces.{IsUntraced, Traces}
@@ -71,6 +74,7 @@ AreFiles held listed (commands.Shrink shrink) files = AreHandedOn held listed (o
 AreFiles held listed (commands.Verify verify) files = AreVerified held listed verify.library (option_map string_bytes verify.main) (map string_bytes verify.files.items) files
 AreFiles held listed (commands.Disasm disasm) files = AreGiven listed (map string_bytes disasm.files.items) files
 AreFiles held listed (commands.Schedule schedule) files = files ≡ []
+AreFiles held listed (commands.Places places) files = AreHandedOn held listed (option_map string_bytes places.main) (map string_bytes places.files.items) files
 
 -- why there are none
 abbrev pub HasNoFiles : Held → Listed → Command → FilesFault → Type 0
@@ -82,6 +86,7 @@ HasNoFiles held listed (commands.Shrink shrink) fault = IsUnhanded held listed (
 HasNoFiles held listed (commands.Verify verify) fault = IsUnverified held listed verify.library (option_map string_bytes verify.main) (map string_bytes verify.files.items) fault
 HasNoFiles held listed (commands.Disasm disasm) fault = IsUngiven listed (map string_bytes disasm.files.items) fault
 HasNoFiles held listed (commands.Schedule schedule) fault = IsUnableFor fault
+HasNoFiles held listed (commands.Places places) fault = IsUnhanded held listed (option_map string_bytes places.main) (map string_bytes places.files.items) fault
 
 -- where the schedule of a run is written
 abbrev pub record_path : Command → Option Path
@@ -93,6 +98,7 @@ record_path (commands.Shrink shrink) = option_map string_bytes shrink.record
 record_path (commands.Verify verify) = None
 record_path (commands.Disasm disasm) = None
 record_path (commands.Schedule schedule) = None
+record_path (commands.Places places) = None
 
 -- it is none of these files
 abbrev pub IsUnread : (written : Option Path) → (files : List Path) → Type 0
@@ -120,64 +126,78 @@ IsUnrecorded outcome held holds written fault = ((outcome ≡ Err fault) × (IsW
 
 pub record IsRunDone (given : ℕ) (lefts : List (Option (List ℕ))) (run : Run) (text : List ℕ) (written : Written) (status : Status) : Type 0 where
   pub file : Option (List ℕ)
-  pub runs : Runs given lefts run.limits run.options (is_some run.seconds) text file status
+  pub runs : Runs (record_form given run.as_version) lefts run.limits run.options (is_some run.seconds) text file status
   pub made : IsTrue (is_some run.record) → IsTrue (is_some file)
   pub recorded : written ≡ written_at run.record file
 
 -- what was made may be recorded though the output failed
 pub record IsRunUndone (given : ℕ) (lefts : List (Option (List ℕ))) (run : Run) (old new : Option (List ℕ)) (fault : Fault) (written : Written) : Type 0 where
   pub file : Option (List ℕ)
-  pub unrun : IsUnrun given lefts run.limits run.options (is_some run.seconds) old new None file fault
+  pub unrun : IsUnrun (record_form given run.as_version) lefts run.limits run.options (is_some run.seconds) old new None file fault
   pub recorded : (written ≡ None) ⊎ (written ≡ written_at run.record file)
 
 -- ---- run over seeds
 
--- nothing is recorded
-pub record IsSweepDone (held : Held) (lefts : List (Option (List ℕ))) (run : Run) (sweep : SweepOptions) (text : List ℕ) (written : Written) (status : Status) : Type 0 where
+-- a file for each outcome, in the folder that is asked for
+pub record IsSweepDone (held : Held) (given : ℕ) (lefts : List (Option (List ℕ))) (run : Run) (sweep : SweepOptions) (text : List ℕ) (written : Written) (status : Status) : Type 0 where
   pub want : Wanted
   pub asked : IsAskedFor held sweep.goal want
-  pub sweeps : SweepsOver lefts run sweep (is_some run.seconds) want text status
+  pub schedules : List (List ℕ)
+  pub sweeps : SweepsOver given lefts run sweep (is_some run.seconds) want text schedules status
+  pub recorded : written ≡ written_in run.record schedules
+
+pub record IsSweepUndone (held : Held) (given : ℕ) (lefts : List (Option (List ℕ))) (run : Run) (sweep : SweepOptions) (old new : Option (List ℕ)) (fault : Fault) (written : Written) : Type 0 where
+  pub want : Wanted
+  pub asked : IsAskedFor held sweep.goal want
+  pub unswept : IsUnswept given lefts run sweep (is_some run.seconds) want old new fault
   pub recorded : written ≡ None
 
-pub record IsSweepUndone (held : Held) (lefts : List (Option (List ℕ))) (run : Run) (sweep : SweepOptions) (old new : Option (List ℕ)) (fault : Fault) (written : Written) : Type 0 where
+-- all is on the output, and one of the files can't be written: those before it are
+pub record IsSweepUnrecorded (held : Held) (given : ℕ) (lefts : List (Option (List ℕ))) (run : Run) (sweep : SweepOptions) (old new : Option (List ℕ)) (fault : Fault) (written : Written) : Type 0 where
   pub want : Wanted
   pub asked : IsAskedFor held sweep.goal want
-  pub unswept : IsUnswept lefts run sweep (is_some run.seconds) want old new fault
-  pub recorded : written ≡ None
+  pub text : List ℕ
+  pub schedules : List (List ℕ)
+  pub status : Status
+  pub sweeps : SweepsOver given lefts run sweep (is_some run.seconds) want text schedules status
+  pub appends : Appends old new text
+  pub unable : IsUnable fault
+  pub count : ℕ
+  pub recorded : written ≡ written_in run.record (take count schedules)
 
 -- one run, or one for each of the seeds that are asked for
 abbrev pub IsRunDoneBy : Held → (given : ℕ) → (lefts : List (Option (List ℕ))) → Run → Option SweepOptions → List ℕ → Written → Status → Type 0
 IsRunDoneBy held given lefts run None text written status = IsRunDone given lefts run text written status
-IsRunDoneBy held given lefts run (Some sweep) text written status = IsSweepDone held lefts run sweep text written status
+IsRunDoneBy held given lefts run (Some sweep) text written status = IsSweepDone held given lefts run sweep text written status
 
 abbrev pub IsRunUndoneBy : Held → (given : ℕ) → (lefts : List (Option (List ℕ))) → Run → Option SweepOptions → (old new : Option (List ℕ)) → Fault → Written → Type 0
 IsRunUndoneBy held given lefts run None old new fault written = IsRunUndone given lefts run old new fault written
 IsRunUndoneBy held given lefts run (Some sweep) old new fault written =
-    (IsUnable fault × (new ≡ old) × (written ≡ None)) ⊎ IsSweepUndone held lefts run sweep old new fault written
+    (IsUnable fault × (new ≡ old) × (written ≡ None)) ⊎ (IsSweepUndone held given lefts run sweep old new fault written ⊎ IsSweepUnrecorded held given lefts run sweep old new fault written)
 
 -- ---- replay
 
 pub record IsContinuationDone (held : Held) (given : ℕ) (lefts : List (Option (List ℕ))) (replay : Replay) (then_run : ThenRun) (text : List ℕ) (written : Written) (status : Status) : Type 0 where
   pub file : Option (List ℕ)
-  pub continues : OfSchedule held (string_bytes replay.schedule) (λ left. Continues left lefts (conditions_of replay.limits replay.any_files given)
-      (unwrap_or then_run.budget 10000000) text file status)
+  pub continues : OfSchedule held (string_bytes replay.schedule) (λ left. Continues left lefts (conditions_of replay.limits replay.any_files given (unwrap_or replay.budget 10000000))
+      then_run text file status)
   pub made : IsTrue (is_some then_run.record) → IsTrue (is_some file)
   pub recorded : written ≡ written_at then_run.record file
 
 pub record IsContinuationUndone (held : Held) (given : ℕ) (lefts : List (Option (List ℕ))) (replay : Replay) (then_run : ThenRun) (old new : Option (List ℕ)) (fault : Fault) (written : Written) : Type 0 where
   pub file : Option (List ℕ)
-  pub uncontinued : OfSchedule held (string_bytes replay.schedule) (λ left. IsUncontinued left lefts (conditions_of replay.limits replay.any_files given)
-      (unwrap_or then_run.budget 10000000) old new None file fault)
+  pub uncontinued : OfSchedule held (string_bytes replay.schedule) (λ left. IsUncontinued left lefts (conditions_of replay.limits replay.any_files given (unwrap_or replay.budget 10000000))
+      then_run old new None file fault)
   pub recorded : (written ≡ None) ⊎ (written ≡ written_at then_run.record file)
 
 abbrev pub IsReplayDone : Held → (given : ℕ) → (lefts : List (Option (List ℕ))) → Replay → Option ThenRun → List ℕ → Written → Status → Type 0
 IsReplayDone held given lefts replay None text written status =
-    OfSchedule held (string_bytes replay.schedule) (λ left. Replays left lefts (conditions_of replay.limits replay.any_files given) text status) × (written ≡ None)
+    OfSchedule held (string_bytes replay.schedule) (λ left. Replays left lefts (conditions_of replay.limits replay.any_files given (unwrap_or replay.budget 10000000)) text status) × (written ≡ None)
 IsReplayDone held given lefts replay (Some then_run) text written status = IsContinuationDone held given lefts replay then_run text written status
 
 abbrev pub IsReplayUndone : Held → (given : ℕ) → (lefts : List (Option (List ℕ))) → Replay → Option ThenRun → (old new : Option (List ℕ)) → Fault → Written → Type 0
 IsReplayUndone held given lefts replay None old new fault written =
-    OfSchedule held (string_bytes replay.schedule) (λ left. IsFaulty left lefts (conditions_of replay.limits replay.any_files given) old new fault) × (written ≡ None)
+    OfSchedule held (string_bytes replay.schedule) (λ left. IsFaulty left lefts (conditions_of replay.limits replay.any_files given (unwrap_or replay.budget 10000000)) old new fault) × (written ≡ None)
 IsReplayUndone held given lefts replay (Some then_run) old new fault written =
     (IsUnable fault × (new ≡ old) × (written ≡ None)) ⊎ IsContinuationUndone held given lefts replay then_run old new fault written
 
@@ -199,11 +219,11 @@ pub record IsWindow (trace : Trace) (window : Window) : Type 0 where
 
 abbrev pub IsTraceDone : Held → (given : ℕ) → (lefts : List (Option (List ℕ))) → Trace → List ℕ → Written → Status → Type 0
 IsTraceDone held given lefts trace text written status = (window : Window) × IsWindow trace window
-    × OfSchedule held (string_bytes trace.schedule) (λ left. Traces left lefts (conditions_of trace.limits trace.any_files given) window text status) × (written ≡ None)
+    × OfSchedule held (string_bytes trace.schedule) (λ left. Traces left lefts (conditions_of trace.limits trace.any_files given 10000000) window text status) × (written ≡ None)
 
 abbrev pub IsTraceUndone : Held → (given : ℕ) → (lefts : List (Option (List ℕ))) → Trace → (old new : Option (List ℕ)) → Fault → Written → Type 0
 IsTraceUndone held given lefts trace old new fault written = (window : Window) × IsWindow trace window
-    × OfSchedule held (string_bytes trace.schedule) (λ left. IsUntraced left lefts (conditions_of trace.limits trace.any_files given) window old new fault) × (written ≡ None)
+    × OfSchedule held (string_bytes trace.schedule) (λ left. IsUntraced left lefts (conditions_of trace.limits trace.any_files given 10000000) window old new fault) × (written ≡ None)
 
 -- ---- search
 
@@ -211,14 +231,14 @@ pub record IsSearchDone (held : Held) (given : ℕ) (lefts : List (Option (List 
   pub want : Wanted
   pub asked : IsAskedFor held search.goal want
   pub file : Option (List ℕ)
-  pub searches : Searches given lefts search.limits want (is_some search.seconds) (most_states search) (is_some search.record) text file status
+  pub searches : Searches (record_form given search.as_version) lefts search.limits want (is_some search.seconds) (most_states search) (is_some search.record) text file status
   pub recorded : written ≡ written_at search.record file
 
 pub record IsSearchUndone (held : Held) (given : ℕ) (lefts : List (Option (List ℕ))) (search : Search) (old new : Option (List ℕ)) (fault : Fault) (written : Written) : Type 0 where
   pub want : Wanted
   pub asked : IsAskedFor held search.goal want
   pub file : Option (List ℕ)
-  pub unsearched : IsUnsearched given lefts search.limits want (is_some search.seconds) (most_states search) (is_some search.record) old new None file fault
+  pub unsearched : IsUnsearched (record_form given search.as_version) lefts search.limits want (is_some search.seconds) (most_states search) (is_some search.record) old new None file fault
   pub recorded : (written ≡ None) ⊎ (written ≡ written_at search.record file)
 
 -- ---- verify and disasm
@@ -244,7 +264,7 @@ IsUnlistedAs false lefts old new fault = IsUnlisted lefts old new fault
 
 abbrev pub IsScheduleDone : Held → (input : Option (List ℕ)) → Schedule → (write : Bool) → List ℕ → Written → Status → Type 0
 IsScheduleDone held input schedule true text written status = (bytes : List ℕ) × Transcribes schedule.as_version input bytes
-    × (text ≡ []) × (written ≡ Some (string_bytes schedule.file, bytes)) × (status ≡ Returned)
+    × (text ≡ []) × (written ≡ Some ((string_bytes schedule.file, bytes) ∷ [])) × (status ≡ Returned)
 IsScheduleDone held input schedule false text written status = Prints (held (string_bytes schedule.file)) text
     × (written ≡ None) × (status ≡ Returned)
 
@@ -268,6 +288,8 @@ IsDoneOver held given own lefts input (commands.Verify verify) text written stat
 IsDoneOver held given own lefts input (commands.Disasm disasm) text written status =
     ListsAs disasm.names lefts text × (written ≡ None) × (status ≡ Returned)
 IsDoneOver held given own lefts input (commands.Schedule schedule) text written status = IsScheduleDone held input schedule schedule.write text written status
+IsDoneOver held given own lefts input (commands.Places places) text written status =
+    IsPlacesDone held given lefts places text × (written ≡ None) × (status ≡ Returned)
 
 -- What keeps a command from a status, what is on the output then, and what is written.
 abbrev pub IsUndoneOver : Held → (given : ℕ) → (own : List LibraryFile) → (lefts : List (Option (List ℕ))) → (input : Option (List ℕ)) → Command → (old new : Option (List ℕ)) → Fault → Written → Type 0
@@ -283,6 +305,7 @@ IsUndoneOver held given own lefts input (commands.Verify verify) old new fault w
 IsUndoneOver held given own lefts input (commands.Disasm disasm) old new fault written =
     ((IsUnable fault × (new ≡ old)) ⊎ IsUnlistedAs disasm.names lefts old new fault) × (written ≡ None)
 IsUndoneOver held given own lefts input (commands.Schedule schedule) old new fault written = IsScheduleUndone held input schedule schedule.write old new fault written
+IsUndoneOver held given own lefts input (commands.Places places) old new fault written = IsPlacesUndone held given lefts places old new fault × (written ≡ None)
 
 -- the same over the files that it hands on, none of which is written
 abbrev pub IsDone : List LibraryFile → Held → Listed → (input : Option (List ℕ)) → Command → List ℕ → Written → Status → Type 0
@@ -305,6 +328,7 @@ KeepsSchedule held word fault = OfSchedule held word (λ left. (lefts : List (Op
 abbrev pub IsKeptFirst : Held → Command → Fault → Type 0
 IsKeptFirst held (commands.Replay replay) fault = KeepsSchedule held (string_bytes replay.schedule) fault
 IsKeptFirst held (commands.Trace trace) fault = KeepsSchedule held (string_bytes trace.schedule) fault
+IsKeptFirst held (commands.Places places) fault = KeepsSchedule held (string_bytes places.schedule) fault
 IsKeptFirst held (commands.Shrink shrink) fault = KeepsSchedule held (string_bytes shrink.schedule) fault
 IsKeptFirst held command fault = ⊥
 
@@ -354,7 +378,7 @@ IsUntold usage old new (complaints.Fault fault) = Asks usage × IsUnable fault �
 
 -- ---- what a call leaves
 
--- with a status: a text is on the output behind what was, and a file is written
+-- with a status: a text is on the output behind what was, and files are written
 abbrev pub Leaves : (List ℕ → Written → Status → Type 0) → (old new : Option (List ℕ)) → (held holds : Held) → Status → Type 0
 Leaves Is old new held holds status = (text : List ℕ) × (written : Written) × Is text written status × Appends old new text × IsWith held holds written
 

@@ -1,5 +1,5 @@
 -- What is told on standard error (own).
-use Rattle.std.specs.Prelude.{ℕ, List, ◌++◌, Option, codes}
+use Rattle.std.specs.Prelude.{ℕ, List, ◌++◌, Option, codes, decimal}
 use Rattle.std.specs.Io.KnownBytes.{Appends}
 use Rattle.model.specs.Report.{line}
 use Rattle.model.specs.Names.{Name}
@@ -7,6 +7,7 @@ use Rattle.link_conditions.specs.declared.refusal.why.Refusal.{Refusal}
 use Rattle.link_conditions.specs.refusal.Lines.{cause_words, kind_words, method_words, numbered, refusal_line}
 use Rattle.schedule.specs.Names.{fault_name}
 use Rattle.schedule.specs.schedule_text.Names.{text_fault_name}
+use Rattle.code_places.specs.There.{place_fault_name}
 use Rattle.engines.specs.declared.complaint.Complaint.{Complaint}
 use Rattle.engines.specs.declared.complaint.Complaint.TheVariants as complaints
 use Rattle.program_files.specs.declared.files_fault.FilesFault.{FilesFault}
@@ -21,6 +22,7 @@ fault_line faults.Memory = codes "run refused Memory"
 fault_line (faults.Refusal refusal) = refusal_line refusal
 fault_line (faults.Schedule fault) = codes "schedule refused " ++ fault_name fault
 fault_line (faults.Text fault) = codes "schedule refused " ++ text_fault_name fault
+fault_line (faults.Place missing) = codes "schedule refused " ++ (place_fault_name missing.fault ++ (codes " line " ++ decimal missing.line))
 
 -- the line that tells the refusal of a class of the library, without its end
 abbrev pub library_refusal_line : Name → Refusal → List ℕ

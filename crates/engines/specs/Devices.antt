@@ -21,3 +21,4 @@ IsUnable faults.Memory = Unit {0}
 IsUnable (faults.Refusal refusal) = ⊥
 IsUnable (faults.Schedule fault) = ⊥
 IsUnable (faults.Text fault) = ⊥
+IsUnable (faults.Place missing) = ⊥

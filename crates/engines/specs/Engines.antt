@@ -24,6 +24,7 @@ IsOfFile number faults.Device = Unit {0}
 IsOfFile number faults.Memory = ⊥
 IsOfFile number (faults.Schedule fault) = ⊥
 IsOfFile number (faults.Text fault) = ⊥
+IsOfFile number (faults.Place missing) = ⊥
 IsOfFile number (faults.Refusal refusal) = refusal ≡ no_memory number
 
 -- a failure is counted with the fault Device, and with no other
@@ -32,6 +33,7 @@ CountsWith faults.Device old new = new ≡ old + 1
 CountsWith faults.Memory old new = new ≡ old
 CountsWith (faults.Schedule fault) old new = new ≡ old
 CountsWith (faults.Text fault) old new = new ≡ old
+CountsWith (faults.Place missing) old new = new ≡ old
 CountsWith (faults.Refusal refusal) old new = new ≡ old
 
 -- and with no status

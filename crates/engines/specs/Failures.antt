@@ -32,6 +32,7 @@ TellsFailure elsewhere faults.Memory old new = new ≤ old
 TellsFailure elsewhere (faults.Refusal refusal) old new = new ≤ old
 TellsFailure elsewhere (faults.Schedule fault) old new = new ≤ old
 TellsFailure elsewhere (faults.Text fault) old new = new ≤ old
+TellsFailure elsewhere (faults.Place missing) old new = new ≤ old
 
 -- and one that was counted is told
 abbrev pub TellsFailures : {A : Type 0} → (elsewhere : Type 0) → Result A Fault → (old new : ℕ) → Type 0

@@ -27,6 +27,7 @@ library_of (commands.Shrink shrink) library = unless_alone shrink.files_alone li
 library_of (commands.Verify verify) library = unless_alone verify.files_alone library
 library_of (commands.Disasm disasm) library = []
 library_of (commands.Schedule schedule) library = []
+library_of (commands.Places places) library = unless_alone places.files_alone library
 
 -- these are the files that are read, and behind them those of the classes that the library adds to them; and these are its classes in
 -- whose place they have their own
@@ -44,6 +45,7 @@ refused_name given added faults.Device = None
 refused_name given added faults.Memory = None
 refused_name given added (faults.Schedule fault) = None
 refused_name given added (faults.Text fault) = None
+refused_name given added (faults.Place missing) = None
 refused_name given added (faults.Refusal refusal) = option_and_then (added_name given added) refusal.file
 
 -- the complaint is of this fault: it has the name of the class of the library that is refused, if it is one

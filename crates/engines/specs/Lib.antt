@@ -10,8 +10,13 @@ pub mod Goals
 pub mod Libraries
 pub mod LibraryMain
 pub mod Listings
+pub mod GivenPlaces
 pub mod Opening
+pub mod OutcomeFiles
+pub mod PlaceWords
+pub mod Placings
 pub mod Policies
+pub mod RecordForms
 pub mod Recordings
 pub mod Refusals
 pub mod Replays

@@ -46,3 +46,4 @@ IsUnacceptedLibrary given own lefts old new (faults.Refusal refusal) = (new ≡ 
     ⊎ ((files : List (List ℕ)) × ReadsEach lefts files × IsRefusedLibrary files refusal))
 IsUnacceptedLibrary given own lefts old new (faults.Schedule fault) = ⊥
 IsUnacceptedLibrary given own lefts old new (faults.Text fault) = ⊥
+IsUnacceptedLibrary given own lefts old new (faults.Place missing) = ⊥

@@ -32,6 +32,7 @@ IsUnlisted lefts old new faults.Memory = ListsFront lefts old new
 IsUnlisted lefts old new (faults.Refusal refusal) = (new ≡ old) × (IsUnread (length lefts) refusal ⊎ IsUndecoded lefts refusal)
 IsUnlisted lefts old new (faults.Schedule fault) = ⊥
 IsUnlisted lefts old new (faults.Text fault) = ⊥
+IsUnlisted lefts old new (faults.Place missing) = ⊥
 
 -- ---- with names and line numbers, of whose text nothing is said
 
@@ -52,3 +53,4 @@ IsUnnamed lefts old new faults.Memory = NamesFront lefts old new
 IsUnnamed lefts old new (faults.Refusal refusal) = (new ≡ old) × (IsUnread (length lefts) refusal ⊎ IsUndecoded lefts refusal)
 IsUnnamed lefts old new (faults.Schedule fault) = ⊥
 IsUnnamed lefts old new (faults.Text fault) = ⊥
+IsUnnamed lefts old new (faults.Place missing) = ⊥

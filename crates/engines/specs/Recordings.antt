@@ -34,5 +34,5 @@ Disagrees recorded files options schedules.Files = FitsFiles options.any_files o
 Disagrees recorded files options schedules.Limits = FitsFiles options.any_files options.given recorded files × (FitsOptions recorded options.limits → ⊥)
 Disagrees recorded files options fault = ⊥
 
-abbrev pub conditions_of : LimitOptions → (any_files : Bool) → (given : ℕ) → Conditions
-conditions_of limits any_files given = record { limits = limits; any_files = any_files; given = given }
+abbrev pub conditions_of : LimitOptions → (any_files : Bool) → (given budget : ℕ) → Conditions
+conditions_of limits any_files given budget = record { limits = limits; any_files = any_files; given = given; budget = budget }

@@ -1,15 +1,15 @@
 -- What the engine of replays answers and writes, by the bytes that its devices hold.
-use Rattle.std.specs.Prelude.{◌≡◌, ◌⊎◌, ℕ, List, Option}
+use Rattle.std.specs.Prelude.{◌≡◌, ◌⊎◌, ℕ, List, Option, Bool}
 use Rattle.model.specs.declared.event.Event.{Event}
 use Rattle.model.specs.declared.limits.Limits.{Limits}
 use Rattle.model.specs.declared.report.Report.{Report}
 use Rattle.model.specs.declared.end.End.{End}
 use Rattle.model.specs.Devices.{AppendsFront}
 use Rattle.model.specs.Classes.{Program}
-use Rattle.machine.specs.machine_replay.Replays.{IsReplay, text_of}
+use Rattle.machine.specs.machine_replay.Replays.{IsReplay}
+use Rattle.engines.specs.GivenPlaces.{told_status, told_text}
 use Rattle.engines.specs.Engines.{Reads, ReadsEach}
 use Rattle.engines.specs.Opening.{IsKeptBy, IsOpened}
-use Rattle.engines.specs.Statuses.{status_of}
 use Rattle.engines.specs.declared.fault.Fault.{Fault}
 use Rattle.engines.specs.declared.fault.Fault.TheVariants as faults
 use Rattle.engines.specs.declared.status.Status.{Status}
@@ -21,12 +21,13 @@ pub record IsReplayed (schedule : List ℕ) (files : List (List ℕ)) (options :
   pub trees : Program
   pub events : List Event
   pub limits : Limits
-  pub opened : IsOpened schedule files options trees events limits
+  pub gives_up : Bool
+  pub opened : IsOpened schedule files options trees events limits gives_up
   pub report : Report
   pub end : End
   pub replayed : IsReplay trees events limits report end
-  pub told : text ≡ text_of report end
-  pub ended : status ≡ status_of report.threads.items end
+  pub told : text ≡ told_text gives_up report end
+  pub ended : status ≡ told_status gives_up report end
 
 -- the same of what these sources hold
 abbrev pub Replays : Option (List ℕ) → List (Option (List ℕ)) → Conditions → List ℕ → Status → Type 0

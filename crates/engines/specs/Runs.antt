@@ -16,13 +16,14 @@ use Rattle.command_line.specs.declared.options.LimitOptions.{LimitOptions}
 use Rattle.command_line.specs.declared.run_options.RunOptions.{RunOptions}
 use Rattle.engines.specs.Engines.{ReadsEach}
 use Rattle.engines.specs.Policies.{IsRunFor}
-use Rattle.engines.specs.Recordings.{recording_over}
+use Rattle.engines.specs.RecordForms.{recorded_as}
 use Rattle.engines.specs.Refusals.{IsRefused}
 use Rattle.engines.specs.Statuses.{status_of}
 use Rattle.engines.specs.Stopped.{run_text}
 use Rattle.engines.specs.Verifications.{IsUnread}
 use Rattle.engines.specs.declared.fault.Fault.{Fault}
 use Rattle.engines.specs.declared.fault.Fault.TheVariants as faults
+use Rattle.engines.specs.declared.recording.RecordForm.{RecordForm}
 use Rattle.engines.specs.declared.status.Status.{Status}
 
 -- ---- what is written
@@ -30,8 +31,8 @@ use Rattle.engines.specs.declared.status.Status.{Status}
 -- The class files are accepted. Workers, or one by the policy that is asked for, have run their program within the limits and the budget, or, where
 -- they may be stopped, what was spent of it; and this is the text of their report, and its status. The bytes of a file spell the events that were
 -- done, in as few entries as they can have, the limits, and the lengths and checksums of the class files, of which the first so many are given, and a
--- library adds the others.
-pub record IsRun (given : ℕ) (files : List (List ℕ)) (asked : LimitOptions) (options : RunOptions) (may_stop : Bool) (text : List ℕ) (file : Option (List ℕ))
+-- library adds the others, as far as a file of the version that is asked for tells them.
+pub record IsRun (form : RecordForm) (files : List (List ℕ)) (asked : LimitOptions) (options : RunOptions) (may_stop : Bool) (text : List ℕ) (file : Option (List ℕ))
     (status : Status) : Type 0 where
   pub trees : Program
   pub accepted : IsAccepted files trees
@@ -46,27 +47,28 @@ pub record IsRun (given : ℕ) (files : List (List ℕ)) (asked : LimitOptions) 
   pub as_asked : IsRunFor options.workers options may_stop trees limits (unwrap_or options.budget 4294967295) events end
   pub told : text ≡ run_text (unwrap_or options.budget 4294967295) report end
   pub ended : status ≡ status_of report.threads.items end
-  pub spelled : IfSome file (λ bytes. RecordedFile bytes (Some (recording_over limits given files)) events)
+  pub spelled : IfSome file (λ bytes. RecordedFile bytes (recorded_as limits form files) events)
 
 -- the same of what these sources hold
-abbrev pub Runs : (given : ℕ) → List (Option (List ℕ)) → LimitOptions → RunOptions → (may_stop : Bool) → List ℕ → Option (List ℕ) → Status → Type 0
-Runs given lefts asked options may_stop text file status = (files : List (List ℕ)) × ReadsEach lefts files × IsRun given files asked options may_stop text file status
+abbrev pub Runs : (form : RecordForm) → List (Option (List ℕ)) → LimitOptions → RunOptions → (may_stop : Bool) → List ℕ → Option (List ℕ) → Status → Type 0
+Runs form lefts asked options may_stop text file status = (files : List (List ℕ)) × ReadsEach lefts files × IsRun form files asked options may_stop text file status
 
 -- ---- what is written where there is a fault
 
 -- nothing is written, and no file made; or the file is made, and a front of the text is written
-abbrev pub RunsPart : (given : ℕ) → List (Option (List ℕ)) → LimitOptions → RunOptions → (may_stop : Bool) → (old new : Option (List ℕ))
+abbrev pub RunsPart : (form : RecordForm) → List (Option (List ℕ)) → LimitOptions → RunOptions → (may_stop : Bool) → (old new : Option (List ℕ))
     → (kept made : Option (List ℕ)) → Type 0
-RunsPart given lefts asked options may_stop old new kept made = ((new ≡ old) × (made ≡ kept))
-    ⊎ ((text : List ℕ) × (status : Status) × Runs given lefts asked options may_stop text made status × AppendsFront old new text)
+RunsPart form lefts asked options may_stop old new kept made = ((new ≡ old) × (made ≡ kept))
+    ⊎ ((text : List ℕ) × (status : Status) × Runs form lefts asked options may_stop text made status × AppendsFront old new text)
 
 -- When a fault is answered, and what is written then.
-abbrev pub IsUnrun : (given : ℕ) → List (Option (List ℕ)) → LimitOptions → RunOptions → (may_stop : Bool) → (old new : Option (List ℕ))
+abbrev pub IsUnrun : (form : RecordForm) → List (Option (List ℕ)) → LimitOptions → RunOptions → (may_stop : Bool) → (old new : Option (List ℕ))
     → (kept made : Option (List ℕ)) → Fault → Type 0
-IsUnrun given lefts asked options may_stop old new kept made faults.Device = RunsPart given lefts asked options may_stop old new kept made
-IsUnrun given lefts asked options may_stop old new kept made faults.Memory = RunsPart given lefts asked options may_stop old new kept made
+IsUnrun form lefts asked options may_stop old new kept made faults.Device = RunsPart form lefts asked options may_stop old new kept made
+IsUnrun form lefts asked options may_stop old new kept made faults.Memory = RunsPart form lefts asked options may_stop old new kept made
 -- memory for the reading aside, the class files are refused
-IsUnrun given lefts asked options may_stop old new kept made (faults.Refusal refusal) = (new ≡ old) × (made ≡ kept) × (IsUnread (length lefts) refusal
+IsUnrun form lefts asked options may_stop old new kept made (faults.Refusal refusal) = (new ≡ old) × (made ≡ kept) × (IsUnread (length lefts) refusal
     ⊎ ((files : List (List ℕ)) × ReadsEach lefts files × IsRefused files refusal))
-IsUnrun given lefts asked options may_stop old new kept made (faults.Schedule fault) = ⊥
-IsUnrun given lefts asked options may_stop old new kept made (faults.Text fault) = ⊥
+IsUnrun form lefts asked options may_stop old new kept made (faults.Schedule fault) = ⊥
+IsUnrun form lefts asked options may_stop old new kept made (faults.Text fault) = ⊥
+IsUnrun form lefts asked options may_stop old new kept made (faults.Place missing) = ⊥

@@ -16,9 +16,11 @@ use Rattle.engines.specs.Engines.{Reads, ReadsEach}
 use Rattle.engines.specs.Files.{Held, OfSchedule, Written, written_at}
 use Rattle.engines.specs.Goals.{IsAskedFor}
 use Rattle.engines.specs.Opening.{IsKeptBy, IsOpened}
-use Rattle.engines.specs.Recordings.{conditions_of, recording_over}
+use Rattle.engines.specs.RecordForms.{record_form, recorded_as}
+use Rattle.engines.specs.Recordings.{conditions_of}
 use Rattle.engines.specs.declared.fault.Fault.{Fault}
 use Rattle.engines.specs.declared.fault.Fault.TheVariants as faults
+use Rattle.engines.specs.declared.recording.RecordForm.{RecordForm}
 use Rattle.engines.specs.declared.status.Status.{Status}
 use Rattle.engines.specs.declared.status.Status.TheVariants as statuses
 
@@ -35,16 +37,16 @@ abbrev pub shrunk_status : Option (List ScheduleEntry) → Status
 shrunk_status (Some entries) = statuses.Returned
 shrunk_status None = statuses.Threw
 
-abbrev pub IsFileOf : Recording → (asked : Bool) → Option (List ScheduleEntry) → Option (List ℕ) → Type 0
-IsFileOf recording asked (Some entries) file = (is_some file ≡ asked) × IfSome file (λ bytes. RecordedFile bytes (Some recording) (events_of entries))
+abbrev pub IsFileOf : Option Recording → (asked : Bool) → Option (List ScheduleEntry) → Option (List ℕ) → Type 0
+IsFileOf recording asked (Some entries) file = (is_some file ≡ asked) × IfSome file (λ bytes. RecordedFile bytes recording (events_of entries))
 IsFileOf recording asked None file = file ≡ None
 
 -- text, status, and the file that is made where one is asked for
-pub record IsShrunkBy (limits : Limits) (given : ℕ) (files : List (List ℕ)) (asked : Bool) (shrunk : Option (List ScheduleEntry)) (text : List ℕ)
+pub record IsShrunkBy (limits : Limits) (form : RecordForm) (files : List (List ℕ)) (asked : Bool) (shrunk : Option (List ScheduleEntry)) (text : List ℕ)
     (file : Option (List ℕ)) (status : Status) : Type 0 where
   pub told : text ≡ shrunk_text shrunk
   pub ended : status ≡ shrunk_status shrunk
-  pub spelled : IsFileOf (recording_over limits given files) asked shrunk file
+  pub spelled : IsFileOf (recorded_as limits form files) asked shrunk file
 
 -- replays of the program that go on, with the budget that is asked for, for what is wanted
 abbrev pub tries_of : Program → Limits → Shrink → Wanted → TriesFor
@@ -56,10 +58,11 @@ pub record IsShrunkOf (schedule : List ℕ) (given : ℕ) (files : List (List �
   pub trees : Program
   pub events : List Event
   pub limits : Limits
-  pub opened : IsOpened schedule files (conditions_of options.limits options.any_files given) trees events limits
+  pub gives_up : Bool
+  pub opened : IsOpened schedule files (conditions_of options.limits options.any_files given (unwrap_or options.budget 10000000)) trees events limits gives_up
   pub shrunk : Option (List ScheduleEntry)
   pub is : IsShrunk (Has (tries_of trees limits options want)) (Lacks (tries_of trees limits options want)) events shrunk
-  pub written : IsShrunkBy limits given files (is_some options.record) shrunk text file status
+  pub written : IsShrunkBy limits (record_form given options.as_version) files (is_some options.record) shrunk text file status
 
 -- the same of what these sources hold
 abbrev pub Shrinks : Option (List ℕ) → (given : ℕ) → List (Option (List ℕ)) → Shrink → Wanted → List ℕ → Option (List ℕ) → Status → Type 0
@@ -79,7 +82,7 @@ abbrev pub IsUnshrunk : Option (List ℕ) → (given : ℕ) → List (Option (Li
 IsUnshrunk left given lefts options want old new kept made faults.Device = ShrinksPart left given lefts options want old new kept made
 IsUnshrunk left given lefts options want old new kept made faults.Memory = ShrinksPart left given lefts options want old new kept made
 IsUnshrunk left given lefts options want old new kept made fault =
-    (new ≡ old) × (made ≡ kept) × IsKeptBy left lefts (conditions_of options.limits options.any_files given) fault
+    (new ≡ old) × (made ≡ kept) × IsKeptBy left lefts (conditions_of options.limits options.any_files given (unwrap_or options.budget 10000000)) fault
 
 -- ---- the command
 

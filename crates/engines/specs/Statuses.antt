@@ -70,6 +70,7 @@ fault_status faults.Memory = statuses.Stopped
 fault_status (faults.Refusal refusal) = statuses.Refused
 fault_status (faults.Schedule refusal) = statuses.Refused
 fault_status (faults.Text refusal) = statuses.Refused
+fault_status (faults.Place missing) = statuses.Refused
 
 -- the status where there is no command: words that ask for help get it
 abbrev pub usage_status : Usage → Status

@@ -1,6 +1,6 @@
 -- What the engine of sweeps answers and writes, by the bytes that its devices hold. Where a device says nothing of its bytes,
 -- they are any that it may have handed over.
-use Rattle.std.specs.Prelude.{◌≡◌, ◌⊎◌, ◌++◌, ℕ, Bool, true, false, List, [], ◌∷◌, Option, Some, None, codes, length, string_bytes, unwrap_or}
+use Rattle.std.specs.Prelude.{◌≡◌, ◌⊎◌, ◌++◌, ℕ, Bool, true, false, List, [], ◌∷◌, Option, Some, None, codes, is_some, length, string_bytes, unwrap_or}
 use Rattle.std.specs.List.{flat_map}
 use Rattle.std.specs.declared.string.String.{String}
 use Rattle.std.specs.Global.{Global}
@@ -23,6 +23,8 @@ use Rattle.sweeps.specs.declared.policy_runs.SeededPolicy.{SeededPolicy}
 use Rattle.sweeps.specs.declared.policy_runs.SeededPolicy.TheVariants as seeded
 use Rattle.sweeps.specs.declared.sweeping.SweepReport.{SweepReport}
 use Rattle.engines.specs.Engines.{ReadsEach}
+use Rattle.engines.specs.OutcomeFiles.{AreOutcomeFiles}
+use Rattle.engines.specs.RecordForms.{record_form, recorded_as}
 use Rattle.engines.specs.Refusals.{IsRefused}
 use Rattle.engines.specs.Statuses.{sweep_status}
 use Rattle.engines.specs.Verifications.{IsUnread}
@@ -72,36 +74,40 @@ repeat_words run sweep =
 -- ---- what is written
 
 -- A sweep by the policy over the seeds, within the limits and with the budget for each run, comes to this; and this is its text, and
--- its status.
-pub record IsSwept (trees : Program) (run : Run) (sweep : SweepOptions) (may_stop : Bool) (want : Wanted) (text : List ℕ) (status : Status) : Type 0 where
+-- its status. Where they are asked for, the bytes of files spell the schedules of the first runs of the outcomes, as they are recorded.
+pub record IsSwept (given : ℕ) (files : List (List ℕ)) (trees : Program) (run : Run) (sweep : SweepOptions) (may_stop : Bool) (want : Wanted) (text : List ℕ)
+    (schedules : List (List ℕ)) (status : Status) : Type 0 where
   pub limits : Limits
   pub chosen : AreChosen run.limits limits
   pub swept : SweepReport
   pub sweeps : Sweeps (IsRunWith (record { policy = seeded_policy sweep.policy; trees = trees; limits = limits; budget = unwrap_or run.options.budget 10000000 })) may_stop want sweep.seeds.first sweep.seeds.last swept
   pub told : text ≡ sweep_text (seeded_policy sweep.policy) swept.first (repeat_words run sweep) swept.tally swept.end
+  pub spelled : AreOutcomeFiles (is_some run.record) (recorded_as limits (record_form given run.as_version) files) swept.tally.same schedules
   pub ended : status ≡ sweep_status swept.end
 
 -- the same of what these sources hold, which are class files that are accepted
-pub record SweepsOver (lefts : List (Option (List ℕ))) (run : Run) (sweep : SweepOptions) (may_stop : Bool) (want : Wanted) (text : List ℕ) (status : Status) : Type 0 where
+pub record SweepsOver (given : ℕ) (lefts : List (Option (List ℕ))) (run : Run) (sweep : SweepOptions) (may_stop : Bool) (want : Wanted) (text : List ℕ)
+    (schedules : List (List ℕ)) (status : Status) : Type 0 where
   pub files : List (List ℕ)
   pub read : ReadsEach lefts files
   pub trees : Program
   pub accepted : IsAccepted files trees
-  pub swept : IsSwept trees run sweep may_stop want text status
+  pub swept : IsSwept given files trees run sweep may_stop want text schedules status
 
 -- ---- what is written where there is a fault
 
 -- nothing; or a front of the text
-abbrev pub SweepsPart : List (Option (List ℕ)) → Run → SweepOptions → (may_stop : Bool) → Wanted → (old new : Option (List ℕ)) → Type 0
-SweepsPart lefts run sweep may_stop want old new = (new ≡ old)
-    ⊎ ((text : List ℕ) × (status : Status) × SweepsOver lefts run sweep may_stop want text status × AppendsFront old new text)
+abbrev pub SweepsPart : (given : ℕ) → List (Option (List ℕ)) → Run → SweepOptions → (may_stop : Bool) → Wanted → (old new : Option (List ℕ)) → Type 0
+SweepsPart given lefts run sweep may_stop want old new = (new ≡ old)
+    ⊎ ((text : List ℕ) × (schedules : List (List ℕ)) × (status : Status) × SweepsOver given lefts run sweep may_stop want text schedules status × AppendsFront old new text)
 
 -- When a fault is answered, and what is written then.
-abbrev pub IsUnswept : List (Option (List ℕ)) → Run → SweepOptions → (may_stop : Bool) → Wanted → (old new : Option (List ℕ)) → Fault → Type 0
-IsUnswept lefts run sweep may_stop want old new faults.Device = SweepsPart lefts run sweep may_stop want old new
-IsUnswept lefts run sweep may_stop want old new faults.Memory = SweepsPart lefts run sweep may_stop want old new
+abbrev pub IsUnswept : (given : ℕ) → List (Option (List ℕ)) → Run → SweepOptions → (may_stop : Bool) → Wanted → (old new : Option (List ℕ)) → Fault → Type 0
+IsUnswept given lefts run sweep may_stop want old new faults.Device = SweepsPart given lefts run sweep may_stop want old new
+IsUnswept given lefts run sweep may_stop want old new faults.Memory = SweepsPart given lefts run sweep may_stop want old new
 -- memory for the reading aside, the class files are refused
-IsUnswept lefts run sweep may_stop want old new (faults.Refusal refusal) = (new ≡ old) × (IsUnread (length lefts) refusal
+IsUnswept given lefts run sweep may_stop want old new (faults.Refusal refusal) = (new ≡ old) × (IsUnread (length lefts) refusal
     ⊎ ((files : List (List ℕ)) × ReadsEach lefts files × IsRefused files refusal))
-IsUnswept lefts run sweep may_stop want old new (faults.Schedule fault) = ⊥
-IsUnswept lefts run sweep may_stop want old new (faults.Text fault) = ⊥
+IsUnswept given lefts run sweep may_stop want old new (faults.Schedule fault) = ⊥
+IsUnswept given lefts run sweep may_stop want old new (faults.Text fault) = ⊥
+IsUnswept given lefts run sweep may_stop want old new (faults.Place missing) = ⊥

@@ -1,17 +1,16 @@
 -- What the engine of traces answers and writes, by the bytes that its devices hold.
-use Rattle.std.specs.Prelude.{◌≡◌, ◌⊎◌, ℕ, List, ◌++◌, Option}
+use Rattle.std.specs.Prelude.{◌≡◌, ◌⊎◌, ℕ, List, ◌++◌, Option, Bool}
 use Rattle.model.specs.declared.event.Event.{Event}
 use Rattle.model.specs.declared.limits.Limits.{Limits}
 use Rattle.model.specs.declared.report.Report.{Report}
 use Rattle.model.specs.declared.end.End.{End}
 use Rattle.model.specs.Devices.{AppendsFront}
 use Rattle.model.specs.Classes.{Program}
-use Rattle.machine.specs.machine_replay.Replays.{text_of}
 use Rattle.program_runs.specs.traced_runs.Traces.{IsTrace, WritesFront}
 use Rattle.program_runs.specs.declared.traced_runs.window.Window.{Window}
 use Rattle.engines.specs.Engines.{Reads, ReadsEach}
+use Rattle.engines.specs.GivenPlaces.{told_status, told_text}
 use Rattle.engines.specs.Opening.{IsKeptBy, IsOpened}
-use Rattle.engines.specs.Statuses.{status_of}
 use Rattle.engines.specs.declared.fault.Fault.{Fault}
 use Rattle.engines.specs.declared.fault.Fault.TheVariants as faults
 use Rattle.engines.specs.declared.status.Status.{Status}
@@ -24,13 +23,14 @@ pub record IsTraced (schedule : List ℕ) (files : List (List ℕ)) (options : C
   pub trees : Program
   pub events : List Event
   pub limits : Limits
-  pub opened : IsOpened schedule files options trees events limits
+  pub gives_up : Bool
+  pub opened : IsOpened schedule files options trees events limits gives_up
   pub lines : List ℕ
   pub report : Report
   pub end : End
   pub traced : IsTrace trees events limits window report end lines
-  pub told : text ≡ lines ++ text_of report end
-  pub ended : status ≡ status_of report.threads.items end
+  pub told : text ≡ lines ++ told_text gives_up report end
+  pub ended : status ≡ told_status gives_up report end
 
 -- the same of what these sources hold
 abbrev pub Traces : Option (List ℕ) → List (Option (List ℕ)) → Conditions → Window → List ℕ → Status → Type 0
@@ -44,7 +44,8 @@ pub record IsUnended (schedule : List ℕ) (files : List (List ℕ)) (options : 
   pub trees : Program
   pub events : List Event
   pub limits : Limits
-  pub opened : IsOpened schedule files options trees events limits
+  pub gives_up : Bool
+  pub opened : IsOpened schedule files options trees events limits gives_up
   pub lines : WritesFront trees events limits window old new
 
 -- or it has ended, and a front of its lines and its report is written

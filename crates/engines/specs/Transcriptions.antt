@@ -32,6 +32,7 @@ IsUnprinted left old new faults.Device = PrintsPart left old new
 IsUnprinted left old new faults.Memory = PrintsPart left old new
 IsUnprinted left old new (faults.Schedule fault) = (new ≡ old) × ((fault ≡ schedules.OutOfMemory) ⊎ IsUnspelled left (File fault))
 IsUnprinted left old new (faults.Text fault) = (new ≡ old) × ((fault ≡ texts.OutOfMemory) ⊎ IsUnspelled left (Text fault))
+IsUnprinted left old new (faults.Place missing) = ⊥
 IsUnprinted left old new (faults.Refusal refusal) = ⊥
 
 -- ---- a text as schedule file
@@ -59,5 +60,6 @@ abbrev pub IsUntranscribed : (as_version : Option ℕ) → Option (List ℕ) →
 IsUntranscribed as_version left old new faults.Device = TranscribesPart as_version left old new
 IsUntranscribed as_version left old new faults.Memory = TranscribesPart as_version left old new
 IsUntranscribed as_version left old new (faults.Text fault) = (new ≡ old) × ((fault ≡ texts.OutOfMemory) ⊎ IsNoText left)
+IsUntranscribed as_version left old new (faults.Place missing) = ⊥
 IsUntranscribed as_version left old new (faults.Schedule fault) = ⊥
 IsUntranscribed as_version left old new (faults.Refusal refusal) = ⊥

@@ -59,3 +59,4 @@ IsUnaccepted given own lefts old new (faults.Refusal refusal) = (new ≡ old) ×
     ⊎ ((files : List (List ℕ)) × ReadsEach lefts files × IsRefused files refusal))
 IsUnaccepted given own lefts old new (faults.Schedule fault) = ⊥
 IsUnaccepted given own lefts old new (faults.Text fault) = ⊥
+IsUnaccepted given own lefts old new (faults.Place missing) = ⊥

@@ -30,6 +30,7 @@ pub(crate) fn command_files<F: Folder>(
         Command::Shrink(options) => handed_on(alloc, folder, &options.files, &options.main),
         Command::Verify(options) => verified_files(alloc, folder, options),
         Command::Disasm(options) => given_paths(alloc, folder, &options.files),
+        Command::Places(options) => handed_on(alloc, folder, &options.files, &options.main),
         Command::Schedule(_) => Ok(Vec::new(alloc)),
     }
 }
@@ -81,6 +82,10 @@ pub(crate) fn record_path(command: &Command) -> Option<&str>
         },
         Command::Search(options) => options.record.as_deref(),
         Command::Shrink(options) => options.record.as_deref(),
-        Command::Trace(_) | Command::Verify(_) | Command::Disasm(_) | Command::Schedule(_) => None,
+        Command::Trace(_)
+        | Command::Verify(_)
+        | Command::Disasm(_)
+        | Command::Schedule(_)
+        | Command::Places(_) => None,
     }
 }

@@ -72,12 +72,14 @@ impl<G: Progress + Deadline> Progress for Until<'_, G> {
     }
 }
 
-impl<G: Deadline> Watch for Until<'_, G> {
+impl<G: Watch + Deadline> Watch for Until<'_, G> {
     ghost use Rattle.std.specs.Prelude.{is_some};
 
     ghost may_stop = { λ u. is_some u.seconds };
 
-    fn runs_done(&self, _runs: u128) {}
+    fn runs_done(&self, runs: u128) {
+        self.gate.runs_done(runs);
+    }
 
     fn is_over(&self) -> bool {
         self.is_late()

@@ -12,13 +12,14 @@ use crate::differing_files::differing;
 use crate::explanation::Explanation;
 use crate::fault::Fault;
 use crate::main_hints::add_mains;
+use crate::named_file::is_given_word;
+use crate::place_schedules::explain_place;
 use command_line::{Command, Goal, Usage, command};
 use explanations::refusal_explanations::{explain, explain_schedule, explain_text};
 use library_files::LibraryClass;
 use link_conditions::refusal::RefusalKind;
 use program_files::{Folder, first_unlisted, given_paths};
 use schedule::ScheduleFault;
-use schedule::schedule_text::is_schedule_word;
 use std::alloc::{AllocError, Global};
 use std::fmt::Display;
 use std::io;
@@ -145,6 +146,7 @@ fn flags_of(command: &Command) -> (bool, bool)
         Command::Verify(options) => (options.explain, options.quiet),
         Command::Disasm(options) => (options.explain, options.quiet),
         Command::Schedule(options) => (options.explain, options.quiet),
+        Command::Places(options) => (options.explain, options.quiet),
     }
 }
 
@@ -162,20 +164,21 @@ fn schedule_of(command: &Command) -> Option<&str> {
         Command::Replay(options) => Some(options.schedule.as_str()),
         Command::Trace(options) => Some(options.schedule.as_str()),
         Command::Shrink(options) => Some(options.schedule.as_str()),
+        Command::Places(options) => Some(options.schedule.as_str()),
         Command::Schedule(options) if !options.write => Some(options.file.as_str()),
         _ => None,
     }
 }
 
 /// The path of the file that is read before the class files, if one is.
-fn first_of(command: &Command) -> Option<&str> {
+fn first_of(alloc: Global, command: &Command) -> Option<&str> {
     match command {
         Command::Search(options) => match &options.goal {
             Some(Goal::Differs(path)) => Some(path.as_str()),
             _ => None,
         },
         _ => match schedule_of(command) {
-            Some(word) if is_schedule_word(word.as_bytes()) => None,
+            Some(word) if is_given_word(alloc, word.as_bytes()) => None,
             other => other,
         },
     }
@@ -199,6 +202,7 @@ fn words_of(command: &Command) -> &[String] {
         Command::Shrink(options) => options.files.as_slice(),
         Command::Verify(options) => options.files.as_slice(),
         Command::Disasm(options) => options.files.as_slice(),
+        Command::Places(options) => options.files.as_slice(),
         Command::Schedule(_) => &[],
     }
 }
@@ -221,6 +225,10 @@ fn line_of<F: Folder>(
         Fault::Text(fault) => {
             let name = schedule.unwrap_or(STANDARD_INPUT);
             Ok(Some(explain_text(alloc, name, *fault)?))
+        }
+        Fault::Place(missing) => {
+            let name = schedule.unwrap_or(STANDARD_INPUT);
+            Ok(Some(explain_place(alloc, name, missing)?))
         }
         Fault::Refusal(refusal) => {
             let Ok(paths) = command_files(alloc, folder, command) else {
@@ -272,7 +280,7 @@ fn of_device<F: Folder>(
     if let Some(line) = of_streams(alloc, failures)? {
         return Ok(Some(line));
     }
-    if let Some(path) = first_of(command) {
+    if let Some(path) = first_of(alloc, command) {
         if let Err(error) = folder.read(alloc, path) {
             return line_with(alloc, path, &error);
         }

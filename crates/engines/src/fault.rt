@@ -7,6 +7,7 @@ ghost use Rattle.engines.specs.Devices.{either_fault, fault_of};
 ghost use Rattle.engines.specs.Failures.{IsOfKind};
 ghost use Rattle.engines.specs.Complaints.{fault_line};
 
+use crate::place_schedules::MissingPlace;
 use model::DeviceFault;
 use schedule::ScheduleFault;
 use schedule::schedule_text::{EitherFault, TextFault};
@@ -27,6 +28,8 @@ pub enum Fault {
     Schedule(ScheduleFault),
     /// The text of the schedule is refused.
     Text(TextFault),
+    /// A place of the schedule isn't there.
+    Place(MissingPlace),
 }
 
 impl Fault {
@@ -40,6 +43,11 @@ impl Fault {
             Fault::Refusal(refusal) => refusal.write_line(to),
             Fault::Schedule(fault) => write!(to, "schedule refused {fault}"),
             Fault::Text(fault) => write!(to, "schedule refused {fault}"),
+            Fault::Place(missing) => {
+                let fault = missing.fault;
+                let line = missing.line;
+                write!(to, "schedule refused {fault} line {line}")
+            }
         }
     }
 }

@@ -50,6 +50,7 @@ fn library_of<'a, 'b>(command: &Command, library: &'a [LibraryClass<'b>]) -> &'a
         Command::Search(options) => unless_alone(options.files_alone, library),
         Command::Shrink(options) => unless_alone(options.files_alone, library),
         Command::Verify(options) => unless_alone(options.files_alone, library),
+        Command::Places(options) => unless_alone(options.files_alone, library),
         Command::Disasm(_) => &[],
         Command::Schedule(_) => &[],
     }

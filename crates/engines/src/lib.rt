@@ -12,8 +12,11 @@
 //!     It adds none for `disasm` and with `--files-alone` (`library_of`);
 //!   - `run`, `replay` and `search` hand on all their options; `trace` its window and its form (`IsWindow`); `search`
 //!     its goal (`IsAskedFor`), with the text of the file of `differs`; `verify` whether it is of a library; `disasm`
-//!     whether names are asked for; `schedule` whether a file is made; `run` over seeds its sweep (`IsSweepDone`);
-//!   - the file that is asked for holds the bytes of the schedule, and each other file what it held (`IsWith`).
+//!     whether names are asked for; `schedule` whether a file is made, and with `--places` the schedule
+//!     (`IsPlacesDone`); `run` over seeds its sweep (`IsSweepDone`);
+//!   - the file that is asked for holds the bytes of the schedule, and each other file what it held (`IsWith`); of
+//!     `run` over seeds one for each outcome, in the folder that is asked for (`written_in`), and after a fault those
+//!     before it (`IsSweepUnrecorded`).
 //! - `run` with a complaint: usage only where the words spell no command, or one that would write a file that it reads
 //!   (`IsReadToo`), and nothing is written then. A fault of files only where the words of the command stand for none,
 //!   or these have no order; nothing is written then, either (`HasNoFiles`). Another fault only where the engine may
@@ -37,12 +40,16 @@
 //!   proved.
 //! - `replay_engine`, over any reader and writer:
 //!   - with a status, the text and nothing else was appended, and text and status are those of the replay of these
-//!     bytes (`replayed`): of a schedule file or of a text (`GivesEvents`), under the limits of the recording where it
-//!     says them, and those of the options else (`HasLimits`);
+//!     bytes (`replayed`): of a schedule file or of a text (`GivesEvents`), or of the events that a text with places
+//!     gives over the class files (`Gives`, `GivesPlaces`, with `IsFollowed` of `place_runs`), where all of its places
+//!     are there (`AreThere`); under the limits of the recording where it says them, and those of the options else
+//!     (`HasLimits`). Where it gives up at a place, the text says `end place` (`told_text`);
 //!   - with a fault, nothing was written or (`device`, `memory`) a beginning of the text; a schedule fault only where
 //!     the bytes give no events and that fault stands in them, or where they give some and the class files or the
-//!     options are not those of the recording (`Files`, `Limits`; `Disagrees`); a refusal of class files only where
-//!     they give some, all of that fits, and the class files are not accepted and may be refused so, memory aside
+//!     options are not those of the recording (`Files`, `Limits`; `Disagrees`); a fault of a place only where the class
+//!     files are accepted, and it is not there in them (`IsMisplaced`); a refusal of class files only where
+//!     they give some or are words of places, all of that fits, and the class files are not accepted and may be refused
+//!     so, memory aside
 //!     (`faulty`, `IsKeptBy`): by linking, else by verification;
 //!   - after a schedule fault no class file was read, unless it is one that shows only beside the class files
 //!     (`schedule_first`);
@@ -55,14 +62,19 @@
 //!   - with a status, one text was appended and nothing else: what a search over all schedules of the program of these
 //!     bytes answers, within the limits of the options (`searched`, `IsSearched`, with `Answers` of `search_reports`).
 //!     Where a run was found and its schedule is asked for, a file is made, which spells the events, the limits and
-//!     what is recorded of the class files (`recording_over`); else none is;
+//!     what is recorded of the class files, as far as a file of the version that is asked for tells them
+//!     (`recorded_as`); else none is;
 //!   - with a refusal nothing was written, and it is one that linking or verification may give of these bytes; with
 //!     `memory` or `device` nothing was written or made, or the file was made and a beginning of the text was written
 //!     (`faulty`, `IsUnsearched`); `counted` as above.
 //! - `continue_engine`, over any readers and writers: what is proved of `replay_engine`, but that text, status and file
 //!   are those of a run that goes on behind the events of the schedule (`continued`, `IsContinued`, with `GoesOn` of
 //!   `continued_runs`): the file, where one is asked for, spells the events of the whole, the limits and what is
-//!   recorded of the class files; and of a run that went no further than a replay, those of the schedule.
+//!   recorded of the class files; and of a run that went no further than a replay, those of the schedule. Where the
+//!   schedule gives up at a place within the budget, nothing goes on behind it (`IsGivenUp`).
+//! - `places_engine`, over any readers and writer: what is proved of `replay_engine`, but that the status is 0, and the
+//!   words of the text are places and entries that stand for the events of the schedule over the class files, or entries
+//!   of these events (`placed`, `IsPlaced`, `StandsFor`, with `IsPlacedText` of `place_runs`).
 //! - `schedule_engine`: with a status, which is 0, a text was appended and nothing else. It is that which the
 //!   definitions give for the entries of the schedule that was read, as they stand, and for what it was recorded with
 //!   (`printed`). With a fault nothing was written, or a beginning of that, and a fault of the schedule stands in its
@@ -81,15 +93,16 @@
 //!     stopped;
 //!   - the text is the report's, the status is its own; and the file spells the events, the limits and what is recorded
 //!     of the class files: the lengths and checksums of those that are given, and the checksum of those that the library
-//!     adds (`recording_over`);
+//!     adds (`recording_over`), as far as a file of the version that is asked for tells them (`recorded_as`);
 //!   - with a refusal nothing was written, and it is one that linking or verification may give of these bytes; with
 //!     `memory` or `device` nothing was written or made, or the file was made and a beginning of the text was written
 //!     (`faulty`, `IsUnrun`);
 //!   - `Device` exactly with one more failure of a device (`counted`).
 //! - `sweep_engine`, over any readers and writer: with a status, one text was appended and nothing else: that of a
-//!   sweep over the seeds that are asked for (`swept`, `IsSwept`, with `Sweeps` of `sweeps`). With a refusal nothing
-//!   was written, with `memory` or `device` nothing or a beginning of the text (`faulty`, `IsUnswept`); `counted` as
-//!   above.
+//!   sweep over the seeds that are asked for (`swept`, `IsSwept`, with `Sweeps` of `sweeps`), which doesn't depend on
+//!   how many workers there are. Where they are asked for, files are made of the schedules of the first runs of the
+//!   outcomes, in the order of these, and of no other (`AreOutcomeFiles`). With a refusal nothing was written, with
+//!   `memory` or `device` nothing or a beginning of the text (`faulty`, `IsUnswept`); `counted` as above.
 //! - `policy_for`, by which a run without workers gives turns: it is the policy that the options ask for, with the seed
 //!   or the quantum of these, or the usual quantum, or a seed of 32 bits (`IsAskedFor`). No clause says where a seed
 //!   that is drawn comes from, nor that it is told.
@@ -127,9 +140,10 @@
 //!
 //! - Not said by `run`: the texts of help and of `disasm --names`; what is told of threads and of failures.
 //! - Tested in `engine_tests`: devices that fail at each of their calls, and files that can't be read or written.
-//! - Shown by cases alone: the places of refusals that `linker` doesn't promise; the texts of usage faults; that what
-//!   threads are about is told of the schedule of the very run; that runs come to an end, and their replays to the same
-//!   report; that workers and their quantum are heeded, and the seed of `random`, which no clause of a run says.
+//! - Shown by cases alone: that a text with places is read, which fault of it is answered, and its line; which entries
+//!   become places; the places of refusals that `linker` doesn't promise; the texts of usage faults; that what
+//!   threads are about is told of the schedule of the very run; that runs and replays come to an end; that workers and
+//!   their quantum are heeded, and the seed of `random`, which no clause of a run says.
 //! - Shown by `tools/try-files` alone: what stands in a file of the system after a failure, and what its links and
 //!   pipes get.
 #![tactic(auto)]
@@ -156,6 +170,9 @@ mod named_file;
 mod names;
 mod open;
 mod opening;
+mod place_ends;
+mod place_schedules;
+mod placing;
 mod program;
 mod recording;
 mod repeat_words;
@@ -165,6 +182,7 @@ mod searching;
 mod seeds;
 mod status;
 mod stopped_runs;
+mod sweep_records;
 mod sweep_runs;
 mod system_folder;
 mod telling;
@@ -186,6 +204,7 @@ pub use library_files::LibraryClass;
 pub use listing::disasm_engine;
 pub use names::names_engine;
 pub use open::Open;
+pub use placing::places_engine;
 pub use program::run;
 pub use program_files::{FilesFault, Folder};
 pub use program_runs::workers::Gate;
@@ -196,7 +215,7 @@ pub use search::Progress;
 pub use searching::search_engine;
 pub use seeds::Seeds;
 pub use status::Status;
-pub use sweep_runs::sweep_engine;
+pub use sweep_runs::{MadeSweep, SweepTask, sweep_engine};
 pub use sweeps::Watch;
 pub use system_folder::SystemFolder;
 pub use tracing::trace_engine;

@@ -1,11 +1,13 @@
 //! Files as sources: those of a folder, and those whose bytes are there.
 
-ghost use Rattle.std.specs.Prelude.{◌≡◌, IfErr, IfOk, IsTrue, Some, map, string_bytes, sum_by, vec_items};
-ghost use Rattle.engines.specs.Files.{IsScheduleAt, failures_of, has_failed, held_at, known, left_of};
+ghost use Rattle.std.specs.Prelude.{◌≡◌, IfErr, IfOk, IsFalse, IsTrue, Some, map, string_bytes, sum_by, vec_items};
+ghost use Rattle.schedule.specs.schedule_text.CommandWord.{IsScheduleWord};
+ghost use Rattle.engines.specs.Files.{IsGivenWord, IsScheduleAt, failures_of, has_failed, held_at, known, left_of};
 ghost use Rattle.engines.specs.declared.fault.Fault.TheVariants.{Memory};
 
 use crate::fault::{Fault, device_fault};
 use model::{DeviceFault, Source};
+use place_texts::is_places_word;
 use program_files::Folder;
 use schedule::schedule_text::is_schedule_word;
 use std::alloc::Global;
@@ -75,21 +77,34 @@ pub(crate) fn source<'a, F: Folder>(folder: &'a F, path: &'a str) -> NamedFile<'
     }
 }
 
+/// Whether a word of a command line is a schedule, which may have places, and no path.
+pub(crate) fn is_given_word(alloc: Global, word: &[u8]) -> bool
+    ensures given { IsTrue result → IsGivenWord word.now }
+    ensures path { IsFalse result → IsScheduleWord word.now → ⊥ }
+{
+    if is_schedule_word(word) {
+        return true;
+    }
+    is_places_word(alloc, word)
+}
+
 /// The schedule that a word is, or whose path it is, as a source.
-pub(crate) fn schedule_source<'a, F: Folder>(folder: &'a F, word: &'a str) -> NamedFile<'a, F>
+pub(crate) fn schedule_source<'a, F: Folder>(
+    alloc: Global,
+    folder: &'a F,
+    word: &'a str,
+) -> NamedFile<'a, F>
     ensures at { IsScheduleAt (F.held folder.now) word.now (⟦<NamedFile<'a, F> as Source>⟧.remaining result) }
     ensures none { ⟦<NamedFile<'a, F> as Source>⟧.failures result ≡ 0 }
 {
-    let reading = if is_schedule_word(word.as_bytes()) {
-        Reading::There(word.as_bytes())
-    } else {
-        Reading::Ahead
-    };
-    NamedFile {
-        folder,
-        path: word,
-        reading,
+    if is_given_word(alloc, word.as_bytes()) {
+        return NamedFile {
+            folder,
+            path: word,
+            reading: Reading::There(word.as_bytes()),
+        };
     }
+    source(folder, word)
 }
 
 /// The files at these paths, as sources.

@@ -1,9 +1,10 @@
-//! Where nothing is told of a run or a search while it goes on.
+//! Where nothing is told of a run, a search or a sweep while it goes on.
 
 use crate::deadline::Deadline;
 use crate::seeds::Seeds;
 use program_runs::workers::Gate;
 use search::Progress;
+use sweeps::Watch;
 
 /// A gate and a progress that do nothing, and the seed of each run for which none is asked.
 #[derive(Drop)]
@@ -31,6 +32,18 @@ impl Progress for Open {
     ghost may_stop = { λ _. false };
 
     fn states_met(&self, _states: u32) {}
+
+    fn is_over(&self) -> bool {
+        false
+    }
+}
+
+impl Watch for Open {
+    ghost use Rattle.std.specs.Prelude.{false};
+
+    ghost may_stop = { λ _. false };
+
+    fn runs_done(&self, _runs: u128) {}
 
     fn is_over(&self) -> bool {
         false

@@ -11,7 +11,7 @@ ghost use Rattle.engines.specs.Failures.{FolderMayFail, TellsComplaint, TellsFai
 
 use crate::command_files::{check_record, command_files};
 use crate::commands::{
-    disasm, replay, run as run_command, schedule, search, shrink, trace, unread, verify,
+    disasm, places, replay, run as run_command, schedule, search, shrink, trace, unread, verify,
 };
 use crate::complaint::Complaint;
 use crate::deadline::Deadline;
@@ -29,6 +29,7 @@ use search::Progress;
 use std::alloc::Global;
 use std::sync::Wait;
 use std::thread::Threads;
+use sweeps::Watch;
 
 /// Does what the words say, the program's name first, and answers the status or why there is none.
 ///
@@ -42,7 +43,7 @@ use std::thread::Threads;
 pub fn run<
     'a,
     R: Threads + Wait + Sync,
-    G: Gate + Progress + Seeds + Deadline + Sync,
+    G: Gate + Progress + Seeds + Deadline + Watch + Sync,
     F: Folder,
     I: Source,
     W: Sink,
@@ -120,7 +121,7 @@ fn write_help<W: Sink>(alloc: Global, usage: &Usage, output: &mut W) -> Result<(
 fn done<
     'a,
     R: Threads + Wait + Sync,
-    G: Gate + Progress + Seeds + Deadline + Sync,
+    G: Gate + Progress + Seeds + Deadline + Watch + Sync,
     F: Folder,
     I: Source,
     W: Sink,
@@ -180,7 +181,7 @@ fn done<
 /// Does what a command says, over these files, of which the first so many are given.
 fn done_over<
     R: Threads + Wait + Sync,
-    G: Gate + Progress + Seeds + Deadline + Sync,
+    G: Gate + Progress + Seeds + Deadline + Watch + Sync,
     F: Folder,
     I: Source,
     W: Sink,
@@ -261,6 +262,7 @@ fn done_over<
             output,
         ),
         Command::Disasm(options) => disasm(alloc, folder, files, options, output),
+        Command::Places(options) => places(alloc, folder, files, given, options, output),
         Command::Schedule(options) => schedule(alloc, folder, options, input, output, explanation),
     }
 }

@@ -1,8 +1,10 @@
 //! A run, and with what its schedule was recorded.
 
 ghost use Rattle.std.specs.Prelude.{◌≡◌, ◌<◌, ◌^◌, IfErr, IfOk, Some, drop, false, true, length, map, take, vec_items};
+ghost use Rattle.engines.specs.RecordForms.{recorded_as};
 ghost use Rattle.engines.specs.Recordings.{Disagrees, FitsFiles, FitsOptions, HasLimits, recording_over};
 
+use crate::transcribing::kept_of;
 use command_line::LimitOptions;
 use model::Limits;
 use schedule::{Recording, ScheduleFault};
@@ -10,11 +12,21 @@ use std::alloc::{AllocError, Global};
 
 /// Under what a schedule is to run over class files: the limits that are asked for, and whether any files will do,
 /// whatever it was recorded over. The first so many of the files are given, and a library adds the others.
+/// A place of the schedule gives up once there are as many events as the budget.
 #[derive(Clone, Copy)]
 pub struct Conditions {
     pub limits: LimitOptions,
     pub any_files: bool,
     pub given: usize,
+    pub budget: u32,
+}
+
+/// What a schedule file that is recorded tells: that the first so many of the class files are given, and no more than
+/// a file of the version does, where one is asked for.
+#[derive(Clone, Copy)]
+pub(crate) struct RecordForm {
+    pub(crate) given: usize,
+    pub(crate) as_version: Option<u32>,
 }
 
 /// Those of class files that are given: the first so many.
@@ -102,4 +114,19 @@ fn recorded_limits(
         return Err(ScheduleFault::Limits);
     }
     Ok(limits)
+}
+
+/// With what a run of class files is recorded, as far as a file of the version tells it. The only error is a want of
+/// memory.
+pub(crate) fn recorded_as(
+    alloc: Global,
+    limits: Limits,
+    form: RecordForm,
+    files: &[Vec<u8>],
+) -> Result<Option<Recording>, AllocError>
+    requires { length files.now < 2 ^ 32 }
+    ensures { IfOk result (λ told. told ≡ recorded_as limits form (map vec_items files.now)) }
+{
+    let recording = recording_over(alloc, limits, files, form.given)?;
+    Ok(kept_of(form.as_version, Some(recording)))
 }

@@ -2,6 +2,7 @@
 
 ghost use Rattle.std.specs.Prelude.{◌≡◌, ◌+◌, ◌⊎◌, IfOk, IfErr, map, sum_by, vec_items};
 ghost use Rattle.std.specs.Io.KnownBytes.{Appends};
+ghost use Rattle.std.specs.Arc.{arc_value};
 ghost use Rattle.model.specs.Schedule.{events_of};
 ghost use Rattle.engines.specs.Engines.{CountsFailure};
 ghost use Rattle.engines.specs.Opening.{IsAfterFiles, IsOfSchedule, IsOpened};
@@ -9,11 +10,11 @@ ghost use Rattle.engines.specs.Replays.{IsFaulty, IsReplayed, Replays};
 
 use crate::fault::Fault;
 use crate::opening::{Opened, open};
+use crate::place_ends::told;
 use crate::recording::Conditions;
 use crate::status::Status;
 use model::{Sink, Source};
 use program_runs::verified_programs::replay;
-use schedule::report::text;
 use std::alloc::{AllocError, Global};
 
 /// Runs the class files under the schedule, writes the report and answers its status.
@@ -51,8 +52,8 @@ pub fn replay_engine<S: Source, W: Sink>(
 /// The text and the status of what the class files do under the schedule. Lets go what was opened.
 fn replayed(alloc: Global, opened: Opened) -> Result<(Vec<u8>, Status), AllocError>
     ensures { IfOk result (λ told. (bytes : _) (options : _)
-        → IsOpened bytes (map vec_items opened.files.items) options opened.verified
-        (events_of opened.schedule) opened.limits
+        → IsOpened bytes (map vec_items opened.files.items) options (arc_value opened.verified)
+        (events_of opened.schedule) opened.limits opened.gives_up
         → IsReplayed bytes (map vec_items opened.files.items) options told.0.items told.1) }
 {
     replay_of(alloc, &opened)
@@ -61,11 +62,11 @@ fn replayed(alloc: Global, opened: Opened) -> Result<(Vec<u8>, Status), AllocErr
 /// The text and the status of what the class files that were opened do under their schedule.
 fn replay_of(alloc: Global, opened: &Opened) -> Result<(Vec<u8>, Status), AllocError>
     ensures { IfOk result (λ told. (bytes : _) (options : _)
-        → IsOpened bytes (map vec_items opened.now.files.items) options opened.now.verified
-        (events_of opened.now.schedule) opened.now.limits
+        → IsOpened bytes (map vec_items opened.now.files.items) options (arc_value opened.now.verified)
+        (events_of opened.now.schedule) opened.now.limits opened.now.gives_up
         → IsReplayed bytes (map vec_items opened.now.files.items) options told.0.items told.1) }
 {
     let (report, end) = replay(alloc, &opened.verified, &opened.schedule, opened.limits)?;
-    let text = text(alloc, &report, &end)?;
-    Ok((text, Status::of(&report, end)))
+    let (text, status) = told(alloc, &report, end, opened.gives_up)?;
+    Ok((text, status))
 }

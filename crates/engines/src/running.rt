@@ -11,13 +11,13 @@ ghost use Rattle.engines.specs.Engines.{CountsFailure};
 ghost use Rattle.engines.specs.Policies.{IsRunFor};
 ghost use Rattle.engines.specs.Statuses.{status_of};
 ghost use Rattle.engines.specs.Runs.{IsRun, IsUnrun, Runs};
-ghost use Rattle.engines.specs.Recordings.{recording_over};
+ghost use Rattle.engines.specs.RecordForms.{record_form, recorded_as};
 ghost use Rattle.schedule.specs.Joined.{RecordedFile};
 
 use crate::class_files::read_class_files;
 use crate::deadline::{Deadline, Until};
 use crate::fault::Fault;
-use crate::recording::recording_over;
+use crate::recording::{RecordForm, recorded_as};
 use crate::seeds::{Seeds, policy_for};
 use crate::status::Status;
 use crate::stopped_runs::unless_stopped;
@@ -54,11 +54,13 @@ pub fn run_engine<R: Threads + Wait + Sync, G: Gate + Seeds + Deadline + Sync, S
 ) -> Result<Status, Fault>
     // The report of a run is written, and nothing else; and the file is that of its schedule.
     ensures ran { IfOk result (λ status. (text : _)
-        × Runs given (map S.remaining files.old) options.now.limits options.now.options
+        × Runs (record_form given options.now.as_version)
+        (map S.remaining files.old) options.now.limits options.now.options
         (is_some options.now.seconds) text (option_map vec_items file.new) status
         × Appends (W.contents report.old) (W.contents report.new) text) }
     ensures asked { IfOk result (λ _. IsTrue (is_some options.now.record) → IsTrue (is_some file.new)) }
-    ensures faulty { IfErr result (IsUnrun given (map S.remaining files.old) options.now.limits options.now.options
+    ensures faulty { IfErr result (IsUnrun (record_form given options.now.as_version)
+        (map S.remaining files.old) options.now.limits options.now.options
         (is_some options.now.seconds) (W.contents report.old) (W.contents report.new)
         (option_map vec_items file.old) (option_map vec_items file.new)) }
     ensures counted { CountsFailure result
@@ -93,16 +95,21 @@ fn ran<R: Threads + Wait + Sync, G: Gate + Seeds + Deadline + Sync>(
     options: &Run,
 ) -> Result<Outcome, AllocError>
     requires { IsAccepted (map vec_items files.now) verified }
-    ensures run { IfOk result (λ ran. IsRun given (map vec_items files.now) options.now.limits options.now.options
+    ensures run { IfOk result (λ ran. IsRun (record_form given options.now.as_version)
+        (map vec_items files.now) options.now.limits options.now.options
         (is_some options.now.seconds) ran.text.items (option_map vec_items ran.file) ran.status) }
     ensures asked { IfOk result (λ ran. IsTrue (is_some options.now.record) → IsTrue (is_some ran.file)) }
 {
     let limits = options.limits.limits();
     let recorded = recorded_run(rt, alloc, gate, verified, limits, options)?;
+    let form = RecordForm {
+        given,
+        as_version: options.as_version,
+    };
     let outcome = outcome_of(
         alloc,
         files,
-        given,
+        form,
         limits,
         &recorded.report,
         recorded.end,
@@ -117,7 +124,7 @@ fn ran<R: Threads + Wait + Sync, G: Gate + Seeds + Deadline + Sync>(
 pub(crate) fn outcome_of(
     alloc: Global,
     files: &[Vec<u8>],
-    given: usize,
+    form: RecordForm,
     limits: Limits,
     report: &Report,
     end: End,
@@ -129,14 +136,14 @@ pub(crate) fn outcome_of(
     ensures ended { IfOk result (λ outcome. outcome.status ≡ status_of report.now.threads.items end) }
     ensures asked { IfOk result (λ outcome. IsTrue is_recorded → IsTrue (is_some outcome.file)) }
     ensures spelled { IfOk result (λ outcome. IfSome (option_map vec_items outcome.file) (λ bytes.
-        RecordedFile bytes (Some (recording_over limits given (map vec_items files.now))) (events_of schedule.now))) }
+        RecordedFile bytes (recorded_as limits form (map vec_items files.now)) (events_of schedule.now))) }
 {
     let text = text(alloc, report, &end)?;
     let status = Status::of(report, end);
     let file = if is_recorded || status == Status::Returned {
-        recorded_file(alloc, is_recorded, files, given, limits, schedule)?
+        recorded_file(alloc, is_recorded, files, form, limits, schedule)?
     } else {
-        told_file(alloc, files, given, limits, schedule)
+        told_file(alloc, files, form, limits, schedule)
     };
     Ok(Outcome { text, file, status })
 }
@@ -146,15 +153,15 @@ pub(crate) fn outcome_of(
 fn told_file(
     alloc: Global,
     files: &[Vec<u8>],
-    given: usize,
+    form: RecordForm,
     limits: Limits,
     schedule: &Schedule,
 ) -> Option<Vec<u8>>
     requires { length files.now < 2 ^ 32 }
     ensures { IfSome (option_map vec_items result) (λ bytes.
-        RecordedFile bytes (Some (recording_over limits given (map vec_items files.now))) (events_of schedule.now)) }
+        RecordedFile bytes (recorded_as limits form (map vec_items files.now)) (events_of schedule.now)) }
 {
-    file_of(alloc, files, given, limits, schedule).ok()
+    file_of(alloc, files, form, limits, schedule).ok()
 }
 
 /// The record of a run of accepted class files.
@@ -202,36 +209,36 @@ pub(crate) fn recorded_file(
     alloc: Global,
     is_recorded: bool,
     files: &[Vec<u8>],
-    given: usize,
+    form: RecordForm,
     limits: Limits,
     schedule: &Schedule,
 ) -> Result<Option<Vec<u8>>, AllocError>
     requires { length files.now < 2 ^ 32 }
     ensures asked { IfOk result (λ file. is_some file ≡ is_recorded) }
     ensures spelled { IfOk result (λ file. IfSome (option_map vec_items file) (λ bytes.
-        RecordedFile bytes (Some (recording_over limits given (map vec_items files.now))) (events_of schedule.now))) }
+        RecordedFile bytes (recorded_as limits form (map vec_items files.now)) (events_of schedule.now))) }
 {
     if is_recorded {
-        Ok(Some(file_of(alloc, files, given, limits, schedule)?))
+        Ok(Some(file_of(alloc, files, form, limits, schedule)?))
     } else {
         Ok(None)
     }
 }
 
 /// The schedule file of a run of the class files.
-fn file_of(
+pub(crate) fn file_of(
     alloc: Global,
     files: &[Vec<u8>],
-    given: usize,
+    form: RecordForm,
     limits: Limits,
     schedule: &Schedule,
 ) -> Result<Vec<u8>, AllocError>
     requires { length files.now < 2 ^ 32 }
     ensures { IfOk result (λ bytes. RecordedFile bytes.items
-        (Some (recording_over limits given (map vec_items files.now)))
+        (recorded_as limits form (map vec_items files.now))
         (events_of schedule.now)) }
 {
-    let recording = recording_over(alloc, limits, files, given)?;
+    let told = recorded_as(alloc, limits, form, files)?;
     let joined = schedule.joined(alloc)?;
-    write_schedule(alloc, &joined, Some(&recording))
+    write_schedule(alloc, &joined, told.as_ref())
 }

@@ -5,11 +5,12 @@ ghost use Rattle.std.specs.Option.{option_map};
 ghost use Rattle.std.specs.Io.KnownBytes.{Appends};
 ghost use Rattle.model.specs.Accepted.{IsAccepted};
 ghost use Rattle.engines.specs.Engines.{CountsFailure};
-ghost use Rattle.engines.specs.Recordings.{recording_over};
+ghost use Rattle.engines.specs.RecordForms.{record_form, recorded_as};
 ghost use Rattle.engines.specs.Searches.{IsFileOf, IsSearched, IsUnsearched, Searches, most_states};
 
 use crate::class_files::read_class_files;
 use crate::fault::Fault;
+use crate::recording::RecordForm;
 use crate::running::{Outcome, recorded_file};
 use crate::status::Status;
 use crate::verification::accepted;
@@ -44,11 +45,13 @@ pub fn search_engine<P: Progress, S: Source, W: Sink>(
     // What can come of the class files is written, or a run whose outcome is wanted, and nothing else; and the file
     // is that of the run's schedule, where it is asked for.
     ensures searched { IfOk result (λ status. (text : _)
-        × Searches given (map S.remaining files.old) options.now.limits wanted.now (P.may_stop progress.now)
+        × Searches (record_form given options.now.as_version)
+        (map S.remaining files.old) options.now.limits wanted.now (P.may_stop progress.now)
         (most_states options.now) (is_some options.now.record) text (option_map vec_items file.new) status
         × Appends (W.contents report.old) (W.contents report.new) text) }
     ensures faulty { IfErr result
-        (IsUnsearched given (map S.remaining files.old) options.now.limits wanted.now (P.may_stop progress.now)
+        (IsUnsearched (record_form given options.now.as_version)
+        (map S.remaining files.old) options.now.limits wanted.now (P.may_stop progress.now)
         (most_states options.now) (is_some options.now.record) (W.contents report.old) (W.contents report.new)
         (option_map vec_items file.old) (option_map vec_items file.new)) }
     ensures counted { CountsFailure result
@@ -76,8 +79,10 @@ fn searched<P: Progress>(
 ) -> Result<Outcome, AllocError>
     requires { IsAccepted (map vec_items files.now) verified }
     ensures { IfOk result (λ searched.
-        IsSearched given (map vec_items files.now) options.now.limits wanted.now (P.may_stop progress.now)
-        (most_states options.now) (is_some options.now.record) searched.text.items (option_map vec_items searched.file) searched.status) }
+        IsSearched (record_form given options.now.as_version)
+        (map vec_items files.now) options.now.limits wanted.now (P.may_stop progress.now)
+        (most_states options.now) (is_some options.now.record) searched.text.items
+        (option_map vec_items searched.file) searched.status) }
 {
     search_of(alloc, progress, &verified, files, given, options, wanted)
 }
@@ -94,8 +99,10 @@ fn search_of<P: Progress>(
 ) -> Result<Outcome, AllocError>
     requires { IsAccepted (map vec_items files.now) verified.now }
     ensures { IfOk result (λ searched.
-        IsSearched given (map vec_items files.now) options.now.limits wanted.now (P.may_stop progress.now)
-        (most_states options.now) (is_some options.now.record) searched.text.items (option_map vec_items searched.file) searched.status) }
+        IsSearched (record_form given options.now.as_version)
+        (map vec_items files.now) options.now.limits wanted.now (P.may_stop progress.now)
+        (most_states options.now) (is_some options.now.record) searched.text.items
+        (option_map vec_items searched.file) searched.status) }
 {
     let limits = options.limits.limits();
     let program = verified_program(alloc, verified)?;
@@ -104,7 +111,11 @@ fn search_of<P: Progress>(
     let searched = search_report(alloc, progress, classes, program, limits, wanted, most)?;
     let text = searched.text(alloc)?;
     let is_recorded = options.record.is_some();
-    let file = found_file(alloc, is_recorded, files, given, limits, &searched.answer)?;
+    let form = RecordForm {
+        given,
+        as_version: options.as_version,
+    };
+    let file = found_file(alloc, is_recorded, files, form, limits, &searched.answer)?;
     let status = Status::of_search(&searched.answer);
     Ok(Outcome { text, file, status })
 }
@@ -123,13 +134,13 @@ fn found_file(
     alloc: Global,
     is_recorded: bool,
     files: &[Vec<u8>],
-    given: usize,
+    form: RecordForm,
     limits: Limits,
     answer: &Answer,
 ) -> Result<Option<Vec<u8>>, AllocError>
     requires { length files.now < 2 ^ 32 }
     ensures { IfOk result (λ file. IsFileOf
-        (recording_over limits given (map vec_items files.now)) is_recorded answer.now
+        (recorded_as limits form (map vec_items files.now)) is_recorded answer.now
         (option_map vec_items file)) }
 {
     match answer {
@@ -137,7 +148,7 @@ fn found_file(
             alloc,
             is_recorded,
             files,
-            given,
+            form,
             limits,
             schedule,
         ),

@@ -97,7 +97,9 @@ impl Status {
         match fault {
             Fault::Device => Status::Unusable,
             Fault::Memory => Status::Stopped,
-            Fault::Refusal(_) | Fault::Schedule(_) | Fault::Text(_) => Status::Refused,
+            Fault::Refusal(_) | Fault::Schedule(_) | Fault::Text(_) | Fault::Place(_) => {
+                Status::Refused
+            }
         }
     }
 

@@ -2,6 +2,7 @@
 
 use crate::fault::Fault;
 use crate::named_file::schedule_source;
+use crate::place_schedules::{followed, words_of};
 use crate::recording::{Conditions, limits_of};
 use crate::verification::accepted;
 use explanations::thread_explanations::explain_threads;
@@ -9,8 +10,8 @@ use model::{Limits, Source};
 use program_files::Folder;
 use program_runs::verified_programs::verified_program;
 use schedule::Schedule;
-use schedule::schedule_text::read_either;
 use std::alloc::{AllocError, Global};
+use std::sync::Arc;
 use verifier::Verified;
 
 /// What the threads are about that did not end normally, after the events of the schedule that a word is, or whose
@@ -23,7 +24,9 @@ pub(crate) fn told_schedule<F: Folder>(
     conditions: &Conditions,
     most: u64,
 ) -> Option<Vec<u8>> {
-    let bytes = schedule_source(folder, word.as_str()).read_all(alloc).ok()?;
+    let bytes = schedule_source(alloc, folder, word.as_str())
+        .read_all(alloc)
+        .ok()?;
     told_threads(alloc, bytes.as_slice(), files, conditions, most).ok()?
 }
 
@@ -49,12 +52,13 @@ fn told_threads(
     conditions: &Conditions,
     most: u64,
 ) -> Result<Option<Vec<u8>>, Fault> {
-    let (schedule, recorded) = read_either(alloc, bytes)?;
+    let (words, recorded) = words_of(alloc, bytes)?;
+    let limits = limits_of(&recorded, files, conditions)?;
+    let verified = Arc::new(alloc, accepted(alloc, files)?)?;
+    let schedule = followed(alloc, words, &verified, limits, conditions.budget)?.schedule;
     if schedule.count() > most {
         return Ok(None);
     }
-    let limits = limits_of(&recorded, files, conditions)?;
-    let verified = accepted(alloc, files)?;
     Ok(Some(threads_after(alloc, &verified, &schedule, limits)?))
 }
 

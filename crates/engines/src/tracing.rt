@@ -3,6 +3,7 @@
 ghost use Rattle.std.specs.Prelude.{◌≡◌, ◌+◌, ◌⊎◌, IfOk, IfErr, OnErr, map, sum_by, vec_items};
 ghost use Rattle.std.specs.Io.KnownBytes.{Appends};
 ghost use Rattle.model.specs.Devices.{Counts};
+ghost use Rattle.std.specs.Arc.{arc_value};
 ghost use Rattle.model.specs.Schedule.{events_of};
 ghost use Rattle.engines.specs.Engines.{CountsFailure};
 ghost use Rattle.engines.specs.Opening.{IsAfterFiles, IsOfSchedule, IsOpened};
@@ -10,11 +11,11 @@ ghost use Rattle.engines.specs.Traces.{IsTraced, IsUntraced, Traces, TracesFront
 
 use crate::fault::Fault;
 use crate::opening::{Opened, open};
+use crate::place_ends::told;
 use crate::recording::Conditions;
 use crate::status::Status;
 use model::{DeviceFault, Sink, Source};
 use program_runs::traced_runs::{Window, trace};
-use schedule::report::text;
 use std::alloc::Global;
 
 /// Runs the class files under the schedule, writes a line for each event that is to be told, in a summary one for a
@@ -61,13 +62,13 @@ fn traced<W: Sink>(
     output: &mut W,
 ) -> Result<Status, DeviceFault>
     ensures traced { IfOk result (λ status. (bytes : _) (options : _)
-        → IsOpened bytes (map vec_items opened.files.items) options opened.verified
-        (events_of opened.schedule) opened.limits
+        → IsOpened bytes (map vec_items opened.files.items) options (arc_value opened.verified)
+        (events_of opened.schedule) opened.limits opened.gives_up
         → (text : _) × IsTraced bytes (map vec_items opened.files.items) options window.entry text status
         × Appends (W.contents output.old) (W.contents output.new) text) }
     ensures part { OnErr result ((bytes : _) (options : _)
-        → IsOpened bytes (map vec_items opened.files.items) options opened.verified
-        (events_of opened.schedule) opened.limits
+        → IsOpened bytes (map vec_items opened.files.items) options (arc_value opened.verified)
+        (events_of opened.schedule) opened.limits opened.gives_up
         → TracesFront bytes (map vec_items opened.files.items) options window.entry (W.contents output.old)
         (W.contents output.new)) }
     ensures counted { Counts result (W.failures output.old) (W.failures output.new) }
@@ -83,13 +84,13 @@ fn trace_of<W: Sink>(
     output: &mut W,
 ) -> Result<Status, DeviceFault>
     ensures traced { IfOk result (λ status. (bytes : _) (options : _)
-        → IsOpened bytes (map vec_items opened.now.files.items) options opened.now.verified
-        (events_of opened.now.schedule) opened.now.limits
+        → IsOpened bytes (map vec_items opened.now.files.items) options (arc_value opened.now.verified)
+        (events_of opened.now.schedule) opened.now.limits opened.now.gives_up
         → (text : _) × IsTraced bytes (map vec_items opened.now.files.items) options window.entry text status
         × Appends (W.contents output.old) (W.contents output.new) text) }
     ensures part { OnErr result ((bytes : _) (options : _)
-        → IsOpened bytes (map vec_items opened.now.files.items) options opened.now.verified
-        (events_of opened.now.schedule) opened.now.limits
+        → IsOpened bytes (map vec_items opened.now.files.items) options (arc_value opened.now.verified)
+        (events_of opened.now.schedule) opened.now.limits opened.now.gives_up
         → TracesFront bytes (map vec_items opened.now.files.items) options window.entry (W.contents output.old)
         (W.contents output.new)) }
     ensures counted { Counts result (W.failures output.old) (W.failures output.new) }
@@ -102,7 +103,7 @@ fn trace_of<W: Sink>(
         window,
         output,
     )?;
-    let text = text(alloc, &report, &end)?;
+    let (text, status) = told(alloc, &report, end, opened.gives_up)?;
     output.write_all(text.as_slice())?;
-    Ok(Status::of(&report, end))
+    Ok(status)
 }

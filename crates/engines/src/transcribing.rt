@@ -65,7 +65,7 @@ pub fn write_schedule_engine<S: Source, W: Sink>(
 }
 
 /// What a file of this version tells of a recording, or one of the version that it is of.
-fn kept_of(version: Option<u32>, recording: Option<Recording>) -> Option<Recording>
+pub(crate) fn kept_of(version: Option<u32>, recording: Option<Recording>) -> Option<Recording>
     ensures { result ≡ told_as version recording }
 {
     match version {

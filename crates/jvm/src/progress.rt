@@ -1,6 +1,6 @@
-//! What a terminal shows of a run or a search that takes more than a second.
+//! What a terminal shows of a run, a search or a sweep that takes more than a second.
 
-use engines::{Deadline, Gate, Seeds};
+use engines::{Deadline, Gate, Seeds, Watch};
 use std::io;
 use std::io::Write;
 use std::random::RandomSource;
@@ -11,7 +11,8 @@ use std::time::Instant;
 /// How many events are done, or states met, at the least, between two looks at the clock.
 const BETWEEN: u32 = 1024;
 
-/// A gate that tells each second on the standard error how many events are done, or states met, on one line.
+/// A gate that tells each second on the standard error how many events are done, or states met, or runs done, on one
+/// line.
 #[derive(Drop)]
 pub struct Progress<'a, R> {
     rt: &'a R,
@@ -93,6 +94,22 @@ impl<R: Clock + Eprint> engines::Progress for Progress<'_, R> {
 
     fn states_met(&self, states: u32) {
         self.look(states, "states");
+    }
+
+    fn is_over(&self) -> bool {
+        false
+    }
+}
+
+impl<R: Clock + Eprint> Watch for Progress<'_, R> {
+    ghost use Rattle.std.specs.Prelude.{false};
+
+    ghost may_stop = { λ _. false };
+
+    fn runs_done(&self, runs: u128) {
+        if let Some(start) = self.start {
+            self.tell(start, runs.min(u128::from(u32::MAX)) as u32, "runs");
+        }
     }
 
     fn is_over(&self) -> bool {

@@ -4,3 +4,4 @@ mod Tallying
 mod RunsSwept
 mod Counting
 mod Telling
+mod Queue

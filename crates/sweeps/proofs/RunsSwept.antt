@@ -10,6 +10,7 @@ use Rattle.sweeps.specs.declared.sweeping.SweepEnd.{SweepEnd}
 use Rattle.sweeps.specs.declared.sweeping.SweepEnd.TheVariants as ends
 use Rattle.sweeps.specs.declared.sweeping.SweepReport.{SweepReport}
 use Rattle.sweeps.specs.Shown.{IsShownWanted, shown_by, shown_in}
+use Rattle.sweeps.specs.Policies.{IsRunWith, RunsBy}
 use Rattle.sweeps.specs.Sweeps.{AreRuns, EndsSo, HasRun, NoneShows, Shows, Sweeps, last_end}
 use Rattle.sweeps.specs.Tallies.{TallyOf, tally_of, with_run}
 use Rattle.sweeps.proofs.Tallying.{one_more}
@@ -73,6 +74,11 @@ module _ (IsRun : ℕ → Recorded → Type 0) (want : Wanted) (seed : ℕ) (old
     shows = λ it. subst (IsShownWanted want) shown (wanted.0 it);
     lacks = λ it shows. let is_so : b ≡ true = wanted.1 (subst (IsShownWanted want) (sym shown) shows) in let bad : true ≡ false = sym is_so ∙ it in cc;
   }
+
+-- of what runs are stays
+pub has_run_by : (one other : RunsBy) → one ≡ other → {want : Wanted} {seed : ℕ} {b : Bool} {old new : TallyOf} → HasRun (IsRunWith one) want seed b old new
+    → HasRun (IsRunWith other) want seed b old new
+has_run_by one other same {want} {seed} {b} {old} {new} h = subst (λ (by : RunsBy). HasRun (IsRunWith by) want seed b old new) same h
 
 -- ---- what a sweep comes to
 

@@ -3,4 +3,5 @@ pub mod Shown
 pub mod Tallies
 pub mod Sweeps
 pub mod Policies
+pub mod Ahead
 pub mod Texts

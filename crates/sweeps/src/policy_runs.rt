@@ -3,9 +3,8 @@
 ghost use Rattle.std.specs.Prelude.{◌≡◌, IfOk};
 ghost use Rattle.std.specs.Arc.{arc_value};
 ghost use Rattle.machine.specs.Machines.{IsProgramOf};
-ghost use Rattle.sweeps.specs.Policies.{WantsMemory, name_of, with_seed};
+ghost use Rattle.sweeps.specs.Policies.{IsRunWith, WantsMemory, name_of, with_seed};
 
-use crate::seed_runs::SeedRuns;
 use linked_code::LinkedProgram;
 use model::{End, Limits, RunCause};
 use program_runs::policies::{Policy, run_linked};
@@ -118,12 +117,11 @@ fn unless_memory(recorded: Recorded) -> Result<Recorded, AllocError>
     }
 }
 
-impl SeedRuns for PolicyRuns<'_> {
-    ghost use Rattle.sweeps.specs.Policies.{IsRunWith};
-
-    ghost is_run = { IsRunWith };
-
-    fn run(&self, alloc: Global, seed: u64) -> Result<Recorded, AllocError> {
+impl PolicyRuns<'_> {
+    /// The run with a seed. The only error is a want of memory.
+    pub fn run_of(&self, alloc: Global, seed: u64) -> Result<Recorded, AllocError>
+        ensures { IfOk result (IsRunWith self.now seed) }
+    {
         let verified = Arc::try_clone(self.verified)?;
         let program = Arc::try_clone(self.program)?;
         let policy = self.policy.with(seed);

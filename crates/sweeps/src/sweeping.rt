@@ -1,14 +1,17 @@
 //! The sweep.
 
 ghost use Rattle.std.specs.Prelude.{◌≡◌, ◌<◌, ◌≤◌, ◌^◌, IfOk};
+ghost use Rattle.sweeps.specs.Policies.{IsRunWith};
 ghost use Rattle.sweeps.specs.Sweeps.{HasRun, Sweeps, last_end};
 
-use crate::seed_runs::SeedRuns;
 use crate::shown::Ran;
+use crate::side_by_side::SideBySide;
 use crate::tallies::Tally;
 use crate::watch::Watch;
 use search::run_outcomes::Wanted;
 use std::alloc::{AllocError, Global};
+use std::sync::Wait;
+use std::thread::Threads;
 
 /// Why a sweep has come to an end.
 #[derive(Clone, Copy, Debug, PartialEq, Eq)]
@@ -31,17 +34,19 @@ pub struct SweepReport {
 }
 
 /// Does the run of a seed, and counts it. Answers whether it shows what is wanted. The only error is a want of memory.
-fn run_seed<S: SeedRuns>(
+fn run_seed<R: Threads + Wait + Sync>(
+    rt: &R,
     alloc: Global,
-    runs: &S,
+    runs: &mut SideBySide<'_>,
     wanted: &Wanted,
     tally: &mut Tally,
     seed: u64,
 ) -> Result<bool, AllocError>
-    requires { tally.old.runs < 2 ^ 64 }
-    ensures { IfOk result (λ found. HasRun (S.is_run runs.now) wanted.now seed found tally.old tally.new) }
+    requires few { tally.old.runs < 2 ^ 64 }
+    ensures has_run { IfOk result (λ found. HasRun (IsRunWith runs.old) wanted.now seed found tally.old tally.new) }
+    ensures same { runs.new ≡ runs.old }
 {
-    let ran = Ran::of(runs.run(alloc, seed)?);
+    let ran = Ran::of(runs.run(rt, alloc, seed)?);
     let is_wanted = ran.shown.is_wanted(alloc, wanted)?;
     tally.add(ran, seed)?;
     Ok(is_wanted)
@@ -49,20 +54,21 @@ fn run_seed<S: SeedRuns>(
 
 /// Does a run for each seed from one up to another, in this order, until one shows what is wanted, or the sweep is
 /// stopped. The only error is a want of memory.
-pub fn sweep<S: SeedRuns, W: Watch>(
+pub fn sweep<R: Threads + Wait + Sync, W: Watch>(
+    rt: &R,
     alloc: Global,
-    runs: &S,
+    runs: &mut SideBySide<'_>,
     watch: &W,
     wanted: &Wanted,
     first: u64,
     last: u64,
 ) -> Result<SweepReport, AllocError>
     requires { first ≤ last }
-    ensures { IfOk result (Sweeps (S.is_run runs.now) (W.may_stop watch.now) wanted.now first last) }
+    ensures { IfOk result (Sweeps (IsRunWith runs.old) (W.may_stop watch.now) wanted.now first last) }
 {
     let mut tally = Tally::new(alloc);
     'seeds: for seed in first..last {
-        let is_wanted = run_seed(alloc, runs, wanted, &mut tally, seed)?;
+        let is_wanted = run_seed(rt, alloc, runs, wanted, &mut tally, seed)?;
         watch.runs_done(tally.runs());
         if is_wanted {
             let end = SweepEnd::Found;
@@ -73,7 +79,7 @@ pub fn sweep<S: SeedRuns, W: Watch>(
             return Ok(SweepReport { first, tally, end });
         }
     }
-    let is_wanted = run_seed(alloc, runs, wanted, &mut tally, last)?;
+    let is_wanted = run_seed(rt, alloc, runs, wanted, &mut tally, last)?;
     watch.runs_done(tally.runs());
     let end = last_end(is_wanted);
     Ok(SweepReport { first, tally, end })

@@ -5,12 +5,13 @@ ghost use Rattle.engines.specs.Commands.{IsKeptFirst, KeepsSchedule};
 ghost use Rattle.engines.specs.Devices.{IsUnable};
 ghost use Rattle.engines.specs.Failures.{FolderMayFail, TellsFailure, TellsFailures};
 
+use crate::commands::outcome_files::try_outcomes;
 use crate::commands::searches::{wanted_by, wanted_for};
 use crate::commands::storing::try_record;
 use crate::explanation::Explanation;
 use crate::fault::Fault;
 use crate::named_file::schedule_source;
-use crate::opening::read_given;
+use crate::place_schedules::read_words;
 use command_line::{Command, Goal, Replay, Run, Search, Shrink};
 use program_files::Folder;
 use std::alloc::Global;
@@ -47,6 +48,7 @@ fn check_first<F: Folder>(
         Command::Run(options) => check_run(alloc, folder, options, explanation),
         Command::Replay(options) => check_replay(alloc, folder, options, explanation),
         Command::Trace(options) => check_schedule(alloc, folder, options.schedule.as_str()),
+        Command::Places(options) => check_schedule(alloc, folder, options.schedule.as_str()),
         Command::Search(options) => check_search(alloc, folder, options, explanation),
         Command::Shrink(options) => check_shrink(alloc, folder, options, explanation),
         Command::Verify(_) | Command::Disasm(_) | Command::Schedule(_) => Ok(()),
@@ -63,7 +65,10 @@ fn check_run<F: Folder>(
     ensures told { (n : ℕ) → TellsFailures (FolderMayFail F.may_fail) result n n }
 {
     match &options.sweep {
-        Some(sweep) => check_goal(alloc, folder, &sweep.goal),
+        Some(sweep) => {
+            check_goal(alloc, folder, &sweep.goal)?;
+            check_outcomes(alloc, folder, &options.record, explanation)
+        }
         None => check_record(alloc, folder, &options.record, explanation),
     }
 }
@@ -112,6 +117,19 @@ fn check_shrink<F: Folder>(
     check_schedule(alloc, folder, options.schedule.as_str())
 }
 
+/// Whether files of outcomes can be made in the folder that is asked for.
+fn check_outcomes<F: Folder>(
+    alloc: Global,
+    folder: &F,
+    record: &Option<String>,
+    explanation: &mut Explanation,
+) -> Result<(), Fault>
+    ensures kept { IfErr result IsUnable }
+    ensures told { (n : ℕ) → TellsFailures (FolderMayFail F.may_fail) result n n }
+{
+    Ok(try_outcomes(alloc, folder, record, explanation)?)
+}
+
 /// Whether the file that is asked for can be made.
 fn check_record<F: Folder>(
     alloc: Global,
@@ -140,7 +158,7 @@ fn check_schedule<F: Folder>(alloc: Global, folder: &F, word: &str) -> Result<()
     ensures kept { IfErr result (λ fault. IsUnable fault ⊎ KeepsSchedule (F.held folder.now) word.now fault) }
     ensures told { (n : ℕ) → TellsFailures (FolderMayFail F.may_fail) result n n }
 {
-    let mut schedule = schedule_source(folder, word);
-    let _ = read_given(alloc, &mut schedule)?;
+    let mut schedule = schedule_source(alloc, folder, word);
+    let _ = read_words(alloc, &mut schedule)?;
     Ok(())
 }

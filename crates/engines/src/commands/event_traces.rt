@@ -74,7 +74,7 @@ fn traced<'a, F: Folder, W: Sink>(
 {
     let conditions = conditions_of(options, given);
     let window = window_of(options);
-    let mut schedule = schedule_source(folder, options.schedule.as_str());
+    let mut schedule = schedule_source(alloc, folder, options.schedule.as_str());
     let mut sources = sources(alloc, folder, files)?;
     trace_engine(
         alloc,
@@ -88,12 +88,13 @@ fn traced<'a, F: Folder, W: Sink>(
 
 /// Under what the schedule is to run.
 fn conditions_of(options: &Trace, given: usize) -> Conditions
-    ensures { result ≡ conditions_of options.now.limits options.now.any_files given }
+    ensures { result ≡ conditions_of options.now.limits options.now.any_files given 10000000 }
 {
     Conditions {
         limits: options.limits,
         any_files: options.any_files,
         given,
+        budget: 10_000_000,
     }
 }
 

@@ -7,7 +7,9 @@
 mod before_files;
 mod event_traces;
 mod given_files;
+mod outcome_files;
 mod outcome_texts;
+mod placings;
 mod replays;
 mod runs;
 mod schedules;
@@ -19,6 +21,7 @@ mod storing;
 pub(crate) use before_files::unread;
 pub(crate) use event_traces::trace;
 pub(crate) use given_files::{disasm, verify};
+pub(crate) use placings::places;
 pub(crate) use replays::replay;
 pub(crate) use runs::run;
 pub(crate) use schedules::schedule;

@@ -84,16 +84,16 @@ fn replayed<'a, F: Folder, W: Sink>(
     ensures replayed { IfOk result (λ status. (text : _)
         × OfSchedule (F.held folder.now) (string_bytes options.now.schedule) (λ left. Replays left
         (known (map vec_items files.now))
-        (conditions_of options.now.limits options.now.any_files given) text status)
+        (conditions_of options.now.limits options.now.any_files given (unwrap_or options.now.budget 10000000)) text status)
         × Appends (W.contents output.old) (W.contents output.new) text) }
     ensures faulty { IfErr result (λ fault.
         OfSchedule (F.held folder.now) (string_bytes options.now.schedule) (λ left. IsFaulty left
         (known (map vec_items files.now))
-        (conditions_of options.now.limits options.now.any_files given) (W.contents output.old)
+        (conditions_of options.now.limits options.now.any_files given (unwrap_or options.now.budget 10000000)) (W.contents output.old)
         (W.contents output.new) fault)) }
     ensures told { TellsFailures (FolderMayFail F.may_fail) result (W.failures output.old) (W.failures output.new) }
 {
-    let mut schedule = schedule_source(folder, options.schedule.as_str());
+    let mut schedule = schedule_source(alloc, folder, options.schedule.as_str());
     let mut sources = sources(alloc, folder, files)?;
     replay_engine(
         alloc,
@@ -106,12 +106,13 @@ fn replayed<'a, F: Folder, W: Sink>(
 
 /// Under what the schedule is to run.
 fn conditions_of(options: &Replay, given: usize) -> Conditions
-    ensures { result ≡ conditions_of options.now.limits options.now.any_files given }
+    ensures { result ≡ conditions_of options.now.limits options.now.any_files given (unwrap_or options.now.budget 10000000) }
 {
     Conditions {
         limits: options.limits,
         any_files: options.any_files,
         given,
+        budget: options.budget(),
     }
 }
 
@@ -163,20 +164,20 @@ fn continued<'a, F: Folder, W: Sink>(
     ensures continued { IfOk result (λ status. (text : _)
         × OfSchedule (F.held folder.now) (string_bytes options.now.schedule) (λ left. Continues left
         (known (map vec_items files.now))
-        (conditions_of options.now.limits options.now.any_files given) (unwrap_or then_run.now.budget 10000000) text
+        (conditions_of options.now.limits options.now.any_files given (unwrap_or options.now.budget 10000000)) then_run.now text
         (option_map vec_items file.new) status)
         × Appends (W.contents output.old) (W.contents output.new) text) }
     ensures asked { IfOk result (λ _. IsTrue (is_some then_run.now.record) → IsTrue (is_some file.new)) }
     ensures faulty { IfErr result (λ fault.
         OfSchedule (F.held folder.now) (string_bytes options.now.schedule) (λ left. IsUncontinued left
         (known (map vec_items files.now))
-        (conditions_of options.now.limits options.now.any_files given)
-        (unwrap_or then_run.now.budget 10000000)
+        (conditions_of options.now.limits options.now.any_files given (unwrap_or options.now.budget 10000000))
+        then_run.now
         (W.contents output.old) (W.contents output.new) (option_map vec_items file.old)
         (option_map vec_items file.new) fault)) }
     ensures told { TellsFailures (FolderMayFail F.may_fail) result (W.failures output.old) (W.failures output.new) }
 {
-    let mut schedule = schedule_source(folder, options.schedule.as_str());
+    let mut schedule = schedule_source(alloc, folder, options.schedule.as_str());
     let mut sources = sources(alloc, folder, files)?;
     continue_engine(
         alloc,

@@ -6,6 +6,7 @@ ghost use Rattle.std.specs.Io.KnownBytes.{Appends};
 ghost use Rattle.engines.specs.Commands.{IsRunDone, IsRunDoneBy, IsRunUndone, IsRunUndoneBy, Leaves, LeavesAt};
 ghost use Rattle.engines.specs.Files.{known};
 ghost use Rattle.engines.specs.Failures.{FolderMayFail, TellsFailures};
+ghost use Rattle.engines.specs.RecordForms.{record_form};
 ghost use Rattle.engines.specs.Runs.{IsUnrun, Runs};
 
 use crate::commands::seed_sweeps::sweep_files;
@@ -27,9 +28,15 @@ use program_runs::workers::Gate;
 use std::alloc::Global;
 use std::sync::Wait;
 use std::thread::Threads;
+use sweeps::Watch;
 
 /// `run`: once, or for each of the seeds that are asked for.
-pub(crate) fn run<R: Threads + Wait + Sync, G: Gate + Seeds + Deadline + Sync, F: Folder, W: Sink>(
+pub(crate) fn run<
+    R: Threads + Wait + Sync,
+    G: Gate + Seeds + Deadline + Watch + Sync,
+    F: Folder,
+    W: Sink,
+>(
     rt: &R,
     alloc: Global,
     gate: &G,
@@ -51,7 +58,18 @@ pub(crate) fn run<R: Threads + Wait + Sync, G: Gate + Seeds + Deadline + Sync, F
     ensures told { TellsFailures (FolderMayFail F.may_fail) result (W.failures output.old) (W.failures output.new) }
 {
     match &options.sweep {
-        Some(sweep) => sweep_files(alloc, gate, folder, files, options, sweep, output),
+        Some(sweep) => sweep_files(
+            rt,
+            alloc,
+            gate,
+            folder,
+            files,
+            given,
+            options,
+            sweep,
+            output,
+            explanation,
+        ),
         None => run_files(
             rt,
             alloc,
@@ -122,6 +140,7 @@ fn conditions_of(options: &Run, given: usize) -> Conditions {
         limits: options.limits,
         any_files: false,
         given,
+        budget: 10_000_000,
     }
 }
 
@@ -138,11 +157,12 @@ fn ran<R: Threads + Wait + Sync, G: Gate + Seeds + Deadline + Sync, F: Folder, W
     file: &mut Option<Vec<u8>>,
 ) -> Result<Status, Fault>
     ensures ran { IfOk result (λ status. (text : _)
-        × Runs given (known (map vec_items files.now)) options.now.limits options.now.options
+        × Runs (record_form given options.now.as_version)
+        (known (map vec_items files.now)) options.now.limits options.now.options
         (is_some options.now.seconds) text (option_map vec_items file.new) status
         × Appends (W.contents output.old) (W.contents output.new) text) }
     ensures asked { IfOk result (λ _. IsTrue (is_some options.now.record) → IsTrue (is_some file.new)) }
-    ensures faulty { IfErr result (IsUnrun given (known (map vec_items files.now))
+    ensures faulty { IfErr result (IsUnrun (record_form given options.now.as_version) (known (map vec_items files.now))
         options.now.limits options.now.options (is_some options.now.seconds) (W.contents output.old)
         (W.contents output.new) (option_map vec_items file.old) (option_map vec_items file.new)) }
     ensures told { TellsFailures (FolderMayFail F.may_fail) result (W.failures output.old) (W.failures output.new) }

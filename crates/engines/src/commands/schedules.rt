@@ -1,6 +1,6 @@
 //! What the command `schedule` does.
 
-ghost use Rattle.std.specs.Prelude.{◌≡◌, ◌+◌, IfErr, IfOk, None, Some, string_bytes};
+ghost use Rattle.std.specs.Prelude.{◌≡◌, ◌+◌, ◌∷◌, [], IfErr, IfOk, None, Some, string_bytes};
 ghost use Rattle.engines.specs.Commands.{IsScheduleDone, IsScheduleUndone, Leaves, LeavesAt};
 ghost use Rattle.engines.specs.Failures.{FolderMayFail, TellsFailures};
 ghost use Rattle.engines.specs.Files.{IsWith};
@@ -52,7 +52,7 @@ fn write_schedule<F: Folder, I: Source>(
 ) -> Result<Status, Fault>
     ensures done { IfOk result (λ status. (bytes : _) × Transcribes options.now.as_version (I.remaining input.old) bytes
         × (status ≡ Status.Returned)
-        × IsWith (F.held folder.old) (F.held folder.new) (Some (string_bytes options.now.file, bytes))) }
+        × IsWith (F.held folder.old) (F.held folder.new) (Some ((string_bytes options.now.file, bytes) ∷ []))) }
     ensures faulty { IfErr result (λ fault.
         ((kept : _) × (made : _) × IsUntranscribed options.now.as_version (I.remaining input.old) kept made fault)
         × IsWith (F.held folder.old) (F.held folder.new) None) }

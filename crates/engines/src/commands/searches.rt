@@ -9,6 +9,7 @@ ghost use Rattle.engines.specs.Files.{known};
 ghost use Rattle.engines.specs.Failures.{FolderMayFail, TellsFailures};
 ghost use Rattle.engines.specs.Goals.{IsAskedFor};
 ghost use Rattle.engines.specs.declared.fault.Fault.TheVariants.{Device};
+ghost use Rattle.engines.specs.RecordForms.{record_form};
 ghost use Rattle.engines.specs.Searches.{IsUnsearched, Searches, most_states};
 
 use crate::commands::outcome_texts::text_of_file;
@@ -105,11 +106,13 @@ fn searched<P: Progress + Deadline, F: Folder, W: Sink>(
     file: &mut Option<Vec<u8>>,
 ) -> Result<Status, Fault>
     ensures searched { IfOk result (λ status. (text : _)
-        × Searches given (known (map vec_items files.now)) options.now.limits wanted.now
+        × Searches (record_form given options.now.as_version)
+        (known (map vec_items files.now)) options.now.limits wanted.now
         (is_some options.now.seconds) (most_states options.now) (is_some options.now.record) text
         (option_map vec_items file.new) status
         × Appends (W.contents output.old) (W.contents output.new) text) }
-    ensures faulty { IfErr result (IsUnsearched given (known (map vec_items files.now))
+    ensures faulty { IfErr result (IsUnsearched (record_form given options.now.as_version)
+        (known (map vec_items files.now))
         options.now.limits wanted.now (is_some options.now.seconds) (most_states options.now)
         (is_some options.now.record) (W.contents output.old) (W.contents output.new)
         (option_map vec_items file.old) (option_map vec_items file.new)) }

@@ -5,14 +5,14 @@
 //! - `shrink_engine`, over any readers and writers: with a status, a text was appended and nothing else. It is that of
 //!   a schedule behind which a run has the outcome, as `shrink` of `shrinking` says it (`IsShrunk`); or nothing, and
 //!   the status 1, where the given schedule hasn't got it. The file, where one is asked for, spells its events, the
-//!   limits and the lengths and checksums of the class files (`shrunk`, `IsShrunkOf`). Before the tries, and with a
+//!   limits and the lengths and checksums of the class files, as far as its version tells them (`shrunk`, `IsShrunkOf`). Before the tries, and with a
 //!   fault, it is as `continue_engine` is (`faulty`, `counted`).
 //!
 //! # Not proved
 //!
 //! - What is told of the words: how many there were and are.
 
-ghost use Rattle.std.specs.Prelude.{◌≡◌, ◌+◌, ◌<◌, ◌^◌, ◌⊎◌, IfErr, IfOk, None, Some, is_some, length, map, string_bytes, sum_by, vec_items};
+ghost use Rattle.std.specs.Prelude.{◌≡◌, ◌+◌, ◌<◌, ◌^◌, ◌⊎◌, IfErr, IfOk, None, Some, is_some, length, map, string_bytes, sum_by, unwrap_or, vec_items};
 ghost use Rattle.std.specs.Arc.{arc_value};
 ghost use Rattle.std.specs.Option.{option_map};
 ghost use Rattle.std.specs.Io.KnownBytes.{Appends};
@@ -36,7 +36,7 @@ use crate::explanation::Explanation;
 use crate::fault::Fault;
 use crate::named_file::{schedule_source, sources};
 use crate::opening::{Opened, open};
-use crate::recording::Conditions;
+use crate::recording::{Conditions, RecordForm};
 use crate::running::recorded_file;
 use crate::status::Status;
 use command_line::Shrink;
@@ -176,7 +176,7 @@ fn shrunk_files<'a, F: Folder, W: Sink>(
         (option_map vec_items made.new.file) fault)) }
     ensures told { TellsFailures (FolderMayFail F.may_fail) result (W.failures output.old) (W.failures output.new) }
 {
-    let mut schedule = schedule_source(folder, options.schedule.as_str());
+    let mut schedule = schedule_source(alloc, folder, options.schedule.as_str());
     let mut sources = sources(alloc, folder, files)?;
     shrink_engine(
         alloc,
@@ -226,12 +226,13 @@ pub(crate) fn shrink_engine<S: Source, W: Sink>(
 
 /// Under what the schedule is to run.
 fn conditions_of(options: &Shrink, given: usize) -> Conditions
-    ensures { result ≡ conditions_of options.now.limits options.now.any_files given }
+    ensures { result ≡ conditions_of options.now.limits options.now.any_files given (unwrap_or options.now.budget 10000000) }
 {
     Conditions {
         limits: options.limits,
         any_files: options.any_files,
         given,
+        budget: options.budget(),
     }
 }
 
@@ -251,26 +252,31 @@ fn found_of(
     options: &Shrink,
     wanted: &Wanted,
 ) -> Result<Found, AllocError>
-    requires { IsAccepted (map vec_items opened.files.items) opened.verified }
+    requires { IsAccepted (map vec_items opened.files.items) (arc_value opened.verified) }
     ensures { IfOk result (λ found. (bytes : _)
         → IsOpened bytes (map vec_items opened.files.items)
-        (conditions_of options.now.limits options.now.any_files given) opened.verified (events_of opened.schedule)
-        opened.limits
+        (conditions_of options.now.limits options.now.any_files given (unwrap_or options.now.budget 10000000)) (arc_value opened.verified)
+        (events_of opened.schedule) opened.limits opened.gives_up
         → IsShrunkOf bytes given (map vec_items opened.files.items) options.now wanted.now found.text.items
         (option_map vec_items found.made.file) found.status) }
 {
     let Opened {
         schedule,
+        gives_up: _,
         files,
         verified,
         limits,
     } = opened;
     let shrunk = shrunk_over(alloc, verified, limits, options, wanted, &schedule)?;
     let is_recorded = options.record.is_some();
+    let form = RecordForm {
+        given,
+        as_version: options.as_version,
+    };
     found_by(
         alloc,
         &files,
-        given,
+        form,
         limits,
         is_recorded,
         schedule.len(),
@@ -282,17 +288,16 @@ fn found_of(
 /// hasn't got it.
 fn shrunk_over(
     alloc: Global,
-    verified: Verified,
+    verified: Arc<Verified>,
     limits: Limits,
     options: &Shrink,
     wanted: &Wanted,
     schedule: &Schedule,
 ) -> Result<Option<Schedule>, AllocError>
-    ensures { IfOk result (IsShrunk (Has (tries_of verified limits options.now wanted.now))
-        (Lacks (tries_of verified limits options.now wanted.now)) (events_of schedule.now)) }
+    ensures { IfOk result (IsShrunk (Has (tries_of (arc_value verified) limits options.now wanted.now))
+        (Lacks (tries_of (arc_value verified) limits options.now wanted.now)) (events_of schedule.now)) }
 {
     let program = verified_program(alloc, &verified)?;
-    let verified = Arc::new(alloc, verified)?;
     shrunk_by(
         alloc, &verified, &program, limits, options, wanted, schedule,
     )
@@ -320,14 +325,14 @@ fn shrunk_by(
 fn found_by(
     alloc: Global,
     files: &[Vec<u8>],
-    given: usize,
+    form: RecordForm,
     limits: Limits,
     is_recorded: bool,
     before: usize,
     shrunk: Option<Schedule>,
 ) -> Result<Found, AllocError>
     requires { length files.now < 2 ^ 32 }
-    ensures { IfOk result (λ found. IsShrunkBy limits given (map vec_items files.now) is_recorded shrunk
+    ensures { IfOk result (λ found. IsShrunkBy limits form (map vec_items files.now) is_recorded shrunk
         found.text.items (option_map vec_items found.made.file) found.status) }
 {
     match shrunk {
@@ -339,7 +344,7 @@ fn found_by(
             },
             status: Status::Threw,
         }),
-        Some(shrunk) => found_so(alloc, files, given, limits, is_recorded, before, &shrunk),
+        Some(shrunk) => found_so(alloc, files, form, limits, is_recorded, before, &shrunk),
     }
 }
 
@@ -347,18 +352,18 @@ fn found_by(
 fn found_so(
     alloc: Global,
     files: &[Vec<u8>],
-    given: usize,
+    form: RecordForm,
     limits: Limits,
     is_recorded: bool,
     before: usize,
     shrunk: &Schedule,
 ) -> Result<Found, AllocError>
     requires { length files.now < 2 ^ 32 }
-    ensures { IfOk result (λ found. IsShrunkBy limits given (map vec_items files.now) is_recorded (Some shrunk.now)
+    ensures { IfOk result (λ found. IsShrunkBy limits form (map vec_items files.now) is_recorded (Some shrunk.now)
         found.text.items (option_map vec_items found.made.file) found.status) }
 {
     let text = text_of(alloc, shrunk)?;
-    let file = recorded_file(alloc, is_recorded, files, given, limits, shrunk)?;
+    let file = recorded_file(alloc, is_recorded, files, form, limits, shrunk)?;
     let after = shrunk.len();
     let words = Some(WordCounts { before, after });
     Ok(Found {

@@ -1,6 +1,6 @@
 //! The file that a command writes.
 
-ghost use Rattle.std.specs.Prelude.{◌≡◌, IfErr, IfOk, IsTrue, None, Ok, OnErr, OnOk, Some, vec_items};
+ghost use Rattle.std.specs.Prelude.{◌≡◌, ◌∷◌, [], IfErr, IfOk, IsTrue, None, Ok, OnErr, OnOk, Some, vec_items};
 ghost use Rattle.std.specs.Option.{option_map};
 ghost use Rattle.model.specs.declared.device.DeviceFault.TheVariants.{Device};
 ghost use Rattle.engines.specs.Commands.{IsUnrecorded};
@@ -81,7 +81,7 @@ pub(crate) fn store<F: Folder>(
     bytes: &[u8],
     explanation: &mut Explanation,
 ) -> Result<(), DeviceFault>
-    ensures stored { OnOk result (IsWith (F.held folder.old) (F.held folder.new) (Some (path.now, bytes.now))) }
+    ensures stored { OnOk result (IsWith (F.held folder.old) (F.held folder.new) (Some ((path.now, bytes.now) ∷ []))) }
     ensures same { OnErr result (IsWith (F.held folder.old) (F.held folder.new) None) }
     ensures failed { IfErr result (λ fault. fault ≡ Device → IsTrue (F.may_fail folder.old path.now)) }
 {

@@ -60,6 +60,18 @@ impl Progress for Watch {
     }
 }
 
+impl engines::Watch for Watch {
+    ghost use Rattle.std.specs.Prelude.{false};
+
+    ghost may_stop = { λ _. false };
+
+    fn runs_done(&self, _runs: u128) {}
+
+    fn is_over(&self) -> bool {
+        false
+    }
+}
+
 impl Deadline for Watch {
     ghost use Rattle.std.specs.Prelude.{false};
 

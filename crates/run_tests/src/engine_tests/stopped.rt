@@ -1,7 +1,9 @@
 //! Runs and searches that are stopped behind some seconds: what they write. No clause says when a clock stops one.
 
 use crate::engine_tests::devices::{FailingFolder, File};
-use engines::{Complaint, Counted, Deadline, Explanation, Gate, Progress, Seeds, Status, run};
+use engines::{
+    Complaint, Counted, Deadline, Explanation, Gate, Progress, Seeds, Status, Watch, run,
+};
 use made_files::class_builder::PRINTS_SEVEN;
 use std::alloc::{AllocError, Global};
 use std::sync::Wait;
@@ -35,6 +37,18 @@ impl Progress for Late {
     ghost may_stop = { λ _. false };
 
     fn states_met(&self, _states: u32) {}
+
+    fn is_over(&self) -> bool {
+        false
+    }
+}
+
+impl Watch for Late {
+    ghost use Rattle.std.specs.Prelude.{false};
+
+    ghost may_stop = { λ _. false };
+
+    fn runs_done(&self, _runs: u128) {}
 
     fn is_over(&self) -> bool {
         false

@@ -1,4 +1,4 @@
-use Rattle.std.proofs.Common.{Some, codes, map, string_bytes, subst, sym}
+use Rattle.std.proofs.Common.{codes, subst, sym}
 use Rattle.std.proofs.lemmas.Result.{err_from_is_err_and}
 use Rattle.clap.specs.Words.{first_of, found_of, rows_of}
 use Rattle.command_line.specs.Paths.{IsApart}
@@ -33,6 +33,7 @@ pub returns-clause-values : goal.returns-clause-values
 returns-clause-values c = record {
   schedule = c.in_ok-schedule.ensures.path;
   then_run = c.in_ok-then_run.ensures.values;
+  budget = c.in_ok-budget.ensures.number;
   limits = c.in_ok-limits.ensures.limits;
   main = c.in_ok-main.ensures;
   files = c.in_ok-files.ensures.files;

@@ -1,4 +1,4 @@
-use Rattle.std.proofs.Common.{Some, codes, map, string_bytes, subst, sym}
+use Rattle.std.proofs.Common.{codes, subst, sym}
 use Rattle.std.proofs.lemmas.Result.{err_from_is_err_and}
 use Rattle.clap.specs.Words.{first_of, found_of, rows_of}
 use Rattle.command_line.specs.Paths.{IsApart}
@@ -41,6 +41,7 @@ returns-clause-values c = record {
   any_files = c.is_set.ensures;
   budget = c.in_ok-budget.ensures.number;
   recording = c.in_ok-record.ensures;
+  version = c.in_ok-as_version.ensures.version;
   limits = c.in_ok-limits.ensures.limits;
   main = c.in_ok-main.ensures;
   files = c.in_ok-files.ensures.files;

@@ -1,11 +1,9 @@
-use Rattle.std.proofs.Common.{inl, inr, map, refl, subst, sym, vec_items}
+use Rattle.std.proofs.Common.{inl, inr, map, refl, subst, vec_items}
 use Rattle.std.proofs.lemmas.Result.{err_from_is_err_and}
 use Rattle.std.specs.Io.KnownBytes.{Appends}
 use Rattle.std.specs.Option.{option_map}
 use Rattle.model.specs.Devices.{AppendsFront}
-use Rattle.model.specs.Schedule.{events_of}
-use Rattle.engines.specs.Continuations.{IsContinued}
-use Rattle.engines.specs.Opening.{IsOpened}
+use Rattle.engines.specs.Continuations.{ContinuesBy}
 use Rattle.engines.proofs.OpeningLemmas.{kept_is_uncontinued, of_no_schedule, part_is_uncontinued}
 use Rattle.engines.proofs.continuing.continue_engine.Goals as goal
 
@@ -25,12 +23,9 @@ returns-in_err-write_all-clause-faulty g c =
     let opened = c.in_ok-opened.ensures.opened in
     let given = c.in_ok-opened.opened in
     let ran = c.in_ok-ran.ran in
-    let limits = c.args.conditions.now in
-    let of_files = subst (λ files. IsOpened opened.0 (map vec_items files) limits given.verified (events_of given.schedule) given.limits) (sym c.as_slice.ensures.value) opened.3 in
-    let of_budget = subst (λ files. IsContinued opened.0 (map vec_items files) limits c.budget.result ran.text.items (option_map vec_items ran.file) ran.status) c.as_slice.ensures.value (c.in_ok-ran.ensures.run opened.0 limits refl of_files) in
-    let run = subst (λ budget. IsContinued opened.0 (map vec_items given.files.items) limits budget ran.text.items (option_map vec_items ran.file) ran.status) c.budget.ensures of_budget in
+    let run = c.in_ok-ran.ensures.run opened.0 c.args.conditions.now refl opened.3 in
     let contents = g.W.Sink.contents in
-    let front = subst (AppendsFront (contents c.args.report.now) (contents c.write_all.new.self)) c.as_slice-2.ensures.value c.in_err-write_all.ensures.part in
+    let front = subst (AppendsFront (contents c.args.report.now) (contents c.write_all.new.self)) c.as_slice.ensures.value c.in_err-write_all.ensures.part in
     rw (p.1, p.2) (part_is_uncontinued _ _ _ _ _ _ _ _ _ (inr (_, _, (opened.0, _, opened.1, opened.2, run), front)))
 
 pub returns-in_err-write_all-clause-schedule_first : goal.returns-in_err-write_all-clause-schedule_first
@@ -43,10 +38,7 @@ returns-clause-continued g c =
     let opened = c.in_ok-opened.ensures.opened in
     let given = c.in_ok-opened.opened in
     let ran = c.in_ok-ran.ran in
-    let limits = c.args.conditions.now in
-    let of_files = subst (λ files. IsOpened opened.0 (map vec_items files) limits given.verified (events_of given.schedule) given.limits) (sym c.as_slice.ensures.value) opened.3 in
-    let of_budget = subst (λ files. IsContinued opened.0 (map vec_items files) limits c.budget.result ran.text.items (option_map vec_items ran.file) ran.status) c.as_slice.ensures.value (c.in_ok-ran.ensures.run opened.0 limits refl of_files) in
-    let run = subst (λ budget. IsContinued opened.0 (map vec_items given.files.items) limits budget ran.text.items (option_map vec_items ran.file) ran.status) c.budget.ensures of_budget in
+    let run = c.in_ok-ran.ensures.run opened.0 c.args.conditions.now refl opened.3 in
     let contents = g.W.Sink.contents in
-    let written = subst (Appends (contents c.args.report.now) (contents c.write_all.new.self)) c.as_slice-2.ensures.value c.in_ok-write_all.ensures.written in
+    let written = subst (Appends (contents c.args.report.now) (contents c.write_all.new.self)) c.as_slice.ensures.value c.in_ok-write_all.ensures.written in
     (_, (opened.0, _, opened.1, opened.2, run), written)

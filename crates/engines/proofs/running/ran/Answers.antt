@@ -1,10 +1,10 @@
-use Rattle.std.proofs.Common.{Some, ap, arith, map, vec_items, subst, sym, ◌∙◌}
+use Rattle.std.proofs.Common.{ap, arith, map, vec_items, subst, sym, ◌∙◌}
 use Rattle.std.proofs.lemmas.List.{length-map}
 use Rattle.std.specs.Prelude.{IfSome, IsTrue, is_some}
 use Rattle.std.specs.Option.{option_map}
 use Rattle.model.specs.Schedule.{events_of}
 use Rattle.schedule.specs.Joined.{RecordedFile}
-use Rattle.engines.specs.Recordings.{recording_over}
+use Rattle.engines.specs.RecordForms.{record_form, recorded_as}
 use Rattle.engines.specs.Stopped.{run_text}
 use Rattle.engines.proofs.RunLemmas.{by_one, by_two, few_files}
 use Rattle.engines.proofs.running.ran.Goals as goal
@@ -31,7 +31,7 @@ returns-clause-run g c =
       told = told ∙ ap (λ b. run_text b run.report run.end) c.budget-budget.ensures;
       ended = same.1 ∙ c.in_ok-outcome.ensures.ended;
       spelled =
-          subst (λ file. IfSome (option_map vec_items file) (λ bytes. RecordedFile bytes (Some (recording_over c.limits-limits.result c.args.given (map vec_items c.args.files.now))) (events_of run.schedule)))
+          subst (λ file. IfSome (option_map vec_items file) (λ bytes. RecordedFile bytes (recorded_as c.limits-limits.result (record_form c.args.given c.args.options.now.as_version) (map vec_items c.args.files.now)) (events_of run.schedule)))
           (sym same.0) c.in_ok-outcome.ensures.spelled;
     }) c.unless_stopped.ensures.told c.unless_stopped.ensures.same
 

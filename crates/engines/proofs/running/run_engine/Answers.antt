@@ -5,6 +5,7 @@ use Rattle.std.specs.Prelude.{is_some}
 use Rattle.std.specs.Io.KnownBytes.{Appends}
 use Rattle.model.specs.Devices.{AppendsFront}
 use Rattle.std.specs.Option.{option_map}
+use Rattle.engines.specs.RecordForms.{record_form}
 use Rattle.engines.specs.Refusals.{IsRefused}
 use Rattle.engines.specs.Runs.{IsRun}
 use Rattle.engines.proofs.EngineLemmas.{counts_write_after}
@@ -35,7 +36,7 @@ returns-in_err-write_all-clause-faulty g c =
     let p = err_from_is_err_and c.from_residual-in_err-write_all.result c.from_residual-in_err-write_all.ensures.1 in
     let ran = c.in_ok-ran.ran in
     let options = c.args.options.now in
-    let run = subst (λ files. IsRun c.args.given (map vec_items files) options.limits options.options (is_some options.seconds) ran.text.items (option_map vec_items ran.file) ran.status) c.as_slice-files.ensures.value c.in_ok-ran.ensures.run in
+    let run = subst (λ files. IsRun (record_form c.args.given options.as_version) (map vec_items files) options.limits options.options (is_some options.seconds) ran.text.items (option_map vec_items ran.file) ran.status) c.as_slice-files.ensures.value c.in_ok-ran.ensures.run in
     let contents = g.W.Sink.contents in
     let written = subst (AppendsFront (contents c.args.report.now) (contents c.write_all.new.self)) c.as_slice.ensures.value c.in_err-write_all.ensures.part in
     rw (p.1, p.2) (part_is_unrun _ _ _ _ _ _ _ _ _ _ (inr (_, _, (_, c.in_ok-read.ensures.read, run), written)))
@@ -49,7 +50,7 @@ pub returns-clause-ran : goal.returns-clause-ran
 returns-clause-ran g c =
     let ran = c.in_ok-ran.ran in
     let options = c.args.options.now in
-    let run = subst (λ files. IsRun c.args.given (map vec_items files) options.limits options.options (is_some options.seconds) ran.text.items (option_map vec_items ran.file) ran.status) c.as_slice-files.ensures.value c.in_ok-ran.ensures.run in
+    let run = subst (λ files. IsRun (record_form c.args.given options.as_version) (map vec_items files) options.limits options.options (is_some options.seconds) ran.text.items (option_map vec_items ran.file) ran.status) c.as_slice-files.ensures.value c.in_ok-ran.ensures.run in
     let contents = g.W.Sink.contents in
     let written = subst (Appends (contents c.args.report.now) (contents c.write_all.new.self)) c.as_slice.ensures.value c.in_ok-write_all.ensures.written in
     (_, (_, c.in_ok-read.ensures.read, run), written)

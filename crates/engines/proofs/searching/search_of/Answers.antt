@@ -5,7 +5,7 @@ use Rattle.model.specs.Classes.{Program}
 use Rattle.machine.specs.Machines.{IsProgramOf}
 use Rattle.search.specs.search_reports.Answers.{Answers}
 use Rattle.std.specs.Option.{option_map}
-use Rattle.engines.specs.Recordings.{recording_over}
+use Rattle.engines.specs.RecordForms.{record_form, recorded_as}
 use Rattle.engines.specs.Searches.{IsFileOf}
 use Rattle.engines.proofs.RunLemmas.{few_files}
 use Rattle.engines.proofs.searching.search_of.Goals as goal
@@ -32,6 +32,6 @@ returns g c =
       answers = subst (λ m. Answers c.args.verified.now c.limits-limits.result c.args.wanted.now (g.P.Progress.may_stop c.args.progress.now) m found.states found.answer) most answers;
       few = subst (λ m. 1 ≤ m → found.states ≤ m) most c.in_ok-searched.ensures.few;
       told = c.in_ok-text.ensures;
-      spelled = subst (λ recorded. IsFileOf (recording_over c.limits-limits.result c.args.given (map vec_items c.args.files.now)) recorded found.answer (option_map vec_items c.in_ok-file.file)) c.is_some-is_recorded.ensures c.in_ok-file.ensures;
+      spelled = subst (λ recorded. IsFileOf (recorded_as c.limits-limits.result (record_form c.args.given c.args.options.now.as_version) (map vec_items c.args.files.now)) recorded found.answer (option_map vec_items c.in_ok-file.file)) c.is_some-is_recorded.ensures c.in_ok-file.ensures;
       ended = c.of_search-status.ensures;
     }

@@ -1,4 +1,4 @@
-use Rattle.std.proofs.Common.{sym, subst}
+use Rattle.std.proofs.Common.{map, subst, sym, vec_items}
 use Rattle.std.specs.Prelude.{IfOk}
 use Rattle.std.specs.Arc.{arc_value}
 use Rattle.model.specs.Classes.{Program}
@@ -6,11 +6,12 @@ use Rattle.machine.specs.Machines.{IsProgramOf}
 use Rattle.engines.specs.Sweeps.{IsSwept}
 use Rattle.engines.proofs.sweep_runs.swept.Goals as goal
 
-pub swept_over-requires : goal.swept_over-requires
-swept_over-requires g c =
+pub swept_over-requires-clause-of : goal.swept_over-requires-clause-of
+swept_over-requires-clause-of g c = λ κs bounds.
     subst (λ (t : Program). IsProgramOf t (arc_value c.in_ok-program.program)) (sym c.in_ok-verified.ensures.ok) c.in_ok-program.ensures
 
 pub returns : goal.returns
 returns g c =
-    subst (λ (t : Program). IfOk c.swept_over.result (λ swept. IsSwept t c.args.options.now c.args.sweep.now (g.P.Watch.may_stop c.args.watch.now) c.args.wanted.now
-    swept.text.items swept.status)) c.in_ok-verified.ensures.ok c.swept_over.ensures
+    let task = c.args.task in
+    subst (λ (t : Program). IfOk c.swept_over.result (λ told. IsSwept task.given (map vec_items c.args.files.now) t task.options.now task.sweep.now (g.P.Watch.may_stop c.args.watch.now) task.wanted.now
+    told.text.items (map vec_items told.swept.schedules.items) told.swept.status)) c.in_ok-verified.ensures.ok c.swept_over.ensures

@@ -28,16 +28,16 @@ returns-clause-continued g c =
     let held = g.F.Folder.held in
     let contents = g.W.Sink.contents in
     let options = c.args.options.now in
-    let conditions = conditions_of options.limits options.any_files c.args.given in
+    let conditions = conditions_of options.limits options.any_files c.args.given (unwrap_or options.budget 10000000) in
     let schedule = left_of (held c.schedule_source-schedule.result.folder.now c.schedule_source-schedule.result.path.now) c.schedule_source-schedule.result.reading in
     let at = subst (λ word. IsScheduleAt (held c.args.folder.now) word schedule) c.as_str.ensures.value c.schedule_source-schedule.ensures.at in
     let sources = map (λ file. left_of (held file.folder.now file.path.now) file.reading) c.as_mut_slice.result.now in
     let left = ap (map (λ file. left_of (held file.folder.now file.path.now) file.reading)) c.as_mut_slice.ensures.value ∙ c.in_ok-sources.ensures.left in
-    let budget = unwrap_or c.args.then_run.now.budget 10000000 in
+    let then_run = c.args.then_run.now in
     let made = option_map vec_items c.continue_engine.new.file in
     IfOk-weaker c.continue_engine.result _ _ (λ status continued.
-    let over = subst (λ over. Continues schedule sources over budget continued.0 made status) c.conditions_of.ensures continued.1 in
-    let done = subst (λ lefts. Continues schedule lefts conditions budget continued.0 made status) left over in
+    let over = subst (λ over. Continues schedule sources over then_run continued.0 made status) c.conditions_of.ensures continued.1 in
+    let done = subst (λ lefts. Continues schedule lefts conditions then_run continued.0 made status) left over in
     (continued.0, (schedule, at, done), continued.2)) c.continue_engine.ensures.continued
 
 pub returns-clause-faulty : goal.returns-clause-faulty
@@ -45,17 +45,17 @@ returns-clause-faulty g c =
     let held = g.F.Folder.held in
     let contents = g.W.Sink.contents in
     let options = c.args.options.now in
-    let conditions = conditions_of options.limits options.any_files c.args.given in
+    let conditions = conditions_of options.limits options.any_files c.args.given (unwrap_or options.budget 10000000) in
     let schedule = left_of (held c.schedule_source-schedule.result.folder.now c.schedule_source-schedule.result.path.now) c.schedule_source-schedule.result.reading in
     let at = subst (λ word. IsScheduleAt (held c.args.folder.now) word schedule) c.as_str.ensures.value c.schedule_source-schedule.ensures.at in
     let sources = map (λ file. left_of (held file.folder.now file.path.now) file.reading) c.as_mut_slice.result.now in
     let left = ap (map (λ file. left_of (held file.folder.now file.path.now) file.reading)) c.as_mut_slice.ensures.value ∙ c.in_ok-sources.ensures.left in
-    let budget = unwrap_or c.args.then_run.now.budget 10000000 in
+    let then_run = c.args.then_run.now in
     let made = option_map vec_items c.continue_engine.new.file in
     let kept = option_map vec_items c.args.file.now in
     let old = contents c.args.output.now in
     let new = contents c.continue_engine.new.report in
     IfErr-weaker c.continue_engine.result _ _ (λ fault uncontinued.
-    let over = subst (λ over. IsUncontinued schedule sources over budget old new kept made fault) c.conditions_of.ensures uncontinued in
-    let undone = subst (λ lefts. IsUncontinued schedule lefts conditions budget old new kept made fault) left over in
+    let over = subst (λ over. IsUncontinued schedule sources over then_run old new kept made fault) c.conditions_of.ensures uncontinued in
+    let undone = subst (λ lefts. IsUncontinued schedule lefts conditions then_run old new kept made fault) left over in
     (schedule, at, undone)) c.continue_engine.ensures.faulty

@@ -1,4 +1,5 @@
 use Rattle.std.proofs.Common.{◌∙◌, ap, inl, map, refl, subst, sum_by}
+use Rattle.std.specs.Prelude.{unwrap_or}
 use Rattle.std.proofs.lemmas.Result.{IfErr-weaker, IfOk-weaker, err_from_is_err_and}
 use Rattle.engines.specs.Recordings.{conditions_of}
 use Rattle.engines.specs.Replays.{IsFaulty, Replays}
@@ -26,7 +27,7 @@ returns-clause-replayed g c =
     let held = g.F.Folder.held in
     let contents = g.W.Sink.contents in
     let options = c.args.options.now in
-    let conditions = conditions_of options.limits options.any_files c.args.given in
+    let conditions = conditions_of options.limits options.any_files c.args.given (unwrap_or options.budget 10000000) in
     let schedule = left_of (held c.schedule_source-schedule.result.folder.now c.schedule_source-schedule.result.path.now) c.schedule_source-schedule.result.reading in
     let at = subst (λ word. IsScheduleAt (held c.args.folder.now) word schedule) c.as_str.ensures.value c.schedule_source-schedule.ensures.at in
     let sources = map (λ file. left_of (held file.folder.now file.path.now) file.reading) c.as_mut_slice.result.now in
@@ -41,7 +42,7 @@ returns-clause-faulty g c =
     let held = g.F.Folder.held in
     let contents = g.W.Sink.contents in
     let options = c.args.options.now in
-    let conditions = conditions_of options.limits options.any_files c.args.given in
+    let conditions = conditions_of options.limits options.any_files c.args.given (unwrap_or options.budget 10000000) in
     let schedule = left_of (held c.schedule_source-schedule.result.folder.now c.schedule_source-schedule.result.path.now) c.schedule_source-schedule.result.reading in
     let at = subst (λ word. IsScheduleAt (held c.args.folder.now) word schedule) c.as_str.ensures.value c.schedule_source-schedule.ensures.at in
     let sources = map (λ file. left_of (held file.folder.now file.path.now) file.reading) c.as_mut_slice.result.now in

@@ -1,5 +1,6 @@
 use Rattle.std.proofs.Common.{inl, inr, map, refl, subst, vec_items}
 use Rattle.std.proofs.lemmas.Result.{err_from_is_err_and}
+use Rattle.std.specs.Arc.{arc_value}
 use Rattle.std.specs.Io.KnownBytes.{Appends}
 use Rattle.model.specs.Devices.{AppendsFront}
 use Rattle.model.specs.Schedule.{events_of}
@@ -26,7 +27,7 @@ returns-in_err-write_all-clause-faulty g c =
     let p = err_from_is_err_and c.from_residual-in_err-write_all.result c.from_residual-in_err-write_all.ensures.1 in
     let opened = c.in_ok-opened.ensures.opened in
     let given = c.in_ok-opened.opened in
-    let of_options = subst (λ (conditions : Conditions). IsOpened opened.0 (map vec_items given.files.items) conditions given.verified (events_of given.schedule) given.limits)
+    let of_options = subst (λ (conditions : Conditions). IsOpened opened.0 (map vec_items given.files.items) conditions (arc_value given.verified) (events_of given.schedule) given.limits given.gives_up)
     c.conditions_of.ensures opened.3 in
     let shrunk = c.in_ok-found.ensures opened.0 of_options in
     let contents = g.W.Sink.contents in
@@ -37,7 +38,7 @@ pub returns-clause-shrunk : goal.returns-clause-shrunk
 returns-clause-shrunk g c =
     let opened = c.in_ok-opened.ensures.opened in
     let given = c.in_ok-opened.opened in
-    let of_options = subst (λ (conditions : Conditions). IsOpened opened.0 (map vec_items given.files.items) conditions given.verified (events_of given.schedule) given.limits)
+    let of_options = subst (λ (conditions : Conditions). IsOpened opened.0 (map vec_items given.files.items) conditions (arc_value given.verified) (events_of given.schedule) given.limits given.gives_up)
     c.conditions_of.ensures opened.3 in
     let shrunk = c.in_ok-found.ensures opened.0 of_options in
     let contents = g.W.Sink.contents in
