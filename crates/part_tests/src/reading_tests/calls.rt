@@ -292,9 +292,9 @@ fn no_command_has_its_reason(rt: HostRuntime) -> Result<(), Fail> {
             "jvm replay --schedule s --then-run --budget -5 A.class",
             "--budget",
         ),
-        ("jvm replay --schedule s --budget 5 A.class", "--then-run"),
         ("jvm replay --schedule s --record t A.class", "--then-run"),
         ("jvm schedule --write", "<FILE>"),
+        ("jvm schedule --places A.class", "--schedule"),
         ("jvm schedule s t", "'t'"),
     ];
     for (line, word) in rows {
