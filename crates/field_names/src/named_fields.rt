@@ -10,7 +10,7 @@
 //!
 //! # Wrong bodies
 //!
-//! - `named_fields-volatile-is-final`: another flag is read; refused by `named_field`.
+//! - `named_fields-volatile-is-final`: another flag is read; refused by `is_volatile_at`.
 //! - `named_fields-field-of-another-place`: the place before is told; refused by `named_field`.
 //! - `named_fields-class-of-the-first`: the first class is told; refused by `named_field`.
 
