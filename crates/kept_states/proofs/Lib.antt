@@ -1,3 +1,4 @@
 pub mod One
 pub mod Same
+pub mod Stays
 pub mod Written

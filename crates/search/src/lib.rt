@@ -43,7 +43,6 @@ mod progress;
 pub mod run_outcomes;
 pub mod search_reports;
 mod searching;
-pub mod state_index;
 mod states;
 
 pub use progress::Progress;
