@@ -215,13 +215,20 @@ pub first_read : (parts : List (List ℕ)) (number limit : ℕ) (row : List ℕ)
 first_read parts number limit row threads stack stands r =
     subst (λ (ts : ThreadTable). AreThreads parts (number ∷ []) ts.threads (stack ∷ [])) (sym r.after) ((row, stands, r.is_row), tt)
 
-pub one_added : (parts : List (List ℕ)) (number : ℕ) (numbers : List ℕ) (old new : ThreadTable) (stacks after : List (List ShownEntry))
+one_behind : (parts : List (List ℕ)) (number : ℕ) (numbers : List ℕ) (old new : ThreadTable) (stacks after : List (List ShownEntry))
     → AreThreads parts numbers old.threads stacks → IsThreadAdded parts number old stacks new after
     → AreThreads parts (numbers ++ number ∷ []) new.threads after
-one_added parts number numbers old new stacks after a added =
+one_behind parts number numbers old new stacks after a added =
     subst (λ (ss : List (List ShownEntry)). AreThreads parts (numbers ++ number ∷ []) new.threads ss) (sym added.stacks_are)
     (subst (λ (ts : ThreadTable). AreThreads parts (numbers ++ number ∷ []) ts.threads (stacks ++ added.stack ∷ [])) (sym added.read.after)
     (threads_more parts numbers old.threads stacks number added.read.thread added.stack a (added.row, added.stands, added.read.is_row)))
+
+pub one_added : (parts : List (List ℕ)) (main at number : ℕ) (others : List ℕ) (old new : ThreadTable) (stacks after : List (List ShownEntry)) → at < length others
+    → number ≡ get_or others at number → AreThreads parts (main ∷ take at others) old.threads stacks → IsThreadAdded parts number old stacks new after
+    → AreThreads parts (main ∷ take (at + 1) others) new.threads after
+one_added parts main at number others old new stacks after there is a added =
+    let more : take at others ++ number ∷ [] ≡ take (at + 1) others = ap (λ (n : ℕ). take at others ++ n ∷ []) is ∙ sym (take_more others at number there) in
+    subst (λ (ns : List ℕ). AreThreads parts (main ∷ ns) new.threads after) more (one_behind parts number (main ∷ take at others) old new stacks after a added)
 
 -- ---- a state
 

@@ -65,6 +65,7 @@ fn printed_of(alloc: Global, parts: &WordTable, number: u32) -> Result<Vec<i32>,
 
 /// What threads share, by what is kept beside objects and threads, the numbers of objects and threads, and the flags of
 /// inflated locks.
+#[tactic(auto, using(crate::proofs::Read::shared_read))]
 fn read_shared(
     alloc: Global,
     parts: &WordTable,
