@@ -87,6 +87,17 @@ module _ (s : StatesOf) (number : ℕ) (lt : number < length s.schedules) (accep
         is = record { accepted = accepted.accepted; program = accepted.program; shown = has.run.shown };
       }
 
+  -- so is the one that is resumed
+  module _ (p : LinkedProgram) (limits : Limits) (p_is : p ≡ s.program) (limits_are : limits ≡ s.limits) where
+    own : machine_of s.program s.limits copy ≡ machine_of p limits copy
+    own = ap (λ (x : LinkedProgram). machine_of x s.limits copy) (sym p_is) ∙ ap (λ (l : Limits). machine_of p l copy) (sym limits_are)
+
+    pub resumed : IsMachine (machine_of p limits copy)
+    resumed = subst IsMachine own again_whole
+
+    pub resumed_in : (m : MachineOf) → m ≡ machine_of p limits copy → IsInState s number m
+    resumed_in m is = subst (IsInState s number) (own ∙ sym is) again_in
+
 -- ---- the row of one more is made
 
 module _ (k mid : KeptStates) (s : StatesOf) (m : Shared) (kept : AreKept k s) (made : IsRowMade m k mid) where
@@ -170,6 +181,11 @@ module _ (k mid : KeptStates) (s : StatesOf) (m : Shared) (kept : AreKept k s) (
             → IsKeptAt new s.program s.limits number others
         by number others is (inl h) = last number others is h.1
         by number others is (inr h) = before number others is h.1
+
+-- it has the number behind the others
+pub added_at : (number : ℕ) (one other : Shared) (old new : KeptStates) → one ≡ other → IsStateAdded number one old new → IsStateAdded (length old.states) other old new
+added_at number one other old new same step =
+    subst (λ n. IsStateAdded n other old new) step.number_is (subst (λ s. IsStateAdded number s old new) same step)
 
 -- ---- one more state, whose schedule goes on by an entry
 

@@ -131,7 +131,8 @@ impl States {
         requires { number < length self.now.schedules }
         ensures { IfOk result (IsStateOf self.now number) }
     {
-        self.kept.read(number)
+        let state = self.kept.read(number)?;
+        Ok(state)
     }
 
     /// A machine in the state of a number, in the room of another one. The only error is a want of memory.
@@ -170,7 +171,7 @@ impl States {
         new_states_are_met();
         let mut states = self;
         states.kept.write(machine.shared(), Some(state))?;
-        if states.kept.find().is_some() {
+        if let Some(_met) = states.kept.find() {
             return Ok((true, states));
         }
         if states.tree.len() >= most {
