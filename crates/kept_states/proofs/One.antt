@@ -1,5 +1,5 @@
 -- A row of a state stands for one state, but for which locks are inflated; and it goes on to stand for it.
-use Rattle.std.proofs.Common.{◌≡◌, ℕ, ◌+◌, List, [], ◌∷◌, ◌++◌, length, map, refl, sym, ◌∙◌, ap, subst, Some, Bool, arith}
+use Rattle.std.proofs.Common.{◌≡◌, ℕ, List, [], ◌∷◌, refl, sym, ◌∙◌, ap, subst, Bool, arith}
 use Rattle.model.specs.State.{Monitor, Thread}
 use Rattle.heap.specs.monitor.Locks.{Locks}
 use Rattle.heap.specs.Heap.{Object, Heap}
@@ -8,7 +8,7 @@ use Rattle.thread_stacks.specs.Stacks.{ShownEntry}
 use Rattle.word_table.specs.Lists.{StandsFor, Grows}
 use Rattle.kept_parts.specs.Rows.{flags_row}
 use Rattle.kept_parts.specs.Threads.{IsThreadRow}
-use Rattle.kept_parts.specs.Heaps.{AreObjects, IsHeapKept}
+use Rattle.kept_parts.specs.Heaps.{AreObjects}
 use Rattle.kept_parts.proofs.Codes.{head_is, tail_is, flags_one, thread_one}
 use Rattle.kept_parts.proofs.Kept.{stands_one, objects_stand_one, objects_stay}
 use Rattle.machine_state.specs.declared.state.ClassStatus.{ClassStatus}
@@ -17,7 +17,7 @@ use Rattle.machine_state.specs.declared.state.Shared.{Shared}
 use Rattle.machine_state.specs.same_states.Same.{AreAlike}
 use Rattle.kept_states.specs.declared.numbered.GlobalNumbers.{GlobalNumbers}
 use Rattle.kept_states.specs.Rows.{status_code, statuses_row, ints_of}
-use Rattle.kept_states.specs.States.{AreThreads, globals_row, AreGlobals, IsStateRow, AreFat, AreTheSame}
+use Rattle.kept_states.specs.States.{AreThreads, globals_row, IsStateRow, AreFat, AreTheSame}
 
 -- ---- how far classes are
 

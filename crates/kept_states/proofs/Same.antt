@@ -12,7 +12,7 @@ use Rattle.machine_state.specs.limits_at_words.FatLocks.{AreFlags}
 use Rattle.machine_state.specs.declared.state.ClassStatus.{ClassStatus}
 use Rattle.machine_state.specs.declared.state.Shared.{Shared}
 use Rattle.machine_state.specs.shown_objects.Shown.{ShowsObjects, ShowsStatics}
-use Rattle.machine_state.specs.Shown.{ShowsStatuses, AreInitialised, ShowsWorld, HasBounds, Represents}
+use Rattle.machine_state.specs.Shown.{ShowsStatuses, AreInitialised, ShowsWorld, HasBounds}
 use Rattle.machine_state.specs.state_events.Whole.{ShowsStacks, IsShown}
 use Rattle.machine_state.specs.shown_runs.Runs.{HasRun}
 use Rattle.kept_states.specs.States.{AreTheSame}

@@ -1,9 +1,8 @@
 -- What is written of a state, and read again.
-use Rattle.std.proofs.Common.{◌≡◌, ℕ, zero, suc, ◌+◌, ◌<◌, ◌≤◌, List, [], ◌∷◌, ◌++◌, length, take, get_or, refl, sym, ◌∙◌, ap, subst, Option, Some, None, Result, Ok, Err, Bor, arith, append_assoc, append-nil}
+use Rattle.std.proofs.Common.{◌≡◌, ℕ, zero, suc, ◌+◌, ◌<◌, List, [], ◌∷◌, ◌++◌, length, take, get_or, refl, sym, ◌∙◌, ap, subst, Option, Some, None, Result, Ok, Err, Bor, arith, append_assoc, append-nil}
 use Rattle.std.specs.Prelude.{slice_get, IfSome, OnOk, IfOk, ℤ}
 use Rattle.std.specs.Int.{w32, cast_signed}
 use Rattle.std.proofs.lemmas.List.{take_more, take_all, map-append, get_or_read}
-use Rattle.std.proofs.lemmas.Option.{slice_get-get_or}
 use Rattle.model.specs.State.{Thread, new_thread}
 use Rattle.heap.specs.java_threads.Table.{ThreadTable, thread_at}
 use Rattle.thread_stacks.specs.Stacks.{ShownEntry}
@@ -18,8 +17,8 @@ use Rattle.machine_state.specs.declared.state.Shared.{Shared}
 use Rattle.kept_states.specs.declared.numbered.GlobalNumbers.{GlobalNumbers}
 use Rattle.kept_states.specs.declared.numbered.Numbered.{Numbered}
 use Rattle.kept_states.specs.declared.globals.Globals.{Globals}
-use Rattle.kept_states.specs.Rows.{statuses_row, ints_of, ArePushed}
-use Rattle.kept_states.specs.States.{AreThreads, HasThread, IsThreadWritten, AreThreadsPushed, IsThreadAdded, globals_row, AreGlobals, AreNumbersWritten, IsPrintedWritten, AreGlobalsWritten, IsStateRow, AreFat, IsSharedRead}
+use Rattle.kept_states.specs.Rows.{statuses_row, ArePushed}
+use Rattle.kept_states.specs.States.{AreThreads, AreThreadsBehind, IsThreadWritten, AreThreadsPushed, IsThreadAdded, globals_row, AreGlobals, AreNumbersWritten, IsPrintedWritten, AreGlobalsWritten, IsStateRow, IsSharedRead}
 use Rattle.kept_states.specs.Kept.{IsNumbered, IsThreadSame, IsState, IsStateAdded, IsRowMade}
 use Rattle.kept_states.specs.declared.states.KeptStates.{KeptStates}
 use Rattle.kept_states.proofs.One.{threads_stay}
@@ -31,6 +30,14 @@ on_ok (Err e) P Q step h = tt
 pub if_ok : {T E : Type 0} (r : Result T E) (P Q : T → Type 0) → ((x : T) → P x → Q x) → IfOk r P → IfOk r Q
 if_ok (Ok x) P Q step h = step x h
 if_ok (Err e) P Q step h = tt
+
+pub on_ok_both : {T E : Type 0} (r : Result T E) (P Q R : Type 0) → (P → Q → R) → OnOk r P → OnOk r Q → OnOk r R
+on_ok_both (Ok x) P Q R step h k = step h k
+on_ok_both (Err e) P Q R step h k = tt
+
+pub if_ok_three : {T E : Type 0} (r : Result T E) (P Q R S : T → Type 0) → ((x : T) → P x → Q x → R x → S x) → IfOk r P → IfOk r Q → IfOk r R → IfOk r S
+if_ok_three (Ok x) P Q R S step h k l = step x h k l
+if_ok_three (Err e) P Q R S step h k l = tt
 
 pub grows_on : (a b c : List (List ℕ)) → Grows a b → Grows b c → Grows a c
 grows_on a b c f g = record { kept = λ number words stands. g.kept number words (f.kept number words stands) }
@@ -223,12 +230,24 @@ one_behind parts number numbers old new stacks after a added =
     (subst (λ (ts : ThreadTable). AreThreads parts (numbers ++ number ∷ []) ts.threads (stacks ++ added.stack ∷ [])) (sym added.read.after)
     (threads_more parts numbers old.threads stacks number added.read.thread added.stack a (added.row, added.stands, added.read.is_row)))
 
-pub one_added : (parts : List (List ℕ)) (main at number : ℕ) (others : List ℕ) (old new : ThreadTable) (stacks after : List (List ShownEntry)) → at < length others
-    → number ≡ get_or others at number → AreThreads parts (main ∷ take at others) old.threads stacks → IsThreadAdded parts number old stacks new after
-    → AreThreads parts (main ∷ take (at + 1) others) new.threads after
-one_added parts main at number others old new stacks after there is a added =
-    let more : take at others ++ number ∷ [] ≡ take (at + 1) others = ap (λ (n : ℕ). take at others ++ n ∷ []) is ∙ sym (take_more others at number there) in
-    subst (λ (ns : List ℕ). AreThreads parts (main ∷ ns) new.threads after) more (one_behind parts number (main ∷ take at others) old new stacks after a added)
+pub none_behind : (parts : List (List ℕ)) (ts : List Thread) (ss : List (List ShownEntry)) → AreThreadsBehind parts [] ts ss ts ss
+none_behind parts ts ss numbers a = subst (λ (ns : List ℕ). AreThreads parts ns ts ss) (sym (append-nil numbers)) a
+
+pub one_added : (parts : List (List ℕ)) (at number other : ℕ) (others : List ℕ) (ts : List Thread) (ss : List (List ShownEntry)) (old new : ThreadTable)
+    (stacks after : List (List ShownEntry)) → at < length others → number ≡ get_or others at other
+    → AreThreadsBehind parts (take at others) ts ss old.threads stacks → IsThreadAdded parts number old stacks new after
+    → AreThreadsBehind parts (take (at + 1) others) ts ss new.threads after
+one_added parts at number other others ts ss old new stacks after there is behind added numbers a =
+    let more : take at others ++ number ∷ [] ≡ take (at + 1) others = ap (λ (n : ℕ). take at others ++ n ∷ []) is ∙ sym (take_more others at other there) in
+    let whole : (numbers ++ take at others) ++ number ∷ [] ≡ numbers ++ take (at + 1) others =
+    append_assoc numbers (take at others) (number ∷ []) ∙ ap (λ (ns : List ℕ). numbers ++ ns) more in
+    subst (λ (ns : List ℕ). AreThreads parts ns new.threads after) whole
+    (one_behind parts number (numbers ++ take at others) old new stacks after (behind numbers a) added)
+
+pub all_read : (parts : List (List ℕ)) (main : ℕ) (numbers others : List ℕ) (old : List Thread) (stack : List ShownEntry) (new : List Thread)
+    (stacks : List (List ShownEntry)) → numbers ≡ main ∷ others → AreThreads parts (main ∷ []) old (stack ∷ [])
+    → AreThreadsBehind parts others old (stack ∷ []) new stacks → AreThreads parts numbers new stacks
+all_read parts main numbers others old stack new stacks is first behind = subst (λ (ns : List ℕ). AreThreads parts ns new stacks) (sym is) (behind (main ∷ []) first)
 
 -- ---- a state
 

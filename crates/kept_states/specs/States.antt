@@ -1,14 +1,12 @@
 -- A state as a list of numbers of its parts (own).
-use Rattle.std.specs.Prelude.{◌≡◌, ℕ, List, [], ◌∷◌, ◌++◌, Some, None, Bool, length, take, slice_get, slice_index_or, ℤ}
+use Rattle.std.specs.Prelude.{◌≡◌, ℕ, List, [], ◌∷◌, ◌++◌, take, slice_index_or, ℤ}
 use Rattle.model.specs.State.{Thread}
-use Rattle.heap.specs.Heap.{Heap}
 use Rattle.heap.specs.java_threads.Table.{ThreadTable, thread_at}
 use Rattle.thread_stacks.specs.Stacks.{ShownEntry}
 use Rattle.word_table.specs.Lists.{StandsFor, Grows}
 use Rattle.kept_parts.specs.Rows.{flags_row}
 use Rattle.kept_parts.specs.Heaps.{IsHeapKept, IsHeapRead}
 use Rattle.kept_parts.specs.Threads.{IsThreadRow, IsThreadRead}
-use Rattle.machine_state.specs.declared.state.ClassStatus.{ClassStatus}
 use Rattle.machine_state.specs.declared.state.Shared.{Shared}
 use Rattle.kept_states.specs.declared.globals.Globals.{Globals}
 use Rattle.kept_states.specs.declared.numbered.GlobalNumbers.{GlobalNumbers}
@@ -22,6 +20,12 @@ AreThreads parts [] [] [] = Unit {0}
 AreThreads parts (number ∷ numbers) (thread ∷ threads) (stack ∷ stacks) =
     ((row : List ℕ) × StandsFor parts number row × IsThreadRow row thread stack) × AreThreads parts numbers threads stacks
 AreThreads parts numbers threads stacks = ⊥
+
+-- threads with these numbers were put behind whatever threads there were
+abbrev pub AreThreadsBehind : List (List ℕ) → (others : List ℕ) → (old : List Thread) → (old_stacks : List (List ShownEntry)) → (new : List Thread)
+    → (new_stacks : List (List ShownEntry)) → Type 0
+AreThreadsBehind parts others old old_stacks new new_stacks =
+    (numbers : List ℕ) → AreThreads parts numbers old old_stacks → AreThreads parts (numbers ++ others) new new_stacks
 
 -- the thread of a number has this one
 abbrev pub HasThread : List (List ℕ) → (number : ℕ) → Shared → (thread : ℕ) → Type 0

@@ -92,10 +92,25 @@ pub(crate) fn are_same_words(one: &[u32], other: &[u32]) -> bool
     one == other
 }
 
+fn is_same_status(one: ClassStatus, other: ClassStatus) -> bool
+    ensures { IsTrue result → one ≡ other }
+{
+    one == other
+}
+
 pub(crate) fn are_same_statuses(one: &[ClassStatus], other: &[ClassStatus]) -> bool
     ensures { IsTrue result → one.now ≡ other.now }
 {
-    one == other
+    let count = one.len();
+    if other.len() != count {
+        return false;
+    }
+    'statuses: for place in 0..count {
+        if !is_same_status(one[place], other[place]) {
+            return false;
+        }
+    }
+    true
 }
 
 pub(crate) fn are_same_flags(one: &[bool], other: &[bool]) -> bool

@@ -71,6 +71,13 @@ fn set_two(state: &mut Vec<u32>, first: u32, second: u32) -> Result<(), AllocErr
     push(state, second)
 }
 
+/// The number of the flags of a state, if it is kept.
+fn flags_at(fat: &[u32], number: u32) -> Option<u32>
+    ensures { result ≡ slice_get fat.now number }
+{
+    fat.get(number as usize).copied()
+}
+
 impl KeptStates {
     /// No state. The only error is a want of memory.
     pub fn new(alloc: Global) -> Result<KeptStates, AllocError>
@@ -97,7 +104,6 @@ impl KeptStates {
 
     /// Writes the parts of a state, and makes its row. Those that are the same in the state before keep their numbers.
     /// On an error, a want of memory, nothing is claimed.
-    #[tactic(auto, using(crate::proofs::Written::made, crate::proofs::Written::before_stays))]
     pub fn write(&mut self, shared: &Shared, before: Option<&Numbered>) -> Result<(), AllocError>
         requires { IfSome before (λ b. IsNumbered self.old.parts b.now) }
         ensures { OnOk result (IsRowMade shared.now self.old self.new) }
@@ -140,13 +146,12 @@ impl KeptStates {
     }
 
     /// The state of a number. An error where there is none, or where memory is wanting.
-    #[tactic(auto, using(crate::proofs::Written::state_read))]
     pub fn read(&self, number: u32) -> Result<Numbered, AllocError>
         ensures state { IfOk result (λ n. IsState self.now number n.shared) }
         ensures numbered { IfOk result (IsNumbered self.now.parts) }
     {
         let row = part(&self.states, number)?;
-        match self.fat.get(number as usize).copied() {
+        match flags_at(self.fat.as_slice(), number) {
             Some(fat) => read_numbered(self.alloc, &self.parts, row, fat),
             None => Err(AllocError),
         }

@@ -1,8 +1,8 @@
 //! Threads with their stacks, by numbers.
 
-ghost use Rattle.std.specs.Prelude.{◌≡◌, [], length, slice_get, slice_index_or, IfSome, IfOk, OnOk};
+ghost use Rattle.std.specs.Prelude.{◌≡◌, [], ◌∷◌, length, slice_get, slice_index_or, IfSome, IfOk, OnOk};
 ghost use Rattle.kept_states.specs.Kept.{IsNumbered, IsThreadSame};
-ghost use Rattle.kept_states.specs.States.{AreThreads, AreThreadsPushed, IsThreadAdded, IsThreadWritten};
+ghost use Rattle.kept_states.specs.States.{AreThreads, AreThreadsBehind, AreThreadsPushed, IsThreadAdded, IsThreadWritten};
 
 use crate::numbered::Numbered;
 use crate::reading::part;
@@ -127,8 +127,36 @@ fn read_one(
     Ok(())
 }
 
+/// The threads of these numbers, with their stacks, behind the others.
+#[tactic(auto, using(crate::proofs::Written::none_behind, crate::proofs::Written::one_added))]
+fn read_others(
+    alloc: Global,
+    parts: &WordTable,
+    others: &[u32],
+    threads: &mut Threads,
+    stacks: &mut Vec<ThreadStack>,
+) -> Result<(), AllocError>
+    ensures threads { OnOk result (AreThreadsBehind parts.now others.now threads.old.threads stacks.old.items
+        threads.new.threads stacks.new.items) }
+    ensures limit { OnOk result (threads.new.limit ≡ threads.old.limit) }
+{
+    'others: for number in others {
+        read_one(alloc, parts, *number, threads, stacks)?;
+    }
+    Ok(())
+}
+
+/// The first of these numbers, and the others. An error where there is none.
+fn first_of(numbers: &[u32]) -> Result<(u32, &[u32]), AllocError>
+    ensures { IfOk result (λ r. numbers.now ≡ r.0 ∷ r.1.now) }
+{
+    match numbers.split_first() {
+        Some((first, others)) => Ok((*first, others)),
+        None => Err(AllocError),
+    }
+}
+
 /// The threads of these numbers, with their stacks.
-#[tactic(auto, using(crate::proofs::Written::first_read, crate::proofs::Written::one_added))]
 pub(crate) fn read_threads(
     alloc: Global,
     parts: &WordTable,
@@ -138,15 +166,11 @@ pub(crate) fn read_threads(
     ensures threads { IfOk result (λ r. AreThreads parts.now numbers.now r.0.threads r.1.items) }
     ensures limit { IfOk result (λ r. r.0.limit ≡ limit) }
 {
-    let Some((main, others)) = numbers.split_first() else {
-        return Err(AllocError);
-    };
-    let row = part(parts, *main)?;
+    let (main, others) = first_of(numbers)?;
+    let row = part(parts, main)?;
     let (mut threads, stack) = read_main(alloc, row, limit)?;
     let mut stacks = Vec::with_capacity(alloc, numbers.len())?;
     stacks.push(stack)?;
-    'others: for number in others {
-        read_one(alloc, parts, *number, &mut threads, &mut stacks)?;
-    }
+    read_others(alloc, parts, others, &mut threads, &mut stacks)?;
     Ok((threads, stacks))
 }
