@@ -158,7 +158,7 @@ fn printed_number(
 }
 
 /// The numbers of what a state keeps beside objects and threads.
-#[tactic(auto, using(crate::proofs::Written::before_stays, crate::proofs::Written::all_written))]
+#[tactic(auto, using(crate::proofs::Written::all_written))]
 fn numbers_of(
     parts: &mut WordTable,
     row: &mut Vec<u32>,
@@ -247,7 +247,6 @@ fn row_number(
 }
 
 /// The number of what a state keeps beside objects and threads.
-#[tactic(auto, using(crate::proofs::Written::before_stays, crate::proofs::Written::globals_written))]
 pub(crate) fn globals_number(
     parts: &mut WordTable,
     row: &mut Vec<u32>,

@@ -19,8 +19,8 @@
 //!
 //! # Wrong bodies
 //!
-//! - `globals_before-another-limit`: the row of a state with a higher limit is taken for that of this one; refused by the
-//!   contract of `are_same_limits`.
+//! - `globals_before-another-limit`: the row of a state with a higher limit is taken for that of this one; refused by
+//!   the contract of `are_same_limits`.
 //! - `thread_before-another-stack`: a thread keeps its number though its stack has changed; refused by that of
 //!   `thread_before`.
 //! - `read-flags-of-another-state`: a state is read with the inflated locks of another one; refused by that of `read`.

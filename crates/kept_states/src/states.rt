@@ -36,7 +36,8 @@ pub struct KeptStates {
 /// The heap of a state before, with its numbers.
 #[tactic(auto, using(crate::proofs::Written::heap_is_before))]
 fn heap_before(before: Option<&Numbered>) -> Option<NumberedHeap<'_>>
-    ensures { (parts : List (List ℕ)) → IfSome before.entry (λ b. IsNumbered parts b.now) → IfSome result (AreBefore parts) }
+    ensures { (parts : List (List ℕ)) → IfSome before.entry (λ b. IsNumbered parts b.now)
+        → IfSome result (AreBefore parts) }
 {
     match before {
         Some(before) => Some(NumberedHeap {

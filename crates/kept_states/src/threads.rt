@@ -88,7 +88,7 @@ pub(crate) fn thread_number(
 }
 
 /// Puts the numbers of all threads behind other words.
-#[tactic(auto, using(crate::proofs::Written::none_pushed, crate::proofs::Written::one_pushed, crate::proofs::Written::before_stays))]
+#[tactic(auto, using(crate::proofs::Written::none_pushed, crate::proofs::Written::one_pushed))]
 pub(crate) fn push_threads(
     parts: &mut WordTable,
     row: &mut Vec<u32>,
