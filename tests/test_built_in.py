@@ -76,7 +76,7 @@ class LaidOut(unittest.TestCase):
 
     def test_constructors(self) -> None:
         found = [self.flags(methods) for methods in ("public", "private", "made", "public made", "sets")]
-        self.assertEqual(found, ["101 native", "", "1 6", "101 native 1 6", ""])
+        self.assertEqual(found, ["101 native", "", "1 6", "1 6 101 native", ""])
 
     def test_an_initialiser_that_does_something(self) -> None:
         with self.assertRaises(BuiltInFault):
