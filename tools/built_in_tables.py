@@ -2,6 +2,7 @@
 
 The class files of builtin/ are written as records `BuiltInClass` of `crates/model/specs/BuiltInForm.antt`, and as
 values `BuiltInClass` of `crates/class_tree/src/builtin/form.rt`. A class that has code is a module of its own in both.
+Its code is another one where both together would be long.
 """
 
 import pathlib
@@ -16,8 +17,8 @@ from tools.repository import ROOT
 
 SPECS, TABLES = ROOT / "crates/model/specs", ROOT / "crates/class_tree/src/builtin/tables"
 
-# How long a line may be.
-WIDTH = 116
+# How long a line may be, and how many of them a module may have.
+WIDTH, LINES = 120, 450
 
 # Flags by their names in `BuiltInForm`, and the name of a member that stands often.
 CLASS_FLAGS = {0x0021: "public_class", 0x0031: "final_class", 0x0421: "abstract_class", 0x0601: "public_interface"}
@@ -148,6 +149,16 @@ def instructions(form: Form, code: bytes) -> str:
     return ", ".join(found)
 
 
+def numbers_of(code: bytes) -> List[str]:
+    """The bytes of a code: opcodes in hexadecimal, operands in decimal."""
+    at, found = 0, []
+    while at < len(code):
+        end = at + length_at(code, at)
+        found += [f"0x{code[at]:02x}", *map(str, code[at + 1 : end])]
+        at = end
+    return found
+
+
 def comment(mark: str, text: str) -> str:
     return textwrap.fill(text, WIDTH, initial_indent=mark, subsequent_indent=mark, break_long_words=False)
 
@@ -156,8 +167,10 @@ def comment(mark: str, text: str) -> str:
 
 
 def codes(text: bytes) -> str:
-    written = text.decode("ascii").replace("\\", "\\\\").replace('"', '\\"')
-    return f'(codes "{written}")'
+    """A text, or its bytes where it has some that a text of a definition can't spell."""
+    if any(byte != 10 and not 32 <= byte < 127 for byte in text):
+        return f"({' ∷ '.join([*(f'0x{byte:02x}' for byte in text), '[]'])})"
+    return f'(codes "{"".join(map(escaped, text))}")'
 
 
 def listed(items: Iterable[str], by_line: bool) -> str:
@@ -208,17 +221,24 @@ def class_text(form: Form) -> str:
     return plain_text(form) if form.is_plain and not natives_text(form)[0] else f"{form.snake}_class"
 
 
-def model_parts(form: Form) -> Iterator[str]:
-    """The definitions of a class, the class itself last."""
-    told = form.told
-    natives, named_natives = natives_text(form)
-    if natives:
-        yield natives
+def model_codes(form: Form) -> Iterator[str]:
+    """The definitions of the methods with code, before each the instructions that it spells."""
     for name, _, one in form.coded:
         about = f"{form.pascal}.{one.name.decode()}{one.descriptor.decode()}"
         code = bytes(one.code["code"]) if one.code else b""
         about = comment("-- ", f"{about}: {instructions(form, code)}")
-        yield defined(f"{form.snake}_{name}", "List ℕ", listed((f"0x{byte:02x}" for byte in code), False), about)
+        yield defined(f"{form.snake}_{name}", "List ℕ", listed(numbers_of(code), False), about)
+    if form.coded:
+        rows = (coded_text(form, *one) for one in form.coded)
+        yield defined(f"{form.snake}_coded", "List Coded", listed(rows, True))
+
+
+def model_parts(form: Form) -> Iterator[str]:
+    """The definitions of a class without its code, the class itself last."""
+    told = form.told
+    natives, named_natives = natives_text(form)
+    if natives:
+        yield natives
     if form.is_plain:
         if natives:
             yield defined(f"{form.snake}_class", "FileTree", plain_text(form))
@@ -226,9 +246,6 @@ def model_parts(form: Form) -> Iterator[str]:
     if form.operands:
         operands = (entry_text(entry) for entry in form.operands)
         yield defined(f"{form.snake}_operands", "List Entry", listed(operands, False))
-    if form.coded:
-        rows = (coded_text(form, *one) for one in form.coded)
-        yield defined(f"{form.snake}_coded", "List Coded", listed(rows, True))
     fields = [f"field 0x{one['flags']:04x} {one['name']} {one['descriptor']}" for one in told.tree["fields"]]
     parts = {
         "flags": CLASS_FLAGS.get(told.flags, f"0x{told.flags:04x}"),
@@ -275,106 +292,157 @@ def used(text: str) -> str:
     return "".join(lines)
 
 
+def is_long(*texts: str) -> bool:
+    return sum(text.count("\n") for text in texts) > LINES
+
+
+def model_modules(form: Form) -> Iterator[Tuple[str, str]]:
+    """The names and texts of the modules of a class that has code."""
+    code, text = "\n".join(model_codes(form)), "\n".join(model_parts(form))
+    about, taken = f"-- The class {form.name} (own).\n-- {MADE}\n", ""
+    if is_long(code, text):
+        yield f"{form.pascal}Code", f"-- Code of {form.name} (own).\n-- {MADE}\n{used(code)}\n{code}"
+        taken = f"use Rattle.model.specs.built_in.{form.pascal}Code.{{{form.snake}_coded}}\n"
+    else:
+        text = f"{code}\n{text}"
+    yield form.pascal, f"{about}{used(text)}{taken}\n{text}"
+
+
 def definitions(forms: List[Form]) -> Dict[str, str]:
     """The definitions of the model, by the names of their files in its folder of definitions."""
-    found, modules = {}, ""
+    found: Dict[str, str] = {}
+    modules: Dict[str, str] = {}
     own: List[str] = []
     for form in forms:
-        text = "\n".join(model_parts(form))
         if form.coded:
-            modules += f"use Rattle.model.specs.built_in.{form.pascal}.{{{form.snake}_class}}\n"
-            about = f"-- The class {form.name} (own). {MADE}\n"
-            found[f"built_in/{form.pascal}.antt"] = f"{about}{used(text)}\n{text}"
-        elif text:
-            own.append(text)
+            modules.update(model_modules(form))
+        else:
+            own += model_parts(form)
+    taken = "".join(
+        f"use Rattle.model.specs.built_in.{form.pascal}.{{{form.snake}_class}}\n" for form in forms if form.coded
+    )
     names = listed(map(class_text, forms), True)
     own.append(f"unfoldable pub built_in_classes : List FileTree\nbuilt_in_classes ={names}\n")
     text = "\n".join(own)
-    found["BuiltIn.antt"] = f"{MODEL_HEAD}{used(text)}{modules}\n{text}"
-    found["built_in.antt"] = "".join(f"pub mod {form.pascal}\n" for form in forms if form.coded)
-    return found
+    found["BuiltIn.antt"] = f"{MODEL_HEAD}{used(text)}{taken}\n{text}"
+    found["built_in.antt"] = "".join(f"pub mod {name}\n" for name in modules)
+    return {**found, **{f"built_in/{name}.antt": text for name, text in modules.items()}}
 
 
 # ---- tables
 
 
+def escaped(byte: int) -> str:
+    written = {ord('"'): '\\"', ord("\\"): "\\\\", 10: "\\n"}
+    return written.get(byte, chr(byte) if 32 <= byte < 127 else f"\\x{byte:02x}")
+
+
 def literal(text: bytes) -> str:
-    written = text.decode("ascii").replace("\\", "\\\\").replace('"', '\\"')
-    return f'b"{written}"'
+    return f'b"{"".join(map(escaped, text))}"'
 
 
 def array(items: Iterable[str], indent: int) -> str:
     """An array, in the layout of `rt fmt`: on a line where it is short, packed where it is of numbers."""
     rows = list(items)
     one = ", ".join(rows)
-    if len(one) <= 60 or not rows:
+    if len(one) <= 60 or len(rows) == 1:
         return f"[{one}]"
     within = "\n" + " " * (indent + 4)
-    if all(re.fullmatch(r"0x..", row) for row in rows):
-        lines = textwrap.wrap(one + ",", 100 - indent - 4)
+    if all(re.fullmatch(r"0x..|\d+", row) for row in rows):
+        lines = textwrap.wrap(one + ",", 99 - indent - 4)
         return f"[{within}{within.join(lines)}\n{' ' * indent}]"
     return f"[{''.join(f'{within}{row},' for row in rows)}\n{' ' * indent}]"
 
 
-def operand_text(entry: Tuple[Any, ...]) -> str:
+def applied(name: str, arguments: Iterable[Any], indent: int) -> str:
+    """A value of a tuple's type, on a line where its parts are short."""
+    parts = [str(one) for one in arguments]
+    one = ", ".join(parts)
+    within = "\n" + " " * (indent + 4)
+    return f"{name}({one})" if len(one) <= 60 or len(parts) == 1 else f"{name}({within}{f',{within}'.join(parts)},\n{' ' * indent})"
+
+
+def operand_value(entry: Tuple[Any, ...], indent: int) -> str:
     kind, *parts = entry
-    return f"Operand::{kind}({literal(parts[0]) if kind == 'Utf8' else ', '.join(map(str, parts))})"
+    return applied(f"Operand::{kind}", [literal(parts[0])] if kind == "Utf8" else parts, indent)
 
 
-def class_value(form: Form, indent: int) -> str:
-    """A class as a value."""
+def native_value(one: Declared, indent: int) -> str:
+    return applied("Declared", [f"0x{one.flags:04x}", literal(one.name), literal(one.descriptor)], indent)
+
+
+def coded_array(form: Form, indent: int) -> str:
+    rows = []
+    for name, tree, one in form.coded:
+        code = one.code or {}
+        numbers = [tree["name"], tree["descriptor"], code["max_stack"], code["max_locals"]]
+        rows.append(applied("Coded", [f"0x{tree['flags']:04x}", *numbers, f"&{name.upper()}"], indent + 4))
+    return array(rows, indent)
+
+
+def class_value(form: Form, indent: int, coded: str = "") -> str:
+    """A class as a value, where the array of methods with code may have a name."""
     told = form.told
     fields = (f"Stored(0x{one['flags']:04x}, {one['name']}, {one['descriptor']})" for one in told.tree["fields"])
-    natives = (f"Declared(0x{one.flags:04x}, {literal(one.name)}, {literal(one.descriptor)})" for one in form.natives)
     within = "\n" + " " * (indent + 4)
     parts = {
         "flags": f"0x{told.flags:04x}",
         "name": literal(told.name),
         "superclass": f"Some({literal(told.superclass)})" if told.superclass else "None",
         "interfaces": "&" + array(map(literal, told.interfaces), indent + 4),
-        "operands": "&" + array(map(operand_text, form.operands), indent + 4),
+        "operands": "&" + array((operand_value(one, indent + 8) for one in form.operands), indent + 4),
         "fields": "&" + array(fields, indent + 4),
-        "coded": "&" + array((coded_value(*one) for one in form.coded), indent + 4),
-        "natives": "&" + array(natives, indent + 4),
+        "coded": "&" + (coded or coded_array(form, indent + 4)),
+        "natives": "&" + array((native_value(one, indent + 8) for one in form.natives), indent + 4),
     }
     lines = "".join(f"{within}{name}: {value}," for name, value in parts.items())
     return f"BuiltInClass {{{lines}\n{' ' * indent}}}"
 
 
-def coded_value(name: str, tree: Tree, one: Declared) -> str:
-    code = one.code or {}
-    numbers = f"{tree['name']}, {tree['descriptor']}, {code['max_stack']}, {code['max_locals']}"
-    return f"Coded(0x{tree['flags']:04x}, {numbers}, &{name.upper()})"
-
-
 def imported(text: str) -> str:
-    names = [name for name in ("BuiltInClass", "Coded", "Declared", "Operand", "Stored") if re.search(rf"{name}\b", text)]
-    return f"use crate::builtin::form::{{{', '.join(names)}}};\n" if len(names) > 1 else f"use crate::builtin::form::{names[0]};\n"
+    """The line that takes in what a text uses of the form."""
+    all_names = ("BuiltInClass", "Coded", "Declared", "Operand", "Stored")
+    names = [name for name in all_names if re.search(rf"\b{name}\b", text)]
+    return f"use crate::builtin::form::{names[0] if len(names) == 1 else '{' + ', '.join(names) + '}'};\n"
 
 
-def module_text(form: Form) -> str:
-    """The module of a class that has code."""
+def code_text(form: Form) -> str:
+    """The code of the methods of a class."""
     text = ""
     for name, _, one in form.coded:
         code = bytes(one.code["code"]) if one.code else b""
-        about = comment("/// ", f"{one.name.decode()}{one.descriptor.decode()}: {instructions(form, code)}.")
-        text += f"{about}\nconst {name.upper()}: [u8; {len(code)}] = {array((f'0x{b:02x}' for b in code), 0)};\n\n"
-    about = f"//! The class {form.name}. {MADE}\n"
-    text += f"pub(crate) const {form.snake.upper()}: BuiltInClass = {class_value(form, 0)};\n"
-    return f"{about}\n{imported(text)}\n{text}"
+        text += f"/// The code of `{one.name.decode()}{one.descriptor.decode()}`.\n"
+        text += f"const {name.upper()}: [u8; {len(code)}] = {array(numbers_of(code), 0)};\n\n"
+    return text
+
+
+def table_modules(form: Form) -> Iterator[Tuple[str, str]]:
+    """The names and texts of the modules of a class that has code."""
+    begin, taken = f"pub(crate) const {form.snake.upper()}: BuiltInClass = ", ""
+    text, code = f"{begin}{class_value(form, 0)};\n", code_text(form)
+    if is_long(code, text):
+        about = f"//! Code of {form.name}.\n//!\n//! {MADE}\n"
+        row = f"pub(crate) const CODED: [Coded; {len(form.coded)}] = {coded_array(form, 0)};\n"
+        yield f"{form.snake}_code", f"{about}\n{imported(row)}\n{code}{row}"
+        text = f"{begin}{class_value(form, 0, 'CODED')};\n"
+        taken = f"use crate::builtin::tables::{form.snake}_code::CODED;\n"
+    else:
+        text = f"{code}{text}"
+    yield form.snake, f"//! The class {form.name}.\n//!\n//! {MADE}\n\n{imported(text)}{taken}\n{text}"
 
 
 def tables(forms: List[Form]) -> Dict[str, str]:
     """The tables of `class_tree`, by the names of their files in the folder of its module `builtin::tables`."""
-    own = [form for form in forms if form.coded]
+    own = {form.snake: table_modules(form) for form in forms if form.coded}
+    found = dict(module for modules in own.values() for module in modules)
     rows = (form.snake.upper() if form.coded else class_value(form, 4) for form in forms)
     text = f"pub(crate) const CLASSES: [BuiltInClass; {len(forms)}] = {array(rows, 0)};\n"
-    modules = "".join(f"mod {form.snake};\n" for form in sorted(own, key=lambda form: form.snake))
-    taken = "".join(f"use crate::builtin::tables::{form.snake}::{form.snake.upper()};\n" for form in own)
-    about = f"//! The built-in classes, in their order. {MADE}\n"
+    modules = "".join(f"mod {name};\n" for name in sorted(found))
+    taken = "".join(f"use crate::builtin::tables::{name}::{name.upper()};\n" for name in sorted(own))
+    about = f"//! The built-in classes as tables.\n//!\n//! {MADE}\n"
     listed_about = "/// The built-in classes, in the order of the definitions.\n"
-    found = {"mod.rt": f"{about}\n{modules}\n{imported(text)}{taken}\n{listed_about}{text}"}
-    return {**found, **{f"{form.snake}.rt": module_text(form) for form in own}}
+    head = f"{about}\n{modules}\n{imported(text)}{taken}\n{listed_about}{text}"
+    return {"mod.rt": head, **{f"{name}.rt": text for name, text in found.items()}}
 
 
 # ---- what is made, and what is there

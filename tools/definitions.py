@@ -17,6 +17,9 @@ OTHER = ("abbrev", "unfoldable", "pub", "use")
 # How strongly an operator binds what stands beside it; each of them binds from the right.
 OPERATORS = {"∷": 1, "++": 1, "+": 2, "*": 3}
 
+# What stands for what in a text.
+ESCAPES = {"n": "\n"}
+
 Scope = Dict[str, Any]
 
 
@@ -117,7 +120,7 @@ class Expression:
         if token == "record":
             return self.record()
         if token[0] == '"':
-            return token[1:-1].encode("ascii")
+            return re.sub(r"\\(.)", lambda found: ESCAPES.get(found[1], found[1]), token[1:-1]).encode("ascii")
         if token[0].isdigit():
             return int(token, 0)
         return self.named(token)

@@ -1,4 +1,6 @@
-//! The built-in classes, in their order. Made by `tools/build-built-in` of the class files of builtin/classes. Not to be edited.
+//! The built-in classes as tables.
+//!
+//! Made by `tools/build-built-in` of the class files of builtin/classes. Not to be edited.
 
 mod thread;
 

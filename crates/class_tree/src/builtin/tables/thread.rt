@@ -1,12 +1,12 @@
-//! The class java/lang/Thread. Made by `tools/build-built-in` of the class files of builtin/classes. Not to be edited.
+//! The class java/lang/Thread.
+//!
+//! Made by `tools/build-built-in` of the class files of builtin/classes. Not to be edited.
 
 use crate::builtin::form::{BuiltInClass, Coded, Declared, Operand, Stored};
 
-/// run()V: 0 aload_0, 1 getfield target, 4 ifnull 16, 7 aload_0, 8 getfield target, 11 invokeinterface
-/// Runnable.run, 16 return.
+/// The code of `run()V`.
 const RUN: [u8; 17] = [
-    0x2a, 0xb4, 0x00, 0x0a, 0xc6, 0x00, 0x0c, 0x2a, 0xb4, 0x00, 0x0a, 0xb9, 0x00, 0x0e, 0x01, 0x00,
-    0xb1,
+    0x2a, 0xb4, 0, 10, 0xc6, 0, 12, 0x2a, 0xb4, 0, 10, 0xb9, 0, 14, 1, 0, 0xb1,
 ];
 
 pub(crate) const THREAD: BuiltInClass = BuiltInClass {
