@@ -359,7 +359,9 @@ def applied(name: str, arguments: Iterable[Any], indent: int) -> str:
     parts = [str(one) for one in arguments]
     one = ", ".join(parts)
     within = "\n" + " " * (indent + 4)
-    return f"{name}({one})" if len(one) <= 60 or len(parts) == 1 else f"{name}({within}{f',{within}'.join(parts)},\n{' ' * indent})"
+    if len(one) <= 60 or len(parts) == 1:
+        return f"{name}({one})"
+    return f"{name}({within}{f',{within}'.join(parts)},\n{' ' * indent})"
 
 
 def operand_value(entry: Tuple[Any, ...], indent: int) -> str:
