@@ -227,7 +227,7 @@ def model_codes(form: Form) -> Iterator[str]:
         about = f"{form.pascal}.{one.name.decode()}{one.descriptor.decode()}"
         code = bytes(one.code["code"]) if one.code else b""
         about = comment("-- ", f"{about}: {instructions(form, code)}")
-        yield defined(f"{form.snake}_{name}", "List ℕ", listed(numbers_of(code), False), about)
+        yield defined(f"{form.snake}_{name}_code", "List ℕ", listed(numbers_of(code), False), about)
     if form.coded:
         rows = (coded_text(form, *one) for one in form.coded)
         yield defined(f"{form.snake}_coded", "List Coded", listed(rows, True))
@@ -268,7 +268,7 @@ def closed(text: str) -> str:
 def coded_text(form: Form, name: str, tree: Tree, one: Declared) -> str:
     code = one.code or {}
     numbers = f"{tree['name']} {tree['descriptor']} {code['max_stack']} {code['max_locals']}"
-    return f"coded 0x{tree['flags']:04x} {numbers} {form.snake}_{name}"
+    return f"coded 0x{tree['flags']:04x} {numbers} {form.snake}_{name}_code"
 
 
 # Where the definitions come from that made ones use.

@@ -6,13 +6,13 @@ use Rattle.model.specs.BuiltInForm.{Declared, declared, field, Coded, coded, tre
 
 -- Thread.run()V: 0 aload_0, 1 getfield target, 4 ifnull 16, 7 aload_0, 8 getfield target, 11 invokeinterface
 -- Runnable.run, 16 return
-abbrev pub thread_run : List ℕ
-thread_run =
+abbrev pub thread_run_code : List ℕ
+thread_run_code =
     0x2a ∷ 0xb4 ∷ 0 ∷ 10 ∷ 0xc6 ∷ 0 ∷ 12 ∷ 0x2a ∷ 0xb4 ∷ 0 ∷ 10 ∷ 0xb9 ∷ 0 ∷ 14 ∷ 1 ∷ 0 ∷ 0xb1 ∷ []
 
 abbrev pub thread_coded : List Coded
 thread_coded =
-    coded 0x0001 11 12 1 1 thread_run
+    coded 0x0001 11 12 1 1 thread_run_code
     ∷ []
 
 abbrev pub thread_methods : List Declared
