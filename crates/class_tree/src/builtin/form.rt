@@ -1,11 +1,12 @@
 //! A class by its names, its members and what its code names.
 
-ghost use Rattle.std.specs.Prelude.{◌≡◌, ◌+◌, ◌*◌, ◌<◌, ◌^◌, ◌++◌, true, [], ◌∷◌, length, map, IfOk, OnOk};
-ghost use Rattle.model.specs.BuiltInForm.{texts_of, methods_from, classes_from, indices_from, with_code, methods_with_code, operands_end, tree_of};
+ghost use Rattle.std.specs.Prelude.{◌≡◌, ◌+◌, ◌*◌, ◌<◌, ◌^◌, ◌++◌, [], ◌∷◌, length, map, IfOk, OnOk};
+ghost use Rattle.std.specs.Option.{option_map};
+ghost use Rattle.model.specs.BuiltInForm.{texts_of, methods_from, classes_from, indices_from, with_code, methods_with_code, super_index, operands_end, tree_of};
 ghost use Rattle.model.specs.Tree.{Utf8, Class};
 ghost use Rattle.constant_pool.specs.View.{entry_of, entries_of};
 ghost use Rattle.class_tree.specs.View.{field_of, method_of, file_of};
-ghost use Rattle.class_tree.specs.builtin.View.{operand_of, operands_of, fields_in, coded_in, codes_in, members_of, class_of, fits};
+ghost use Rattle.class_tree.specs.builtin.View.{operand_of, operands_of, fields_in, coded_in, codes_in, members_of, class_of};
 
 use crate::{ClassFile, Code, Constant, Field, Method, MethodAttribute, Pool};
 use std::alloc::{AllocError, Global};
@@ -157,7 +158,7 @@ fn push_texts(
 
 /// The constant pool of a class: names of classes, what code and fields name, and the texts of methods without code.
 fn pool_of(alloc: Global, class: &BuiltInClass) -> Result<Vec<Constant>, AllocError>
-    requires { fits class.now ≡ true }
+    requires { 5 + 2 * length class.now.interfaces.now + length class.now.operands.now + 2 * length class.now.natives.now < 2 ^ 16 }
     ensures { IfOk result (λ v. entries_of v.items ≡ (tree_of (class_of class.now)).pool) }
 {
     let mut pool = Vec::new(alloc);
@@ -267,16 +268,19 @@ fn push_methods(
 
 /// How many entries the constant pool has before the texts of methods without code.
 fn operands_end(class: &BuiltInClass) -> u16
-    requires { fits class.now ≡ true }
+    requires { 5 + 2 * length class.now.interfaces.now + length class.now.operands.now + 2 * length class.now.natives.now < 2 ^ 16 }
     ensures { result ≡ operands_end (class_of class.now) }
 {
-    let own = if class.superclass.is_some() { 2 } else { 1 };
-    (2 * (own + class.interfaces.len()) + class.operands.len()) as u16
+    let behind = 2 * class.interfaces.len() + class.operands.len();
+    match class.superclass {
+        Some(_) => (4 + behind) as u16,
+        None => (2 + behind) as u16,
+    }
 }
 
 /// The methods: those with code, then those without.
 fn methods_of(alloc: Global, class: &BuiltInClass) -> Result<Vec<Method>, AllocError>
-    requires { fits class.now ≡ true }
+    requires { 5 + 2 * length class.now.interfaces.now + length class.now.operands.now + 2 * length class.now.natives.now < 2 ^ 16 }
     ensures { IfOk result (λ v. map method_of v.items ≡ (tree_of (class_of class.now)).methods) }
 {
     let end = operands_end(class);
@@ -286,16 +290,26 @@ fn methods_of(alloc: Global, class: &BuiltInClass) -> Result<Vec<Method>, AllocE
     Ok(methods)
 }
 
+/// The index of the superclass, 0 where there is none.
+fn super_index(superclass: Option<&[u8]>) -> u16
+    ensures { result ≡ super_index (option_map (λ name. name.now) superclass) }
+{
+    match superclass {
+        Some(_) => 4,
+        None => 0,
+    }
+}
+
 /// The class file of a built-in class.
 pub(crate) fn class_file(alloc: Global, class: &BuiltInClass) -> Result<ClassFile, AllocError>
-    requires { fits class.now ≡ true }
+    requires { 5 + 2 * length class.now.interfaces.now + length class.now.operands.now + 2 * length class.now.natives.now < 2 ^ 16 }
     ensures { IfOk result (λ c. file_of c ≡ tree_of (class_of class.now)) }
 {
     Ok(ClassFile {
         pool: Pool::new(pool_of(alloc, class)?),
         flags: class.flags,
         this_class: 2,
-        super_class: if class.superclass.is_some() { 4 } else { 0 },
+        super_class: super_index(class.superclass),
         interfaces: interfaces_of(alloc, class.interfaces)?,
         fields: fields_of(alloc, class.fields)?,
         methods: methods_of(alloc, class)?,
