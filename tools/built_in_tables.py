@@ -438,7 +438,7 @@ def tables(forms: List[Form]) -> Dict[str, str]:
     own = {form.snake: table_modules(form) for form in forms if form.coded}
     found = dict(module for modules in own.values() for module in modules)
     rows = (form.snake.upper() if form.coded else class_value(form, 4) for form in forms)
-    text = f"pub(crate) const CLASSES: [BuiltInClass; {len(forms)}] = {array(rows, 0)};\n"
+    text = f"pub(crate) static CLASSES: [BuiltInClass; {len(forms)}] = {array(rows, 0)};\n"
     modules = "".join(f"mod {name};\n" for name in sorted(found))
     taken = "".join(f"use crate::builtin::tables::{name}::{name.upper()};\n" for name in sorted(own))
     about = f"//! The built-in classes as tables.\n//!\n//! {MADE}\n"

@@ -25,11 +25,18 @@ fn push_classes(
     Ok(())
 }
 
+/// The tables of the built-in classes.
+fn tables() -> &'static [BuiltInClass]
+    ensures { (all_fit result.now ≡ true) × (trees_of result.now ≡ classes_of_the_model) }
+{
+    &CLASSES
+}
+
 /// The built-in classes, in the order of the definitions.
 pub fn built_in_classes(alloc: Global) -> Result<Vec<ClassFile>, AllocError>
     ensures { IfOk result (λ v. map file_of v.items ≡ classes_of_the_model) }
 {
     let mut classes = Vec::new(alloc);
-    push_classes(&mut classes, alloc, &CLASSES)?;
+    push_classes(&mut classes, alloc, tables())?;
     Ok(classes)
 }

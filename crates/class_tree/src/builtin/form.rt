@@ -1,8 +1,7 @@
 //! A class by its names, its members and what its code names.
 
 ghost use Rattle.std.specs.Prelude.{◌≡◌, ◌+◌, ◌*◌, ◌<◌, ◌^◌, ◌++◌, [], ◌∷◌, length, map, IfOk, OnOk};
-ghost use Rattle.std.specs.Option.{option_map};
-ghost use Rattle.model.specs.BuiltInForm.{texts_of, methods_from, classes_from, indices_from, with_code, methods_with_code, super_index, operands_end, tree_of};
+ghost use Rattle.model.specs.BuiltInForm.{texts_of, methods_from, classes_from, indices_from, with_code, methods_with_code, operands_end, tree_of};
 ghost use Rattle.model.specs.Tree.{Utf8, Class};
 ghost use Rattle.constant_pool.specs.View.{entry_of, entries_of};
 ghost use Rattle.class_tree.specs.View.{field_of, method_of, file_of};
@@ -291,10 +290,10 @@ fn methods_of(alloc: Global, class: &BuiltInClass) -> Result<Vec<Method>, AllocE
 }
 
 /// The index of the superclass, 0 where there is none.
-fn super_index(superclass: Option<&[u8]>) -> u16
-    ensures { result ≡ super_index (option_map (λ name. name.now) superclass) }
+fn super_index(class: &BuiltInClass) -> u16
+    ensures { result ≡ (tree_of (class_of class.now)).super_class }
 {
-    match superclass {
+    match class.superclass {
         Some(_) => 4,
         None => 0,
     }
@@ -309,7 +308,7 @@ pub(crate) fn class_file(alloc: Global, class: &BuiltInClass) -> Result<ClassFil
         pool: Pool::new(pool_of(alloc, class)?),
         flags: class.flags,
         this_class: 2,
-        super_class: super_index(class.superclass),
+        super_class: super_index(class),
         interfaces: interfaces_of(alloc, class.interfaces)?,
         fields: fields_of(alloc, class.fields)?,
         methods: methods_of(alloc, class)?,

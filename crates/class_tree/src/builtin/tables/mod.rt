@@ -8,7 +8,7 @@ use crate::builtin::form::{BuiltInClass, Declared, Operand, Stored};
 use crate::builtin::tables::thread::THREAD;
 
 /// The built-in classes, in the order of the definitions.
-pub(crate) const CLASSES: [BuiltInClass; 30] = [
+pub(crate) static CLASSES: [BuiltInClass; 30] = [
     BuiltInClass {
         flags: 0x0021,
         name: b"java/lang/Object",
