@@ -22,5 +22,5 @@ mod returning;
 mod unwinding;
 
 pub use places::next_place_of_top;
-pub use returning::{return_alone, return_from};
+pub use returning::return_from;
 pub use unwinding::unwind;

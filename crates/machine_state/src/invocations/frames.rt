@@ -20,6 +20,31 @@ fn operand_count(stack: &ThreadStack) -> usize
     }
 }
 
+/// The frame on top calls a method, whose monitor the thread enters. All else is as for `call`.
+fn call_entering(
+    shared: &mut Shared,
+    stack: &mut ThreadStack,
+    thread: u16,
+    callee: Callee,
+    parameters: usize,
+) -> Result<Effect, EventRefusal>
+    requires there { IsThere callee.entered shared.old.heap }
+    requires numbered { thread < most_threads }
+{
+    if !may_begin(&shared.heap, thread, callee.entered) {
+        return Ok(Effect::NotEnabled);
+    }
+    let taken = parameters.min(operand_count(stack));
+    stack.call(callee, parameters)?;
+    match enter_for(shared, thread, callee.entered) {
+        Ok(()) => Ok(Effect::Done),
+        Err(refusal) => {
+            stack.take_back(taken);
+            Err(refusal)
+        }
+    }
+}
+
 /// The frame on top calls a method with code: a new frame stands over it, whose first local variables are its last
 /// operands, so many as the method has parameters and a receiver, and they are taken from it. The thread enters the
 /// monitor of a synchronized method. A stack has at most so many frames; where it has, a StackOverflowError is raised
@@ -28,6 +53,7 @@ fn operand_count(stack: &ThreadStack) -> usize
 /// # Errors
 ///
 /// At the limits of fat locks and of the entries of an owner, or where there is no memory. Nothing has changed then.
+#[inline]
 pub fn call(
     shared: &mut Shared,
     stack: &mut ThreadStack,
@@ -43,18 +69,11 @@ pub fn call(
     if stack.frame_count() >= frames {
         return Ok(Effect::Raises(MachineException::StackOverflow));
     }
-    if !may_begin(&shared.heap, thread, callee.entered) {
-        return Ok(Effect::NotEnabled);
+    if callee.entered.is_some() {
+        return call_entering(shared, stack, thread, callee, parameters);
     }
-    let taken = parameters.min(operand_count(stack));
     stack.call(callee, parameters)?;
-    match enter_for(shared, thread, callee.entered) {
-        Ok(()) => Ok(Effect::Done),
-        Err(refusal) => {
-            stack.take_back(taken);
-            Err(refusal)
-        }
-    }
+    Ok(Effect::Done)
 }
 
 /// A method with code is called by no frame, as an initialiser, `main` or `run`: its frame, with these arguments,

@@ -18,12 +18,10 @@
 //!
 //! - Not proved: that there is no memory where the answer says so.
 
-mod at_once;
 mod calls;
 mod events;
 mod fields;
 mod first;
 mod own;
 
-pub use at_once::{frame_at_once, instruction_at_once};
 pub use events::{instruction_event, known_instruction_event};
