@@ -9,9 +9,6 @@
 //!   IncompatibleClassChangeError, an abstract method an AbstractMethodError. A method with code gets a frame and
 //!   enters its monitor; a built-in one is done at once, and a notify wakes the member that is picked. Unless it is
 //!   done, nothing has changed. A static synchronized method enters the Class object of the class that declares it.
-//!   `call_static`, `call_special`, `call_virtual` and `call_interface` answer that the method is called only where
-//!   that is done and nothing that is shared has changed; else nothing has changed at all. That they ever answer so
-//!   isn't asked: they spare time.
 //!
 //! # Not proved
 //!

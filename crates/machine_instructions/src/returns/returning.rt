@@ -1,9 +1,7 @@
 //! Returns to the invoker.
 
-ghost use Rattle.std.specs.Prelude.{◌≡◌, ◌-◌, ℕ, Ok, true, false, drop, length, option_to_list, OnOk, OnErr};
+ghost use Rattle.std.specs.Prelude.{◌≡◌, ℕ, true, false, drop, option_to_list, OnOk, OnErr};
 ghost use Rattle.thread_stacks.specs.Stacks.{moved, returned, on_top};
-ghost use Rattle.machine_state.specs.declared.answers.Effect.TheVariants as effect;
-ghost use Rattle.machine_state.specs.declared.state.Shared.{Shared};
 ghost use Rattle.machine_instructions.specs.returns.Returned.{result_in, returning, IsGiven};
 ghost use Rattle.machine_state.specs.linked_frames.Frames.{DoesOwn};
 

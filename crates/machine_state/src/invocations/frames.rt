@@ -20,17 +20,22 @@ fn operand_count(stack: &ThreadStack) -> usize
     }
 }
 
-/// The frame on top calls a method, whose monitor the thread enters. All else is as for `call`.
+/// Does what `call` does, of a method whose monitor is entered.
 fn call_entering(
     shared: &mut Shared,
     stack: &mut ThreadStack,
     thread: u16,
     callee: Callee,
     parameters: usize,
+    frames: usize,
 ) -> Result<Effect, EventRefusal>
     requires there { IsThere callee.entered shared.old.heap }
     requires numbered { thread < most_threads }
+    ensures { DoesCall result thread callee parameters frames shared.old shared.new stack.old stack.new }
 {
+    if stack.frame_count() >= frames {
+        return Ok(Effect::Raises(MachineException::StackOverflow));
+    }
     if !may_begin(&shared.heap, thread, callee.entered) {
         return Ok(Effect::NotEnabled);
     }
@@ -66,14 +71,16 @@ pub fn call(
     requires numbered { thread < most_threads }
     ensures { DoesCall result thread callee parameters frames shared.old shared.new stack.old stack.new }
 {
-    if stack.frame_count() >= frames {
-        return Ok(Effect::Raises(MachineException::StackOverflow));
+    match callee.entered {
+        Some(_) => call_entering(shared, stack, thread, callee, parameters, frames),
+        None => {
+            if stack.frame_count() >= frames {
+                return Ok(Effect::Raises(MachineException::StackOverflow));
+            }
+            stack.call(callee, parameters)?;
+            Ok(Effect::Done)
+        }
     }
-    if callee.entered.is_some() {
-        return call_entering(shared, stack, thread, callee, parameters);
-    }
-    stack.call(callee, parameters)?;
-    Ok(Effect::Done)
 }
 
 /// A method with code is called by no frame, as an initialiser, `main` or `run`: its frame, with these arguments,
