@@ -1,9 +1,9 @@
 //! Returns to the invoker.
 
-ghost use Rattle.std.specs.Prelude.{◌≡◌, ◌-◌, ℕ, Ok, true, false, drop, length, option_to_list, OnOk, OnErr};
+ghost use Rattle.std.specs.Prelude.{◌≡◌, ℕ, Ok, true, false, drop, option_to_list, OnOk, OnErr};
 ghost use Rattle.thread_stacks.specs.Stacks.{moved, returned, on_top};
 ghost use Rattle.machine_state.specs.declared.answers.Effect.TheVariants as effect;
-ghost use Rattle.machine_state.specs.declared.state.Shared.{Shared};
+ghost use Rattle.machine_state.specs.Events.{IsUnchanged};
 ghost use Rattle.machine_instructions.specs.returns.Returned.{result_in, returning, IsGiven};
 ghost use Rattle.machine_state.specs.linked_frames.Frames.{DoesOwn};
 
@@ -89,22 +89,31 @@ pub fn return_from(
     Ok(Effect::Done)
 }
 
-/// Does what `return_from` does, of an invocation that entered no monitor: nothing is shared by it. Answers whether the
-/// frame has returned; where it hasn't, for a monitor that it would leave or for want of memory, nothing has changed.
+/// Does what `return_from` does, if it is done at once: nothing is raised, and memory isn't wanted. Answers whether it
+/// is; nothing has changed where it isn't.
 #[inline]
-pub fn return_alone(stack: &mut ThreadStack, program: &LinkedProgram, value: bool) -> bool
-    ensures done { result ≡ true → (t : ℕ) (shared : Shared)
-        → DoesOwn program.now (returning value) t (Ok effect.Done) shared shared stack.old stack.new }
-    ensures shallower { result ≡ true → length stack.new ≡ length stack.old - 1 }
-    ensures still { result ≡ false → stack.new ≡ stack.old }
+pub fn return_at_once(
+    shared: &mut Shared,
+    stack: &mut ThreadStack,
+    program: &LinkedProgram,
+    thread: u16,
+    value: bool,
+) -> bool
+    ensures done { result ≡ true → DoesOwn program.now (returning value) thread (Ok effect.Done) shared.old shared.new
+        stack.old stack.new }
+    ensures still { result ≡ false → IsUnchanged shared.old shared.new stack.old stack.new }
 {
-    if let Some(_entered) = entered_by_top(stack) {
+    let entered = entered_by_top(stack);
+    if !may_leave(&shared.heap, thread, entered) {
         return false;
     }
     let next = next_place_under(program, stack);
     let returns = result_of(stack, value);
     match stack.return_to(next, returns) {
-        Ok(()) => true,
+        Ok(()) => {
+            leave(shared, thread, entered);
+            true
+        }
         Err(_) => false,
     }
 }
