@@ -103,15 +103,15 @@ pub fn return_at_once(
         stack.old stack.new }
     ensures still { result ≡ false → IsUnchanged shared.old shared.new stack.old stack.new }
 {
-    let entered = entered_by_top(stack);
-    if !may_leave(&shared.heap, thread, entered) {
+    let monitor = entered_by_top(stack);
+    if !may_leave(&shared.heap, thread, monitor) {
         return false;
     }
     let next = next_place_under(program, stack);
     let returns = result_of(stack, value);
     match stack.return_to(next, returns) {
         Ok(()) => {
-            leave(shared, thread, entered);
+            leave(shared, thread, monitor);
             true
         }
         Err(_) => false,
