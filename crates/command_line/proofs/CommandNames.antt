@@ -1,8 +1,8 @@
 -- Which commands a subcommand spells, by its name.
-use Rattle.std.proofs.Common.{◌≡◌, ◌∙◌, List, Option, Some, ap, codes, false, refl, sym, true}
+use Rattle.std.proofs.Common.{◌≡◌, ◌∙◌, List, Some, ap, codes, false, refl, sym, true}
 use Rattle.std.proofs.lemmas.Bool.{true≢false}
 use Rattle.std.specs.Str.{bytes_eq}
-use Rattle.clap.specs.Words.{HasMatchesOf, Row, Text, subcommand_name_of, subcommand_of}
+use Rattle.clap.specs.Words.{HasMatchesOf, Row, Text, subcommand_name_of}
 use Rattle.clap.specs.declared.parser.matches.ArgMatches.{ArgMatches}
 use Rattle.command_line.specs.CommandLine.{AreDisasmValues, ArePlacesValues, AreRunValues, AreScheduleValues, AreSearchValues, AreShrinkValues, AreTraceValues, AreValues, AreValuesOf, AreVerifyValues, Spells, jvm, name_of}
 use Rattle.command_line.specs.declared.options.Command.{Command}

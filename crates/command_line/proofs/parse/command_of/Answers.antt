@@ -27,12 +27,24 @@ returns-in_err-trace_of-clause-refused c = λ words has.
     let met = rows_met c.args.matches.now words (codes "trace") rows has (c.in-Some-subcommand_matches-2.ensures.found.0 refl) c.in-Some-subcommand_matches-2.ensures.rows in
     rw (p.1, p.2) (fails words c.in_err-trace_of.field-0.0 _ c.in_err-trace_of.ensures.none (λ none. inr (spells_other words (codes "trace") rows met (only_trace rows none))))
 
+pub returns-in-Some-subcommand_matches-3-clause-spelled : goal.returns-in-Some-subcommand_matches-3-clause-spelled
+returns-in-Some-subcommand_matches-3-clause-spelled c = λ words has.
+    let rows = rows_of (found_of c.in-Some-subcommand_matches-3.search.now) in
+    let met = rows_met c.args.matches.now words (codes "search") rows has (c.in-Some-subcommand_matches-3.ensures.found.0 refl) c.in-Some-subcommand_matches-3.ensures.rows in
+    (rows, met, c.in_ok-search_of.ensures.values)
+
 pub returns-in_err-search_of-clause-refused : goal.returns-in_err-search_of-clause-refused
 returns-in_err-search_of-clause-refused c = λ words has.
     let p = err_from_is_err_and c.from_residual-in_err-search_of.result c.from_residual-in_err-search_of.ensures.1 in
     let rows = rows_of (found_of c.in-Some-subcommand_matches-3.search.now) in
     let met = rows_met c.args.matches.now words (codes "search") rows has (c.in-Some-subcommand_matches-3.ensures.found.0 refl) c.in-Some-subcommand_matches-3.ensures.rows in
     rw (p.1, p.2) (fails words c.in_err-search_of.field-0.0 _ c.in_err-search_of.ensures.none (λ none. inr (spells_other words (codes "search") rows met (only_search rows none))))
+
+pub returns-in-Some-subcommand_matches-4-clause-spelled : goal.returns-in-Some-subcommand_matches-4-clause-spelled
+returns-in-Some-subcommand_matches-4-clause-spelled c = λ words has.
+    let rows = rows_of (found_of c.in-Some-subcommand_matches-4.shrink.now) in
+    let met = rows_met c.args.matches.now words (codes "shrink") rows has (c.in-Some-subcommand_matches-4.ensures.found.0 refl) c.in-Some-subcommand_matches-4.ensures.rows in
+    (rows, met, c.in_ok-shrink_of.ensures.values)
 
 pub returns-in_err-shrink_of-clause-refused : goal.returns-in_err-shrink_of-clause-refused
 returns-in_err-shrink_of-clause-refused c = λ words has.
