@@ -11,7 +11,7 @@
 //! # Wrong bodies
 //!
 //! - `named_fields-volatile-is-final`: another flag is read; `named_fields-field-of-another-place`: the place before;
-//!   `named_fields-class-of-the-reference`: the class of the method. Each is refused by `named_field` or `field_at`.
+//!   `named_fields-class-of-the-first`: the first class. Each is refused by `named_field`.
 
 ghost use Rattle.std.specs.Prelude.{◌≡◌, ◌<◌, ◌^◌};
 ghost use Rattle.model.specs.Lookup.{find_field};
