@@ -106,13 +106,15 @@ module _ (heap : Heap) (table : ThreadTable) where
 
   -- ---- of the thread of an object
 
-  pub number_told : (object : ℕ) (o : Option ℕ) → o ≡ number_of table.threads object → (actions : World → ℕ → List NamedAction)
-      → (told : List Action) → ((u : ℕ) → o ≡ Some u → Tells heap table told (λ world. actions world u)) → (o ≡ None → told ≡ [])
+  pub at_number : (object other : ℕ) → Some other ≡ number_of table.threads object → (actions : World → ℕ → List NamedAction) (told : List Action)
+      → Tells heap table told (λ world. actions world other) → Tells heap table told (λ world. of_thread (worlds.thread_of world object) (actions world))
+  at_number object other e actions told h names world are =
+      let g : worlds.thread_of world object ≡ Some other = number world object (Some other) are e in rw g (h names world are)
+
+  pub at_none : (object : ℕ) → None ≡ number_of table.threads object → (actions : World → ℕ → List NamedAction) (told : List Action) → told ≡ []
       → Tells heap table told (λ world. of_thread (worlds.thread_of world object) (actions world))
-  number_told object None e actions told some none names world are =
-      let h : worlds.thread_of world object ≡ None = number world object None are e in rw (h, none refl)
-  number_told object (Some u) e actions told some none names world are =
-      let h : worlds.thread_of world object ≡ Some u = number world object (Some u) are e in rw h (some u refl names world are)
+  at_none object e actions told h names world are =
+      let g : worlds.thread_of world object ≡ None = number world object None are e in rw (g, h)
 
 -- ---- by the built-in method
 
@@ -179,9 +181,13 @@ module _ (heap : Heap) (table : ThreadTable) where
       → Tells heap table told (λ world. actions world (built_in_of method)) → Tells heap table told (λ world. actions world (built_in_of b))
   by_method told actions b method e h = subst (λ (x : Called). Tells heap table told (λ world. actions world (built_in_of x))) (sym e) h
 
-  pub on_other : (told : List Action) (t object : ℕ) (b : Called) (o : Option ℕ) → o ≡ number_of table.threads object
-      → (b ≡ called.ObjectWait → ⊥) → (b ≡ called.ThreadInterrupted → ⊥)
-      → ((u : ℕ) → o ≡ Some u → Tells heap table told (λ world. found_of world t u (built_in_of b))) → (o ≡ None → told ≡ [])
+  pub on_some : (told : List Action) (t object other : ℕ) (b : Called) → Some other ≡ number_of table.threads object
+      → (b ≡ called.ObjectWait → ⊥) → (b ≡ called.ThreadInterrupted → ⊥) → Tells heap table told (λ world. found_of world t other (built_in_of b))
       → Tells heap table told (λ world. found_on world t object (built_in_of b))
-  on_other told t object b o e w i some none names world are =
-      number_told heap table object o e (λ world u. found_of world t u (built_in_of b)) told some none names world are ∙ sym (on_thread world t object b w i)
+  on_some told t object other b e w i h names world are =
+      at_number heap table object other e (λ world u. found_of world t u (built_in_of b)) told h names world are ∙ sym (on_thread world t object b w i)
+
+  pub on_none : (told : List Action) (t object : ℕ) (b : Called) → None ≡ number_of table.threads object
+      → (b ≡ called.ObjectWait → ⊥) → (b ≡ called.ThreadInterrupted → ⊥) → told ≡ [] → Tells heap table told (λ world. found_on world t object (built_in_of b))
+  on_none told t object b e w i h names world are =
+      at_none heap table object e (λ world u. found_of world t u (built_in_of b)) told h names world are ∙ sym (on_thread world t object b w i)
