@@ -353,8 +353,13 @@ def placed(files: Dict[str, Dict[str, bytes]]) -> Tuple[List[str], str]:
         lines += [f"  schedule --places --schedule placed-{name}.text {paths}"]
         shown += f"case placed-{name}\n{told}status 0\n"
         report, status = outcome(own, words, False)
-        lines += [f"text placed-{name}-again.text", *(f"  {line}" for line in told.splitlines())]
-        lines += [f"case placed-{name}-again", f"  replay --schedule placed-{name}-again.text {paths}"]
+        again = f"placed-{name}-again.text"
+        if told.split():
+            lines += [f"text {again}", *(f"  {line}" for line in told.splitlines())]
+        else:
+            # A line without a word is none of a text of the cases.
+            lines += file_lines(again, told.encode())
+        lines += [f"case placed-{name}-again", f"  replay --schedule {again} {paths}"]
         shown += f"case placed-{name}-again\n{report}status {status}\n"
     return lines, shown
 

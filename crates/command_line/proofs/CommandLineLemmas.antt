@@ -1,5 +1,5 @@
 -- What the parser found, and the values of a command.
-use Rattle.std.proofs.Common.{◌≡◌, ℕ, ◌≤◌, ◌<◌, ◌+◌, ◌∷◌, ◌++◌, List, Option, None, Some, Result, Ok, Err, option_map, unwrap_or, get_or, eqb, map, take, length, Bor, arith, [], true, false, codes, ◌⊎◌, inl, inr, refl, sym, ap, subst, ◌∙◌, Box, Global}
+use Rattle.std.proofs.Common.{◌≡◌, ℕ, ◌≤◌, ◌<◌, ◌+◌, ◌∷◌, ◌++◌, List, Option, None, Some, Result, Ok, Err, option_map, unwrap_or, get_or, map, take, length, Bor, arith, [], true, false, codes, ◌⊎◌, inl, inr, refl, sym, ap, subst, ◌∙◌, Box, Global}
 use Rattle.std.proofs.lemmas.List.{get_or-map, length-map, map-append, take_more}
 use Rattle.std.proofs.lemmas.List.Elements.{All-get_or, All-more}
 use Rattle.std.specs.Box.{box_value}
@@ -14,7 +14,7 @@ use Rattle.clap.specs.declared.parser.matches.SubCommand.{SubCommand}
 use Rattle.clap.specs.declared.error.Error.{Error}
 use Rattle.clap.specs.declared.error.kind.ErrorKind.{ErrorKind}
 use Rattle.clap.specs.declared.error.kind.ErrorKind.TheVariants as errors
-use Rattle.command_line.specs.CommandLine.{AreNumbers, AreNumerals, AreValuesOf, Asks, Fails, IsNumber, IsRecordedVersion, IsThenRun, Refuses, Spells, SpellsNothing, jvm, name_of, parts_of, usage_by, usage_of}
+use Rattle.command_line.specs.CommandLine.{AreNumbers, AreNumerals, AreValuesOf, Asks, Fails, IsNumber, IsRecordedVersion, IsThenRun, Refuses, Spells, SpellsNothing, jvm, name_of, is_set, parts_of, usage_by, usage_of}
 use Rattle.command_line.specs.Numerals.{IsNumeralWithin}
 use Rattle.command_line.specs.declared.usage.Usage.{Usage}
 use Rattle.command_line.specs.declared.usage.Usage.TheVariants.{Parser, Number, Asked, OutOfMemory}

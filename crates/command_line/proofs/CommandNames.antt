@@ -1,15 +1,14 @@
 -- Which commands a subcommand spells, by its name.
-use Rattle.std.proofs.Common.{◌≡◌, ◌∙◌, List, Option, Some, ap, codes, false, refl, sym, true}
+use Rattle.std.proofs.Common.{◌≡◌, ◌∙◌, List, Some, ap, codes, false, refl, sym, true}
 use Rattle.std.proofs.lemmas.Bool.{true≢false}
 use Rattle.std.specs.Str.{bytes_eq}
-use Rattle.clap.specs.Words.{HasMatchesOf, Row, Text, subcommand_name_of, subcommand_of}
+use Rattle.clap.specs.Words.{HasMatchesOf, Row, Text, subcommand_name_of}
 use Rattle.clap.specs.declared.parser.matches.ArgMatches.{ArgMatches}
-use Rattle.command_line.specs.CommandLine.{AreDisasmValues, ArePlacesValues, AreRacesValues, AreRunValues, AreScheduleValues, AreSearchValues, AreShrinkValues, AreTraceValues, AreValues, AreValuesOf, AreVerifyValues, Spells, jvm, name_of}
+use Rattle.command_line.specs.CommandLine.{AreDisasmValues, ArePlacesValues, AreRunValues, AreScheduleValues, AreSearchValues, AreShrinkValues, AreTraceValues, AreValues, AreValuesOf, AreVerifyValues, Spells, jvm, name_of}
 use Rattle.command_line.specs.declared.options.Command.{Command}
 use Rattle.command_line.specs.declared.options.Command.TheVariants as commands
 use Rattle.command_line.specs.declared.options.Disasm.{Disasm}
 use Rattle.command_line.specs.declared.options.Places.{Places}
-use Rattle.command_line.specs.declared.options.Races.{Races}
 use Rattle.command_line.specs.declared.options.Replay.{Replay}
 use Rattle.command_line.specs.declared.options.Run.{Run}
 use Rattle.command_line.specs.declared.options.Schedule.{Schedule}
@@ -34,7 +33,6 @@ only_run rows none (commands.Verify _) named are = elim (other_name (codes "veri
 only_run rows none (commands.Disasm _) named are = elim (other_name (codes "disasm") (codes "run") named refl refl) [ ]
 only_run rows none (commands.Schedule _) named are = elim (other_name (codes "schedule") (codes "run") named refl refl) [ ]
 only_run rows none (commands.Places _) named are = elim (other_name (codes "schedule") (codes "run") named refl refl) [ ]
-only_run rows none (commands.Races _) named are = elim (other_name (codes "races") (codes "run") named refl refl) [ ]
 
 pub only_replay : (rows : List Row) → ((replay : Replay) → AreValues rows replay → ⊥) → (command : Command) → name_of command ≡ codes "replay" → AreValuesOf rows command → ⊥
 only_replay rows none (commands.Run _) named are = elim (other_name (codes "run") (codes "replay") named refl refl) [ ]
@@ -46,7 +44,6 @@ only_replay rows none (commands.Verify _) named are = elim (other_name (codes "v
 only_replay rows none (commands.Disasm _) named are = elim (other_name (codes "disasm") (codes "replay") named refl refl) [ ]
 only_replay rows none (commands.Schedule _) named are = elim (other_name (codes "schedule") (codes "replay") named refl refl) [ ]
 only_replay rows none (commands.Places _) named are = elim (other_name (codes "schedule") (codes "replay") named refl refl) [ ]
-only_replay rows none (commands.Races _) named are = elim (other_name (codes "races") (codes "replay") named refl refl) [ ]
 
 pub only_trace : (rows : List Row) → ((trace : Trace) → AreTraceValues rows trace → ⊥) → (command : Command) → name_of command ≡ codes "trace" → AreValuesOf rows command → ⊥
 only_trace rows none (commands.Run _) named are = elim (other_name (codes "run") (codes "trace") named refl refl) [ ]
@@ -58,7 +55,6 @@ only_trace rows none (commands.Verify _) named are = elim (other_name (codes "ve
 only_trace rows none (commands.Disasm _) named are = elim (other_name (codes "disasm") (codes "trace") named refl refl) [ ]
 only_trace rows none (commands.Schedule _) named are = elim (other_name (codes "schedule") (codes "trace") named refl refl) [ ]
 only_trace rows none (commands.Places _) named are = elim (other_name (codes "schedule") (codes "trace") named refl refl) [ ]
-only_trace rows none (commands.Races _) named are = elim (other_name (codes "races") (codes "trace") named refl refl) [ ]
 
 pub only_search : (rows : List Row) → ((search : Search) → AreSearchValues rows search → ⊥) → (command : Command) → name_of command ≡ codes "search" → AreValuesOf rows command → ⊥
 only_search rows none (commands.Run _) named are = elim (other_name (codes "run") (codes "search") named refl refl) [ ]
@@ -70,7 +66,6 @@ only_search rows none (commands.Verify _) named are = elim (other_name (codes "v
 only_search rows none (commands.Disasm _) named are = elim (other_name (codes "disasm") (codes "search") named refl refl) [ ]
 only_search rows none (commands.Schedule _) named are = elim (other_name (codes "schedule") (codes "search") named refl refl) [ ]
 only_search rows none (commands.Places _) named are = elim (other_name (codes "schedule") (codes "search") named refl refl) [ ]
-only_search rows none (commands.Races _) named are = elim (other_name (codes "races") (codes "search") named refl refl) [ ]
 
 pub only_shrink : (rows : List Row) → ((shrink : Shrink) → AreShrinkValues rows shrink → ⊥) → (command : Command) → name_of command ≡ codes "shrink" → AreValuesOf rows command → ⊥
 only_shrink rows none (commands.Run _) named are = elim (other_name (codes "run") (codes "shrink") named refl refl) [ ]
@@ -82,7 +77,6 @@ only_shrink rows none (commands.Verify _) named are = elim (other_name (codes "v
 only_shrink rows none (commands.Disasm _) named are = elim (other_name (codes "disasm") (codes "shrink") named refl refl) [ ]
 only_shrink rows none (commands.Schedule _) named are = elim (other_name (codes "schedule") (codes "shrink") named refl refl) [ ]
 only_shrink rows none (commands.Places _) named are = elim (other_name (codes "schedule") (codes "shrink") named refl refl) [ ]
-only_shrink rows none (commands.Races _) named are = elim (other_name (codes "races") (codes "shrink") named refl refl) [ ]
 
 pub only_verify : (rows : List Row) → ((verify : Verify) → AreVerifyValues rows verify → ⊥) → (command : Command) → name_of command ≡ codes "verify" → AreValuesOf rows command → ⊥
 only_verify rows none (commands.Run _) named are = elim (other_name (codes "run") (codes "verify") named refl refl) [ ]
@@ -94,7 +88,6 @@ only_verify rows none (commands.Verify verify) named are = none verify are
 only_verify rows none (commands.Disasm _) named are = elim (other_name (codes "disasm") (codes "verify") named refl refl) [ ]
 only_verify rows none (commands.Schedule _) named are = elim (other_name (codes "schedule") (codes "verify") named refl refl) [ ]
 only_verify rows none (commands.Places _) named are = elim (other_name (codes "schedule") (codes "verify") named refl refl) [ ]
-only_verify rows none (commands.Races _) named are = elim (other_name (codes "races") (codes "verify") named refl refl) [ ]
 
 pub only_disasm : (rows : List Row) → ((disasm : Disasm) → AreDisasmValues rows disasm → ⊥) → (command : Command) → name_of command ≡ codes "disasm" → AreValuesOf rows command → ⊥
 only_disasm rows none (commands.Run _) named are = elim (other_name (codes "run") (codes "disasm") named refl refl) [ ]
@@ -106,19 +99,6 @@ only_disasm rows none (commands.Verify _) named are = elim (other_name (codes "v
 only_disasm rows none (commands.Disasm disasm) named are = none disasm are
 only_disasm rows none (commands.Schedule _) named are = elim (other_name (codes "schedule") (codes "disasm") named refl refl) [ ]
 only_disasm rows none (commands.Places _) named are = elim (other_name (codes "schedule") (codes "disasm") named refl refl) [ ]
-only_disasm rows none (commands.Races _) named are = elim (other_name (codes "races") (codes "disasm") named refl refl) [ ]
-
-pub only_races : (rows : List Row) → ((races : Races) → AreRacesValues rows races → ⊥) → (command : Command) → name_of command ≡ codes "races" → AreValuesOf rows command → ⊥
-only_races rows none (commands.Run _) named are = elim (other_name (codes "run") (codes "races") named refl refl) [ ]
-only_races rows none (commands.Replay _) named are = elim (other_name (codes "replay") (codes "races") named refl refl) [ ]
-only_races rows none (commands.Trace _) named are = elim (other_name (codes "trace") (codes "races") named refl refl) [ ]
-only_races rows none (commands.Search _) named are = elim (other_name (codes "search") (codes "races") named refl refl) [ ]
-only_races rows none (commands.Shrink _) named are = elim (other_name (codes "shrink") (codes "races") named refl refl) [ ]
-only_races rows none (commands.Verify _) named are = elim (other_name (codes "verify") (codes "races") named refl refl) [ ]
-only_races rows none (commands.Disasm _) named are = elim (other_name (codes "disasm") (codes "races") named refl refl) [ ]
-only_races rows none (commands.Schedule _) named are = elim (other_name (codes "schedule") (codes "races") named refl refl) [ ]
-only_races rows none (commands.Places _) named are = elim (other_name (codes "schedule") (codes "races") named refl refl) [ ]
-only_races rows none (commands.Races races) named are = none races are
 
 -- with `--places` or without
 pub only_schedule : (rows : List Row) → ((schedule : Schedule) → AreScheduleValues rows schedule → ⊥) → ((places : Places) → ArePlacesValues rows places → ⊥)
@@ -132,22 +112,19 @@ only_schedule rows none no_places (commands.Verify _) named are = elim (other_na
 only_schedule rows none no_places (commands.Disasm _) named are = elim (other_name (codes "disasm") (codes "schedule") named refl refl) [ ]
 only_schedule rows none no_places (commands.Schedule schedule) named are = none schedule are
 only_schedule rows none no_places (commands.Places places) named are = no_places places are
-only_schedule rows none no_places (commands.Races _) named are = elim (other_name (codes "races") (codes "schedule") named refl refl) [ ]
 
 -- where no subcommand is met, the words spell no command
 pub spells_none : (matches : ArgMatches) (words : List Text) → HasMatchesOf jvm words matches
     → (subcommand_name_of matches ≡ Some (codes "run") → ⊥) → (subcommand_name_of matches ≡ Some (codes "replay") → ⊥)
-    → (subcommand_name_of matches ≡ Some (codes "trace") → ⊥) → (subcommand_name_of matches ≡ Some (codes "races") → ⊥)
-    → (subcommand_name_of matches ≡ Some (codes "search") → ⊥)
+    → (subcommand_name_of matches ≡ Some (codes "trace") → ⊥) → (subcommand_name_of matches ≡ Some (codes "search") → ⊥)
     → (subcommand_name_of matches ≡ Some (codes "shrink") → ⊥) → (subcommand_name_of matches ≡ Some (codes "verify") → ⊥)
     → (subcommand_name_of matches ≡ Some (codes "disasm") → ⊥) → (subcommand_name_of matches ≡ Some (codes "schedule") → ⊥) → (command : Command) → Spells words command → ⊥
-spells_none matches words has no_run no_replay no_trace no_races no_search no_shrink no_verify no_disasm no_schedule (commands.Run run) spelled = no_run (name_met matches words (codes "run") spelled.0 has spelled.1)
-spells_none matches words has no_run no_replay no_trace no_races no_search no_shrink no_verify no_disasm no_schedule (commands.Replay replay) spelled = no_replay (name_met matches words (codes "replay") spelled.0 has spelled.1)
-spells_none matches words has no_run no_replay no_trace no_races no_search no_shrink no_verify no_disasm no_schedule (commands.Trace trace) spelled = no_trace (name_met matches words (codes "trace") spelled.0 has spelled.1)
-spells_none matches words has no_run no_replay no_trace no_races no_search no_shrink no_verify no_disasm no_schedule (commands.Search search) spelled = no_search (name_met matches words (codes "search") spelled.0 has spelled.1)
-spells_none matches words has no_run no_replay no_trace no_races no_search no_shrink no_verify no_disasm no_schedule (commands.Shrink shrink) spelled = no_shrink (name_met matches words (codes "shrink") spelled.0 has spelled.1)
-spells_none matches words has no_run no_replay no_trace no_races no_search no_shrink no_verify no_disasm no_schedule (commands.Verify verify) spelled = no_verify (name_met matches words (codes "verify") spelled.0 has spelled.1)
-spells_none matches words has no_run no_replay no_trace no_races no_search no_shrink no_verify no_disasm no_schedule (commands.Disasm disasm) spelled = no_disasm (name_met matches words (codes "disasm") spelled.0 has spelled.1)
-spells_none matches words has no_run no_replay no_trace no_races no_search no_shrink no_verify no_disasm no_schedule (commands.Schedule schedule) spelled = no_schedule (name_met matches words (codes "schedule") spelled.0 has spelled.1)
-spells_none matches words has no_run no_replay no_trace no_races no_search no_shrink no_verify no_disasm no_schedule (commands.Places places) spelled = no_schedule (name_met matches words (codes "schedule") spelled.0 has spelled.1)
-spells_none matches words has no_run no_replay no_trace no_races no_search no_shrink no_verify no_disasm no_schedule (commands.Races races) spelled = no_races (name_met matches words (codes "races") spelled.0 has spelled.1)
+spells_none matches words has no_run no_replay no_trace no_search no_shrink no_verify no_disasm no_schedule (commands.Run run) spelled = no_run (name_met matches words (codes "run") spelled.0 has spelled.1)
+spells_none matches words has no_run no_replay no_trace no_search no_shrink no_verify no_disasm no_schedule (commands.Replay replay) spelled = no_replay (name_met matches words (codes "replay") spelled.0 has spelled.1)
+spells_none matches words has no_run no_replay no_trace no_search no_shrink no_verify no_disasm no_schedule (commands.Trace trace) spelled = no_trace (name_met matches words (codes "trace") spelled.0 has spelled.1)
+spells_none matches words has no_run no_replay no_trace no_search no_shrink no_verify no_disasm no_schedule (commands.Search search) spelled = no_search (name_met matches words (codes "search") spelled.0 has spelled.1)
+spells_none matches words has no_run no_replay no_trace no_search no_shrink no_verify no_disasm no_schedule (commands.Shrink shrink) spelled = no_shrink (name_met matches words (codes "shrink") spelled.0 has spelled.1)
+spells_none matches words has no_run no_replay no_trace no_search no_shrink no_verify no_disasm no_schedule (commands.Verify verify) spelled = no_verify (name_met matches words (codes "verify") spelled.0 has spelled.1)
+spells_none matches words has no_run no_replay no_trace no_search no_shrink no_verify no_disasm no_schedule (commands.Disasm disasm) spelled = no_disasm (name_met matches words (codes "disasm") spelled.0 has spelled.1)
+spells_none matches words has no_run no_replay no_trace no_search no_shrink no_verify no_disasm no_schedule (commands.Schedule schedule) spelled = no_schedule (name_met matches words (codes "schedule") spelled.0 has spelled.1)
+spells_none matches words has no_run no_replay no_trace no_search no_shrink no_verify no_disasm no_schedule (commands.Places places) spelled = no_schedule (name_met matches words (codes "schedule") spelled.0 has spelled.1)

@@ -1,5 +1,5 @@
 -- The words of outcomes that are to be found.
-use Rattle.std.proofs.Common.{◌≡◌, ◌≢◌, ℕ, ℤ, pos, negsuc, zero, suc, ◌<◌, ◌+◌, ◌^◌, List, [], ◌∷◌, ◌++◌, length, get_or, map, take, codes, string_bytes, Option, Some, None, Result, Ok, Err, Bor, refl, ap, sym, subst, ◌∙◌, ◌==◌, arith, lit<}
+use Rattle.std.proofs.Common.{◌≡◌, ℕ, ℤ, pos, negsuc, zero, suc, ◌<◌, ◌+◌, ◌^◌, List, [], ◌∷◌, ◌++◌, length, get_or, map, take, codes, string_bytes, Option, Some, None, Result, Ok, Err, Bor, refl, ap, sym, subst, ◌∙◌, ◌==◌, arith, lit<}
 use Rattle.std.specs.Prelude.{All, IfOk, IfErr, MatchResult}
 use Rattle.std.specs.List.{slice_split, join_with_byte}
 use Rattle.std.specs.Fmt.{decimal}

@@ -1,5 +1,5 @@
 -- What is written and what is read, by the rows of the parser.
-use Rattle.std.proofs.Common.{◌≡◌, ℕ, ◌<◌, ◌+◌, [], ◌∷◌, ◌++◌, List, String, Global, length, map, take, drop, get_or, codes, string_bytes, Option, Some, None, unwrap_or, ap, sym, subst, ◌∙◌, arith}
+use Rattle.std.proofs.Common.{◌≡◌, ℕ, ◌<◌, ◌+◌, [], ◌∷◌, List, String, Global, length, map, take, drop, get_or, codes, string_bytes, Option, Some, None, unwrap_or, ap, sym, subst, ◌∙◌, arith}
 use Rattle.std.specs.Prelude.{All}
 use Rattle.std.proofs.lemmas.List.{get_or-map, length-map, map-append, take_more}
 use Rattle.std.proofs.lemmas.List.Elements.{All-get_or, All-push}

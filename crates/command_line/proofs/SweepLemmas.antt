@@ -2,11 +2,9 @@
 use Rattle.std.proofs.Common.{◌≡◌, ◌∙◌, ◌==◌, ℕ, Bor, List, [], ◌∷◌, Option, Some, None, ap, codes, get_or, map, refl, subst, suc, sym, zero}
 use Rattle.std.specs.List.{slice_split}
 use Rattle.clap.specs.Words.{Row, Text, first_of}
-use Rattle.command_line.specs.Sweeps.{AreSeeds, IsSeedRange, IsSweepBy, IsSweepOf, IsSweepPolicy}
+use Rattle.command_line.specs.Sweeps.{AreSeeds, IsSeedRange, IsSweepBy, IsSweepOf}
 use Rattle.command_line.specs.declared.sweep_options.SeedRange.{SeedRange}
 use Rattle.command_line.specs.declared.sweep_options.SweepOptions.{SweepOptions}
-use Rattle.command_line.specs.declared.sweep_options.SweepPolicy.{SweepPolicy}
-use Rattle.command_line.specs.declared.sweep_options.SweepPolicy.TheVariants as policies
 
 -- ---- an option that isn't there
 

@@ -27,7 +27,6 @@ use Rattle.command_line.specs.declared.options.Disasm.{Disasm}
 use Rattle.command_line.specs.declared.options.Goal.{Goal}
 use Rattle.command_line.specs.declared.options.LimitOptions.{LimitOptions}
 use Rattle.command_line.specs.declared.options.Places.{Places}
-use Rattle.command_line.specs.declared.options.Races.{Races}
 use Rattle.command_line.specs.declared.options.Replay.{Replay}
 use Rattle.command_line.specs.declared.options.Run.{Run}
 use Rattle.command_line.specs.declared.options.Schedule.{Schedule}
@@ -138,13 +137,9 @@ with_record app = with_rule (with_rule app record_option) version_option
 abbrev pub with_then_run : App → App
 with_then_run app = with_record (with_rule (with_rule app (flag (codes "then-run"))) (number_option (codes "budget") 0 4294967295))
 
--- `--quiet`, and files behind all options
-abbrev pub with_quiet : App → Rule → App
-with_quiet app files = with_rule (with_rule app (flag (codes "quiet"))) files
-
--- the same behind `--explain`
+-- `--explain`, `--quiet`, and files behind all options
 abbrev pub with_files : App → Rule → App
-with_files app files = with_quiet (with_rule app (flag (codes "explain"))) files
+with_files app files = with_rule (with_rule (with_rule app (flag (codes "explain"))) (flag (codes "quiet"))) files
 
 abbrev pub jvm_run : App
 jvm_run = with_files (with_program (with_record (with_sweep_options (with_run_options (new_app (codes "run")))))) class_files
@@ -169,10 +164,6 @@ with_form app = with_rule (with_rule (with_rule app (flag (codes "columns"))) (f
 
 abbrev pub jvm_trace : App
 jvm_trace = with_files (with_program (with_form (with_window (with_schedule (new_app (codes "trace")))))) class_files
-
--- under which schedule, behind how many events a place of it gives up, and over which class files
-abbrev pub jvm_races : App
-jvm_races = with_quiet (with_program (with_rule (with_schedule (new_app (codes "races"))) (number_option (codes "budget") 0 4294967295))) class_files
 
 -- which outcome is to be found, among how many states, in how much memory and how many seconds, and where its schedule is recorded
 abbrev pub with_search_options : App → App
@@ -217,12 +208,11 @@ abbrev pub with_version : Shape → Shape
 with_version shape = record shape { has_version = true; subcommand_required = true }
 
 abbrev pub jvm : App
-jvm = with_subcommand (with_subcommand (with_subcommand (with_subcommand (with_subcommand (with_subcommand (with_subcommand (with_subcommand (with_subcommand
+jvm = with_subcommand (with_subcommand (with_subcommand (with_subcommand (with_subcommand (with_subcommand (with_subcommand (with_subcommand
     (record (new_app (codes "jvm")) { top = with_version (new_app (codes "jvm")).top })
     jvm_run.top)
     jvm_replay.top)
     jvm_trace.top)
-    jvm_races.top)
     jvm_search.top)
     jvm_shrink.top)
     jvm_verify.top)
@@ -349,17 +339,6 @@ pub record AreTraceValues (rows : List Row) (trace : Trace) : Type 0 where
   pub quiet : trace.quiet ≡ is_set (first_of (codes "quiet") rows)
   pub files_alone : trace.files_alone ≡ is_set (first_of (codes "files-alone") rows)
 
--- the values that the words give to `jvm races`
-pub record AreRacesValues (rows : List Row) (races : Races) : Type 0 where
-  pub schedule : first_of (codes "schedule") rows ≡ Some (string_bytes races.schedule)
-  pub any_files : races.any_files ≡ is_set (first_of (codes "any-files") rows)
-  pub budget : IsNumber 0 4294967295 (first_of (codes "budget") rows) races.budget
-  pub limits : AreLimitNumbers rows races.limits
-  pub main : first_of (codes "main") rows ≡ option_map string_bytes races.main
-  pub files : all_of (codes "files") rows ≡ Some (map string_bytes races.files.items)
-  pub quiet : races.quiet ≡ is_set (first_of (codes "quiet") rows)
-  pub files_alone : races.files_alone ≡ is_set (first_of (codes "files-alone") rows)
-
 -- the values that the words give to `jvm search`
 pub record AreSearchValues (rows : List Row) (search : Search) : Type 0 where
   pub goal : IsGoal (first_of (codes "for") rows) search.goal
@@ -451,7 +430,6 @@ name_of (commands.Verify verify) = codes "verify"
 name_of (commands.Disasm disasm) = codes "disasm"
 name_of (commands.Schedule schedule) = codes "schedule"
 name_of (commands.Places places) = codes "schedule"
-name_of (commands.Races races) = codes "races"
 
 -- the values that the words behind it give to the command
 abbrev pub AreValuesOf : List Row → Command → Type 0
@@ -464,7 +442,6 @@ AreValuesOf rows (commands.Verify verify) = AreVerifyValues rows verify
 AreValuesOf rows (commands.Disasm disasm) = AreDisasmValues rows disasm
 AreValuesOf rows (commands.Schedule schedule) = AreScheduleValues rows schedule
 AreValuesOf rows (commands.Places places) = ArePlacesValues rows places
-AreValuesOf rows (commands.Races races) = AreRacesValues rows races
 
 -- the words, the program's name first, spell the command
 abbrev pub Spells : List Text → Command → Type 0

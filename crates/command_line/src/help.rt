@@ -123,26 +123,6 @@ Statuses:
 Example:
   jvm trace --schedule a.schedule --from 100 --to 120 A.class";
 
-/// What stands below the options of `races`.
-pub(crate) const RACES_PAGE: &str = "\
-What it does:
-  Runs class files under a schedule as `jvm replay` does, and tells each data race
-  of the run on a line, with the places of its two accesses; behind the lines it
-  prints the report. Two accesses of one variable race where one of them writes,
-  and no synchronization orders them (JLS 17.4.5).
-
-Statuses:
-  0  all threads have ended, and there is no race
-  1  there is a race; or all threads have ended, some by an exception
-  2  a class file or the schedule is refused
-  3  an event was not enabled, or was refused for a limit, or memory was missing
-  4  nothing can go on, and a thread hasn't ended
-  5  the schedule is used up, and a thread can go on
-  6  the command is wrong, or a file can't be read, or the output not written
-
-Example:
-  jvm races --schedule a.schedule A.class";
-
 /// What stands below the options of `search`.
 pub(crate) const SEARCH_PAGE: &str = "\
 What it does:

@@ -264,7 +264,7 @@ const OF_SEARCH: [&str; 4] = ["states", "memory", "seconds", "as-version"];
 fn number_option(subcommand: &str, word: &str) -> Option<&'static str> {
     let name = word.strip_prefix("--")?;
     match subcommand {
-        "replay" | "shrink" | "races" => named(&OF_ALL, name).or(named(&OF_REPLAY, name)),
+        "replay" | "shrink" => named(&OF_ALL, name).or(named(&OF_REPLAY, name)),
         "trace" => named(&OF_ALL, name).or(named(&OF_TRACE, name)),
         "search" => named(&OF_ALL, name).or(named(&OF_SEARCH, name)),
         "run" => named(&OF_ALL, name).or(named(&OF_RUN, name)),

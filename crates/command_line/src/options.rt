@@ -19,7 +19,6 @@ pub enum Command {
     Disasm(Disasm),
     Schedule(Schedule),
     Places(Places),
-    Races(Races),
 }
 
 /// The usual budget of a run of a sweep, of one that goes on behind a schedule, of a try of `shrink`, and of places, in
@@ -308,35 +307,6 @@ pub struct Places {
     pub quiet: bool,
     /// Whether no class is added from the library.
     pub files_alone: bool,
-}
-
-/// `jvm races`: class files are run under a schedule, and the data races of the run are told.
-#[derive(Drop)]
-pub struct Races {
-    /// The path of the schedule file, or the schedule itself.
-    pub schedule: String,
-    /// Whether any class files will do, whatever the schedule was recorded over.
-    pub any_files: bool,
-    /// Behind how many events a place of the schedule gives up, and `None` for the usual number.
-    pub budget: Option<u32>,
-    pub limits: LimitOptions,
-    /// The name of the class whose `main` is run, with dots or slashes, if it is given.
-    pub main: Option<String>,
-    /// The paths of the class files, and of folders of them.
-    pub files: Vec<String>,
-    /// Whether standard error tells no more than why there is no report.
-    pub quiet: bool,
-    /// Whether no class is added from the library.
-    pub files_alone: bool,
-}
-
-impl Races {
-    /// The budget of places, in events.
-    pub fn budget(&self) -> u32
-        ensures { result ≡ unwrap_or self.now.budget 10000000 }
-    {
-        self.budget.unwrap_or(USUAL_BUDGET)
-    }
 }
 
 /// The limits that are asked for, each in its range, and `None` for the usual one.

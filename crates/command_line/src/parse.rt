@@ -3,7 +3,7 @@
 ghost use Rattle.std.specs.Prelude.{◌≡◌, ◌⊎◌, List, codes, map, string_bytes, IfOk, IfErr, MatchOption};
 ghost use Rattle.clap.specs.Words.{HasMatchesOf, first_of, found_of, kind_of, rows_of, Text};
 ghost use Rattle.clap.specs.declared.error.kind.ErrorKind.TheVariants.{UnknownArgument as unknown_argument};
-ghost use Rattle.command_line.specs.CommandLine.{AreDisasmValues, AreRacesValues, AreRunNumbers, AreRunValues, AreSearchValues, AreShrinkValues, AreTraceValues, AreValues, AreVerifyValues, Asks, Fails, IsRequiredGoal, IsThenRun, IsTraceForm, Refuses, Spells, UnlessSweep, jvm, usage_of};
+ghost use Rattle.command_line.specs.CommandLine.{AreDisasmValues, AreRunNumbers, AreRunValues, AreSearchValues, AreShrinkValues, AreTraceValues, AreValues, AreVerifyValues, Asks, Fails, IsRequiredGoal, IsThenRun, IsTraceForm, Refuses, Spells, UnlessSweep, jvm, usage_of};
 ghost use Rattle.command_line.specs.Policies.{GoTogether};
 
 use crate::numbers::{
@@ -12,7 +12,7 @@ use crate::numbers::{
 };
 use crate::options;
 use crate::options::{
-    Disasm, Goal, Races, Replay, Run, Search, Shrink, ThenRun, Trace, TraceForm, Verify,
+    Disasm, Goal, Replay, Run, Search, Shrink, ThenRun, Trace, TraceForm, Verify,
 };
 use crate::parsers::program;
 use crate::paths::{check_file, check_files, check_goal};
@@ -50,9 +50,6 @@ fn command_of(alloc: Global, matches: &ArgMatches<'_>) -> Result<options::Comman
     }
     if let Some(trace) = matches.subcommand_matches("trace") {
         return Ok(options::Command::Trace(trace_of(alloc, trace)?));
-    }
-    if let Some(races) = matches.subcommand_matches("races") {
-        return Ok(options::Command::Races(races_of(alloc, races)?));
     }
     if let Some(search) = matches.subcommand_matches("search") {
         return Ok(options::Command::Search(search_of(alloc, search)?));
@@ -177,28 +174,6 @@ fn trace_of(alloc: Global, matches: &ArgMatches<'_>) -> Result<Trace, Usage>
         explain: is_set(matches, "explain"),
         quiet: is_set(matches, "quiet"),
         any_files: is_set(matches, "any-files"),
-        files_alone: is_set(matches, "files-alone"),
-    })
-}
-
-fn races_of(alloc: Global, matches: &ArgMatches<'_>) -> Result<Races, Usage>
-    ensures values { IfOk result (AreRacesValues (rows_of (found_of matches.now))) }
-    ensures none { IfErr result (λ usage. Refuses usage ((races : _)
-        → AreRacesValues (rows_of (found_of matches.now)) races → ⊥)) }
-{
-    let schedule = required_path_of(alloc, matches, "schedule")?;
-    let budget = WHOLE_BUDGET.number(alloc, matches)?;
-    let limits = limits_of(alloc, matches)?;
-    let main = path_of(alloc, matches, "main")?;
-    let files = files_of(alloc, matches)?;
-    Ok(Races {
-        schedule,
-        any_files: is_set(matches, "any-files"),
-        budget,
-        limits,
-        main,
-        files,
-        quiet: is_set(matches, "quiet"),
         files_alone: is_set(matches, "files-alone"),
     })
 }

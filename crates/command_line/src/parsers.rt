@@ -3,11 +3,11 @@
 ghost use Rattle.std.specs.Prelude.{◌≡◌, codes, false, IfOk, IfErr};
 ghost use Rattle.clap.specs.Words.{App, app_of, kind_of, new_app, rule_of, with_subcommand};
 ghost use Rattle.clap.specs.declared.error.kind.ErrorKind.TheVariants.{OutOfMemory as no_memory};
-ghost use Rattle.command_line.specs.CommandLine.{IsLocal, class_files, flag, goal_option, jvm, jvm_disasm, jvm_races, jvm_replay, jvm_run, jvm_schedule, jvm_search, jvm_shrink, jvm_trace, jvm_verify, main_option, path_option, record_option, required_goal_option, schedule_option, with_files as over_files, with_limits as limited, with_main as started, with_program as programmed, alone_flag, with_quiet as quieted, with_record as recorded};
+ghost use Rattle.command_line.specs.CommandLine.{IsLocal, class_files, flag, goal_option, jvm, jvm_disasm, jvm_replay, jvm_run, jvm_schedule, jvm_search, jvm_shrink, jvm_trace, jvm_verify, main_option, path_option, record_option, required_goal_option, schedule_option, with_files as over_files, with_limits as limited, with_main as started, with_program as programmed, alone_flag, with_record as recorded};
 
 use crate::help::{
-    ABOUT, AFTER, DISASM_PAGE, FILES_HELP, LISTED_HELP, RACES_PAGE, RECORD_HELP, REPLAY_PAGE,
-    RUN_PAGE, RUN_RECORD_HELP, SCHEDULE_HELP, SCHEDULE_PAGE, SEARCH_PAGE, SHRINK_PAGE, TRACE_PAGE,
+    ABOUT, AFTER, DISASM_PAGE, FILES_HELP, LISTED_HELP, RECORD_HELP, REPLAY_PAGE, RUN_PAGE,
+    RUN_RECORD_HELP, SCHEDULE_HELP, SCHEDULE_PAGE, SEARCH_PAGE, SHRINK_PAGE, TRACE_PAGE,
     VERIFY_PAGE, VERSION,
 };
 use crate::numbers::{
@@ -32,7 +32,6 @@ pub(crate) fn program<'a>(alloc: Global) -> Result<clap::Command<'a>, clap::Erro
     let program = with_parser(program, run_parser(alloc))?;
     let program = with_parser(program, replay_parser(alloc))?;
     let program = with_parser(program, trace_parser(alloc))?;
-    let program = with_parser(program, races_parser(alloc))?;
     let program = with_parser(program, search_parser(alloc))?;
     let program = with_parser(program, shrink_parser(alloc))?;
     let program = with_parser(program, verify_parser(alloc))?;
@@ -139,25 +138,6 @@ fn trace_parser<'a>(alloc: Global) -> Result<clap::Command<'a>, AllocError>
     with_files(
         alloc,
         with_program(alloc, trace)?,
-        files_argument(alloc, FILES_HELP),
-    )
-}
-
-fn races_parser<'a>(alloc: Global) -> Result<clap::Command<'a>, AllocError>
-    ensures { IfOk result (λ races. (app_of races ≡ jvm_races) × IsLocal races) }
-{
-    let races = titled(
-        alloc,
-        "races",
-        "Runs class files under the schedule of a file, and tells the data races of the run",
-        RACES_PAGE,
-    )
-    .arg(schedule_argument(alloc))?
-    .arg(any_files_argument(alloc))?
-    .arg(WHOLE_BUDGET.argument(alloc))?;
-    with_quiet(
-        alloc,
-        with_program(alloc, races)?,
         files_argument(alloc, FILES_HELP),
     )
 }
@@ -442,23 +422,10 @@ fn with_files<'a>(
         "explain",
         "Tells what threads wait for, however long that takes",
     );
-    with_quiet(alloc, command.arg(explain)?, files)
-}
-
-/// The command with the flag that says how little standard error tells, and with files behind all options.
-fn with_quiet<'a>(
-    alloc: Global,
-    command: clap::Command<'a>,
-    files: Arg<'a>,
-) -> Result<clap::Command<'a>, AllocError>
-    ensures { IsLocal command.entry → files.entry.global ≡ false
-        → IfOk result (λ whole. (app_of whole ≡ quieted (app_of command.entry) (rule_of files.entry))
-        × IsLocal whole) }
-{
     let quiet = flag_argument(
         alloc,
         "quiet",
         "Adds no words on why files are refused or what threads wait for",
     );
-    command.arg(quiet)?.arg(files)
+    command.arg(explain)?.arg(quiet)?.arg(files)
 }

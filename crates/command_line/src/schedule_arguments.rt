@@ -1,6 +1,6 @@
 //! What `jvm schedule` is asked for: a schedule as text, a schedule file, or a text with places.
 
-ghost use Rattle.std.specs.Prelude.{◌≡◌, ◌∷◌, [], false, IfErr, IfOk, Some, codes, map, string_bytes};
+ghost use Rattle.std.specs.Prelude.{◌≡◌, ◌∷◌, [], false, IfErr, IfOk, Some, codes, map, string_bytes, true};
 ghost use Rattle.clap.specs.Words.{Text, all_of, first_of, found_of, rows_of};
 ghost use Rattle.command_line.specs.CommandLine.{ArePlacesValues, AreScheduleValues, AreValuesOf, Refuses, is_set as is_true, name_of};
 
@@ -26,7 +26,9 @@ pub(crate) fn listed_of(alloc: Global, matches: &ArgMatches<'_>) -> Result<Comma
     }
 }
 
+/// A schedule as text, or the file of a text. That is for words without `--places`.
 fn schedule_of(alloc: Global, matches: &ArgMatches<'_>) -> Result<Schedule, Usage>
+    requires { is_true (first_of (codes "places") (rows_of (found_of matches.now))) ≡ false }
     ensures values { IfOk result (AreScheduleValues (rows_of (found_of matches.now))) }
     ensures none { IfErr result (λ usage. Refuses usage ((schedule : _)
         → AreScheduleValues (rows_of (found_of matches.now)) schedule → ⊥)) }
@@ -46,7 +48,9 @@ fn schedule_of(alloc: Global, matches: &ArgMatches<'_>) -> Result<Schedule, Usag
     })
 }
 
+/// A text with places. That is for words with `--places`.
 fn places_of(alloc: Global, matches: &ArgMatches<'_>) -> Result<Places, Usage>
+    requires { is_true (first_of (codes "places") (rows_of (found_of matches.now))) ≡ true }
     ensures values { IfOk result (ArePlacesValues (rows_of (found_of matches.now))) }
     ensures none { IfErr result (λ usage. Refuses usage ((places : _)
         → ArePlacesValues (rows_of (found_of matches.now)) places → ⊥)) }

@@ -205,5 +205,5 @@ gives_up_past false count budget is up = absurd cc
 gives_up_past true count budget is up = by (leb_tells count budget)
   where
     by : ((leb count budget ≡ true) × (count ≤ budget)) ⊎ ((leb count budget ≡ false) × (budget < count)) → budget < count
-    by (inl (yes, few)) = let bad : false ≡ true = sym is ∙ yes in absurd cc
-    by (inr (no, past)) = past
+    by (inl (at_most, few)) = let bad : false ≡ true = sym is ∙ at_most in absurd cc
+    by (inr (more, past)) = past

@@ -142,8 +142,8 @@
 //! - Tested in `engine_tests`: devices that fail at each of their calls, and files that can't be read or written.
 //! - Shown by cases alone: that a text with places is read, which fault of it is answered, and its line; which entries
 //!   become places; the places of refusals that `linker` doesn't promise; the texts of usage faults; that what
-//!   threads are about is told of the schedule of the very run; that runs come to an end, and their replays to the same
-//!   report; that workers and their quantum are heeded, and the seed of `random`, which no clause of a run says.
+//!   threads are about is told of the schedule of the very run; that runs and replays come to an end; that workers and
+//!   their quantum are heeded, and the seed of `random`, which no clause of a run says.
 //! - Shown by `tools/try-files` alone: what stands in a file of the system after a failure, and what its links and
 //!   pipes get.
 #![tactic(auto)]

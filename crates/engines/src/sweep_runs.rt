@@ -71,9 +71,9 @@ pub fn sweep_engine<R: Threads + Wait + Sync, P: Watch, S: Source, W: Sink>(
     let read = read_class_files(alloc, files)?;
     let files = read.as_slice();
     let verified = accepted(alloc, files)?;
-    let ToldSweep { text, swept } = swept(rt, alloc, watch, verified, files, task)?;
-    report.write_all(text.as_slice())?;
-    Ok(swept)
+    let told = swept(rt, alloc, watch, verified, files, task)?;
+    report.write_all(told.text.as_slice())?;
+    Ok(told.swept)
 }
 
 /// What a sweep says: the text of what its runs show, and what comes of it.

@@ -45,15 +45,15 @@ impl<R: Files> Folder for SystemFolder<'_, R> {
         }
     }
 
-    /// A file that is there is opened, and one is made for a moment beside a name that is free. A device or a named
-    /// pipe is not tried, since who reads it would take notice.
+    /// A file that is there is opened, and one is made for a moment beside a name that is free. Neither a device nor a
+    /// named pipe is tried, since who reads it would take notice, nor what a link leads to where nothing is there.
     fn try_write(&self, alloc: Global, path: &str) -> io::Result<()> {
         match fs::metadata(self.files, path) {
             Ok(found) if found.is_file() || found.is_dir() => open_there(self.files, path),
-            Err(error) if error.kind() == ErrorKind::NotFound && !is_link(self.files, path) => {
-                try_beside(alloc, self.files, path)
-            }
-            _ => Ok(()),
+            Ok(_) => Ok(()),
+            Err(error) if error.kind() != ErrorKind::NotFound => Err(error),
+            Err(_) if is_link(self.files, path) => Ok(()),
+            Err(_) => try_beside(alloc, self.files, path),
         }
     }
 

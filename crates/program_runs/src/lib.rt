@@ -8,6 +8,7 @@
 
 pub mod continued_runs;
 pub mod policies;
+pub mod recorded_replays;
 pub mod traced_runs;
 pub mod verified_programs;
 pub mod workers;

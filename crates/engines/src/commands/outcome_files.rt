@@ -24,12 +24,12 @@ pub(crate) fn outcome_path(alloc: Global, folder: &str, number: usize) -> Result
 pub(crate) fn try_outcomes<F: Folder>(
     alloc: Global,
     folder: &F,
-    record: &Option<String>,
+    asked: &Option<String>,
     explanation: &mut Explanation,
 ) -> Result<(), DeviceFault>
     ensures failed { IfErr result (λ fault. fault ≡ Device → FolderMayFail F.may_fail) }
 {
-    match record {
+    match asked {
         Some(at) => {
             let first = Some(outcome_path(alloc, at.as_str(), 1)?);
             try_record(alloc, folder, &first, explanation)
@@ -43,17 +43,17 @@ pub(crate) fn try_outcomes<F: Folder>(
 pub(crate) fn store_outcomes<F: Folder>(
     alloc: Global,
     folder: &mut F,
-    record: &Option<String>,
+    asked: &Option<String>,
     schedules: &[Vec<u8>],
     explanation: &mut Explanation,
 ) -> Result<(), DeviceFault>
     ensures stored { OnOk result (IsWith (F.held folder.old) (F.held folder.new)
-        (written_in record.now (map vec_items schedules.now))) }
+        (written_in asked.now (map vec_items schedules.now))) }
     ensures front { OnErr result ((count : _) × IsWith (F.held folder.old) (F.held folder.new)
-        (written_in record.now (take count (map vec_items schedules.now)))) }
+        (written_in asked.now (take count (map vec_items schedules.now)))) }
     ensures failed { IfErr result (λ fault. fault ≡ Device → FolderMayFail F.may_fail) }
 {
-    match record {
+    match asked {
         Some(at) => store_each(alloc, folder, at.as_str(), schedules, explanation),
         None => Ok(()),
     }

@@ -13,9 +13,7 @@
 //!     memory for it.
 //! - Where the gate says that the run is over (`may_stop` of `Gate`), the budget is what was spent of it; else it is the
 //!   one that was handed in (`IsSpent`).
-//! - No clause joins this with that of `replay`, but by both of them a replay of what is recorded, over the same files
-//!   and under the same limits, can only stop before its end for want of memory, and has the report of the run. Where
-//!   the run ended with `Budget` it ends with `Schedule`.
+//! - What a replay of the recorded events comes to is said by `records_replay` of `recorded_replays`.
 //! - The workers share a world under one lock. What is known when they have ended is what its type keeps whenever the
 //!   lock is free (`Holds`), and that its files and limits are those that were given, and its budget, unless the run is
 //!   stopped (`IsWorldOf`). No rule over atomics is used.

@@ -1,5 +1,4 @@
 use Rattle.std.proofs.Common.{Some, None, codes}
-use Rattle.clap.specs.Words.{first_of, found_of, rows_of}
 use Rattle.command_line.proofs.ClashLemmas.{none_of_sweep, told_of_run}
 use Rattle.command_line.proofs.CommandLineLemmas.{first_is}
 use Rattle.command_line.proofs.parse.clash_of.Goals as goal

@@ -1,4 +1,4 @@
-use Rattle.std.proofs.Common.{Some, codes, map, string_bytes, subst, sym}
+use Rattle.std.proofs.Common.{codes, subst, sym}
 use Rattle.std.proofs.lemmas.Result.{err_from_is_err_and}
 use Rattle.clap.specs.Words.{first_of, found_of, rows_of}
 use Rattle.command_line.specs.Paths.{IsApart}

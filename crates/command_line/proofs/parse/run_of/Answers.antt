@@ -1,8 +1,5 @@
-use Rattle.std.proofs.Common.{Some, map, string_bytes, subst}
-use Rattle.std.specs.Prelude.{All}
 use Rattle.std.proofs.lemmas.Result.{err_from_is_err_and}
-use Rattle.clap.specs.Words.{first_of, found_of, rows_of}
-use Rattle.command_line.specs.Paths.{IsApart}
+use Rattle.clap.specs.Words.{found_of, rows_of}
 use Rattle.command_line.proofs.CommandLineLemmas.{refuses_more}
 use Rattle.command_line.proofs.PathLemmas.{files_other, files_others}
 use Rattle.command_line.proofs.parse.run_of.Goals as goal

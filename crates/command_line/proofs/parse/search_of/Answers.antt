@@ -1,4 +1,4 @@
-use Rattle.std.proofs.Common.{Some, codes, map, string_bytes, subst}
+use Rattle.std.proofs.Common.{codes}
 use Rattle.std.proofs.lemmas.Result.{err_from_is_err_and}
 use Rattle.clap.specs.Words.{first_of, found_of, rows_of}
 use Rattle.command_line.proofs.CommandLineLemmas.{refuses_more}

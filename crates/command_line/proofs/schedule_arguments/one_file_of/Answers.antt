@@ -1,6 +1,5 @@
-use Rattle.std.proofs.Common.{◌≡◌, ◌∙◌, [], ◌∷◌, List, Option, Some, None, ap, codes, map, sym}
+use Rattle.std.proofs.Common.{◌∙◌, [], ◌∷◌, Some, None, ap, codes, map, sym}
 use Rattle.std.proofs.lemmas.Result.{IfOk-weaker}
-use Rattle.clap.specs.Words.{Text}
 use Rattle.command_line.proofs.CommandLineLemmas.{all_is, no_value, refused_more, refuses, some_same}
 use Rattle.command_line.proofs.schedule_arguments.one_file_of.Goals as goal
 

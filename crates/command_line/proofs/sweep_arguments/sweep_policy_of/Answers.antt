@@ -1,6 +1,5 @@
 use Rattle.std.proofs.Common.{Some, None, codes, subst, sym}
 use Rattle.std.specs.Prelude.{IfOk, IfErr}
-use Rattle.clap.specs.Words.{Text}
 use Rattle.command_line.specs.CommandLine.{Refuses}
 use Rattle.command_line.specs.Sweeps.{IsSweepPolicy}
 use Rattle.command_line.specs.declared.sweep_options.SweepPolicy.{SweepPolicy}

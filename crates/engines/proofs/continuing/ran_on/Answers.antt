@@ -1,5 +1,5 @@
 use Rattle.std.proofs.Common.{arith, map, refl, subst, sym, vec_items}
-use Rattle.std.specs.Prelude.{IfSome}
+use Rattle.std.specs.Prelude.{IfOk, IfSome, IsTrue, is_some}
 use Rattle.std.specs.Option.{option_map}
 use Rattle.schedule.specs.Joined.{RecordedFile}
 use Rattle.engines.specs.Continuations.{whole_budget}
@@ -21,7 +21,7 @@ outcome_of-requires-in-Part c = omega (arith, few_files (map vec_items c.args.fi
 pub returns-in-Whole-clause-run : goal.returns-in-Whole-clause-run
 returns-in-Whole-clause-run c =
     let events = events_of c.args.schedule.now in
-    let goes = subst (λ budget. GoesOn (arc_value c.args.verified) events c.args.limits budget c.in_ok-run_on.field-0) c.budget.ensures c.in_ok-run_on.ensures in
+    let goes = subst (λ budget. GoesOn (arc_value c.args.verified) events c.args.limits budget c.in_ok-run.field-0) c.budget.ensures c.in_ok-run.ensures in
     let run = c.in-Whole.run' in
     by_three c.outcome_of.result _ _ _ _ (λ outcome told ended spelled bytes options gives_up same opened past. record {
       trees = arc_value c.args.verified;
@@ -46,7 +46,7 @@ returns-in-Whole-clause-run c =
 pub returns-in-Part-clause-run : goal.returns-in-Part-clause-run
 returns-in-Part-clause-run c =
     let events = events_of c.args.schedule.now in
-    let goes = subst (λ budget. GoesOn (arc_value c.args.verified) events c.args.limits budget c.in_ok-run_on.field-0) c.budget.ensures c.in_ok-run_on.ensures in
+    let goes = subst (λ budget. GoesOn (arc_value c.args.verified) events c.args.limits budget c.in_ok-run.field-0) c.budget.ensures c.in_ok-run.ensures in
     by_three c.outcome_of-in-Part.result _ _ _ _ (λ outcome told ended spelled bytes options gives_up same opened past. record {
       trees = arc_value c.args.verified;
       events = events;
@@ -66,3 +66,11 @@ returns-in-Part-clause-run c =
           subst (λ n. IfSome (option_map vec_items outcome.file) (λ file. RecordedFile file (recorded_as c.args.limits (record_form n c.args.then_run.now.as_version) (map vec_items c.args.files.now)) events)) (sym same)
           spelled;
     }) c.outcome_of-in-Part.ensures.told c.outcome_of-in-Part.ensures.ended c.outcome_of-in-Part.ensures.spelled
+
+pub returns-in-Whole-clause-asked : goal.returns-in-Whole-clause-asked
+returns-in-Whole-clause-asked c =
+    subst (λ recorded. IfOk c.outcome_of.result (λ outcome. IsTrue recorded → IsTrue (is_some outcome.file))) c.is_some-is_recorded.ensures c.outcome_of.ensures.asked
+
+pub returns-in-Part-clause-asked : goal.returns-in-Part-clause-asked
+returns-in-Part-clause-asked c =
+    subst (λ recorded. IfOk c.outcome_of-in-Part.result (λ outcome. IsTrue recorded → IsTrue (is_some outcome.file))) c.is_some-is_recorded.ensures c.outcome_of-in-Part.ensures.asked

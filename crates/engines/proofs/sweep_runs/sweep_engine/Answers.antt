@@ -6,6 +6,7 @@ use Rattle.model.specs.Accepted.{IsAccepted}
 use Rattle.model.specs.Devices.{AppendsFront}
 use Rattle.engines.specs.Refusals.{IsRefused}
 use Rattle.engines.specs.Sweeps.{IsSwept}
+use Rattle.engines.proofs.RunLemmas.{few_files}
 use Rattle.engines.proofs.SweepLemmas.{part_is_unswept, unread_is_unswept}
 use Rattle.engines.proofs.sweep_runs.sweep_engine.Goals as goal
 
@@ -23,9 +24,9 @@ returns-in_err-verified-clause-faulty g c =
     let refused = subst (λ files. IsRefused (map vec_items files) c.in_err-verified.field-0.0) c.as_slice-files.ensures.value c.in_err-verified.ensures.refused in
     rw (p.1, p.2) (refl, inr (map vec_items c.in_ok-read.read.items, c.in_ok-read.ensures.read, refused))
 
-pub returns-in_err-swept-clause-faulty : goal.returns-in_err-swept-clause-faulty
-returns-in_err-swept-clause-faulty g c =
-    let p = err_from_is_err_and c.from_residual-in_err-swept.result c.from_residual-in_err-swept.ensures.1 in
+pub returns-in_err-told-clause-faulty : goal.returns-in_err-told-clause-faulty
+returns-in_err-told-clause-faulty g c =
+    let p = err_from_is_err_and c.from_residual-in_err-told.result c.from_residual-in_err-told.ensures.1 in
     rw (p.1, p.2) (inl refl)
 
 pub returns-in_err-write_all-clause-faulty : goal.returns-in_err-write_all-clause-faulty
@@ -33,10 +34,10 @@ returns-in_err-write_all-clause-faulty g c =
     let p = err_from_is_err_and c.from_residual-in_err-write_all.result c.from_residual-in_err-write_all.ensures.1 in
     let trees = c.in_ok-verified.verified in
     let accepted = subst (λ files. IsAccepted (map vec_items files) trees) c.as_slice-files.ensures.value c.in_ok-verified.ensures.accepted in
-    let told = c.in_ok-swept.field-0 in
+    let told = c.in_ok-told.told in
     let task = c.args.task in
     let whole = subst (λ files. IsSwept task.given (map vec_items files) trees task.options.now task.sweep.now (g.P.Watch.may_stop c.args.watch.now) task.wanted.now told.text.items
-    (map vec_items told.swept.schedules.items) told.swept.status) c.as_slice-files.ensures.value c.in_ok-swept.ensures in
+    (map vec_items told.swept.schedules.items) told.swept.status) c.as_slice-files.ensures.value c.in_ok-told.ensures in
     let contents = g.W.Sink.contents in
     let written = subst (AppendsFront (contents c.args.report.now) (contents c.write_all.new.self)) c.as_slice.ensures.value c.in_err-write_all.ensures.part in
     rw (p.1, p.2) (part_is_unswept _ _ _ _ _ _ _ _ _ (inr (
@@ -51,10 +52,15 @@ pub returns-clause-swept : goal.returns-clause-swept
 returns-clause-swept g c =
     let trees = c.in_ok-verified.verified in
     let accepted = subst (λ files. IsAccepted (map vec_items files) trees) c.as_slice-files.ensures.value c.in_ok-verified.ensures.accepted in
-    let told = c.in_ok-swept.field-0 in
+    let told = c.in_ok-told.told in
     let task = c.args.task in
     let whole = subst (λ files. IsSwept task.given (map vec_items files) trees task.options.now task.sweep.now (g.P.Watch.may_stop c.args.watch.now) task.wanted.now told.text.items
-    (map vec_items told.swept.schedules.items) told.swept.status) c.as_slice-files.ensures.value c.in_ok-swept.ensures in
+    (map vec_items told.swept.schedules.items) told.swept.status) c.as_slice-files.ensures.value c.in_ok-told.ensures in
     let contents = g.W.Sink.contents in
     let written = subst (Appends (contents c.args.report.now) (contents c.write_all.new.self)) c.as_slice.ensures.value c.in_ok-write_all.ensures.written in
     (_, record { files = map vec_items c.in_ok-read.read.items; read = c.in_ok-read.ensures.read; trees = trees; accepted = accepted; swept = whole }, written)
+
+pub swept-requires-after_bounds : goal.swept-requires-after_bounds
+swept-requires-after_bounds g c = λ κs bounds.
+    let files = c.as_slice-files.result.now in
+    omega (arith, few_files (map vec_items files) c.in_ok-verified.verified c.in_ok-verified.ensures.accepted, length-map files vec_items)

@@ -7,7 +7,7 @@ use Rattle.engines.specs.Sweeps.{IsSwept}
 use Rattle.engines.proofs.sweep_runs.swept.Goals as goal
 
 pub swept_over-requires-clause-of : goal.swept_over-requires-clause-of
-swept_over-requires-clause-of g c =
+swept_over-requires-clause-of g c = λ κs bounds.
     subst (λ (t : Program). IsProgramOf t (arc_value c.in_ok-program.program)) (sym c.in_ok-verified.ensures.ok) c.in_ok-program.ensures
 
 pub returns : goal.returns
