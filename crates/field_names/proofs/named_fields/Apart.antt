@@ -127,9 +127,9 @@ module _ (files : Program) (linked : IsLinked files) where
   classes_by c d a b p q =
       elim (eqb_tells c d) [
         | inl e ↦
-          let one : Some a ≡ Some b = sym p ∙ ap (class_at files) e.1 ∙ q in
-          let same : a ≡ b = cc in
-          ap (λ (z : FileTree). name_eq (name_of a) (name_of z)) (sym same) ∙ name_self (name_of a) ∙ sym e.0
+            let one : Some a ≡ Some b = sym p ∙ ap (class_at files) e.1 ∙ q in
+            let same : a ≡ b = cc in
+            ap (λ (z : FileTree). name_eq (name_of a) (name_of z)) (sym same) ∙ name_self (name_of a) ∙ sym e.0
         | inr e ↦ names_apart c d a b p q e.1 ∙ sym e.0
       ]
 
@@ -158,29 +158,29 @@ module _ (files : Program) (linked : IsLinked files) where
   fields_in file c f g a b at p q =
       elim (eqb_tells f g) [
         | inl e ↦
-          let one : Some a ≡ Some b = sym p ∙ ap (slice_get file.fields) e.1 ∙ q in
-          let same : a ≡ b = cc in
-          ap (λ (z : FieldTree). member_eq (field_member (name_of file) file.pool a) (field_member (name_of file) file.pool z)) (sym same)
-          ∙ member_self (field_member (name_of file) file.pool a) ∙ sym e.0
+            let one : Some a ≡ Some b = sym p ∙ ap (slice_get file.fields) e.1 ∙ q in
+            let same : a ≡ b = cc in
+            ap (λ (z : FieldTree). member_eq (field_member (name_of file) file.pool a) (field_member (name_of file) file.pool z)) (sym same)
+            ∙ member_self (field_member (name_of file) file.pool a) ∙ sym e.0
         | inr e ↦
-          ap (λ t. t && is_same (record_of file a) (record_of file b)) (name_self (name_of file))
-          ∙ apart_in file f g a b (fields_apart c file at) p q e.1 ∙ sym e.0
+            ap (λ t. t && is_same (record_of file a) (record_of file b)) (name_self (name_of file))
+            ∙ apart_in file f g a b (fields_apart c file at) p q e.1 ∙ sym e.0
       ]
 
   fields_by : (c f d g : ℕ) (m n : Member) → IsThere files c f m → IsThere files d g n → member_eq m n ≡ ((c == d) && (f == g))
   fields_by c f d g m n s t =
       let texts : member_eq m n ≡ member_eq (field_member (name_of s.file) s.file.pool s.tree) (field_member (name_of t.file) t.file.pool t.tree)
-          = sym (ap (λ (x : Member). member_eq x (field_member (name_of t.file) t.file.pool t.tree)) s.is ∙ ap (member_eq m) t.is) in
+      = sym (ap (λ (x : Member). member_eq x (field_member (name_of t.file) t.file.pool t.tree)) s.is ∙ ap (member_eq m) t.is) in
       texts ∙ elim (eqb_tells c d) [
         | inl e ↦
-          let one : Some s.file ≡ Some t.file = sym s.at ∙ ap (class_at files) e.1 ∙ t.at in
-          let same : t.file ≡ s.file = cc in
-          let there_too : slice_get s.file.fields g ≡ Some t.tree = ap (λ (z : FileTree). slice_get z.fields g) (sym same) ∙ t.tree_at in
-          ap (λ (z : FileTree). member_eq (field_member (name_of s.file) s.file.pool s.tree) (field_member (name_of z) z.pool t.tree)) same
-          ∙ fields_in s.file c f g s.tree t.tree s.at s.tree_at there_too ∙ ap (λ b. b && (f == g)) (sym e.0)
+            let one : Some s.file ≡ Some t.file = sym s.at ∙ ap (class_at files) e.1 ∙ t.at in
+            let same : t.file ≡ s.file = cc in
+            let there_too : slice_get s.file.fields g ≡ Some t.tree = ap (λ (z : FileTree). slice_get z.fields g) (sym same) ∙ t.tree_at in
+            ap (λ (z : FileTree). member_eq (field_member (name_of s.file) s.file.pool s.tree) (field_member (name_of z) z.pool t.tree)) same
+            ∙ fields_in s.file c f g s.tree t.tree s.at s.tree_at there_too ∙ ap (λ b. b && (f == g)) (sym e.0)
         | inr e ↦
-          ap (λ b. b && is_same (record_of s.file s.tree) (name_and_descriptor_at t.file.pool t.tree.name t.tree.descriptor)) (names_apart c d s.file t.file s.at t.at e.1)
-          ∙ ap (λ b. b && (f == g)) (sym e.0)
+            ap (λ b. b && is_same (record_of s.file s.tree) (name_and_descriptor_at t.file.pool t.tree.name t.tree.descriptor)) (names_apart c d s.file t.file s.at t.at e.1)
+            ∙ ap (λ b. b && (f == g)) (sym e.0)
       ]
 
   fields_are : (c f d g : ℕ) → IsTrue (is_some (member_at files c f)) → IsTrue (is_some (member_at files d g))

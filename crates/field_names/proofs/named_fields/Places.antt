@@ -52,9 +52,9 @@ fields_fit : (files : Program) → IsLinked files → (class : ℕ) (file : File
 unfolding few_fields
 fields_fit files linked class file at =
     then_few (length file.fields) (
-      every_at (λ (f : FileTree). few_fields f ≡ true) (classes_of files) class file
-      (every_append (λ (f : FileTree). few_fields f ≡ true) built_in_classes files (every_all few_fields built_in_classes built_in_few) (files_few linked.0 files linked.1.spelled))
-      at
+    every_at (λ (f : FileTree). few_fields f ≡ true) (classes_of files) class file
+    (every_append (λ (f : FileTree). few_fields f ≡ true) built_in_classes files (every_all few_fields built_in_classes built_in_few) (files_few linked.0 files linked.1.spelled))
+    at
     )
 
 -- ---- a field at a place
@@ -88,8 +88,8 @@ module _ (files : Program) (linked : IsLinked files) (m : Member) (p : MemberPla
   is_member : (s : Standing) → field_member (name_of s.file) s.file.pool s.tree ≡ member_in files m p
   is_member s =
       let passes : is_field s.file.pool m.name m.descriptor s.tree ≡ true
-          = find_passes (is_field s.file.pool m.name m.descriptor) s.file.fields s.tree
-            (passes_at (is_field s.file.pool m.name m.descriptor) s.file.fields p.member s.tree s.place s.there) in
+      = find_passes (is_field s.file.pool m.name m.descriptor) s.file.fields s.tree
+      (passes_at (is_field s.file.pool m.name m.descriptor) s.file.fields p.member s.tree s.place s.there) in
       let texts = and_parts _ _ passes in
       let name = spelled (entry_at s.file.pool s.tree.name) m.name texts.0 in
       let descriptor = spelled (entry_at s.file.pool s.tree.descriptor) m.descriptor texts.1 in
@@ -107,10 +107,10 @@ module _ (files : Program) (linked : IsLinked files) (m : Member) (p : MemberPla
       → IsFieldIf files found (Some told)
   field_told found is told c k v =
       subst (λ o. IsFieldIf files o (Some told)) is (
-        record {
-          at = ap (λ (class : ℕ). member_at files class told.field) c ∙ ap (member_at files p.class) k ∙ member_there standing;
-          is_volatile = v;
-        }
+      record {
+        at = ap (λ (class : ℕ). member_at files class told.field) c ∙ ap (member_at files p.class) k ∙ member_there standing;
+        is_volatile = v;
+      }
       )
 
 pub none_told : (files : Program) (m : Member) (found : Option Member) → option_map (λ (q : MemberPlace). member_in files m q) None ≡ found

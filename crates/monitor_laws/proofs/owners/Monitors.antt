@@ -1,10 +1,10 @@
 -- What calls of monitors keep of owners.
-use Rattle.std.proofs.Common.{◌≡◌, ℕ, zero, suc, List, [], ◌∷◌, ◌++◌, Bool, true, false, Option, Some, None, refl, ap, ◌∙◌}
+use Rattle.std.proofs.Common.{◌≡◌, ℕ, zero, suc, List, [], ◌∷◌, ◌++◌, Option, Some, None, refl, ap, ◌∙◌}
 use Rattle.std.specs.Prelude.{slice_set, slice_index_or}
 use Rattle.std.proofs.lemmas.Bool.{cond_both, eqb-false}
 use Rattle.model.specs.State.{Monitor}
 use Rattle.model.specs.Monitors.{Answered, unlocked, owns, as_owner, monitor_at, at_object}
-use Rattle.monitor_laws.specs.owners.Owners.{is_meant, KeepsOwners}
+use Rattle.monitor_laws.specs.owners.Owners.{KeepsOwners}
 
 -- ---- lists
 

@@ -14,16 +14,16 @@ use Rattle.model.specs.Types.{is_object_of}
 use Rattle.model.specs.Operands.{Carrier, words, values, under}
 use Rattle.model.specs.Lookup.{select, field_member}
 use Rattle.model.specs.Opening.{arguments_reference, class_reference}
-use Rattle.model.specs.State.{Monitor, Instance, types_of, InProgress, Erroneous, WakeCause, Notified, Interrupted, ThreadStatus, Running, Waiting, Relock, Ended, FrameOf, Phase, Super, End, Invocation, Initialisation, StackOf, WorldOf, StateOf}
-use Rattle.model.specs.Outcomes.{Cost, MachineException, exception_class, OutcomeOf, Goes, Raises, Throws, Interrupts, Calls, Returns, Waits, NoClassDefFound, StackOverflow, IllegalMonitorState, InterruptedWait, AbstractMethod, ExceptionInInitializer}
+use Rattle.model.specs.State.{Monitor, types_of, InProgress, Erroneous, WakeCause, Notified, Interrupted, ThreadStatus, Running, Waiting, Relock, Ended, FrameOf, Phase, Super, End, Invocation, Initialisation, StackOf, WorldOf, StateOf}
+use Rattle.model.specs.Outcomes.{Cost, MachineException, OutcomeOf, Goes, Raises, Throws, Interrupts, Calls, Returns, Waits, NoClassDefFound, StackOverflow, IllegalMonitorState, InterruptedWait, AbstractMethod, ExceptionInInitializer}
 use Rattle.model.specs.Monitors as monitors
-use Rattle.model.specs.Worlds.{thread_at, with_thread, with_begun, with_caught, with_static, put_value, object_at, class_of_object, is_owner, may_enter, with_entry, entry_cost, with_exit, with_interrupted, is_done}
+use Rattle.model.specs.Worlds.{thread_at, with_thread, with_begun, with_static, put_value, object_at, class_of_object, is_owner, may_enter, with_entry, entry_cost, with_exit, with_interrupted, is_done}
 use Rattle.model.specs.ClassInitialisation.{status_of, with_class_status, constant_value, with_constant, with_constants, Look, IsReady, IsNew, IsHeld, HasFailed, look_by}
 use Rattle.model.specs.Frames.{frame_with, entered_by, frame_count, at_call}
 use Rattle.model.specs.Sites.{MeaningOf, Site, site_at}
 use Rattle.model.specs.BuiltInMethods.{object_of}
 use Rattle.model.specs.Meanings.{meaning_of}
-use Rattle.model.specs.Step.{SteppedOf, NotEnabled, WrongKind, Next, PartOf, part, on_to, enabled_if, unpicked, is_over, ended, with_end, end_of, settled, raised, needing, needing_class, entering, pushed, leaving, returned, become, ops_of, done, bytecode_by, bytecode_in, initialiser_event, before, initialisation_event, initial_class, main_frame, run_frame, run_of, begin_event, handler_in, unwound, failed, pending_event, after_wait, relock_event, running_event, going_event, thread_event, with_part, event_of, stepped}
+use Rattle.model.specs.Step.{SteppedOf, NotEnabled, WrongKind, Next, PartOf, part, on_to, enabled_if, unpicked, is_over, ended, with_end, end_of, settled, raised, needing, needing_class, entering, pushed, leaving, returned, become, ops_of, done, bytecode_by, bytecode_in, initialiser_event, before, initialisation_event, initial_class, main_frame, run_frame, run_of, begin_event, handler_in, unwound, failed, pending_event, after_wait, relock_event, running_event, going_event, thread_event, with_part, event_of}
 use Rattle.run_laws.proofs.laws.Operations.{OfMeaning}
 use Rattle.monitor_laws.specs.owners.Owners.{KeepsOwners, entered_in, monitor_operand, meant_by, meant_with, meant_at, meant_in, meant_running, meant_before, meant, AreOwnersKeptBy, AreOwnersKept}
 use Rattle.monitor_laws.proofs.owners.Monitors.{any_keeps, then_keeps, more_keeps, call_changes}
@@ -155,7 +155,7 @@ module _ {A : Type 0} where
       module _ (frame : FrameOf A) (stack : StackOf A) (max_stack : ℕ) where
         meaning_kept : (site : Site) (o : Option (MeaningOf A)) → OfMeaning (Keeps C site.instr) o
             → Kept (option_map_or (meant_with C event world frame site) o None) world.monitors (Invocation frame ∷ stack)
-              (bytecode_by C files frames event world frame stack max_stack o)
+            (bytecode_by C files frames event world frame stack max_stack o)
         meaning_kept site None k = enabled_kept None world.monitors (Invocation frame ∷ stack) (event.pick == 0) WrongKind tt
         meaning_kept site (Some m) k =
             let slots = frame.place.slots in

@@ -1,6 +1,6 @@
 -- Of which object an event may change the owner of the monitor (JLS 17.1, 17.2; JVMS 2.11.10).
 use Rattle.std.specs.Prelude.{◌≡◌, ℕ, nat_lt, List, [], ◌∷◌, Option, Some, None, Bool, false, ◌==◌, if◌then◌else◌, length, slice_get}
-use Rattle.std.specs.Option.{option_and_then, option_map_or}
+use Rattle.std.specs.Option.{option_map_or}
 use Rattle.model.specs.declared.event.Event.{Event}
 use Rattle.model.specs.declared.instr.Instr.{Instr}
 use Rattle.model.specs.declared.instr.Instr.TheVariants as instr
@@ -87,7 +87,7 @@ AreOwnersKeptBy {A} C =
     → stepped C files frames state event ≡ Next cost next → slice_get state.stacks event.thread ≡ Some old
     → slice_get next.stacks event.thread ≡ Some new
     → KeepsOwners (meant (meant_before C files event state.world old (thread_at state.world event.thread).status) old new)
-        state.world.monitors next.world.monitors
+    state.world.monitors next.world.monitors
 
 -- over values and over words
 pub record AreOwnersKept : Type 0 where

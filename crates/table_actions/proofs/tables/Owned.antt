@@ -39,7 +39,7 @@ not_among t n k (m ∷ ms) h =
     let further : n < suc k = omega arith in
     list_any-append (λ other. other == n) (only_if (owns t m.owner) (k ∷ [])) (owned_from t (suc k) ms)
     ∙ or_false (list_any (λ other. other == n) (only_if (owns t m.owner) (k ∷ []))) (list_any (λ other. other == n) (owned_from t (suc k) ms))
-      (only_any (λ other. other == n) (owns t m.owner) k (ne_eqb k n apart))
+    (only_any (λ other. other == n) (owns t m.owner) k (ne_eqb k n apart))
     ∙ not_among t n (suc k) ms further
 
 among : (t k i n : ℕ) (ms : List Monitor) → n ≡ k + i → list_any (λ other. other == n) (owned_from t k ms) ≡ is_owned t ms i
@@ -54,7 +54,7 @@ among t k (suc i) n (m ∷ ms) e =
     let next : n ≡ suc k + i = omega arith in
     list_any-append (λ other. other == n) (only_if (owns t m.owner) (k ∷ [])) (owned_from t (suc k) ms)
     ∙ or_false (list_any (λ other. other == n) (only_if (owns t m.owner) (k ∷ []))) (list_any (λ other. other == n) (owned_from t (suc k) ms))
-      (only_any (λ other. other == n) (owns t m.owner) k (ne_eqb k n apart))
+    (only_any (λ other. other == n) (owns t m.owner) k (ne_eqb k n apart))
     ∙ among t (suc k) i n ms next
 
 -- ---- what a filter leaves of them
@@ -82,7 +82,7 @@ one_left test t k (m ∷ ms) zero n e y z h =
     let same : k ≡ n = omega arith in
     keep_first test (owns t m.owner) k (owned_from t (suc k) ms) y (subst (λ j. test j ≡ true) (sym same) z)
     ∙ ap (λ (r : List ℕ). k ∷ r)
-      (none_left test t (suc k) ms (λ i o g w. let next : o ≡ k + suc i = omega arith in let apart : o ≡ n → ⊥ = λ q. omega arith in h (suc i) o next apart w))
+    (none_left test t (suc k) ms (λ i o g w. let next : o ≡ k + suc i = omega arith in let apart : o ≡ n → ⊥ = λ q. omega arith in h (suc i) o next apart w))
     ∙ ap (λ (j : ℕ). j ∷ []) same
 one_left test t k (m ∷ ms) (suc x) n e y z h =
     let now : k ≡ k + 0 = omega arith in
