@@ -1,4 +1,4 @@
-//! What an event finds of threads by the built-in method that it runs, or as its thread begins or enters a monitor again.
+//! What an event finds of threads, and whom it interrupts, by the built-in method that it runs.
 //!
 //! # Proved
 //!
@@ -112,7 +112,8 @@ pub fn is_owner(heap: &Heap, thread: u16, object: u32) -> bool
 
 /// A `wait` of the owner of a monitor finds whether its thread was interrupted.
 fn wait_findings(heap: &Heap, threads: &Threads, thread: u16, object: u32) -> Findings
-    ensures { Tells heap.now threads.now (all_found result) (λ world. found_on world thread object (built_in_of BuiltInMethod.ObjectWait)) }
+    ensures { Tells heap.now threads.now (all_found result)
+        (λ world. found_on world thread object (built_in_of BuiltInMethod.ObjectWait)) }
 {
     if is_owner(heap, thread, object) {
         of_own(interrupt_found(heap, threads, thread))

@@ -1,8 +1,7 @@
 -- What the tables of threads and monitors say of the world that they are of.
 use Rattle.std.proofs.Common.{◌≡◌, refl, sym, ◌∙◌, subst, ℕ, List, [], ◌∷◌, ◌++◌, map}
 use Rattle.std.specs.Prelude.{Option, Some, None, Bool, true, false}
-use Rattle.std.specs.List.{position}
-use Rattle.model.specs.State.{World, Thread}
+use Rattle.model.specs.State.{World}
 use Rattle.model.specs.Worlds as worlds
 use Rattle.model.specs.Worlds.{is_of_object}
 use Rattle.model.specs.Monitors.{monitor_at, owns}
@@ -15,10 +14,9 @@ use Rattle.heap.specs.Heap.{Heap}
 use Rattle.heap.specs.java_threads.Table.{ThreadTable, thread_at, number_of}
 use Rattle.race_places.specs.declared.run_actions.Action.{Action}
 use Rattle.race_places.specs.declared.run_actions.Action.TheVariants as action
-use Rattle.race_places.specs.named_actions.Names.{Names, named_action}
-use Rattle.data_races.specs.Actions as named
+use Rattle.race_places.specs.named_actions.Names.{named_action}
 use Rattle.data_races.specs.Actions.{Action as NamedAction}
-use Rattle.data_races.specs.EventActions.{found_alive, found_by_join, found_on, found_own, found_status, interrupts_on, is_over, of_thread, only_if}
+use Rattle.data_races.specs.EventActions.{found_alive, found_by_join, found_on, found_own, found_status, interrupts_on, is_over, of_thread}
 use Rattle.table_actions.specs.declared.findings.Findings.{Findings}
 use Rattle.table_actions.specs.tables.Told.{AreOf, Tells, all_found, found_of, interrupt_of, listed}
 

@@ -1,10 +1,10 @@
 -- Of whose monitors a thread is the owner, before an event and after it.
-use Rattle.std.specs.Prelude.{◌≡◌, ℕ, List, [], ◌∷◌, Option, Some, None, Bool, true, false, ◌==◌, map}
+use Rattle.std.specs.Prelude.{◌≡◌, ℕ, List, Option, Some, None, Bool, true, false, ◌==◌, map}
 use Rattle.model.specs.State.{Monitor}
 use Rattle.model.specs.Monitors.{monitor_at, owns}
 use Rattle.race_places.specs.declared.run_actions.Action.{Action}
 use Rattle.race_places.specs.named_actions.Names.{Names, named_action}
-use Rattle.data_races.specs.Actions.{Action as NamedAction, Lock, Unlock}
+use Rattle.data_races.specs.Actions.{Lock, Unlock}
 use Rattle.data_races.specs.EventActions.{besides, owned_from}
 use Rattle.table_actions.specs.tables.Told.{listed}
 
