@@ -6,9 +6,13 @@ use Rattle.std.specs.List.{AllByRecursion, list_all}
 use Rattle.std.proofs.lemmas.Bool.{and_parts}
 use Rattle.std.proofs.lemmas.Bool.Decides.{nat_tests}
 use Rattle.std.proofs.lemmas.Option.{slice_get_within}
+use Rattle.model.specs.declared.instr.FieldAccess.{FieldAccess}
+use Rattle.model.specs.declared.instr.Instr.{Instr}
+use Rattle.model.specs.declared.instr.Instr.TheVariants as instr
 use Rattle.model.specs.Names.{Member}
 use Rattle.model.specs.Tree.{FieldTree, FileTree}
 use Rattle.model.specs.Spelling.{entry_at}
+use Rattle.model.specs.Instruction.{instr_at}
 use Rattle.model.specs.BuiltIn.{built_in_classes}
 use Rattle.model.specs.Classes.{Program, Body, name_of, classes_of}
 use Rattle.model.specs.Linkable.{AreSpelled}
@@ -24,7 +28,7 @@ use Rattle.linker.proofs.linked_types.Types.{few_classes}
 use Rattle.types.specs.method_code.Linked.{IsLinked}
 use Rattle.data_races.specs.Variables.{declares_volatile}
 use Rattle.field_names.specs.declared.named_fields.NamedField.{NamedField}
-use Rattle.field_names.specs.named_fields.Fields.{IsFieldIf, field_named, field_referred, member_at}
+use Rattle.field_names.specs.named_fields.Fields.{IsFieldIf, field_named, field_referred, member_at, reference_in}
 
 -- ---- how many fields a class declares
 
@@ -125,3 +129,18 @@ referred_told files body offset m told e h = subst (λ o. IsFieldIf files (optio
 
 pub unreferred_told : (files : Program) (body : Body) (offset : ℕ) → None ≡ field_referred body offset → IsFieldIf files (field_named files body offset) None
 unreferred_told files body offset e = subst (λ o. IsFieldIf files (option_and_then (find_field files) o) None) e tt
+
+-- the reference of an instruction that is decoded
+pub referred : (body : Body) (offset : ℕ) (code : List ℕ) (i : Instr) → code ≡ body.code.code → Some i ≡ instr_at code offset
+    → field_referred body offset ≡ reference_in body i
+referred body offset code i e at =
+    ap (option_and_then (reference_in body)) (ap (λ (bytes : List ℕ). instr_at bytes offset) (sym e) ∙ sym at)
+
+pub not_referred : (body : Body) (offset : ℕ) (code : List ℕ) → code ≡ body.code.code → None ≡ instr_at code offset → None ≡ field_referred body offset
+not_referred body offset code e at =
+    sym (ap (option_and_then (reference_in body)) (ap (λ (bytes : List ℕ). instr_at bytes offset) (sym e) ∙ sym at))
+
+-- no other instruction has one
+pub no_reference : (body : Body) (i : Instr) → ((access : FieldAccess) (index : ℕ) → i ≡ instr.Field access index → ⊥) → reference_in body i ≡ None
+no_reference body (instr.Field access index) n = absurd (n access index refl)
+no_reference body _ n = refl
