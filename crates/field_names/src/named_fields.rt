@@ -76,7 +76,7 @@ fn named_field(hierarchy: &Hierarchy, field: Reference<'_>) -> Option<NamedField
 }
 
 /// The reference to a field that the instruction at an offset has, if it has one.
-fn reference_at<'a>(method: &MethodCode<'a>, offset: u16) -> Option<Reference<'a>>
+fn reference_at<'a>(method: &'a MethodCode<'_>, offset: u16) -> Option<Reference<'a>>
     ensures { option_map reference_of result ≡ field_referred (view.body_of method.now) offset }
 {
     match decode_at(&method.code().code, usize::from(offset))? {

@@ -1,13 +1,12 @@
 -- No two classes of linked files have one name, and no two fields.
 use Rattle.std.proofs.Common.{◌≡◌, ℕ, zero, suc, List, [], ◌∷◌, true, false, inl, inr, Option, Some, None, refl, sym, ap, subst, ◌∙◌}
-use Rattle.std.specs.Prelude.{Bool, IsTrue, is_some, map, not, slice_get, ◌==◌, ◌&&◌, ◌||◌}
+use Rattle.std.specs.Prelude.{Bool, IsTrue, is_some, map, not, slice_get, ◌==◌, ◌&&◌}
 use Rattle.std.specs.Option.{option_and_then, option_map, option_map_or}
 use Rattle.std.specs.List.{AllByRecursion, list_all, list_any}
-use Rattle.std.proofs.lemmas.Bool.{and_parts, or_parts, eq-eqb}
+use Rattle.std.proofs.lemmas.Bool.{and_parts, or_parts}
 use Rattle.std.proofs.lemmas.Bool.Decides.{eqb_tells}
-use Rattle.model.specs.Names.{Name, Member, name_eq, member_eq}
+use Rattle.model.specs.Names.{Member, name_eq, member_eq}
 use Rattle.model.specs.Tree.{FieldTree, FileTree}
-use Rattle.model.specs.Spelling.{text_of, entry_at}
 use Rattle.model.specs.Spells.{IsWhole}
 use Rattle.model.specs.Conditions.{differ, fields_differ, is_same, name_and_descriptor_at}
 use Rattle.model.specs.Pool.{NameAndDescriptor}

@@ -2,7 +2,7 @@ use Rattle.std.proofs.Common.{arith, refl}
 use Rattle.constant_pool.specs.View.{reference_of}
 use Rattle.model.specs.Lookup.{find_field}
 use Rattle.run_laws.proofs.laws.Unrefused.{names_differ}
-use Rattle.field_names.proofs.named_fields.Places.{class_fits, field_fits, field_told, none_told}
+use Rattle.field_names.proofs.named_fields.Places.{class_fits, field_fits, field_told}
 use Rattle.field_names.proofs.named_fields.named_field.Goals as goal
 
 pub overflow_cast-result : goal.overflow_cast-result
