@@ -2,8 +2,8 @@
 //!
 //! # Proved
 //!
-//! - `field_at`: of linked class files, by the number of a method and an offset in its code, the field that the
-//!   instruction there names, by the class that declares it and its place among that class's fields, and whether it is
+//! - `field_at`: of linked class files, by the number of a method that has code and an offset there, the field that the
+//!   instruction names, by the class that declares it and its place among that class's fields, and whether it is
 //!   volatile; `None` exactly where the instruction names no field (`NamesField`).
 //! - `names_are_apart`: no two classes of linked class files have one name, and no two fields (`AreApart` of
 //!   `names_of`).
