@@ -10,8 +10,9 @@
 //!
 //! # Wrong bodies
 //!
-//! - `named_fields-volatile-is-final`: another flag is read; `named_fields-field-of-another-place`: the place before;
-//!   `named_fields-class-of-the-first`: the first class. Each is refused by `named_field`.
+//! - `named_fields-volatile-is-final`: another flag is read; refused by `is_volatile_at`.
+//! - `named_fields-field-of-another-place`: the place before is told; refused by `named_field`.
+//! - `named_fields-class-of-the-first`: the first class is told; refused by `named_field`.
 
 ghost use Rattle.std.specs.Prelude.{◌≡◌, IsFalse, option_map};
 ghost use Rattle.model.specs.Linkable.{stands, DuplicateClass};

@@ -14,7 +14,7 @@
 //! # Wrong bodies
 //!
 //! - `changes-lock-of-an-owner`: an entry of its owner is told as a lock; refused by `locked`.
-//! - `changes-unlock-stays-out`: no unlock is told; refused by `unlocked`.
+//! - `changes-unlock-stays-out`: no unlock is told; refused by `unlock_by`.
 //! - `changes-start-of-the-last`: the thread before the started one is told; refused by `started`.
 //! - `changes-clear-of-none`: a status that was clear is told as cleared; refused by `cleared`.
 

@@ -15,11 +15,11 @@
 //!
 //! - `findings-join-of-a-live-thread`: a join that returns as its thread was interrupted finds no thread; refused by
 //!   `join_findings`.
-//! - `findings-alive-has-ended`: `isAlive` that answers 1 finds the end; refused by `life_found`.
+//! - `findings-alive-has-ended`: `isAlive` that answers 1 finds the end; refused by `findings_of`.
 //! - `findings-own-status-for-the-others`: `isInterrupted` finds the status of its own thread; refused by
-//!   `findings_on`.
+//!   `findings_of`.
 //! - `findings-wait-of-no-owner`: a `wait` that throws as its thread isn't the owner finds an interrupt; refused by
-//!   `findings_on`.
+//!   `wait_findings`.
 
 ghost use Rattle.std.specs.Prelude.{◌≡◌, [], ◌∷◌};
 ghost use Rattle.linked_code.specs.Methods.{built_in_of};
