@@ -31,6 +31,7 @@ pub(crate) fn command_files<F: Folder>(
         Command::Verify(options) => verified_files(alloc, folder, options),
         Command::Disasm(options) => given_paths(alloc, folder, &options.files),
         Command::Places(options) => handed_on(alloc, folder, &options.files, &options.main),
+        Command::Races(options) => handed_on(alloc, folder, &options.files, &options.main),
         Command::Schedule(_) => Ok(Vec::new(alloc)),
     }
 }
@@ -86,6 +87,7 @@ pub(crate) fn record_path(command: &Command) -> Option<&str>
         | Command::Verify(_)
         | Command::Disasm(_)
         | Command::Schedule(_)
+        | Command::Races(_)
         | Command::Places(_) => None,
     }
 }

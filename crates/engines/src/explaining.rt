@@ -147,6 +147,7 @@ fn flags_of(command: &Command) -> (bool, bool)
         Command::Disasm(options) => (options.explain, options.quiet),
         Command::Schedule(options) => (options.explain, options.quiet),
         Command::Places(options) => (options.explain, options.quiet),
+        Command::Races(options) => (false, options.quiet),
     }
 }
 
@@ -165,6 +166,7 @@ fn schedule_of(command: &Command) -> Option<&str> {
         Command::Trace(options) => Some(options.schedule.as_str()),
         Command::Shrink(options) => Some(options.schedule.as_str()),
         Command::Places(options) => Some(options.schedule.as_str()),
+        Command::Races(options) => Some(options.schedule.as_str()),
         Command::Schedule(options) if !options.write => Some(options.file.as_str()),
         _ => None,
     }
@@ -203,6 +205,7 @@ fn words_of(command: &Command) -> &[String] {
         Command::Verify(options) => options.files.as_slice(),
         Command::Disasm(options) => options.files.as_slice(),
         Command::Places(options) => options.files.as_slice(),
+        Command::Races(options) => options.files.as_slice(),
         Command::Schedule(_) => &[],
     }
 }

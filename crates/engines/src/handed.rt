@@ -51,6 +51,7 @@ fn library_of<'a, 'b>(command: &Command, library: &'a [LibraryClass<'b>]) -> &'a
         Command::Shrink(options) => unless_alone(options.files_alone, library),
         Command::Verify(options) => unless_alone(options.files_alone, library),
         Command::Places(options) => unless_alone(options.files_alone, library),
+        Command::Races(options) => unless_alone(options.files_alone, library),
         Command::Disasm(_) => &[],
         Command::Schedule(_) => &[],
     }

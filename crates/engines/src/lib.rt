@@ -174,6 +174,7 @@ mod place_ends;
 mod place_schedules;
 mod placing;
 mod program;
+mod racing;
 mod recording;
 mod repeat_words;
 mod replaying;

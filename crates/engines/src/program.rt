@@ -11,7 +11,7 @@ ghost use Rattle.engines.specs.Failures.{FolderMayFail, TellsComplaint, TellsFai
 
 use crate::command_files::{check_record, command_files};
 use crate::commands::{
-    disasm, places, replay, run as run_command, schedule, search, shrink, trace, unread, verify,
+    disasm, places, races, replay, run as run_command, schedule, search, shrink, trace, unread, verify,
 };
 use crate::complaint::Complaint;
 use crate::deadline::Deadline;
@@ -263,6 +263,7 @@ fn done_over<
         ),
         Command::Disasm(options) => disasm(alloc, folder, files, options, output),
         Command::Places(options) => places(alloc, folder, files, given, options, output),
+        Command::Races(options) => races(alloc, folder, files, given, options, output),
         Command::Schedule(options) => schedule(alloc, folder, options, input, output, explanation),
     }
 }

@@ -2,11 +2,11 @@
 
 use crate::fault::Fault;
 use crate::opening::{Opened, open};
+use crate::place_ends::told;
 use crate::recording::Conditions;
 use crate::status::Status;
 use model::{Sink, Source};
 use race_runs::races;
-use schedule::report::text;
 use std::alloc::{AllocError, Global};
 
 /// Runs the class files under the schedule, and writes a line for each data race of the run (JLS 17.4.5), and then the
@@ -20,22 +20,21 @@ pub fn races_engine<S: Source, W: Sink>(
     output: &mut W,
 ) -> Result<Status, Fault> {
     let opened = open(alloc, schedule, files, conditions)?;
-    let (text, status) = told(alloc, opened)?;
+    let (text, status) = raced(alloc, opened)?;
     output.write_all(text.as_slice())?;
     Ok(status)
 }
 
 /// The text and the status of the races of what was opened. Lets go what was opened.
-fn told(alloc: Global, opened: Opened) -> Result<(Vec<u8>, Status), AllocError> {
+fn raced(alloc: Global, opened: Opened) -> Result<(Vec<u8>, Status), AllocError> {
     races_of(alloc, &opened)
 }
 
 fn races_of(alloc: Global, opened: &Opened) -> Result<(Vec<u8>, Status), AllocError> {
-    let mut told = races(alloc, &opened.verified, &opened.schedule, opened.limits)?;
-    let report = text(alloc, &told.report, &told.end)?;
-    let status = Status::of(&told.report, told.end);
-    told.lines.extend_from_slice(report.as_slice())?;
-    Ok((told.lines, with_races(status, told.has_race)))
+    let mut found = races(alloc, &opened.verified, &opened.schedule, opened.limits)?;
+    let (report, status) = told(alloc, &found.report, found.end, opened.gives_up)?;
+    found.lines.extend_from_slice(report.as_slice())?;
+    Ok((found.lines, with_races(status, found.has_race)))
 }
 
 /// The status of a run that has a race, or hasn't.
