@@ -1,11 +1,12 @@
 //! What is kept of an event until it is done.
 
 use crate::classes::is_finished;
-use crate::finding::interrupted_by;
-use crate::monitors::{object_of, owns};
+use crate::monitors::meant;
 use linked_code::BuiltInMethod;
 use machine_state::Shared;
 use race_places::run_actions::Action;
+use table_actions::changes::owns;
+use table_actions::findings::interrupt_on;
 use traces::traced_events::Before;
 
 /// What is known of an event before it is done.
@@ -13,23 +14,26 @@ use traces::traced_events::Before;
 pub(crate) struct Kept {
     /// What it reads or writes, where it goes on.
     pub(crate) access: Option<Action>,
-    /// Whom it interrupts.
-    pub(crate) interrupts: Option<u16>,
+    /// By which action it interrupts another thread.
+    pub(crate) interrupt: Option<Action>,
     /// The object whose monitor it may lock or unlock, and whether its thread owns that.
     pub(crate) object: Option<u32>,
-    pub(crate) owns_object: bool,
-    /// The same of the object whose monitor the invocation on top entered.
-    pub(crate) entered: Option<u32>,
-    pub(crate) owns_entered: bool,
-    pub(crate) is_interrupted: bool,
+    pub(crate) was_owner: bool,
+    pub(crate) was_interrupted: bool,
     /// How many threads have been started.
     pub(crate) threads: usize,
     /// Whether the class on top is done.
     pub(crate) is_class_finished: bool,
 }
 
-fn entered_by(before: &Before) -> Option<u32> {
-    before.frame?.entered
+/// By which action an event interrupts another thread.
+fn interrupt(shared: &Shared, before: &Before, built_in: Option<BuiltInMethod>) -> Option<Action> {
+    interrupt_on(
+        &shared.heap,
+        &shared.threads,
+        before.receiver.checked_sub(1)?,
+        built_in?,
+    )
 }
 
 impl Kept {
@@ -37,12 +41,10 @@ impl Kept {
     pub(crate) fn new() -> Kept {
         Kept {
             access: None,
-            interrupts: None,
+            interrupt: None,
             object: None,
-            owns_object: false,
-            entered: None,
-            owns_entered: false,
-            is_interrupted: false,
+            was_owner: false,
+            was_interrupted: false,
             threads: 0,
             is_class_finished: false,
         }
@@ -56,16 +58,13 @@ impl Kept {
         access: Option<Action>,
         built_in: Option<BuiltInMethod>,
     ) -> Kept {
-        let object = object_of(before, built_in);
-        let entered = entered_by(before);
+        let object = meant(before, built_in);
         Kept {
             access,
-            interrupts: interrupted_by(shared, built_in, before.receiver),
+            interrupt: interrupt(shared, before, built_in),
             object,
-            owns_object: owns(&shared.heap, object, thread),
-            entered,
-            owns_entered: owns(&shared.heap, entered, thread),
-            is_interrupted: shared.threads.interrupted(thread),
+            was_owner: owns(&shared.heap, thread, object),
+            was_interrupted: shared.threads.interrupted(thread),
             threads: shared.threads.len(),
             is_class_finished: match before.class {
                 Some(class) => is_finished(shared, class),

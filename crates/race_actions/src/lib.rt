@@ -15,4 +15,4 @@ mod finding;
 mod monitors;
 
 pub use event_actions::EventActions;
-pub use fields::{FieldNames, NamedField};
+pub use fields::FieldNames;

@@ -1,0 +1,115 @@
+-- The field at a place that is found is the one that the reference is resolved to.
+use Rattle.std.proofs.Common.{◌≡◌, ◌<◌, ◌≤◌, ◌^◌, ℕ, List, [], ◌∷◌, true, false, Option, Some, None, length, refl, sym, ap, subst, ◌∙◌, arith}
+use Rattle.std.specs.Prelude.{Bool, nat_lt, position, slice_get, ◌/◌, ◌%◌, ◌==◌, IfSome}
+use Rattle.std.specs.Option.{option_and_then, option_map, option_map_or}
+use Rattle.std.specs.List.{AllByRecursion, list_all}
+use Rattle.std.proofs.lemmas.Bool.{and_parts}
+use Rattle.std.proofs.lemmas.Bool.Decides.{nat_tests}
+use Rattle.std.proofs.lemmas.Option.{slice_get_within}
+use Rattle.model.specs.Names.{Member}
+use Rattle.model.specs.Tree.{FieldTree, FileTree}
+use Rattle.model.specs.Spelling.{entry_at}
+use Rattle.model.specs.BuiltIn.{built_in_classes}
+use Rattle.model.specs.Classes.{Program, name_of, classes_of}
+use Rattle.model.specs.Linkable.{AreSpelled}
+use Rattle.model.specs.Lookup.{find_field, is_field, field_member, field_of}
+use Rattle.run_laws.proofs.laws.Found.{every_all}
+use Rattle.run_laws.proofs.laws.Homes.{spelled}
+use Rattle.run_laws.proofs.laws.Lists.{every_append, every_at}
+use Rattle.run_laws.proofs.laws.Unrefused.{names_differ}
+use Rattle.hierarchy.specs.declared.place.MemberPlace.{MemberPlace}
+use Rattle.hierarchy.specs.Places.{class_at, name_at, member_in, IsFieldAt}
+use Rattle.hierarchy.proofs.Apart.{field_there}
+use Rattle.hierarchy.proofs.Finding.{find_passes, passes_at, position_within}
+use Rattle.linker.proofs.linked_types.Types.{few_classes}
+use Rattle.types.specs.method_code.Linked.{IsLinked}
+use Rattle.data_races.specs.Variables.{declares_volatile, is_volatile_field}
+use Rattle.field_names.specs.declared.named_fields.NamedField.{NamedField}
+use Rattle.field_names.specs.named_fields.Fields.{IsField, IsFieldIf, member_at}
+
+-- ---- how many fields a class declares
+
+few_fields : FileTree → Bool
+few_fields file = nat_lt (length file.fields) 65536
+
+built_in_few : list_all few_fields built_in_classes ≡ true
+unfolding few_fields built_in_classes
+built_in_few = refl
+
+few_then : (n : ℕ) → n < 2 ^ 16 → nat_lt n 65536 ≡ true
+few_then n h = grind (arith, nat_tests)
+
+files_few : (bytes : List (List ℕ)) (files : Program) → AreSpelled bytes files → AllByRecursion (λ file. few_fields file ≡ true) files
+unfolding few_fields
+files_few [] [] h = tt
+files_few [] (file ∷ files) h = absurd h
+files_few (b ∷ bytes) [] h = tt
+files_few (b ∷ bytes) (file ∷ files) h = (few_then (length file.fields) h.0.layout.fits.fields.0, files_few bytes files h.1)
+
+then_few : (n : ℕ) → nat_lt n 65536 ≡ true → n < 2 ^ 16
+then_few n h = grind (arith, nat_tests)
+
+fields_fit : (files : Program) → IsLinked files → (class : ℕ) (file : FileTree) → class_at files class ≡ Some file → length file.fields < 2 ^ 16
+unfolding few_fields
+fields_fit files linked class file at =
+    then_few (length file.fields) (
+      every_at (λ (f : FileTree). few_fields f ≡ true) (classes_of files) class file
+      (every_append (λ (f : FileTree). few_fields f ≡ true) built_in_classes files (every_all few_fields built_in_classes built_in_few) (files_few linked.0 files linked.1.spelled))
+      at
+    )
+
+-- ---- a field at a place
+
+module _ (files : Program) (linked : IsLinked files) (m : Member) (p : MemberPlace) (file : FileTree) (at : class_at files p.class ≡ Some file)
+    (stands : IsFieldAt files m p) where
+  place : position (is_field file.pool m.name m.descriptor) file.fields ≡ Some p.member
+  place = ap (λ (o : Option FileTree). option_and_then (λ (f : FileTree). position (is_field f.pool m.name m.descriptor) f.fields) o) (sym at) ∙ stands
+
+  pub class_fits : p.class < 2 ^ 16
+  class_fits = omega (arith, few_classes files linked, slice_get_within (classes_of files) p.class file at)
+
+  pub field_fits : p.member < 2 ^ 16
+  field_fits =
+      omega (arith, fields_fit files linked p.class file at, position_within (is_field file.pool m.name m.descriptor) file.fields p.member place)
+
+  module _ (f : FieldTree) (there : slice_get file.fields p.member ≡ Some f) where
+    spelled_so : is_field file.pool m.name m.descriptor f ≡ true
+    spelled_so =
+        find_passes (is_field file.pool m.name m.descriptor) file.fields f
+        (passes_at (is_field file.pool m.name m.descriptor) file.fields p.member f place there)
+
+    named : name_of file ≡ name_at files p.class
+    named = ap (λ (o : Option FileTree). option_map_or name_of o []) (sym at)
+
+    is_member : field_member (name_of file) file.pool f ≡ member_in files m p
+    is_member =
+        let texts = and_parts _ _ spelled_so in
+        let name = spelled (entry_at file.pool f.name) m.name texts.0 in
+        let descriptor = spelled (entry_at file.pool f.descriptor) m.descriptor texts.1 in
+        rw (named, name, descriptor)
+
+    pub member_there : member_at files p.class p.member ≡ Some (member_in files m p)
+    member_there =
+        ap (λ (o : Option FileTree). option_and_then (λ (g : FileTree). option_map (field_member (name_of g) g.pool) (slice_get g.fields p.member)) o) at
+        ∙ ap (option_map (field_member (name_of file) file.pool)) there
+        ∙ ap (λ (x : Member). Some x) is_member
+
+    pub volatile_there : declares_volatile files (member_in files m p) ≡ is_volatile_field f
+    volatile_there =
+        ap (λ (o : Option FieldTree). option_map_or is_volatile_field o false)
+        (sym (field_there files m p file (names_differ files linked.1.no_refusal) at stands) ∙ there)
+
+    pub field_told : (found : Option Member) → option_map (λ (q : MemberPlace). member_in files m q) (Some p) ≡ found
+        → (told : NamedField) → told.class ≡ p.class → told.field ≡ p.member → told.is_volatile ≡ is_volatile_field f
+        → IsFieldIf files found (Some told)
+    field_told found is told c k v =
+        subst (λ o. IsFieldIf files o (Some told)) is (
+          record {
+            at = ap (λ (class : ℕ). member_at files class told.field) c ∙ ap (member_at files p.class) k ∙ member_there;
+            is_volatile = v ∙ sym volatile_there;
+          }
+        )
+
+pub none_told : (files : Program) (m : Member) (found : Option Member) → option_map (λ (q : MemberPlace). member_in files m q) None ≡ found
+    → IsFieldIf files found None
+none_told files m found is = subst (λ o. IsFieldIf files o None) is tt

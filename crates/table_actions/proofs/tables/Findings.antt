@@ -1,0 +1,111 @@
+-- What the tables of threads and monitors say of the world that they are of.
+use Rattle.std.proofs.Common.{◌≡◌, refl, sym, ◌∙◌, subst, ℕ, List, [], ◌∷◌, ◌++◌, map}
+use Rattle.std.specs.Prelude.{Option, Some, None, Bool, true, false}
+use Rattle.std.specs.List.{position}
+use Rattle.model.specs.State.{World, Thread}
+use Rattle.model.specs.Worlds as worlds
+use Rattle.model.specs.Worlds.{is_of_object}
+use Rattle.model.specs.Monitors.{monitor_at, owns}
+use Rattle.model.specs.BuiltInMethods.{BuiltInMethod, ObjectWait}
+use Rattle.heap.specs.Heap.{Heap}
+use Rattle.heap.specs.java_threads.Table.{ThreadTable, thread_at, number_of}
+use Rattle.race_places.specs.declared.run_actions.Action.{Action}
+use Rattle.race_places.specs.declared.run_actions.Action.TheVariants as action
+use Rattle.race_places.specs.named_actions.Names.{Names, named_action}
+use Rattle.data_races.specs.Actions as named
+use Rattle.data_races.specs.Actions.{Action as NamedAction}
+use Rattle.data_races.specs.EventActions.{found_alive, found_by_join, found_on, found_own, found_status, is_over, of_thread, only_if}
+use Rattle.table_actions.specs.declared.findings.Findings.{Findings}
+use Rattle.table_actions.specs.tables.Told.{AreOf, Tells, all_found, found_of, interrupt_of, listed}
+
+module _ (heap : Heap) (table : ThreadTable) where
+  -- ---- a test, and what it tells
+
+  over : (world : World) (u : ℕ) (b : Bool) → AreOf heap table world → b ≡ worlds.has_ended (thread_at table.threads u).status → is_over world u ≡ b
+  over world u b are e = rw (← are.threads) (sym e)
+
+  interrupted : (world : World) (t : ℕ) (b : Bool) → AreOf heap table world → b ≡ (thread_at table.threads t).interrupted
+      → (worlds.thread_at world t).interrupted ≡ b
+  interrupted world t b are e = rw (← are.threads) (sym e)
+
+  owning : (world : World) (t object : ℕ) (b : Bool) → AreOf heap table world → b ≡ owns t (monitor_at heap.locks.monitors object).owner
+      → worlds.is_owner world t object ≡ b
+  owning world t object b are e = rw (← are.monitors) (sym e)
+
+  number : (world : World) (object : ℕ) (o : Option ℕ) → AreOf heap table world → o ≡ number_of table.threads object → worlds.thread_of world object ≡ o
+  number world object o are e = rw (← are.threads) (sym e)
+
+  -- ---- what is found of one thread
+
+  pub finished_told : (u : ℕ) (b : Bool) → b ≡ worlds.has_ended (thread_at table.threads u).status → b ≡ true
+      → Tells heap table (action.FindFinished u ∷ []) (λ world. found_alive world u)
+  finished_told u b e t names world are = let h : is_over world u ≡ true = over world u b are e ∙ t in rw h
+
+  pub alive_told : (u : ℕ) (b : Bool) → b ≡ worlds.has_ended (thread_at table.threads u).status → b ≡ false
+      → Tells heap table (action.FindStarted u ∷ []) (λ world. found_alive world u)
+  alive_told u b e t names world are = let h : is_over world u ≡ false = over world u b are e ∙ t in rw h
+
+  pub set_told : (u : ℕ) (b : Bool) → b ≡ (thread_at table.threads u).interrupted → b ≡ true
+      → Tells heap table (action.FindInterrupted u ∷ []) (λ world. found_status world u)
+  set_told u b e t names world are = let h : (worlds.thread_at world u).interrupted ≡ true = interrupted world u b are e ∙ t in rw h
+
+  pub clear_told : (u : ℕ) (b : Bool) → b ≡ (thread_at table.threads u).interrupted → b ≡ false
+      → Tells heap table (action.FindNotInterrupted u ∷ []) (λ world. found_status world u)
+  clear_told u b e t names world are = let h : (worlds.thread_at world u).interrupted ≡ false = interrupted world u b are e ∙ t in rw h
+
+  pub own_told : (u : ℕ) (b : Bool) → b ≡ (thread_at table.threads u).interrupted → b ≡ true
+      → Tells heap table (action.FindInterrupted u ∷ []) (λ world. found_own world u)
+  own_told u b e t names world are = let h : (worlds.thread_at world u).interrupted ≡ true = interrupted world u b are e ∙ t in rw h
+
+  pub no_own_told : (u : ℕ) (b : Bool) → b ≡ (thread_at table.threads u).interrupted → b ≡ false
+      → Tells heap table [] (λ world. found_own world u)
+  no_own_told u b e t names world are = let h : (worlds.thread_at world u).interrupted ≡ false = interrupted world u b are e ∙ t in rw h
+
+  pub interrupts_told : (u : ℕ) (b : Bool) → b ≡ worlds.has_ended (thread_at table.threads u).status → b ≡ false
+      → Tells heap table (action.Interrupt u ∷ []) (λ world. interrupt_of world u)
+  interrupts_told u b e t names world are = let h : is_over world u ≡ false = over world u b are e ∙ t in rw h
+
+  pub no_interrupt_told : (u : ℕ) (b : Bool) → b ≡ worlds.has_ended (thread_at table.threads u).status → b ≡ true
+      → Tells heap table [] (λ world. interrupt_of world u)
+  no_interrupt_told u b e t names world are = let h : is_over world u ≡ true = over world u b are e ∙ t in rw h
+
+  -- ---- of a join
+
+  pub joined_told : (t u : ℕ) (b : Bool) → b ≡ worlds.has_ended (thread_at table.threads u).status → b ≡ true → (findings : Findings)
+      → all_found findings ≡ action.FindFinished u ∷ [] → Tells heap table (all_found findings) (λ world. found_by_join world t u)
+  joined_told t u b e y findings f names world are =
+      let h : is_over world u ≡ true = over world u b are e ∙ y in rw (f, h)
+
+  map_append : {A B : Type 0} (f : A → B) (xs ys : List A) → map f (xs ++ ys) ≡ map f xs ++ map f ys
+  map_append f [] ys = refl
+  map_append f (x ∷ xs) ys = rw (map_append f xs ys)
+
+  pub unjoined_told : (t u : ℕ) (b : Bool) → b ≡ worlds.has_ended (thread_at table.threads u).status → b ≡ false → (own : Option Action)
+      → Tells heap table (listed own) (λ world. found_own world t)
+      → Tells heap table (listed own ++ action.FindStarted u ∷ []) (λ world. found_by_join world t u)
+  unjoined_told t u b e n own told names world are =
+      let h : is_over world u ≡ false = over world u b are e ∙ n in
+      rw (map_append (named_action names) (listed own) (action.FindStarted u ∷ []), told names world are, h)
+
+  -- ---- of a wait
+
+  pub owner_told : (t object : ℕ) (b : Bool) → b ≡ owns t (monitor_at heap.locks.monitors object).owner → b ≡ true → (own : Option Action)
+      → Tells heap table (listed own) (λ world. found_own world t) → (findings : Findings) → all_found findings ≡ listed own
+      → Tells heap table (all_found findings) (λ world. found_on world t object ObjectWait)
+  owner_told t object b e y own told findings f names world are =
+      let h : worlds.is_owner world t object ≡ true = owning world t object b are e ∙ y in rw (f, told names world are, h)
+
+  pub stranger_told : (t object : ℕ) (b : Bool) → b ≡ owns t (monitor_at heap.locks.monitors object).owner → b ≡ false → (findings : Findings)
+      → all_found findings ≡ [] → Tells heap table (all_found findings) (λ world. found_on world t object ObjectWait)
+  stranger_told t object b e n findings f names world are =
+      let h : worlds.is_owner world t object ≡ false = owning world t object b are e ∙ n in rw (f, h)
+
+  -- ---- of the thread of an object
+
+  pub number_told : (object : ℕ) (o : Option ℕ) → o ≡ number_of table.threads object → (actions : World → ℕ → List NamedAction)
+      → (told : List Action) → ((u : ℕ) → o ≡ Some u → Tells heap table told (λ world. actions world u)) → (o ≡ None → told ≡ [])
+      → Tells heap table told (λ world. of_thread (worlds.thread_of world object) (actions world))
+  number_told object None e actions told some none names world are =
+      let h : worlds.thread_of world object ≡ None = number world object None are e in rw (h, none refl)
+  number_told object (Some u) e actions told some none names world are =
+      let h : worlds.thread_of world object ≡ Some u = number world object (Some u) are e in rw h (some u refl names world are)
