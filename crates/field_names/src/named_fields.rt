@@ -11,10 +11,13 @@
 //! # Wrong bodies
 //!
 //! - `named_fields-volatile-is-final`: another flag is read; `named_fields-field-of-another-place`: the place before;
-//!   `named_fields-class-of-the-reference`: the class of the method. Each is refused by `named_field` or `field_at`.
+//!   `named_fields-class-of-the-first`: the first class. Each is refused by `named_field`.
 
-ghost use Rattle.std.specs.Prelude.{◌≡◌, ◌<◌, ◌^◌};
+ghost use Rattle.std.specs.Prelude.{◌≡◌, IsFalse, option_map};
+ghost use Rattle.model.specs.Linkable.{stands, DuplicateClass};
 ghost use Rattle.model.specs.Lookup.{find_field};
+ghost use Rattle.hierarchy.specs.Places.{IsFieldAt, member_in};
+ghost use Rattle.data_races.specs.Variables.{declares_volatile};
 ghost use Rattle.constant_pool.specs.View.{reference_of};
 ghost use Rattle.types.specs.method_code.Linked.{IsLinked};
 ghost use Rattle.types.specs.method_code.View as view;
@@ -25,7 +28,7 @@ ghost use Rattle.field_names.specs.named_fields.Fields.{IsFieldIf, NamesField, f
 
 use class_tree::Reference;
 use class_tree::access_flags::has;
-use hierarchy::Hierarchy;
+use hierarchy::{ClassSet, Hierarchy, MemberPlace};
 use linker::Linked;
 use method_tables::method_links::MethodNumbers;
 use model::Instr;
@@ -44,18 +47,31 @@ pub struct NamedField {
     pub is_volatile: bool,
 }
 
-/// The field that a symbolic reference names (JVMS 5.4.3.2).
-fn named_field(hierarchy: &Hierarchy, named: Reference<'_>) -> Option<NamedField>
-    requires { IsLinked hierarchy.now }
-    ensures { IsFieldIf hierarchy.now (find_field hierarchy.now (reference_of named)) result }
+/// Whether the field that is found at a place is volatile.
+fn is_volatile_at(set: &ClassSet, field: Reference<'_>, place: MemberPlace) -> bool
+    requires differ { IsFalse (stands set.now DuplicateClass) }
+    requires at { IsFieldAt set.now (reference_of field) place }
+    ensures { result ≡ declares_volatile set.now (member_in set.now (reference_of field.entry) place) }
 {
-    let place = hierarchy.find_field(named)?;
-    let class = hierarchy.set().class_at(place.class)?;
-    let declared = class.fields.get(place.member)?;
+    let Some(class) = set.class_at(place.class) else {
+        return false;
+    };
+    match class.fields.get(place.member) {
+        Some(declared) => has(declared.flags, VOLATILE),
+        None => false,
+    }
+}
+
+/// The field that a symbolic reference names (JVMS 5.4.3.2).
+fn named_field(hierarchy: &Hierarchy, field: Reference<'_>) -> Option<NamedField>
+    requires { IsLinked hierarchy.now }
+    ensures { IsFieldIf hierarchy.now (find_field hierarchy.now (reference_of field.entry)) result }
+{
+    let place = hierarchy.find_field(field)?;
     Some(NamedField {
         class: place.class as u16,
         field: place.member as u16,
-        is_volatile: has(declared.flags, VOLATILE),
+        is_volatile: is_volatile_at(hierarchy.set(), field, place),
     })
 }
 
@@ -63,8 +79,8 @@ fn named_field(hierarchy: &Hierarchy, named: Reference<'_>) -> Option<NamedField
 fn reference_at<'a>(method: &MethodCode<'a>, offset: u16) -> Option<Reference<'a>>
     ensures { option_map reference_of result ≡ field_referred (view.body_of method.now) offset }
 {
-    match decode_at(&method.code.code, usize::from(offset))? {
-        Instr::Field { index, .. } => method.file.field_reference(index),
+    match decode_at(&method.code().code, usize::from(offset))? {
+        Instr::Field { index, .. } => method.file().field_reference(index),
         _ => None,
     }
 }

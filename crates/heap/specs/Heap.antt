@@ -1,5 +1,6 @@
 -- Objects by their references, as lists of words, with their monitors (own): what each call of the heap makes of them.
-use Rattle.std.specs.Prelude.{◌≡◌, ℕ, ◌+◌, ◌-◌, ◌<◌, ◌≤◌, ◌^◌, List, [], ◌∷◌, ◌++◌, Option, Some, None, Result, Ok, Err, false, length, drop, replicate, sum_by, slice_get, slice_index, slice_set}
+use Rattle.std.specs.Prelude.{◌≡◌, ℕ, ◌+◌, ◌-◌, ◌<◌, ◌≤◌, ◌^◌, List, [], ◌∷◌, ◌++◌, Option, Some, None, Result, Ok, Err}
+use Rattle.std.specs.Prelude.{false, length, drop, replicate, sum_by, slice_get, slice_index, slice_set}
 use Rattle.model.specs.Monitors.{unlocked, monitor_at}
 use Rattle.model.specs.declared.monitor_answer.MonitorAnswer.{MonitorAnswer}
 use Rattle.heap.specs.monitor.Locks.{Locks, Answers}

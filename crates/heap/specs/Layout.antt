@@ -15,7 +15,8 @@ object_of entry next cells = record { kind = entry.kind; words = slice_range cel
 
 abbrev pub objects_of : List Entry → List ℕ → List Object
 objects_of [] cells = []
-objects_of (entry ∷ entries) cells = object_of entry (first_start entries (length cells)) cells ∷ objects_of entries cells
+objects_of (entry ∷ entries) cells =
+    object_of entry (first_start entries (length cells)) cells ∷ objects_of entries cells
 
 -- each has fewer than 2^32 words, up to the next or the end
 abbrev pub AreLaid : List Entry → ℕ → Type 0
@@ -39,7 +40,13 @@ pub record IsPlace (place : ℕ) (entries : List Entry) (end reference number : 
 -- what a heap shows
 abbrev pub heap_of : List Entry → List ℕ → Locks → (opening object_limit cell_limit : ℕ) → Heap
 heap_of entries cells locks opening object_limit cell_limit =
-    record { objects = objects_of entries cells; locks = locks; opening = opening; object_limit = object_limit; cell_limit = cell_limit }
+    record {
+      objects = objects_of entries cells;
+      locks = locks;
+      opening = opening;
+      object_limit = object_limit;
+      cell_limit = cell_limit;
+    }
 
 -- what it keeps
 pub record IsSound (entries : List Entry) (end monitors opening object_limit cell_limit : ℕ) : Type 0 where

@@ -3,7 +3,8 @@
 ghost use Rattle.std.specs.Prelude.{◌≡◌, ◌+◌, ◌<◌, ◌↔◌, [], Ok, IfOk, OnErr, IsTrue, length, slice_get, option_map};
 ghost use Rattle.model.specs.Monitors.{monitor_at};
 ghost use Rattle.heap.specs.monitor.Locks.{IsAllowed, is_fat_at};
-ghost use Rattle.heap.specs.Heap.{made, cells_made, Allocates, IsOpened, words_at, word_at, put_field, put_element, HandsOn, kind_of};
+ghost use Rattle.heap.specs.Heap.{made, cells_made, Allocates, IsOpened, words_at, word_at, put_field, put_element};
+ghost use Rattle.heap.specs.Heap.{HandsOn, kind_of};
 
 mod parts;
 

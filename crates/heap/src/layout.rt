@@ -1,6 +1,7 @@
 //! Where the words of objects lie, among the cells of all objects.
 
-ghost use Rattle.std.specs.Prelude.{◌≡◌, ◌+◌, ◌<◌, ◌≤◌, [], ◌∷◌, ◌++◌, OnOk, OnErr, IfSome, IfNone, IsTrue, length, replicate, slice_get, slice_range, option_map};
+ghost use Rattle.std.specs.Prelude.{◌≡◌, ◌+◌, ◌<◌, ◌≤◌, [], ◌∷◌, ◌++◌, OnOk, OnErr, IfSome, IfNone, IsTrue, length};
+ghost use Rattle.std.specs.Prelude.{replicate, slice_get, slice_range, option_map};
 ghost use Rattle.heap.specs.Heap.{with_lock, words_at, word_at, put_field};
 ghost use Rattle.heap.specs.Layout.{AreLaid, IsPlace, start_at, entry_kind, objects_of};
 
@@ -162,19 +163,10 @@ pub fn add_words(
 
 /// Whether these are the same words.
 #[inline]
-fn are_same(one: &[u32], other: &[u32]) -> bool
+pub fn are_same_words(one: &[u32], other: &[u32]) -> bool
     ensures { IsTrue result → one.now ≡ other.now }
 {
-    let count = one.len();
-    if other.len() != count {
-        return false;
-    }
-    'words: for place in 0..count {
-        if one[place] != other[place] {
-            return false;
-        }
-    }
-    true
+    one == other
 }
 
 /// Whether these are the same kind.
@@ -203,7 +195,7 @@ pub fn is_same_object(
     match (table.get(place), others.get(place)) {
         (Some(one), Some(other)) => {
             are_same_kinds(one.kind, other.kind)
-                && are_same(
+                && are_same_words(
                     words(table, cells, object),
                     words(others, other_cells, object),
                 )

@@ -24,10 +24,17 @@
 //!   with sign, a char without).
 //! - The calls of monitors are handed on with their contract, and the rest of the heap stays (`HandsOn`); so are the
 //!   getters.
+//! - Of states that are kept: `words` is the list of an object's words. `add_words` and `add_opening_words` put an
+//!   object with given words last, with a monitor that has no owner; the first says of a refusal what `Allocates` says,
+//!   and the other doesn't change anything on an error. `copied` is the other heap, whatever this one was.
+//! - `same_until`: each object from the first of a range up to the answer is the same in both heaps, it and its
+//!   monitor. The answer may come early: the search stops at an inflated lock.
+//! - `are_same_words`: two lists that are found to be the same are the same.
 //! - An entry of the table has 16 bytes. Beside it an object has a lock word of 4 bytes, and each cell 4 bytes.
 //!
 //! # Not proved
 //!
+//! - That what is the same in two heaps is found to be so.
 //! - Only tested, in `machine_tests`: that calls succeed where memory is there.
 //!
 //! # Wrong bodies
@@ -47,4 +54,5 @@ mod refusal;
 
 pub use heap::{Heap, MOST_OPENING};
 pub use kind::{NarrowKind, ObjectKind};
+pub use layout::are_same_words;
 pub use refusal::AllocRefusal;

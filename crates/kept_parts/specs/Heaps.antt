@@ -24,7 +24,8 @@ pub record IsHeapWritten (heap : Heap) (number : ℕ) (numbers : List ℕ) (old 
   pub stands : StandsFor new number numbers
 
 -- a heap was read under these limits, with flags of the locks that are inflated
-pub record IsHeapRead (parts : List (List ℕ)) (limits : Limits) (opening : ℕ) (numbers fat : List ℕ) (heap : Heap) : Type 0 where
+pub record IsHeapRead (parts : List (List ℕ)) (limits : Limits) (opening : ℕ) (numbers fat : List ℕ)
+    (heap : Heap) : Type 0 where
   pub are : IsHeapKept parts numbers heap
   pub fat_is : fat ≡ flags_row heap.locks.fat
   pub opening_is : heap.opening ≡ opening
@@ -43,11 +44,13 @@ pub record AreBefore (parts : List (List ℕ)) (before : NumberedHeap) : Type 0 
 abbrev pub AreFirst : List (List ℕ) → (numbers : List ℕ) → (count : ℕ) → Heap → Type 0
 AreFirst parts numbers count heap = AreObjects parts numbers (take count heap.objects) (take count heap.locks.monitors)
 
--- numbers of the objects from this one up to another, as a heap before has them, are put behind those of the objects before it
+-- numbers of the objects from this one up to another, as a heap before has them, are put behind those of the objects
+-- before it
 pub record GoOn (heap : Heap) (before : Option NumberedHeap) (object until : ℕ) (old new : List ℕ) : Type 0 where
   pub from : object ≤ until
   pub within : until ≤ length heap.objects
-  pub first : (parts : List (List ℕ)) → IfSome before (AreBefore parts) → AreFirst parts old object heap → AreFirst parts new until heap
+  pub first : (parts : List (List ℕ)) → IfSome before (AreBefore parts) → AreFirst parts old object heap
+      → AreFirst parts new until heap
 
 -- the objects from this one up to another have numbers, as those before it have, and one more has
 pub record AreNumbered (heap : Heap) (object until : ℕ) (numbers : List ℕ) (old new : List (List ℕ)) : Type 0 where

@@ -38,12 +38,18 @@ object_row object monitor = kind_row object.kind ++ length object.words ∷ (obj
 
 -- another monitor of an object
 abbrev pub with_monitor_at : ℕ → Monitor → Heap → Heap
-with_monitor_at object monitor heap = record heap { locks = record heap.locks { monitors = slice_set heap.locks.monitors object monitor } }
+with_monitor_at object monitor heap =
+    record heap { locks = record heap.locks { monitors = slice_set heap.locks.monitors object monitor } }
 
 -- the monitor of an object, whose lock may be inflated
 abbrev pub with_monitor : ℕ → Monitor → Bool → Heap → Heap
 with_monitor object monitor fat heap =
-    record heap { locks = record heap.locks { monitors = slice_set heap.locks.monitors object monitor; fat = slice_set heap.locks.fat object fat } }
+    record heap {
+      locks = record heap.locks {
+        monitors = slice_set heap.locks.monitors object monitor;
+        fat = slice_set heap.locks.fat object fat;
+      };
+    }
 
 -- a thread has entered so many times
 pub record Enters (object thread count : ℕ) (old new : Heap) : Type 0 where
@@ -53,7 +59,8 @@ pub record Enters (object thread count : ℕ) (old new : Heap) : Type 0 where
 
 -- a thread has joined the wait set
 abbrev pub joined : (thread count : ℕ) → Monitor → Monitor
-joined thread count monitor = record { owner = None; count = 0; waiters = monitor.waiters ++ record { thread = thread; count = count } ∷ [] }
+joined thread count monitor =
+    record { owner = None; count = 0; waiters = monitor.waiters ++ record { thread = thread; count = count } ∷ [] }
 
 pub record Joins (object thread count : ℕ) (old new : Heap) : Type 0 where
   pub there : object < length old.locks.monitors
@@ -76,7 +83,8 @@ pub record AreWaitersRead (object : ℕ) (fat : Bool) (count : ℕ) (row rest : 
 pub record IsOwnerRead (object word count : ℕ) (old new : Heap) : Type 0 where
   pub owner : Option ℕ
   pub word_is : word ≡ owner_code owner
-  pub after : new ≡ with_monitor_at object (record (monitor_at old.locks.monitors object) { owner = owner; count = count }) old
+  pub after : new
+      ≡ with_monitor_at object (record (monitor_at old.locks.monitors object) { owner = owner; count = count }) old
 
 -- a monitor was read, and is that of the object
 pub record IsMonitorRead (object : ℕ) (fat : Bool) (row rest : List ℕ) (old new : Heap) : Type 0 where

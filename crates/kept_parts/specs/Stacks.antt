@@ -19,7 +19,8 @@ entry_kind_row (kind.Initialisation class phase) = phase_code phase ∷ class �
 
 abbrev pub entry_row : Entry → List ℕ
 entry_row entry =
-    entry_kind_row entry.kind ++ entry.method ∷ (option_row entry.entered ++ entry.place ∷ entry.locals ∷ entry.operands ∷ [])
+    entry_kind_row entry.kind
+    ++ entry.method ∷ (option_row entry.entered ++ entry.place ∷ entry.locals ∷ entry.operands ∷ [])
 
 abbrev pub entries_row : List Entry → List ℕ
 entries_row entries = flat_map entry_row entries

@@ -1,4 +1,5 @@
--- A thread with its stack as a row of words (own): what it is about, its object, whether it has begun and is interrupted, the exception
+-- A thread with its stack as a row of words (own): what it is about, its object, whether it has begun and is
+-- interrupted, the exception
 -- that is pending, and its stack.
 use Rattle.std.specs.Prelude.{◌≡◌, ℕ, List, [], ◌∷◌, ◌++◌, Some, None}
 use Rattle.model.specs.State as model
@@ -24,11 +25,18 @@ status_row (model.Ended (Some exception)) = 5 ∷ exception ∷ 0 ∷ []
 -- a thread but for its stack
 abbrev pub thread_row : Thread → List ℕ
 thread_row thread =
-    status_row thread.status ++ thread.object ∷ flag_code thread.begun ∷ flag_code thread.interrupted ∷ option_row thread.pending
+    status_row thread.status ++ thread.object ∷ flag_code thread.begun ∷ flag_code thread.interrupted
+    ∷ option_row thread.pending
 
 abbrev pub thread_of : Fields → Thread
 thread_of fields =
-    record { object = fields.object; begun = fields.begun; pending = fields.pending; interrupted = fields.interrupted; status = status_of fields.status }
+    record {
+      object = fields.object;
+      begun = fields.begun;
+      pending = fields.pending;
+      interrupted = fields.interrupted;
+      status = status_of fields.status;
+    }
 
 pub record IsThreadRow (row : List ℕ) (thread : Thread) (stack : List ShownEntry) : Type 0 where
   pub stack_words : List ℕ

@@ -3,12 +3,12 @@
 ghost use Rattle.std.specs.Prelude.{◌≡◌, ◌+◌, ◌<◌, ◌≤◌, ◌++◌, Some, length, IfSome, IfOk, OnOk};
 ghost use Rattle.word_table.specs.Lists.{Grows, IsWritten};
 ghost use Rattle.kept_parts.specs.Rows.{flags_row};
-ghost use Rattle.kept_parts.specs.Heaps.{AreBefore, AreFirst, AreNumbered, GoOn, IsHeapKept, IsHeapWritten, IsHeapRead, IsNumberRead};
+ghost use Rattle.kept_parts.specs.Heaps.{AreBefore, AreFirst, AreNumbered, GoOn, IsHeapKept, IsHeapWritten, IsHeapRead};
+ghost use Rattle.kept_parts.specs.Heaps.{IsNumberRead};
 
 use crate::object_rows::{push_object, read_object};
 use crate::rows::{flag_code, flag_of, push};
-use crate::same::are_same_words;
-use heap::Heap;
+use heap::{Heap, are_same_words};
 use model::Limits;
 use std::alloc::{AllocError, Global};
 use word_table::WordTable;

@@ -21,8 +21,8 @@
 //!
 //! # Wrong bodies
 //!
-//! - `number-of-the-next-object`, `list-as-long`: an object has the number that another one has in the heap before, or a
-//!   list of numbers stands for another one; refused by the contracts of `heap_number` and of what it calls.
+//! - `number-of-the-next-object`, `list-as-long`: an object has the number that another one has in the heap before, or
+//!   a list of numbers stands for another one; refused by the contracts of `heap_number` and of what it calls.
 //! - `row-without-the-monitor`, `waiter-joins-with-one-entry`: a monitor is left out, or read as another one;
 //!   refused by the contracts of `push_object` and `read_monitor`.
 //! - `operands-are-not-compared`: a stack is found to be the same where an entry has fewer operands; refused by that of

@@ -3,7 +3,8 @@
 ghost use Rattle.std.specs.Prelude.{◌≡◌, ◌<◌, ◌++◌, length, false, true, None, OnOk, IfOk};
 ghost use Rattle.model.specs.Monitors.{monitor_at, unlocked};
 ghost use Rattle.heap.specs.monitor.Locks.{is_fat_at};
-ghost use Rattle.kept_parts.specs.Objects.{owner_code, waiters_row, monitor_row, IsMonitorRead, AreWaitersRead, IsOwnerRead, Enters, Joins, Inflates};
+ghost use Rattle.kept_parts.specs.Objects.{owner_code, waiters_row, monitor_row, IsMonitorRead, AreWaitersRead};
+ghost use Rattle.kept_parts.specs.Objects.{IsOwnerRead, Enters, Joins, Inflates};
 
 use crate::reader::Reader;
 use crate::rows::{push, push_number, short_of};

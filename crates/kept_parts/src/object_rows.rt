@@ -41,7 +41,10 @@ fn add_object(
         (with_kept (record { kind = kind; words = words.now }) unlocked false heap.old)) }
 {
     if !opening {
-        heap.add_words(kind, words)
+        match heap.add_words(kind, words) {
+            Ok(()) => Ok(()),
+            Err(_) => Err(AllocError),
+        }
     } else if heap.len() < heap::MOST_OPENING {
         heap.add_opening_words(kind, words)
     } else {

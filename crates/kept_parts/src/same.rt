@@ -3,6 +3,7 @@
 ghost use Rattle.std.specs.Prelude.{◌≡◌, length, take, IsTrue};
 ghost use Rattle.heap.specs.java_threads.Table.{thread_at};
 
+use heap::are_same_words;
 use heap::java_threads::Threads;
 use thread_stacks::{Entry, ThreadStack};
 
@@ -30,12 +31,6 @@ fn are_same_entries(one: &[Entry], other: &[Entry]) -> bool
         }
     }
     true
-}
-
-pub(crate) fn are_same_words(one: &[u32], other: &[u32]) -> bool
-    ensures { IsTrue result → one.now ≡ other.now }
-{
-    one == other
 }
 
 /// Whether two stacks are the same.

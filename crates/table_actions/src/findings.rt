@@ -150,9 +150,8 @@ fn findings_of(
 {
     match built_in {
         BuiltInMethod::ThreadStart => of_other(Action::FindStarted(other)),
-        BuiltInMethod::ThreadInterrupt | BuiltInMethod::ThreadIsAlive => {
-            of_other(life_found(heap, threads, other))
-        }
+        BuiltInMethod::ThreadInterrupt => of_other(life_found(heap, threads, other)),
+        BuiltInMethod::ThreadIsAlive => of_other(life_found(heap, threads, other)),
         BuiltInMethod::ThreadIsInterrupted => of_other(status_found(heap, threads, other)),
         BuiltInMethod::ThreadJoin => join_findings(heap, threads, thread, other),
         _ => of_own(None),

@@ -10,22 +10,21 @@ use Rattle.model.specs.Names.{Member}
 use Rattle.model.specs.Tree.{FieldTree, FileTree}
 use Rattle.model.specs.Spelling.{entry_at}
 use Rattle.model.specs.BuiltIn.{built_in_classes}
-use Rattle.model.specs.Classes.{Program, name_of, classes_of}
+use Rattle.model.specs.Classes.{Program, Body, name_of, classes_of}
 use Rattle.model.specs.Linkable.{AreSpelled}
-use Rattle.model.specs.Lookup.{find_field, is_field, field_member, field_of}
-use Rattle.run_laws.proofs.laws.Found.{every_all}
+use Rattle.model.specs.Lookup.{find_field, is_field, field_member}
+use Rattle.run_laws.proofs.laws.Found.{every_all, some_from}
 use Rattle.run_laws.proofs.laws.Homes.{spelled}
 use Rattle.run_laws.proofs.laws.Lists.{every_append, every_at}
-use Rattle.run_laws.proofs.laws.Unrefused.{names_differ}
 use Rattle.hierarchy.specs.declared.place.MemberPlace.{MemberPlace}
 use Rattle.hierarchy.specs.Places.{class_at, name_at, member_in, IsFieldAt}
-use Rattle.hierarchy.proofs.Apart.{field_there}
 use Rattle.hierarchy.proofs.Finding.{find_passes, passes_at, position_within}
+use Rattle.hierarchy.proofs.SetLaws.{no_item}
 use Rattle.linker.proofs.linked_types.Types.{few_classes}
 use Rattle.types.specs.method_code.Linked.{IsLinked}
-use Rattle.data_races.specs.Variables.{declares_volatile, is_volatile_field}
+use Rattle.data_races.specs.Variables.{declares_volatile}
 use Rattle.field_names.specs.declared.named_fields.NamedField.{NamedField}
-use Rattle.field_names.specs.named_fields.Fields.{IsField, IsFieldIf, member_at}
+use Rattle.field_names.specs.named_fields.Fields.{IsFieldIf, field_named, field_referred, member_at}
 
 -- ---- how many fields a class declares
 
@@ -60,56 +59,69 @@ fields_fit files linked class file at =
 
 -- ---- a field at a place
 
-module _ (files : Program) (linked : IsLinked files) (m : Member) (p : MemberPlace) (file : FileTree) (at : class_at files p.class ≡ Some file)
-    (stands : IsFieldAt files m p) where
-  place : position (is_field file.pool m.name m.descriptor) file.fields ≡ Some p.member
-  place = ap (λ (o : Option FileTree). option_and_then (λ (f : FileTree). position (is_field f.pool m.name m.descriptor) f.fields) o) (sym at) ∙ stands
+module _ (files : Program) (linked : IsLinked files) (m : Member) (p : MemberPlace) (stands : IsFieldAt files m p) where
+  record Standing : Type 0 where
+    file : FileTree
+    at : class_at files p.class ≡ Some file
+    place : position (is_field file.pool m.name m.descriptor) file.fields ≡ Some p.member
+    tree : FieldTree
+    there : slice_get file.fields p.member ≡ Some tree
+
+  standing : Standing
+  standing =
+      let s = some_from (λ (file : FileTree). position (is_field file.pool m.name m.descriptor) file.fields) (class_at files p.class) p.member stands in
+      by s.0 s.1 s.2 (slice_get s.0.fields p.member) refl
+    where
+      by : (file : FileTree) → class_at files p.class ≡ Some file → position (is_field file.pool m.name m.descriptor) file.fields ≡ Some p.member
+          → (o : Option FieldTree) → slice_get file.fields p.member ≡ o → Standing
+      by file at place None e = absurd (no_item file.fields p.member (position_within (is_field file.pool m.name m.descriptor) file.fields p.member place) e)
+      by file at place (Some tree) e = record { file = file; at = at; place = place; tree = tree; there = e }
 
   pub class_fits : p.class < 2 ^ 16
-  class_fits = omega (arith, few_classes files linked, slice_get_within (classes_of files) p.class file at)
+  class_fits = omega (arith, few_classes files linked, slice_get_within (classes_of files) p.class standing.file standing.at)
 
   pub field_fits : p.member < 2 ^ 16
   field_fits =
-      omega (arith, fields_fit files linked p.class file at, position_within (is_field file.pool m.name m.descriptor) file.fields p.member place)
+      let s = standing in
+      omega (arith, fields_fit files linked p.class s.file s.at, position_within (is_field s.file.pool m.name m.descriptor) s.file.fields p.member s.place)
 
-  module _ (f : FieldTree) (there : slice_get file.fields p.member ≡ Some f) where
-    spelled_so : is_field file.pool m.name m.descriptor f ≡ true
-    spelled_so =
-        find_passes (is_field file.pool m.name m.descriptor) file.fields f
-        (passes_at (is_field file.pool m.name m.descriptor) file.fields p.member f place there)
+  is_member : (s : Standing) → field_member (name_of s.file) s.file.pool s.tree ≡ member_in files m p
+  is_member s =
+      let passes : is_field s.file.pool m.name m.descriptor s.tree ≡ true
+          = find_passes (is_field s.file.pool m.name m.descriptor) s.file.fields s.tree
+            (passes_at (is_field s.file.pool m.name m.descriptor) s.file.fields p.member s.tree s.place s.there) in
+      let texts = and_parts _ _ passes in
+      let name = spelled (entry_at s.file.pool s.tree.name) m.name texts.0 in
+      let descriptor = spelled (entry_at s.file.pool s.tree.descriptor) m.descriptor texts.1 in
+      let named : name_of s.file ≡ name_at files p.class = ap (λ (o : Option FileTree). option_map_or name_of o []) (sym s.at) in
+      rw (named, name, descriptor)
 
-    named : name_of file ≡ name_at files p.class
-    named = ap (λ (o : Option FileTree). option_map_or name_of o []) (sym at)
+  member_there : (s : Standing) → member_at files p.class p.member ≡ Some (member_in files m p)
+  member_there s =
+      ap (λ (o : Option FileTree). option_and_then (λ (g : FileTree). option_map (field_member (name_of g) g.pool) (slice_get g.fields p.member)) o) s.at
+      ∙ ap (option_map (field_member (name_of s.file) s.file.pool)) s.there
+      ∙ ap (λ (x : Member). Some x) (is_member s)
 
-    is_member : field_member (name_of file) file.pool f ≡ member_in files m p
-    is_member =
-        let texts = and_parts _ _ spelled_so in
-        let name = spelled (entry_at file.pool f.name) m.name texts.0 in
-        let descriptor = spelled (entry_at file.pool f.descriptor) m.descriptor texts.1 in
-        rw (named, name, descriptor)
-
-    pub member_there : member_at files p.class p.member ≡ Some (member_in files m p)
-    member_there =
-        ap (λ (o : Option FileTree). option_and_then (λ (g : FileTree). option_map (field_member (name_of g) g.pool) (slice_get g.fields p.member)) o) at
-        ∙ ap (option_map (field_member (name_of file) file.pool)) there
-        ∙ ap (λ (x : Member). Some x) is_member
-
-    pub volatile_there : declares_volatile files (member_in files m p) ≡ is_volatile_field f
-    volatile_there =
-        ap (λ (o : Option FieldTree). option_map_or is_volatile_field o false)
-        (sym (field_there files m p file (names_differ files linked.1.no_refusal) at stands) ∙ there)
-
-    pub field_told : (found : Option Member) → option_map (λ (q : MemberPlace). member_in files m q) (Some p) ≡ found
-        → (told : NamedField) → told.class ≡ p.class → told.field ≡ p.member → told.is_volatile ≡ is_volatile_field f
-        → IsFieldIf files found (Some told)
-    field_told found is told c k v =
-        subst (λ o. IsFieldIf files o (Some told)) is (
-          record {
-            at = ap (λ (class : ℕ). member_at files class told.field) c ∙ ap (member_at files p.class) k ∙ member_there;
-            is_volatile = v ∙ sym volatile_there;
-          }
-        )
+  pub field_told : (found : Option Member) → option_map (λ (q : MemberPlace). member_in files m q) (Some p) ≡ found
+      → (told : NamedField) → told.class ≡ p.class → told.field ≡ p.member → told.is_volatile ≡ declares_volatile files (member_in files m p)
+      → IsFieldIf files found (Some told)
+  field_told found is told c k v =
+      subst (λ o. IsFieldIf files o (Some told)) is (
+        record {
+          at = ap (λ (class : ℕ). member_at files class told.field) c ∙ ap (member_at files p.class) k ∙ member_there standing;
+          is_volatile = v;
+        }
+      )
 
 pub none_told : (files : Program) (m : Member) (found : Option Member) → option_map (λ (q : MemberPlace). member_in files m q) None ≡ found
     → IsFieldIf files found None
 none_told files m found is = subst (λ o. IsFieldIf files o None) is tt
+
+-- ---- of an instruction
+
+pub referred_told : (files : Program) (body : Body) (offset : ℕ) (m : Member) (told : Option NamedField) → Some m ≡ field_referred body offset
+    → IsFieldIf files (find_field files m) told → IsFieldIf files (field_named files body offset) told
+referred_told files body offset m told e h = subst (λ o. IsFieldIf files (option_and_then (find_field files) o) told) e h
+
+pub unreferred_told : (files : Program) (body : Body) (offset : ℕ) → None ≡ field_referred body offset → IsFieldIf files (field_named files body offset) None
+unreferred_told files body offset e = subst (λ o. IsFieldIf files (option_and_then (find_field files) o) None) e tt

@@ -1,5 +1,6 @@
 -- Lists of keys.
-use Rattle.std.proofs.Common.{◌≡◌, ◌≢◌, ℕ, zero, suc, ◌<◌, ◌⊎◌, inl, inr, List, [], ◌∷◌, ◌++◌, length, get_or, set, map, refl, sym, ◌∙◌, ap, subst, arith}
+use Rattle.std.proofs.Common.{◌≡◌, ◌≢◌, ℕ, zero, suc, ◌<◌, ◌⊎◌, inl, inr, List, [], ◌∷◌, ◌++◌, length, get_or, set, map}
+use Rattle.std.proofs.Common.{refl, sym, ◌∙◌, ap, subst, arith}
 use Rattle.std.specs.List.{remove}
 use Rattle.std.proofs.lemmas.Bool.{cases_eq}
 use Rattle.std.proofs.lemmas.List.{get_or-set_same, get_or-set_other, length-set, ext_get_or}
@@ -39,7 +40,8 @@ distinct-remove (x ∷ xs) (suc p) d = (λ h. d.0 (Lists-remove xs p x h), disti
 pub removed_gone : (xs : List ℕ) (p d : ℕ) → AreDistinct xs → p < length xs → Lists (remove xs p) (get_or xs p d) → ⊥
 removed_gone [] p d a h l = absurd (omega arith)
 removed_gone (x ∷ xs) zero d a h l = a.0 l
-removed_gone (x ∷ xs) (suc p) d a h (inl e) = a.0 (subst (λ (k : ℕ). Lists xs k) (sym e) (Lists-at xs p d (omega arith)))
+removed_gone (x ∷ xs) (suc p) d a h (inl e) =
+    a.0 (subst (λ (k : ℕ). Lists xs k) (sym e) (Lists-at xs p d (omega arith)))
 removed_gone (x ∷ xs) (suc p) d a h (inr l) = removed_gone xs p d a.1 (omega arith) l
 
 pub map-remove : {X Y : Type 0} (f : X → Y) (xs : List X) (p : ℕ) → map f (remove xs p) ≡ remove (map f xs) p

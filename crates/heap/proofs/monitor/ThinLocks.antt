@@ -20,19 +20,22 @@ below_differ a b h = grind (arith, nat_tests)
 
 -- ---- what an answer of the lock says of its owner and its entries
 
-pub entered_tests : (a b : Bool) → try_enter.Entered ≡ (if a then (if b then try_enter.Entered else try_enter.Full) else try_enter.Held)
+pub entered_tests : (a b : Bool) → try_enter.Entered ≡ (if a then (if b then try_enter.Entered else try_enter.Full)
+    else try_enter.Held)
     → (a ≡ true) × (b ≡ true)
 entered_tests true true e = (refl, refl)
 entered_tests true false e = cc
 entered_tests false b e = cc
 
-pub full_tests : (a b : Bool) → try_enter.Full ≡ (if a then (if b then try_enter.Entered else try_enter.Full) else try_enter.Held)
+pub full_tests : (a b : Bool) → try_enter.Full ≡ (if a then (if b then try_enter.Entered else try_enter.Full)
+    else try_enter.Held)
     → (a ≡ true) × (b ≡ false)
 full_tests true true e = cc
 full_tests true false e = (refl, refl)
 full_tests false b e = cc
 
-pub held_test : (a b : Bool) → try_enter.Held ≡ (if a then (if b then try_enter.Entered else try_enter.Full) else try_enter.Held)
+pub held_test : (a b : Bool) → try_enter.Held ≡ (if a then (if b then try_enter.Entered else try_enter.Full)
+    else try_enter.Held)
     → a ≡ false
 held_test true true e = cc
 held_test true false e = cc
@@ -59,7 +62,8 @@ pub record Enters (t : List Monitor) (thread : ℕ) (l : Lock) : Type 0 where
 pub enters : (t : List Monitor) (thread : ℕ) (l : Lock) → try_enter.Entered ≡ entering thread l → Enters t thread l
 enters t thread Unlocked e = record { thin = refl; still = refl; answer = refl; after = refl; small = refl; few = refl }
 enters t thread (Thin owner entries) e =
-    let tests : ((owner == thread) ≡ true) × (nat_lt entries 256 ≡ true) = entered_tests (owner == thread) (nat_lt entries 256) e in
+    let tests : ((owner == thread) ≡ true) × (nat_lt entries 256 ≡ true) =
+    entered_tests (owner == thread) (nat_lt entries 256) e in
     let same : (owner == thread) ≡ true = tests.0 in
     let room_left : nat_lt entries 256 ≡ true = tests.1 in
     let below : entries < 256 = grind (arith, nat_tests) in
@@ -97,17 +101,25 @@ pub record Overflows (t : List Monitor) (thread : ℕ) (l : Lock) : Type 0 where
   pub last : (owns thread (monitor_of t l).owner && ((monitor_of t l).count == 256)) ≡ true
   pub few : is_at_most_entries thread (monitor_of t l) ≡ false
 
-pub overflows : (t : List Monitor) (thread : ℕ) (l : Lock) → HasRoomFor (lock_entered thread l) → try_enter.Full ≡ entering thread l
+pub overflows : (t : List Monitor) (thread : ℕ) (l : Lock) → HasRoomFor (lock_entered thread l)
+    → try_enter.Full ≡ entering thread l
     → Overflows t thread l
 overflows t thread Unlocked room e = cc
 overflows t thread (Thin owner entries) room e =
-    let tests : ((owner == thread) ≡ true) × (nat_lt entries 256 ≡ false) = full_tests (owner == thread) (nat_lt entries 256) e in
+    let tests : ((owner == thread) ≡ true) × (nat_lt entries 256 ≡ false) =
+    full_tests (owner == thread) (nat_lt entries 256) e in
     let same : (owner == thread) ≡ true = tests.0 in
     let no_room : nat_lt entries 256 ≡ false = tests.1 in
     let above : 256 ≤ entries = grind (arith, nat_tests) in
     let fits : HasRoomFor (Thin owner entries) = rw (same, no_room) at room in
     let all : entries ≡ 256 = omega (arith, fits.2) in
-    rw all (record { thin = refl; answer = rw same refl; after = rw same refl; last = rw same refl; few = rw same refl })
+    rw all (record {
+      thin = refl;
+      answer = rw same refl;
+      after = rw same refl;
+      last = rw same refl;
+      few = rw same refl;
+    })
 overflows t thread (Fat i) room e = cc
 
 -- ---- a thread leaves
@@ -163,7 +175,8 @@ pub fat_entering : (thread i : ℕ) (l : Lock) → try_enter.Fat i ≡ entering 
 fat_entering thread i Unlocked e = cc
 fat_entering thread i (Thin owner entries) e = absurd (not_fat (owner == thread) (nat_lt entries 256) e)
   where
-    not_fat : (a b : Bool) → try_enter.Fat i ≡ (if a then (if b then try_enter.Entered else try_enter.Full) else try_enter.Held) → ⊥
+    not_fat : (a b : Bool) → try_enter.Fat i ≡ (if a then (if b then try_enter.Entered else try_enter.Full)
+        else try_enter.Held) → ⊥
     not_fat true true e = cc
     not_fat true false e = cc
     not_fat false b e = cc

@@ -1,5 +1,6 @@
 -- The thread of a Thread object is there, so what is read at its number is its row.
-use Rattle.std.proofs.Common.{◌≡◌, ◌<◌, ◌==◌, ℕ, Bool, true, false, not, length, Option, Some, None, slice_get, if◌then◌else◌, nat_lt, refl, ap, sym, ◌∙◌}
+use Rattle.std.proofs.Common.{◌≡◌, ◌<◌, ◌==◌, ℕ, Bool, true, false, not, length, Option, Some, None, slice_get}
+use Rattle.std.proofs.Common.{if◌then◌else◌, nat_lt, refl, ap, sym, ◌∙◌}
 use Rattle.std.specs.Option.{option_map_or}
 use Rattle.std.specs.List.{position_or_len}
 use Rattle.std.proofs.lemmas.Option.{slice_get-get_or, cond_some}
@@ -10,8 +11,10 @@ use Rattle.heap.specs.java_threads.Table.{ThreadTable, thread_at, number_of}
 use Rattle.heap.specs.monitor_events.Lives.{SaysAlive}
 
 -- of no thread
-pub none_alive : (table : ThreadTable) (object : ℕ) → None ≡ number_of table.threads object → SaysAlive false object table
-none_alive table object none = λ world. ap (λ (found : Option ℕ). is_alive_by (option_map_or (λ t. slice_get table.threads t) found None)) none
+pub none_alive : (table : ThreadTable) (object : ℕ) → None ≡ number_of table.threads object
+    → SaysAlive false object table
+none_alive table object none = λ world. ap (λ (found : Option ℕ). is_alive_by
+    (option_map_or (λ t. slice_get table.threads t) found None)) none
 
 -- of one that is there
 pub some_alive : (table : ThreadTable) (object thread : ℕ) (over : Bool) → Some thread ≡ number_of table.threads object

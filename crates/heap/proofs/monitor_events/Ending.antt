@@ -28,10 +28,13 @@ pub ended_over : (world : WorldOf ℕ) (old new : Heap) (from between to : Threa
     → shared world new to ≡ with_end (shared world old from) thread true
 ended_over world old new from between to thread object object_is has_ended woken_are is =
     woken_over object Notified world (monitors.wake_all object old.locks.monitors).after old new between to woken_are is
-    ∙ ap (λ (w : WorldOf ℕ). all_woken object Notified (record w { monitors = (monitors.wake_all object old.locks.monitors).after }) (monitor_at old.locks.monitors object).waiters)
+    ∙ ap (λ (w : WorldOf ℕ). all_woken object Notified (record
+    w { monitors = (monitors.wake_all object old.locks.monitors).after })
+    (monitor_at old.locks.monitors object).waiters)
     (has_ended.world world)
     ∙ ap (λ (o : ℕ). all_woken o Notified
-    (record (with_thread (among world from) thread (ended (thread_at (among world from) thread))) { monitors = (monitors.wake_all o old.locks.monitors).after })
+    (record (with_thread (among world from) thread (ended (thread_at (among world from) thread)))
+    { monitors = (monitors.wake_all o old.locks.monitors).after })
     (monitor_at old.locks.monitors o).waiters)
     object_is
 
@@ -48,6 +51,9 @@ ended_by_two t old between new pending there pending_is between_is new_is = reco
     threads_are : new.threads ≡ slice_set old.threads t (ended (table.thread_at old.threads t))
     threads_are =
         ap (λ (x : ThreadTable). x.threads) new_is
-        ∙ ap (λ (x : ThreadTable). slice_set x.threads t (record (table.thread_at x.threads t) { status = Ended pending })) between_is
-        ∙ written_twice old.threads t (record (table.thread_at old.threads t) { pending = None }) (λ (x : Thread). record x { status = Ended pending }) there
-        ∙ ap (λ (p : Option ℕ). slice_set old.threads t (record (table.thread_at old.threads t) { pending = None; status = Ended p })) pending_is
+        ∙ ap (λ (x : ThreadTable). slice_set x.threads t (record
+        (table.thread_at x.threads t) { status = Ended pending })) between_is
+        ∙ written_twice old.threads t (record (table.thread_at old.threads t) { pending = None })
+        (λ (x : Thread). record x { status = Ended pending }) there
+        ∙ ap (λ (p : Option ℕ). slice_set old.threads t (record
+        (table.thread_at old.threads t) { pending = None; status = Ended p })) pending_is

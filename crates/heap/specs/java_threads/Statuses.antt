@@ -28,9 +28,21 @@ status_named (model.Ended exception) = statuses.Ended exception
 
 abbrev pub thread_shown : Inside → model.Thread
 thread_shown thread =
-    record { object = thread.object; begun = thread.begun; pending = thread.pending; interrupted = thread.interrupted; status = status_of thread.status }
+    record {
+      object = thread.object;
+      begun = thread.begun;
+      pending = thread.pending;
+      interrupted = thread.interrupted;
+      status = status_of thread.status;
+    }
 
 -- no two threads of the code show the same
 abbrev pub thread_named : model.Thread → Inside
 thread_named thread =
-    record { object = thread.object; begun = thread.begun; pending = thread.pending; interrupted = thread.interrupted; status = status_named thread.status }
+    record {
+      object = thread.object;
+      begun = thread.begun;
+      pending = thread.pending;
+      interrupted = thread.interrupted;
+      status = status_named thread.status;
+    }

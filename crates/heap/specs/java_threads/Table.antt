@@ -1,5 +1,6 @@
 -- The threads of a run (JLS 17), but for their stacks, and how many there may be.
-use Rattle.std.specs.Prelude.{◌≡◌, ℕ, ◌<◌, ◌≤◌, ◌==◌, List, [], ◌∷◌, ◌++◌, length, Option, Result, Ok, Err, slice_index_or, slice_set}
+use Rattle.std.specs.Prelude.{◌≡◌, ℕ, ◌<◌, ◌≤◌, ◌==◌, List, [], ◌∷◌, ◌++◌, length, Option, Result, Ok, Err}
+use Rattle.std.specs.Prelude.{slice_index_or, slice_set}
 use Rattle.std.specs.List.{position}
 use Rattle.model.specs.BuiltInNumbers.{most_threads}
 use Rattle.model.specs.State.{Thread, new_thread}
@@ -11,7 +12,8 @@ pub record ThreadTable : Type 0 where
   pub threads : List Thread
   pub limit : ℕ
 
--- the thread of this number; past the last one there stands, as in the definitions of the step, a new thread of object 0
+-- the thread of this number; past the last one there stands, as in the definitions of the step, a new thread of
+-- object 0
 abbrev pub thread_at : List Thread → ℕ → Thread
 thread_at threads t = slice_index_or threads t (new_thread 0)
 

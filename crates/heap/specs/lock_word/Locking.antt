@@ -24,12 +24,14 @@ most_entries = 256
 -- a thread that owns nothing or this lock enters, as long as the lock can count it
 abbrev pub entering : ℕ → Lock → TryEnter
 entering thread Unlocked = enter.Entered
-entering thread (Thin owner entries) = if owner == thread then (if nat_lt entries most_entries then enter.Entered else enter.Full) else enter.Held
+entering thread (Thin owner entries) =
+    if owner == thread then (if nat_lt entries most_entries then enter.Entered else enter.Full) else enter.Held
 entering thread (Fat monitor) = enter.Fat monitor
 
 abbrev pub lock_entered : ℕ → Lock → Lock
 lock_entered thread Unlocked = Thin thread 1
-lock_entered thread (Thin owner entries) = if (owner == thread) && nat_lt entries most_entries then Thin owner (entries + 1) else Thin owner entries
+lock_entered thread (Thin owner entries) =
+    if (owner == thread) && nat_lt entries most_entries then Thin owner (entries + 1) else Thin owner entries
 lock_entered thread (Fat monitor) = Fat monitor
 
 -- the owner leaves
@@ -40,5 +42,6 @@ leaving thread (Fat monitor) = exit.Fat monitor
 
 abbrev pub lock_left : ℕ → Lock → Lock
 lock_left thread Unlocked = Unlocked
-lock_left thread (Thin owner entries) = if owner == thread then (if nat_lt 1 entries then Thin owner (entries - 1) else Unlocked) else Thin owner entries
+lock_left thread (Thin owner entries) =
+    if owner == thread then (if nat_lt 1 entries then Thin owner (entries - 1) else Unlocked) else Thin owner entries
 lock_left thread (Fat monitor) = Fat monitor

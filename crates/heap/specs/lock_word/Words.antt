@@ -15,7 +15,8 @@ abbrev pub thin_lock : (owner_field entries_field : ℕ) → Lock
 thin_lock owner_field entries_field = if owner_field == 0 then Unlocked else Thin (owner_field - 1) (entries_field + 1)
 
 abbrev pub lock_spelled : ℕ → Lock
-lock_spelled bits = if nat_lt bits (2 ^ 31) then thin_lock (bits / 2 ^ 16) (bits / 2 ^ 8 % 2 ^ 8) else Fat (bits / 2 ^ 8 - 2 ^ 23)
+lock_spelled bits =
+    if nat_lt bits (2 ^ 31) then thin_lock (bits / 2 ^ 16) (bits / 2 ^ 8 % 2 ^ 8) else Fat (bits / 2 ^ 8 - 2 ^ 23)
 
 abbrev pub word_spelled : ℕ → Word
 word_spelled bits = record { lock = lock_spelled bits; low_byte = bits % 2 ^ 8 }

@@ -1,12 +1,16 @@
 -- The locks of objects: their monitors, which of them are inflated, and what a call makes of both.
-use Rattle.std.specs.Prelude.{◌≡◌, ℕ, ◌<◌, ◌≤◌, ◌==◌, ◌&&◌, nat_le, not, List, length, Bool, true, false, Result, Ok, Err, slice_index_or, slice_set, count_by, if◌then◌else◌}
+use Rattle.std.specs.Prelude.{◌≡◌, ℕ, ◌<◌, ◌≤◌, ◌==◌, ◌&&◌, nat_le, not, List, length, Bool, true, false, Result, Ok}
+use Rattle.std.specs.Prelude.{Err, slice_index_or, slice_set, count_by, if◌then◌else◌}
 use Rattle.model.specs.BuiltInNumbers.{most_threads}
 use Rattle.model.specs.State.{Monitor}
 use Rattle.model.specs.declared.monitor_answer.MonitorAnswer.{MonitorAnswer}
-use Rattle.model.specs.Monitors.{Answered, owns, monitor_at, enter, exit, wait, notify, notify_all, wake_all, interrupt, relock, monitor_enter, monitor_exit, monitor_wait, monitor_notify, monitor_notify_all, monitor_wake_all, monitor_interrupt, monitor_relock}
+use Rattle.model.specs.Monitors.{Answered, owns, monitor_at, enter, exit, wait, notify, notify_all, wake_all, interrupt}
+use Rattle.model.specs.Monitors.{relock, monitor_enter, monitor_exit, monitor_wait, monitor_notify, monitor_notify_all}
+use Rattle.model.specs.Monitors.{monitor_wake_all, monitor_interrupt, monitor_relock}
 use Rattle.model.specs.declared.monitor_answer.MonitorAnswer.TheVariants.{Done}
 use Rattle.heap.specs.declared.monitor.call.Call.{Call}
-use Rattle.heap.specs.declared.monitor.call.Call.TheVariants.{Enter, Exit, Wait, Notify, NotifyAll, WakeAll, Interrupt, Relock}
+use Rattle.heap.specs.declared.monitor.call.Call.TheVariants.{Enter, Exit, Wait, Notify, NotifyAll, WakeAll, Interrupt}
+use Rattle.heap.specs.declared.monitor.call.Call.TheVariants.{Relock}
 use Rattle.heap.specs.declared.monitor.refusal.MonitorRefusal.{MonitorRefusal}
 use Rattle.heap.specs.declared.monitor.refusal.MonitorRefusal.TheVariants.{Monitors, LockCount, Memory}
 
@@ -61,7 +65,8 @@ abbrev pub IsAllowed : Call → Locks → Type 0
 IsAllowed (Enter object thread) locks = (object < length locks.monitors) × (thread < most_threads)
 IsAllowed (Wait object thread) locks = (object < length locks.monitors) × (thread < most_threads)
 IsAllowed (Relock object thread count) locks =
-    (object < length locks.monitors) × (thread < most_threads) × (0 < count) × (is_fat_at locks object ≡ false → count ≤ 256)
+    (object < length locks.monitors) × (thread < most_threads) × (0 < count)
+    × (is_fat_at locks object ≡ false → count ≤ 256)
 IsAllowed call locks = object_of call < length locks.monitors
 
 -- ---- inflation (own): the 257th entry of an owner and a wait that joins make the lock fat, and nothing else does
@@ -81,7 +86,8 @@ fat_after call locks = if inflates_in call locks then slice_set locks.fat (objec
 
 -- the lock would have to become fat, and as many are as may be
 abbrev pub is_table_full : Call → Locks → Bool
-is_table_full call locks = inflates_in call locks && (not (is_fat_at locks (object_of call)) && nat_le locks.limit (fat_count locks))
+is_table_full call locks =
+    inflates_in call locks && (not (is_fat_at locks (object_of call)) && nat_le locks.limit (fat_count locks))
 
 -- the owner has entered as often as can be counted
 abbrev pub is_at_most_entries : ℕ → Monitor → Bool

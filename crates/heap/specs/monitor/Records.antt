@@ -17,7 +17,8 @@ abbrev pub waiter_at : Slab Waiter → ℕ → Waiter
 waiter_at slab key = waiter_or (get slab key)
 
 abbrev pub shown : Slab Waiter → Listing → Monitor
-shown slab listing = record { owner = listing.owner; count = listing.count; waiters = map (waiter_at slab) listing.keys }
+shown slab listing =
+    record { owner = listing.owner; count = listing.count; waiters = map (waiter_at slab) listing.keys }
 
 abbrev pub monitors_shown : Slab Waiter → List Listing → List Monitor
 monitors_shown slab listings = map (λ (listing : Listing). shown slab listing) listings
@@ -36,5 +37,6 @@ AreDistinct (first ∷ keys) = (Lists keys first → ⊥) × AreDistinct keys
 -- each key that is listed has a waiter, and is listed once
 pub record AreListed (listings : List Listing) (slab : Slab Waiter) : Type 0 where
   pub present : (index key : ℕ) → Lists (keys_at listings index) key → IsSome (get slab key)
-  pub apart : (index other key : ℕ) → Lists (keys_at listings index) key → Lists (keys_at listings other) key → index ≡ other
+  pub apart : (index other key : ℕ) → Lists (keys_at listings index) key → Lists (keys_at listings other) key
+      → index ≡ other
   pub distinct : (index : ℕ) → AreDistinct (keys_at listings index)

@@ -1,5 +1,6 @@
 -- How lock words and the records of fat locks show monitors. No public clause cites this module.
-use Rattle.std.specs.Prelude.{◌≡◌, ℕ, ◌<◌, ◌≤◌, List, length, [], map, Some, Bool, true, false, slice_index_or, count_by}
+use Rattle.std.specs.Prelude.{◌≡◌, ℕ, ◌<◌, ◌≤◌, List, length, [], map, Some, Bool, true, false, slice_index_or}
+use Rattle.std.specs.Prelude.{count_by}
 use Rattle.heap.specs.declared.lock_word.lock.Lock.{Lock}
 use Rattle.heap.specs.declared.lock_word.lock.Lock.TheVariants.{Unlocked, Thin, Fat}
 use Rattle.heap.specs.lock_word.Words.{Word}
@@ -30,7 +31,8 @@ lock_at words object = (slice_index_or words object (record { lock = Unlocked; l
 -- each fat lock has a record of its own in the table, which has no others, and no more than the limit says
 pub record AreSound (table : List Monitor) (words : List Word) (limit : ℕ) : Type 0 where
   pub there : (object index : ℕ) → lock_at words object ≡ Fat index → index < length table
-  pub once : (object other index : ℕ) → lock_at words object ≡ Fat index → lock_at words other ≡ Fat index → object ≡ other
+  pub once : (object other index : ℕ) → lock_at words object ≡ Fat index → lock_at words other ≡ Fat index
+      → object ≡ other
   pub counted : count_by is_fat_word words ≡ length table
   pub limited : length table ≤ limit
   pub limit_fits : limit ≤ 8388608

@@ -31,7 +31,8 @@ Enters (Ok entered) object thread old new =
     SaysMayEnter entered object thread old
     × MonitorsBecome (λ world. with_entry world thread object) (fat_after (calls.Enter object thread) old.locks) old new
     × IsWithin (calls.Enter object thread) old.locks
-Enters (Err refusal) object thread old new = IsRefused refusal (calls.Enter object thread) old.locks new.locks × (new ≡ old)
+Enters (Err refusal) object thread old new = IsRefused refusal (calls.Enter object thread) old.locks new.locks
+    × (new ≡ old)
 
 -- ---- JLS 17.2
 
@@ -41,7 +42,8 @@ IsWoken object cause waiter = ThreadsBecome (λ world. woken object cause world 
 
 -- the members of the wait set of an object are to enter its monitor again
 abbrev pub AreWoken : (object : ℕ) → WakeCause → Heap → ThreadTable → ThreadTable → Type 0
-AreWoken object cause heap = ThreadsBecome (λ world. all_woken object cause world (monitors.monitor_at heap.locks.monitors object).waiters)
+AreWoken object cause heap =
+    ThreadsBecome (λ world. all_woken object cause world (monitors.monitor_at heap.locks.monitors object).waiters)
 
 -- what only the owner does: for another thread nothing has changed
 abbrev pub OwnerMakes : Bool → (WorldOf ℕ → WorldOf ℕ) → Heap → Heap → ThreadTable → ThreadTable → Type 0
@@ -55,11 +57,13 @@ WaitsBy (Ok true) object thread old new from to =
     × BothBecome (λ world. waiting world thread object) (fat_after (calls.Wait object thread) old.locks) old new from to
     × IsWithin (calls.Wait object thread) old.locks
 WaitsBy (Ok false) object thread old new from to = SaysOwner false object thread old × (new ≡ old) × (to ≡ from)
-WaitsBy (Err refusal) object thread old new from to = IsRefused refusal (calls.Wait object thread) old.locks new.locks × (new ≡ old) × (to ≡ from)
+WaitsBy (Err refusal) object thread old new from to = IsRefused refusal (calls.Wait object thread) old.locks new.locks
+    × (new ≡ old) × (to ≡ from)
 
 -- a thread that has left a wait set enters the monitor again and runs
 abbrev pub relocked : WorldOf ℕ → (object thread count : ℕ) → WorldOf ℕ
-relocked world object thread count = with_status (with_monitors world (monitors.relock object thread count world.monitors)) thread Running
+relocked world object thread count =
+    with_status (with_monitors world (monitors.relock object thread count world.monitors)) thread Running
 
 -- where no thread owns it; else nothing has changed
 abbrev pub Relocks : Bool → (object thread count : ℕ) → Heap → Heap → ThreadTable → ThreadTable → Type 0

@@ -18,6 +18,7 @@ SaysAlive answer object table = (world : WorldOf ℕ) → answer ≡ is_alive (a
 -- a thread that was not started is, unless it is refused; nothing changes of one that was
 abbrev pub StartsBy : Result Bool ThreadRefusal → (object : ℕ) → ThreadTable → ThreadTable → Type 0
 StartsBy (Ok true) object old new =
-    SaysStarted false object old × ThreadsBecome (λ world. with_started world object) old new × (length old.threads < old.limit)
+    SaysStarted false object old × ThreadsBecome (λ world. with_started world object) old new
+    × (length old.threads < old.limit)
 StartsBy (Ok false) object old new = SaysStarted true object old × (new ≡ old)
 StartsBy (Err refusal) object old new = SaysStarted false object old × IsAdded (Err refusal) object old new

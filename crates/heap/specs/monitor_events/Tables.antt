@@ -1,4 +1,5 @@
--- The tables of a machine as the worlds of the definitions show them (JVMS 2.5; JLS 17.1): monitors in the heap, and threads.
+-- The tables of a machine as the worlds of the definitions show them (JVMS 2.5; JLS 17.1): monitors in the heap,
+-- and threads.
 use Rattle.std.specs.Prelude.{◌≡◌, ℕ, ◌<◌, List, Bool, length}
 use Rattle.model.specs.State.{ThreadStatus, Running, Waiting, Relock, Ended, WorldOf}
 use Rattle.heap.specs.Heap.{Heap}
@@ -16,7 +17,8 @@ among world table = record world { threads = table.threads }
 abbrev pub shared : WorldOf ℕ → Heap → ThreadTable → WorldOf ℕ
 shared world heap table = record world { monitors = heap.locks.monitors; threads = table.threads }
 
--- an event of the definitions makes the monitors what they are, and these locks are fat; the objects and the limits stay
+-- an event of the definitions makes the monitors what they are, and these locks are fat; the objects and the limits
+-- stay
 pub record MonitorsBecome (event : WorldOf ℕ → WorldOf ℕ) (fat : List Bool) (old new : Heap) : Type 0 where
   pub world : (world : WorldOf ℕ) → over world new ≡ event (over world old)
   pub fat_are : new.locks.fat ≡ fat
@@ -29,7 +31,8 @@ pub record ThreadsBecome (event : WorldOf ℕ → WorldOf ℕ) (old new : Thread
   pub limit : new.limit ≡ old.limit
 
 -- an event makes both what they are
-pub record BothBecome (event : WorldOf ℕ → WorldOf ℕ) (fat : List Bool) (old new : Heap) (from to : ThreadTable) : Type 0 where
+pub record BothBecome (event : WorldOf ℕ → WorldOf ℕ) (fat : List Bool) (old new : Heap)
+    (from to : ThreadTable) : Type 0 where
   pub world : (world : WorldOf ℕ) → shared world new to ≡ event (shared world old from)
   pub fat_are : new.locks.fat ≡ fat
   pub lock_limit : new.locks.limit ≡ old.locks.limit

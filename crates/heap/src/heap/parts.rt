@@ -1,11 +1,12 @@
 //! The parts of a heap as they are kept, and a heap that is made of such parts again.
 
-ghost use Rattle.std.specs.Prelude.{◌≡◌, ℕ, ◌+◌, ◌<◌, ◌≤◌, length, IfOk, OnOk, OnErr, IsTrue};
-ghost use Rattle.heap.specs.Heap.{words_at, with_object, IsSameAt};
+ghost use Rattle.std.specs.Prelude.{◌≡◌, ℕ, ◌+◌, ◌<◌, ◌≤◌, length, IfOk, IfErr, OnOk, OnErr, IsTrue};
+ghost use Rattle.heap.specs.Heap.{made, cells_made, words_at, with_object, IsRefused, IsSameAt};
 
 use crate::heap::{Heap, MOST_OPENING};
 use crate::kind::ObjectKind;
 use crate::layout;
+use crate::refusal::AllocRefusal;
 use std::alloc::AllocError;
 
 impl Heap {
@@ -117,18 +118,20 @@ impl Heap {
         Ok(())
     }
 
-    /// One more object, with these words, where no limit stands. On an error, a limit or a want of memory, nothing has
-    /// changed.
-    pub fn add_words(&mut self, kind: ObjectKind, words: &[u32]) -> Result<(), AllocError>
+    /// One more object, with these words, where no limit stands. A refusal says which limit stands, or that there was
+    /// no memory; nothing has changed then.
+    pub fn add_words(&mut self, kind: ObjectKind, words: &[u32]) -> Result<(), AllocRefusal>
         requires { length words.now < 4294967296 }
         ensures ok { OnOk result (self.new ≡ with_object self.old (record { kind = kind; words = words.now })) }
-        ensures err { OnErr result (self.new ≡ self.old) }
+        ensures objects { OnOk result (made self.old < self.old.object_limit) }
+        ensures cells { OnOk result (cells_made self.old + length words.now ≤ self.old.cell_limit) }
+        ensures err { IfErr result (λ refusal. IsRefused refusal (length words.now) self.old self.new) }
     {
         if self.objects_left() == 0 {
-            return Err(AllocError);
+            return Err(AllocRefusal::Objects);
         }
         if self.cells_left() < words.len() {
-            return Err(AllocError);
+            return Err(AllocRefusal::Cells);
         }
         layout::add_words(
             &mut self.table,

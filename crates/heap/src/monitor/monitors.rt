@@ -1,6 +1,7 @@
 //! Monitors by the references of their objects.
 
-ghost use Rattle.std.specs.Prelude.{◌≡◌, ◌<◌, ◌≤◌, [], ◌∷◌, ◌++◌, Ok, Err, IfOk, OnOk, OnErr, IfErr, false, MatchResult, slice_get, length, IsTrue, ◌↔◌};
+ghost use Rattle.std.specs.Prelude.{◌≡◌, ◌<◌, ◌≤◌, [], ◌∷◌, ◌++◌, Ok, Err, IfOk, OnOk, OnErr, IfErr, false};
+ghost use Rattle.std.specs.Prelude.{MatchResult, slice_get, length, IsTrue, ◌↔◌};
 ghost use Rattle.heap.specs.lock_word.Words.{HasRoomFor};
 ghost use Rattle.model.specs.Monitors.{unlocked, monitor_at};
 ghost use Rattle.heap.specs.monitor.Locks.{Answers, IsAllowed, is_fat_at};

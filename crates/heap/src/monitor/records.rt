@@ -1,6 +1,7 @@
 //! The records of fat locks, with the waiters of all of them in one slab.
 
-ghost use Rattle.std.specs.Prelude.{◌≡◌, ◌<◌, ◌≤◌, [], ◌∷◌, ◌++◌, length, true, false, Some, None, IfOk, OnOk, OnErr, IfErr, slice_get, slice_set, slice_index};
+ghost use Rattle.std.specs.Prelude.{◌≡◌, ◌<◌, ◌≤◌, [], ◌∷◌, ◌++◌, length, true, false, Some, None, IfOk, OnOk, OnErr};
+ghost use Rattle.std.specs.Prelude.{IfErr, slice_get, slice_set, slice_index};
 ghost use Rattle.std.specs.List.{remove};
 ghost use Rattle.model.specs.Monitors.{monitor_at};
 

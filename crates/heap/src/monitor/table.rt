@@ -1,9 +1,12 @@
 //! What the monitors of fat locks answer.
 
-ghost use Rattle.std.specs.Prelude.{◌≡◌, ◌<◌, ◌≤◌, [], ◌∷◌, ◌++◌, length, true, false, Some, None, IfOk, OnOk, OnErr, IfErr, IfSome, MatchOption, slice_get, slice_set};
+ghost use Rattle.std.specs.Prelude.{◌≡◌, ◌<◌, ◌≤◌, [], ◌∷◌, ◌++◌, length, true, false, Some, None, IfOk, OnOk, OnErr};
+ghost use Rattle.std.specs.Prelude.{IfErr, IfSome, MatchOption, slice_get, slice_set};
 ghost use Rattle.std.specs.List.{remove};
 ghost use Rattle.heap.specs.monitor.Locks.{is_at_most_entries};
-ghost use Rattle.model.specs.Monitors.{owned, unlocked, owns, without, monitor_at, monitor_enter, monitor_exit, monitor_wait, monitor_notify, monitor_notify_all, monitor_wake_all, monitor_interrupt, monitor_relock};
+ghost use Rattle.model.specs.Monitors.{owned, unlocked, owns, without, monitor_at, monitor_enter, monitor_exit};
+ghost use Rattle.model.specs.Monitors.{monitor_wait, monitor_notify, monitor_notify_all, monitor_wake_all};
+ghost use Rattle.model.specs.Monitors.{monitor_interrupt, monitor_relock};
 
 use crate::monitor::records::Records;
 use crate::monitor::refusal::MonitorRefusal;

@@ -10,8 +10,9 @@
 //!   NoClassDefFoundError is pending. Then the instruction is done, whichever it is: one on fields, arrays, objects,
 //!   types or monitors, a return, a local one, a call or println; an exception that it raises or throws is pending
 //!   then. No frame stands at a part of a switch. Each refusal leaves all as it was. `known_instruction_event` is the
-//!   same event, for a caller that knows the instruction at which the frame stands. `instruction_at_once` answers that
-//!   it is done only where it is; else nothing has changed. That it ever answers so isn't asked: it spares time.
+//!   same event, for a caller that knows the instruction at which the frame stands. `instruction_at_once` and
+//!   `frame_at_once` answer that it is done only where it is; else nothing has changed. Of the latter nothing that is
+//!   shared changes, and a frame is left. That they ever answer so isn't asked: they spare time.
 //!
 //! # Not proved
 //!

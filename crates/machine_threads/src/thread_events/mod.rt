@@ -20,4 +20,4 @@ mod running;
 mod settling;
 mod unpicked;
 
-pub use events::{event_at_once, event_in_frames, frame_event, thread_event};
+pub use events::{event_at_once, frame_event, thread_event};

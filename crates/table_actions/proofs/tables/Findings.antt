@@ -6,7 +6,11 @@ use Rattle.model.specs.State.{World, Thread}
 use Rattle.model.specs.Worlds as worlds
 use Rattle.model.specs.Worlds.{is_of_object}
 use Rattle.model.specs.Monitors.{monitor_at, owns}
-use Rattle.model.specs.BuiltInMethods.{BuiltInMethod, ObjectWait}
+use Rattle.model.specs.BuiltInMethods as model
+use Rattle.model.specs.BuiltInMethods.{ObjectWait}
+use Rattle.linked_code.specs.declared.method.BuiltInMethod.{BuiltInMethod as Called}
+use Rattle.linked_code.specs.declared.method.BuiltInMethod.TheVariants as called
+use Rattle.linked_code.specs.Methods.{built_in_of}
 use Rattle.heap.specs.Heap.{Heap}
 use Rattle.heap.specs.java_threads.Table.{ThreadTable, thread_at, number_of}
 use Rattle.race_places.specs.declared.run_actions.Action.{Action}
@@ -14,7 +18,7 @@ use Rattle.race_places.specs.declared.run_actions.Action.TheVariants as action
 use Rattle.race_places.specs.named_actions.Names.{Names, named_action}
 use Rattle.data_races.specs.Actions as named
 use Rattle.data_races.specs.Actions.{Action as NamedAction}
-use Rattle.data_races.specs.EventActions.{found_alive, found_by_join, found_on, found_own, found_status, is_over, of_thread, only_if}
+use Rattle.data_races.specs.EventActions.{found_alive, found_by_join, found_on, found_own, found_status, interrupts_on, is_over, of_thread, only_if}
 use Rattle.table_actions.specs.declared.findings.Findings.{Findings}
 use Rattle.table_actions.specs.tables.Told.{AreOf, Tells, all_found, found_of, interrupt_of, listed}
 
@@ -109,3 +113,75 @@ module _ (heap : Heap) (table : ThreadTable) where
       let h : worlds.thread_of world object ≡ None = number world object None are e in rw (h, none refl)
   number_told object (Some u) e actions told some none names world are =
       let h : worlds.thread_of world object ≡ Some u = number world object (Some u) are e in rw h (some u refl names world are)
+
+-- ---- by the built-in method
+
+nobody : (o : Option ℕ) → [] ≡ of_thread o (λ u. [])
+nobody None = refl
+nobody (Some u) = refl
+
+pub nothing_of : (world : World) (t u : ℕ) (b : Called) → (b ≡ called.ThreadStart → ⊥) → (b ≡ called.ThreadInterrupt → ⊥) → (b ≡ called.ThreadIsAlive → ⊥)
+    → (b ≡ called.ThreadIsInterrupted → ⊥) → (b ≡ called.ThreadJoin → ⊥) → found_of world t u (built_in_of b) ≡ []
+nothing_of world t u called.Construct a e i s j = refl
+nothing_of world t u called.ConstructWithTarget a e i s j = refl
+nothing_of world t u called.ObjectWait a e i s j = refl
+nothing_of world t u called.ObjectNotify a e i s j = refl
+nothing_of world t u called.ObjectNotifyAll a e i s j = refl
+nothing_of world t u called.ThreadStart a e i s j = absurd (a refl)
+nothing_of world t u called.ThreadInterrupt a e i s j = absurd (e refl)
+nothing_of world t u called.ThreadIsInterrupted a e i s j = absurd (s refl)
+nothing_of world t u called.ThreadInterrupted a e i s j = refl
+nothing_of world t u called.ThreadYield a e i s j = refl
+nothing_of world t u called.ThreadCurrentThread a e i s j = refl
+nothing_of world t u called.ThreadJoin a e i s j = absurd (j refl)
+nothing_of world t u called.ThreadIsAlive a e i s j = absurd (i refl)
+nothing_of world t u called.PrintStreamPrintln a e i s j = refl
+
+pub on_thread : (world : World) (t object : ℕ) (b : Called) → (b ≡ called.ObjectWait → ⊥) → (b ≡ called.ThreadInterrupted → ⊥)
+    → found_on world t object (built_in_of b) ≡ of_thread (worlds.thread_of world object) (λ u. found_of world t u (built_in_of b))
+on_thread world t object called.Construct w i = nobody (worlds.thread_of world object)
+on_thread world t object called.ConstructWithTarget w i = nobody (worlds.thread_of world object)
+on_thread world t object called.ObjectWait w i = absurd (w refl)
+on_thread world t object called.ObjectNotify w i = nobody (worlds.thread_of world object)
+on_thread world t object called.ObjectNotifyAll w i = nobody (worlds.thread_of world object)
+on_thread world t object called.ThreadStart w i = refl
+on_thread world t object called.ThreadInterrupt w i = refl
+on_thread world t object called.ThreadIsInterrupted w i = refl
+on_thread world t object called.ThreadInterrupted w i = absurd (i refl)
+on_thread world t object called.ThreadYield w i = nobody (worlds.thread_of world object)
+on_thread world t object called.ThreadCurrentThread w i = nobody (worlds.thread_of world object)
+on_thread world t object called.ThreadJoin w i = refl
+on_thread world t object called.ThreadIsAlive w i = refl
+on_thread world t object called.PrintStreamPrintln w i = nobody (worlds.thread_of world object)
+
+pub no_interrupt_on : (world : World) (object : ℕ) (b : Called) → (b ≡ called.ThreadInterrupt → ⊥) → interrupts_on world object (built_in_of b) ≡ []
+no_interrupt_on world object called.Construct n = refl
+no_interrupt_on world object called.ConstructWithTarget n = refl
+no_interrupt_on world object called.ObjectWait n = refl
+no_interrupt_on world object called.ObjectNotify n = refl
+no_interrupt_on world object called.ObjectNotifyAll n = refl
+no_interrupt_on world object called.ThreadStart n = refl
+no_interrupt_on world object called.ThreadInterrupt n = absurd (n refl)
+no_interrupt_on world object called.ThreadIsInterrupted n = refl
+no_interrupt_on world object called.ThreadInterrupted n = refl
+no_interrupt_on world object called.ThreadYield n = refl
+no_interrupt_on world object called.ThreadCurrentThread n = refl
+no_interrupt_on world object called.ThreadJoin n = refl
+no_interrupt_on world object called.ThreadIsAlive n = refl
+no_interrupt_on world object called.PrintStreamPrintln n = refl
+
+-- what is told in place of other actions, or of another method
+module _ (heap : Heap) (table : ThreadTable) where
+  pub told_so : (told others : List Action) (actions : World → List NamedAction) → told ≡ others → Tells heap table others actions → Tells heap table told actions
+  told_so told others actions e h = subst (λ l. Tells heap table l actions) (sym e) h
+
+  pub by_method : (told : List Action) (actions : World → model.BuiltInMethod → List NamedAction) (b method : Called) → b ≡ method
+      → Tells heap table told (λ world. actions world (built_in_of method)) → Tells heap table told (λ world. actions world (built_in_of b))
+  by_method told actions b method e h = subst (λ (x : Called). Tells heap table told (λ world. actions world (built_in_of x))) (sym e) h
+
+  pub on_other : (told : List Action) (t object : ℕ) (b : Called) (o : Option ℕ) → o ≡ number_of table.threads object
+      → (b ≡ called.ObjectWait → ⊥) → (b ≡ called.ThreadInterrupted → ⊥)
+      → ((u : ℕ) → o ≡ Some u → Tells heap table told (λ world. found_of world t u (built_in_of b))) → (o ≡ None → told ≡ [])
+      → Tells heap table told (λ world. found_on world t object (built_in_of b))
+  on_other told t object b o e w i some none names world are =
+      number_told heap table object o e (λ world u. found_of world t u (built_in_of b)) told some none names world are ∙ sym (on_thread world t object b w i)

@@ -5,5 +5,10 @@ use Rattle.heap.proofs.heap.Heap.objects_left.Goals as goal
 pub returns : goal.returns
 returns c =
     rw (← c.self.view_is) (
-    omega (arith, c.len.ensures, objects_left c.self.inside.table.items c.self.inside.cells.items c.self.inside.monitors c.self.inside.opening c.self.inside.object_limit c.self.inside.cell_limit c.self.invariant)
+    omega (
+      arith,
+      c.len.ensures,
+      objects_left c.self.inside.table.items c.self.inside.cells.items c.self.inside.monitors
+          c.self.inside.opening c.self.inside.object_limit c.self.inside.cell_limit c.self.invariant,
+    )
     )

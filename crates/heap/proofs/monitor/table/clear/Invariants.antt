@@ -6,7 +6,8 @@ abbrev pub invariant-loop-count : goal.invariant-loop-count
 invariant-loop-count l = record {
   in_range : l.count ≤ length (monitor_at l.initial.records l.index).waiters;
   left : l.records ≡ set l.initial.records
-      l.index (record (monitor_at l.initial.records l.index) { waiters = take l.count (monitor_at l.initial.records l.index).waiters });
+      l.index (record (monitor_at l.initial.records l.index)
+      { waiters = take l.count (monitor_at l.initial.records l.index).waiters });
 }
 
 abbrev pub decreases-loop-count : goal.decreases-loop-count

@@ -8,7 +8,8 @@ pub returns-in-Some-clause-after : goal.returns-in-Some-clause-after
 returns-in-Some-clause-after c =
     rw (c.if-owner.true) (record {
       world = λ world.
-          one_over c.args.object world (monitors.notify c.args.object c.args.thread c.args.pick c.args.heap.now.locks.monitors).after
+          one_over c.args.object world (monitors.notify c.args.object c.args.thread c.args.pick
+          c.args.heap.now.locks.monitors).after
           c.notify.new.self c.args.threads.now c.wake.new.threads c.in-Some.waiter
           (slice_get (monitor_at c.args.heap.now.locks.monitors c.args.object).waiters c.args.pick)
           c.wake.ensures c.notify.ensures.answers.monitors (rw (c.from.ensures) at c.in-Some.ensures);

@@ -9,7 +9,8 @@ pub loop-pick-preserved : goal.loop-pick-preserved
 loop-pick-preserved c =
     elim c.match-waiter.branch [
       | in-Some w ↦ rw (w.threads-is) (
-          woken_at c.args.object (cause_of c.args.cause) (monitor_at c.args.heap.now.locks.monitors c.args.object).waiters c.loop-pick.pick _ c.args.threads.now c.loop-pick.threads _
+          woken_at c.args.object (cause_of c.args.cause) (monitor_at c.args.heap.now.locks.monitors
+          c.args.object).waiters c.loop-pick.pick _ c.args.threads.now c.loop-pick.threads _
           (sym w.in-Some.ensures) c.loop-pick.invariant w.wake.ensures
           )
       | in_default w ↦ no_member (monitor_at c.args.heap.now.locks.monitors c.args.object).waiters c.loop-pick.pick
@@ -18,5 +19,6 @@ loop-pick-preserved c =
 
 pub returns : goal.returns
 returns c =
-    woken_to c.args.object (cause_of c.args.cause) (monitor_at c.args.heap.now.locks.monitors c.args.object).waiters c.loop-pick.pick c.args.threads.now c.loop-pick.threads
+    woken_to c.args.object (cause_of c.args.cause) (monitor_at c.args.heap.now.locks.monitors c.args.object).waiters
+    c.loop-pick.pick c.args.threads.now c.loop-pick.threads
     (omega (arith, c.loop-pick-test.false, c.waiter_count-pick-end.ensures)) c.loop-pick.invariant

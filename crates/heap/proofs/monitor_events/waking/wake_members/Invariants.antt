@@ -7,4 +7,5 @@ use Rattle.heap.proofs.monitor_events.waking.wake_members.Given as goal
 
 abbrev pub invariant-loop-pick : goal.invariant-loop-pick
 invariant-loop-pick l =
-    ThreadsBecome (λ world. all_woken l.fn.object (cause_of l.fn.cause) world (take l.pick (monitor_at l.fn.heap.locks.monitors l.fn.object).waiters)) l.initial.threads l.threads
+    ThreadsBecome (λ world. all_woken l.fn.object (cause_of l.fn.cause) world
+    (take l.pick (monitor_at l.fn.heap.locks.monitors l.fn.object).waiters)) l.initial.threads l.threads

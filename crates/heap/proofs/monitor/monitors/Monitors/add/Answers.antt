@@ -5,4 +5,5 @@ use Rattle.heap.proofs.monitor.monitors.Monitors.add.Goals as goal
 
 pub invariant_of-self-2 : goal.invariant_of-self-2
 invariant_of-self-2 c =
-    rw c.in_ok-push.ensures.items (sound_pushed _ _ _ c.unlocked.result c.self.invariant (ap (λ (w : Word). w.lock) c.unlocked.ensures))
+    rw c.in_ok-push.ensures.items (sound_pushed _ _ _ c.unlocked.result c.self.invariant
+    (ap (λ (w : Word). w.lock) c.unlocked.ensures))

@@ -6,5 +6,7 @@ use Rattle.heap.proofs.monitor.monitors.Monitors.interrupt.Goals as goal
 
 pub returns-in-Fat : goal.returns-in-Fat
 returns-in-Fat c =
-    record_done (Interrupt c.args.object c.args.thread) Done c.self.inside.table c.interrupt.new.self c.self.inside.words.items c.as_slice.result.now c.self.inside.limit c.in-Fat.index c.args.self.now
-    c.self.view_is c.self.invariant c.requires c.as_slice.ensures.value c.in-Fat.ensures.same refl c.interrupt.ensures refl
+    record_done (Interrupt c.args.object c.args.thread) Done c.self.inside.table c.interrupt.new.self
+    c.self.inside.words.items c.as_slice.result.now c.self.inside.limit c.in-Fat.index c.args.self.now
+    c.self.view_is c.self.invariant c.requires c.as_slice.ensures.value c.in-Fat.ensures.same refl c.interrupt.ensures
+    refl
