@@ -231,15 +231,6 @@ pub a_version : (rows : List Row) (found same : Option ℕ) → IsNumber 1 3 (fi
 a_version rows found same is none also =
     record { number = subst (IsNumber 1 3 (first_of (codes "as-version") rows)) (also ∙ sym none) is; recording = λ _. none }
 
--- and where nothing is, none is asked for
-pub unversioned : (rows : List Row) (version : Option ℕ) → IsRecordedVersion rows version → first_of (codes "record") rows ≡ None → first_of (codes "as-version") rows ≡ None
-unversioned rows version are none =
-    not_there (first_of (codes "as-version") rows) (subst (IsNumber 1 3 (first_of (codes "as-version") rows)) (are.recording none) are.number)
-  where
-    not_there : (text : Option Text) → IsNumber 1 3 text None → text ≡ None
-    not_there None is = refl
-    not_there (Some text) is = elim is [ ]
-
 -- where no version is that of what is recorded, there is no run behind the schedule
 pub no_version_behind : (rows : List Row) → ((version : Option ℕ) → IsRecordedVersion rows version → ⊥) → (then_run : Option ThenRun) → IsThenRun rows then_run → ⊥
 no_version_behind rows none None are =
