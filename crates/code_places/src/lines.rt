@@ -2,7 +2,9 @@
 
 ghost use Rattle.std.specs.Prelude.{◌≡◌, ◌++◌, ◌<◌, ◌≤◌, ◌==◌, ◌+◌, ◌*◌, false, length, map, OnOk, slice_index_or};
 ghost use Rattle.class_tree.specs.View.{code_of, skipped_of};
-ghost use Rattle.code_places.specs.Lines.{begins_line as line_begins, is_line_table as names_lines, line_count as count_of, line_offsets as offsets_in, number_at as number_in, offsets_of_line};
+ghost use Rattle.code_places.specs.Lines.{begins_line as line_begins, is_line_table as names_lines};
+ghost use Rattle.code_places.specs.Lines.{line_count as count_of, line_offsets as offsets_in, number_at as number_in};
+ghost use Rattle.code_places.specs.Lines.{offsets_of_line};
 ghost use Rattle.code_places.specs.Points.{points_at};
 
 use crate::points::Point;

@@ -7,7 +7,8 @@ ghost use Rattle.linked_code.specs.Numbers.{IsMethodAt, methods_of};
 ghost use Rattle.method_tables.specs.method_links.Numbers.{AreNumbersOf};
 ghost use Rattle.types.specs.method_code.View.{body_of, member_of};
 ghost use Rattle.place_texts.specs.Places.{place_of};
-ghost use Rattle.code_places.specs.Points.{all_points, describes as descriptor_fits, has_code, names as is_named, offsets_at, offsets_in, offsets_of, points_at};
+ghost use Rattle.code_places.specs.Points.{all_points, describes as descriptor_fits, has_code, names as is_named};
+ghost use Rattle.code_places.specs.Points.{offsets_at, offsets_in, offsets_of, points_at};
 ghost use Rattle.code_places.specs.Methods.{IsMethodOf};
 
 use crate::lines::add_line;
@@ -47,7 +48,7 @@ fn is_of(place: &Place, method: &MethodCode<'_>) -> bool
 }
 
 /// The method of a number, if it has code.
-fn method_of<'a>(
+pub fn method_of<'a>(
     linked: &'a Linked,
     numbers: &MethodNumbers,
     number: usize,

@@ -23,12 +23,12 @@ ghost use Rattle.constant_pool.specs.View.{reference_of};
 ghost use Rattle.types.specs.method_code.Linked.{IsLinked};
 ghost use Rattle.types.specs.method_code.View as view;
 ghost use Rattle.method_tables.specs.method_links.Numbers.{AreNumbersOf};
-ghost use Rattle.code_places.specs.Methods.{IsMethodOf};
 ghost use Rattle.race_places.specs.named_actions.Names.{AreApart};
 ghost use Rattle.field_names.specs.named_fields.Fields.{IsFieldIf, NamesField, field_named, field_referred, names_of};
 
 use class_tree::Reference;
 use class_tree::access_flags::has;
+use code_places::method_of;
 use hierarchy::{ClassSet, Hierarchy, MemberPlace};
 use linker::Linked;
 use method_tables::method_links::MethodNumbers;
@@ -84,21 +84,6 @@ fn reference_at<'a>(method: &'a MethodCode<'_>, offset: u16) -> Option<Reference
         Instr::Field { index, .. } => method.file().field_reference(index),
         _ => None,
     }
-}
-
-/// The method of a number, if it has code.
-fn method_of<'a>(
-    linked: &'a Linked,
-    numbers: &MethodNumbers,
-    number: usize,
-) -> Option<MethodCode<'a>>
-    requires { AreNumbersOf linked.now numbers.now }
-    ensures { IsMethodOf linked.now number result }
-{
-    let Some(found) = numbers.place(number) else {
-        return None;
-    };
-    MethodCode::new(linked.hierarchy(), found.class, found.member)
 }
 
 /// The field that the instruction at an offset of a method names, by the number of the method, if it names one.

@@ -2,7 +2,8 @@
 
 ghost use Rattle.std.specs.Prelude.{◌≡◌, [], ◌∷◌, length, slice_get, slice_index_or, IfSome, IfOk, OnOk};
 ghost use Rattle.kept_states.specs.Kept.{IsNumbered, IsThreadSame};
-ghost use Rattle.kept_states.specs.States.{AreThreads, AreThreadsBehind, AreThreadsPushed, IsThreadAdded, IsThreadWritten};
+ghost use Rattle.kept_states.specs.States.{AreThreads, AreThreadsBehind, AreThreadsPushed, IsThreadAdded};
+ghost use Rattle.kept_states.specs.States.{IsThreadWritten};
 
 use crate::numbered::Numbered;
 use crate::reading::part;

@@ -1,6 +1,7 @@
 //! The place that a word tells behind its mark.
 
-ghost use Rattle.std.specs.Prelude.{◌≡◌, ◌++◌, ◌+◌, ◌<◌, ◌∷◌, [], decimal, drop, is_some, length, take, unwrap_or, IfOk, IfSome};
+ghost use Rattle.std.specs.Prelude.{◌≡◌, ◌++◌, ◌+◌, ◌<◌, ◌∷◌, [], decimal, drop, is_some, length, take, unwrap_or};
+ghost use Rattle.std.specs.Prelude.{IfOk, IfSome};
 ghost use Rattle.place_texts.specs.Places.{place_of};
 ghost use Rattle.place_texts.specs.Reading.{has};
 ghost use Rattle.place_texts.specs.Texts.{place_words, position_words};

@@ -1,6 +1,7 @@
 //! Reading a text with places.
 
-ghost use Rattle.std.specs.Prelude.{◌≡◌, ◌⊎◌, ◌++◌, ◌+◌, ◌<◌, ◌∷◌, [], drop, is_some, length, take, true, IfErr, IfOk, IfSome, None};
+ghost use Rattle.std.specs.Prelude.{◌≡◌, ◌⊎◌, ◌++◌, ◌+◌, ◌<◌, ◌∷◌, [], drop, is_some, length, take, true, IfErr};
+ghost use Rattle.std.specs.Prelude.{IfOk, IfSome, None};
 ghost use Rattle.std.specs.List.{list_any};
 ghost use Rattle.schedule.specs.declared.schedule_text.fault.TextFault.TheVariants.{OutOfMemory};
 ghost use Rattle.model.specs.Schedule.{EntryFits};
@@ -106,7 +107,8 @@ fn placed_deeds(alloc: Global, words: &[TextWord]) -> Result<Vec<PlacedDeed>, Te
 /// `Entry`, with its line, where a word of a text with places is neither; and `OutOfMemory`.
 pub fn read_deeds(alloc: Global, text: &[u8]) -> Result<Option<Vec<PlacedDeed>>, TextFault>
     // The words of the text spell what is answered.
-    ensures found { IfOk result (λ found. IfSome found (λ deeds. SpellDeeds (text_words text.now) (deeds_of deeds.items))) }
+    ensures found { IfOk result (λ found. IfSome found (λ deeds.
+        SpellDeeds (text_words text.now) (deeds_of deeds.items))) }
     // Where nothing is answered, no word has the mark of a place; and else one has.
     ensures marked { IfOk result (λ found. is_some found ≡ list_any is_marked (text_words text.now)) }
     ensures refused { IfErr result (λ fault. (fault ≡ OutOfMemory)

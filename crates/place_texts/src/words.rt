@@ -1,7 +1,10 @@
 //! The words of a text, each with its line.
 
-ghost use Rattle.std.specs.Prelude.{◌≡◌, ◌++◌, ◌||◌, ◌+◌, ◌<◌, ◌≤◌, [], drop, false, get_or, length, IfOk, IfSome, None, OnOk};
-ghost use Rattle.schedule.specs.schedule_text.Text.{begins_comment as comment_begins, begins_slashes as slashes_begin, behind_comments, is_blank as blank, text_words, with_word, words_from};
+ghost use Rattle.std.specs.Prelude.{◌≡◌, ◌++◌, ◌||◌, ◌+◌, ◌<◌, ◌≤◌, [], drop, false, get_or, length, IfOk, IfSome};
+ghost use Rattle.std.specs.Prelude.{None, OnOk};
+ghost use Rattle.schedule.specs.schedule_text.Text.{begins_comment as comment_begins};
+ghost use Rattle.schedule.specs.schedule_text.Text.{begins_slashes as slashes_begin, behind_comments};
+ghost use Rattle.schedule.specs.schedule_text.Text.{is_blank as blank, text_words, with_word, words_from};
 ghost use Rattle.place_texts.specs.Reading.{texts};
 
 use std::alloc::{AllocError, Global};

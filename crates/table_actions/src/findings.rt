@@ -26,7 +26,8 @@ ghost use Rattle.linked_code.specs.Methods.{built_in_of};
 ghost use Rattle.heap.specs.java_threads.Table.{thread_at};
 ghost use Rattle.model.specs.Worlds as worlds;
 ghost use Rattle.model.specs.Monitors.{monitor_at, owns};
-ghost use Rattle.data_races.specs.EventActions.{found_alive, found_by_join, found_on, found_own, found_status, interrupts_on};
+ghost use Rattle.data_races.specs.EventActions.{found_alive, found_by_join, found_on, found_own, found_status};
+ghost use Rattle.data_races.specs.EventActions.{interrupts_on};
 ghost use Rattle.table_actions.specs.tables.Told.{Tells, all_found, found_of, interrupt_of, listed};
 
 use heap::Heap;
