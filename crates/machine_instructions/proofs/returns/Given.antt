@@ -32,12 +32,6 @@ passes_over [] top next results = refl
 passes_over (Invocation frame ∷ others) top next results = absurd cc
 passes_over (Initialisation class phase ∷ others) top next results = refl
 
--- one less is on the stack
-pub returned_count : (stack : List ShownEntry) (next : ℕ) (results : List ℕ) → length (returned next results (drop 1 stack)) ≡ length stack - 1
-returned_count [] next results = omega arith
-returned_count (entry ∷ []) next results = omega arith
-returned_count (entry ∷ under ∷ others) next results = omega arith
-
 -- the invoker has one operand more
 pub given_grows : (trees : Program) (p : LinkedProgram) (stack : List ShownEntry) (frame : ShownFrame) (below : List ShownEntry) → stack ≡ Invocation frame ∷ below
     → (invoker : ShownFrame) (others : List ShownEntry) → drop 1 stack ≡ Invocation invoker ∷ others

@@ -191,15 +191,3 @@ module _ (trees : Program) (p : LinkedProgram) (bounds : Bounds) (inflated : Lis
           (done trees p bounds inflated state.world shared is.lent.represents t entered (step.returned trees results rest) (model.Invocation frame ∷ rest) says new l to
           (subst (λ (st : List ShownEntry). ShowsStack trees p st (step.returned trees results rest)) (sym same)
           (return trees p (drop 1 stack) rest under next results (at trees is.program rest under rest_in_code))))
-
--- ---- of an invocation that entered no monitor
-
-leaves_none : (t : ℕ) (shared : Shared) → Leaves t None shared shared
-leaves_none t shared = record { represents = λ trees p bounds world r. r; flags = refl; rest = refl }
-
-pub returns_alone : (p : LinkedProgram) (value : Bool) (stack : List ShownEntry) → HasEntered stack None → (next : ℕ)
-    → IsNextOfTop p (drop 1 stack) next
-    → (to : List ShownEntry) → to ≡ returned_to next (option_to_list (result_in value stack)) (drop 1 stack) → (t : ℕ) (shared : Shared)
-    → DoesOwn p (returning value) t (Ok effect.Done) shared shared stack to
-returns_alone p value stack has next at to same t shared = λ frames trees bounds inflated state frame rest code site meaning is.
-    returns trees p bounds inflated t shared stack state frame rest code site meaning value is None has frames (λ world. refl) next at shared (leaves_none t shared) to same

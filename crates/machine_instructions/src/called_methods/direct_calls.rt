@@ -39,6 +39,7 @@ pub fn class_object(program: &LinkedProgram, method: u32) -> u32
 ///
 /// At the limits of fat locks, of the entries of an owner and of threads, or where there is no memory. Nothing has
 /// changed then.
+#[inline]
 pub fn invoke_static(
     shared: &mut Shared,
     stack: &mut ThreadStack,
@@ -69,6 +70,7 @@ pub fn invoke_static(
 /// # Errors
 ///
 /// The errors of `invoke_static`.
+#[inline]
 pub fn invoke_special(
     shared: &mut Shared,
     stack: &mut ThreadStack,

@@ -36,6 +36,7 @@ pub fn entered(is_synchronized: bool, object: u32) -> Option<u32>
 ///
 /// At the limits of fat locks, of the entries of an owner and of threads, or where there is no memory. Nothing has
 /// changed then.
+#[inline]
 pub(crate) fn run_method(
     shared: &mut Shared,
     stack: &mut ThreadStack,

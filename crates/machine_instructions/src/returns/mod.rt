@@ -8,8 +8,6 @@
 //!   IllegalMonitorStateException is to be raised and nothing has changed. A return of nothing is never refused; one of
 //!   a value may be, for want of memory, where it goes to an invoker. `unwind` is `leaving` over the rest of the stack.
 //!   `next_place_of_top` has the offset after the instruction of the frame on top, where frames stand in code.
-//!   `return_alone` answers that the frame has returned only where that is done, and nothing that is shared has
-//!   changed; else nothing has changed at all. That it ever answers so isn't asked: it spares time.
 //!
 //! # Wrong bodies
 //!
@@ -22,5 +20,5 @@ mod returning;
 mod unwinding;
 
 pub use places::next_place_of_top;
-pub use returning::{return_alone, return_from};
+pub use returning::return_from;
 pub use unwinding::unwind;

@@ -1,9 +1,7 @@
 //! Returns to the invoker.
 
-ghost use Rattle.std.specs.Prelude.{◌≡◌, ◌-◌, ℕ, Ok, true, false, drop, length, option_to_list, OnOk, OnErr};
+ghost use Rattle.std.specs.Prelude.{◌≡◌, ℕ, true, false, drop, option_to_list, OnOk, OnErr};
 ghost use Rattle.thread_stacks.specs.Stacks.{moved, returned, on_top};
-ghost use Rattle.machine_state.specs.declared.answers.Effect.TheVariants as effect;
-ghost use Rattle.machine_state.specs.declared.state.Shared.{Shared};
 ghost use Rattle.machine_instructions.specs.returns.Returned.{result_in, returning, IsGiven};
 ghost use Rattle.machine_state.specs.linked_frames.Frames.{DoesOwn};
 
@@ -69,6 +67,7 @@ fn return_under(
 /// # Errors
 ///
 /// Where there is no memory for a value that is returned to an invoker. Nothing has changed then.
+#[inline]
 pub fn return_from(
     shared: &mut Shared,
     stack: &mut ThreadStack,
@@ -87,24 +86,4 @@ pub fn return_from(
     return_under(stack, next, returns)?;
     leave(shared, thread, entered);
     Ok(Effect::Done)
-}
-
-/// Does what `return_from` does, of an invocation that entered no monitor: nothing is shared by it. Answers whether the
-/// frame has returned; where it hasn't, for a monitor that it would leave or for want of memory, nothing has changed.
-#[inline]
-pub fn return_alone(stack: &mut ThreadStack, program: &LinkedProgram, value: bool) -> bool
-    ensures done { result ≡ true → (t : ℕ) (shared : Shared)
-        → DoesOwn program.now (returning value) t (Ok effect.Done) shared shared stack.old stack.new }
-    ensures shallower { result ≡ true → length stack.new ≡ length stack.old - 1 }
-    ensures still { result ≡ false → stack.new ≡ stack.old }
-{
-    if let Some(_entered) = entered_by_top(stack) {
-        return false;
-    }
-    let next = next_place_under(program, stack);
-    let returns = result_of(stack, value);
-    match stack.return_to(next, returns) {
-        Ok(()) => true,
-        Err(_) => false,
-    }
 }

@@ -180,3 +180,7 @@ pub first_shown : (trees : Program) (p : LinkedProgram) (from to : List ShownEnt
     → ShowsStack trees p to (Invocation (frame_with words method arguments callee.entered body) ∷ own)
 first_shown trees p from to own s callee method body is arguments same =
     same_shown trees p to (shown.Invocation (begun callee arguments) ∷ from) (Invocation (frame_with words method arguments callee.entered body) ∷ own) same (begin trees p callee method body is arguments, s)
+
+-- no monitor is entered
+pub enters_none : (t : ℕ) (shared : Shared) → EntersFor (Ok tt) t None shared shared
+enters_none t shared = λ trees p bounds inflated world s may. (record { within = refl; represents = s.represents; flags = refl }, refl)

@@ -20,15 +20,8 @@ fn operand_count(stack: &ThreadStack) -> usize
     }
 }
 
-/// The frame on top calls a method with code: a new frame stands over it, whose first local variables are its last
-/// operands, so many as the method has parameters and a receiver, and they are taken from it. The thread enters the
-/// monitor of a synchronized method. A stack has at most so many frames; where it has, a StackOverflowError is raised
-/// (JVMS 2.5.2), and where another thread owns the monitor, the event isn't enabled.
-///
-/// # Errors
-///
-/// At the limits of fat locks and of the entries of an owner, or where there is no memory. Nothing has changed then.
-pub fn call(
+/// Does what `call` does, of a method whose monitor is entered.
+fn call_entering(
     shared: &mut Shared,
     stack: &mut ThreadStack,
     thread: u16,
@@ -53,6 +46,39 @@ pub fn call(
         Err(refusal) => {
             stack.take_back(taken);
             Err(refusal)
+        }
+    }
+}
+
+/// The frame on top calls a method with code: a new frame stands over it, whose first local variables are its last
+/// operands, so many as the method has parameters and a receiver, and they are taken from it. The thread enters the
+/// monitor of a synchronized method. A stack has at most so many frames; where it has, a StackOverflowError is raised
+/// (JVMS 2.5.2), and where another thread owns the monitor, the event isn't enabled.
+///
+/// # Errors
+///
+/// At the limits of fat locks and of the entries of an owner, or where there is no memory. Nothing has changed then.
+#[inline]
+pub fn call(
+    shared: &mut Shared,
+    stack: &mut ThreadStack,
+    thread: u16,
+    callee: Callee,
+    parameters: usize,
+    frames: usize,
+) -> Result<Effect, EventRefusal>
+    requires there { IsThere callee.entered shared.old.heap }
+    requires numbered { thread < most_threads }
+    ensures { DoesCall result thread callee parameters frames shared.old shared.new stack.old stack.new }
+{
+    match callee.entered {
+        Some(_) => call_entering(shared, stack, thread, callee, parameters, frames),
+        None => {
+            if stack.frame_count() >= frames {
+                return Ok(Effect::Raises(MachineException::StackOverflow));
+            }
+            stack.call(callee, parameters)?;
+            Ok(Effect::Done)
         }
     }
 }

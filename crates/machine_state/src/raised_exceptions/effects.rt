@@ -18,6 +18,7 @@ fn throw(shared: &mut Shared, thread: u16, exception: u32)
 ///
 /// Where an exception can't be made: as many objects as may be were made, or there is no memory. Nothing has changed
 /// then.
+#[inline]
 pub fn apply(shared: &mut Shared, thread: u16, effect: Effect) -> Result<Answer, EventRefusal>
     ensures { Applies result effect thread shared.old shared.new }
 {

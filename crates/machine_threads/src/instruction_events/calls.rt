@@ -13,6 +13,7 @@ use machine_state::{Effect, EventRefusal, Shared};
 use thread_stacks::ThreadStack;
 
 /// Does an instruction. One that calls nothing picks nothing.
+#[inline]
 pub(crate) fn any_instruction(
     shared: &mut Shared,
     stack: &mut ThreadStack,

@@ -15,6 +15,7 @@ use thread_stacks::ThreadStack;
 /// # Errors
 ///
 /// Where there is no memory, or an error can't be made. Nothing has changed then.
+#[inline]
 pub(crate) fn class_first(
     shared: &mut Shared,
     stack: &mut ThreadStack,

@@ -23,6 +23,7 @@ use thread_stacks::ThreadStack;
 /// # Errors
 ///
 /// Where a limit stands, or there is no memory. Nothing has changed then.
+#[inline]
 pub(crate) fn own_instruction(
     shared: &mut Shared,
     stack: &mut ThreadStack,

@@ -8,8 +8,7 @@
 //!   left a wait set enters the monitor again; one that runs takes the pending exception, begins, does the next step of
 //!   a class, or does the instruction of its frame on top; and the end of the thread belongs to the event that empties
 //!   its stack. Each refusal leaves all as it was. `frame_event` is the same event, of a thread that runs, with no
-//!   exception pending, at an instruction that is known (`RunsAt`). `event_at_once` answers that it is done only where
-//!   it is, with the end of the thread; else nothing has changed. That it ever answers so isn't asked: it spares time.
+//!   exception pending, at an instruction that is known (`RunsAt`).
 //!
 //! # Not proved
 //!
@@ -20,4 +19,4 @@ mod running;
 mod settling;
 mod unpicked;
 
-pub use events::{event_at_once, frame_event, thread_event};
+pub use events::{frame_event, thread_event};

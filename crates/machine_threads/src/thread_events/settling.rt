@@ -13,6 +13,7 @@ use thread_stacks::ThreadStack;
 /// # Errors
 ///
 /// Where the event was refused. Nothing changes then, nor where it is not enabled.
+#[inline]
 pub(crate) fn settle_event(
     shared: &mut Shared,
     stack: &ThreadStack,

@@ -45,6 +45,7 @@ fn end_and_wake(shared: &mut Shared, thread: u16)
 
 /// After an event of a thread: where its stack is empty, and it has begun or an exception is pending, the thread has
 /// ended, by that exception or without one. All that wait on its Thread object are woken then. It takes no memory.
+#[inline]
 pub fn settle(shared: &mut Shared, stack: &ThreadStack, thread: u16)
     ensures { Settles thread shared.old shared.new stack.now }
 {
