@@ -7,4 +7,3 @@ pub mod ClassObjects
 mod Prints
 pub mod Directs
 mod Statics
-mod Plain

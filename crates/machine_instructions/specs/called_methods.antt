@@ -1,4 +1,3 @@
 pub mod Frames
 pub mod Invoked
-pub mod Plain
 pub mod Selected

@@ -13,14 +13,14 @@ returns-then-frame_count-frames c = λ trees p bounds inflated world s frame res
     (frame_with words method (reverse (take c.args.parameters frame.place.slots.stack)) c.args.callee.entered body)
     c.frame_count.result c.frame_count.ensures c.if-frame_count-frames.true
 
-pub returns-in_err-call : goal.returns-in_err-call
-returns-in_err-call c = λ trees p bounds inflated world s frame rest shows method body is.
+pub returns-in_err-call-in-None : goal.returns-in_err-call-in-None
+returns-in_err-call-in-None c = λ trees p bounds inflated world s frame rest shows method body is.
     lacks trees p bounds inflated world c.args.shared.now s c.args.thread c.args.frames c.args.stack.now (Invocation frame ∷ rest) (Invocation (at_call frame (drop c.args.parameters frame.place.slots.stack)) ∷ rest) shows
     (frame_with words method (reverse (take c.args.parameters frame.place.slots.stack)) c.args.callee.entered body)
     c.frame_count.result c.frame_count.ensures c.if-frame_count-frames.false (λ w. sym (ap (may_begin (over w c.args.shared.now.heap) c.args.thread) c.in-None.is)) refl c.from_residual.result c.from_residual.ensures.1 c.call.new.self c.in_err-call.ensures.err
 
-pub returns-else-frame_count-frames : goal.returns-else-frame_count-frames
-returns-else-frame_count-frames c = λ trees p bounds inflated world s frame rest shows method body is.
+pub returns-in_ok-call-in-None : goal.returns-in_ok-call-in-None
+returns-in_ok-call-in-None c = λ trees p bounds inflated world s frame rest shows method body is.
     done trees p bounds inflated world c.args.shared.now s c.args.thread c.args.frames c.args.stack.now (Invocation frame ∷ rest) (Invocation (at_call frame (drop c.args.parameters frame.place.slots.stack)) ∷ rest) shows
     (frame_with words method (reverse (take c.args.parameters frame.place.slots.stack)) c.args.callee.entered body)
     c.frame_count.result c.frame_count.ensures c.if-frame_count-frames.false (λ w. sym (ap (may_begin (over w c.args.shared.now.heap) c.args.thread) c.in-None.is)) c.requires.there c.args.shared.now c.call.new.self
