@@ -17,7 +17,7 @@ pub returns-in_err-call-in-None : goal.returns-in_err-call-in-None
 returns-in_err-call-in-None c = λ trees p bounds inflated world s frame rest shows method body is.
     lacks trees p bounds inflated world c.args.shared.now s c.args.thread c.args.frames c.args.stack.now (Invocation frame ∷ rest) (Invocation (at_call frame (drop c.args.parameters frame.place.slots.stack)) ∷ rest) shows
     (frame_with words method (reverse (take c.args.parameters frame.place.slots.stack)) c.args.callee.entered body)
-    c.frame_count.result c.frame_count.ensures c.if-frame_count-frames.false (λ w. sym (ap (may_begin (over w c.args.shared.now.heap) c.args.thread) c.in-None.is)) refl c.from_residual.result c.from_residual.ensures.1 c.call.new.self c.in_err-call.ensures.err
+    c.frame_count.result c.frame_count.ensures c.if-frame_count-frames.false (λ w. sym (ap (may_begin (over w c.args.shared.now.heap) c.args.thread) c.in-None.is)) refl c.from_residual.result c.from_residual.ensures.1 c.call.new.self c.in_err-call-in-None.ensures.err
 
 pub returns-in_ok-call-in-None : goal.returns-in_ok-call-in-None
 returns-in_ok-call-in-None c = λ trees p bounds inflated world s frame rest shows method body is.
@@ -25,4 +25,4 @@ returns-in_ok-call-in-None c = λ trees p bounds inflated world s frame rest sho
     (frame_with words method (reverse (take c.args.parameters frame.place.slots.stack)) c.args.callee.entered body)
     c.frame_count.result c.frame_count.ensures c.if-frame_count-frames.false (λ w. sym (ap (may_begin (over w c.args.shared.now.heap) c.args.thread) c.in-None.is)) c.requires.there c.args.shared.now c.call.new.self
     (subst (λ (o : Option ℕ). EntersFor (Ok tt) c.args.thread o c.args.shared.now c.args.shared.now) (sym c.in-None.is) (enters_none c.args.thread c.args.shared.now))
-    (calls_shown trees p c.args.stack.now c.call.new.self frame rest shows c.args.callee method body is c.args.parameters c.in_ok-call.ensures.ok)
+    (calls_shown trees p c.args.stack.now c.call.new.self frame rest shows c.args.callee method body is c.args.parameters c.in_ok-call-in-None.ensures.ok)
