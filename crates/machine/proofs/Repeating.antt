@@ -1,16 +1,12 @@
 -- An event again and again.
-use Rattle.std.proofs.Common.{◌≡◌, ◌<◌, ◌+◌, ℕ, zero, suc, List, Result, Ok, Err, refl, sym, ap, subst, ◌∙◌, arith}
+use Rattle.std.proofs.Common.{◌≡◌, ◌<◌, ◌+◌, ℕ, suc, Result, Ok, Err, refl, sym, subst, arith}
 use Rattle.model.specs.declared.event.Event.{Event}
-use Rattle.model.specs.Classes.{Program}
-use Rattle.model.specs.declared.limits.Limits.{Limits}
-use Rattle.model.specs.LimitStands.{Bounds, bounds_of, inflated_by}
-use Rattle.model.specs.State.{StateOf}
+use Rattle.model.specs.LimitStands.{bounds_of, inflated_by}
 use Rattle.machine_state.specs.declared.answers.Answer.{Answer}
 use Rattle.machine_state.specs.declared.answers.Answer.TheVariants as answer
 use Rattle.machine_state.specs.declared.refusals.EventRefusal.{EventRefusal}
-use Rattle.machine_state.specs.declared.state.Shared.{Shared}
 use Rattle.machine.specs.declared.machine.Stopped.TheVariants as stopped
-use Rattle.machine.specs.Machines.{MachineOf, Shows, Steps, IsRepeated, HasRepeated, Repeats, HasLed, IsSoFar}
+use Rattle.machine.specs.Machines.{MachineOf, Steps, HasRepeated, Repeats, IsSoFar}
 use Rattle.machine_state.proofs.shown_runs.Same.{shown_still}
 use Rattle.machine.proofs.Turning.{with_shared}
 
@@ -107,40 +103,3 @@ all_done event most n old new e so_far = (
         stops = refl;
       }),
 )
-
--- ---- events that go on where others have led
-
-pub repeated_then : (trees : Program) (bounds : Bounds) (event : Event) (m n : ℕ) (inflated : List ℕ) (state : StateOf ℕ) (locks : List ℕ) (between : StateOf ℕ) (later : List ℕ) (after : StateOf ℕ)
-    → IsRepeated trees bounds event n inflated state locks between → IsRepeated trees bounds event m locks between later after
-    → IsRepeated trees bounds event (n + m) inflated state later after
-repeated_then trees bounds event zero n inflated state locks between later after r e =
-    let count : n ≡ n + 0 = omega arith in
-    let P : ℕ → Type 0 = λ k. IsRepeated trees bounds event k inflated state later after in
-    let Q : List ℕ → Type 0 = λ l. IsRepeated trees bounds event n inflated state l after in
-    let R : StateOf ℕ → Type 0 = λ s. IsRepeated trees bounds event n inflated state locks s in
-    subst P count (subst Q (sym e.0) (subst R (sym e.1) r))
-repeated_then trees bounds event (suc m) n inflated state locks between later after r e =
-    let count : suc (n + m) ≡ n + suc m = omega arith in
-    let P : ℕ → Type 0 = λ k. IsRepeated trees bounds event k inflated state later after in
-    subst P count (e.0, e.1, repeated_then trees bounds event m n inflated state locks between e.0 e.1 r e.2, e.3)
-
-pub so_far_then : (event : Event) (n m : ℕ) (old between new : MachineOf) → IsSoFar event n old between → IsSoFar event m between new → IsSoFar event (n + m) old new
-so_far_then event n m old between new first second =
-    let machine : record between { shared = new.shared } ≡ record old { shared = new.shared } = ap (λ (x : MachineOf). record x { shared = new.shared }) first.same in
-    record {
-      same = second.same ∙ machine;
-      led = λ files trees inflated state shows.
-          let a = first.led files trees inflated state shows in
-          let P : MachineOf → Type 0 = λ x. Shows x files trees a.locks a.next in
-          let b = second.led files trees a.locks a.next (subst P (sym first.same) a.shows) in
-          let Q : Limits → Type 0 = λ l. IsRepeated trees (bounds_of l) event m a.locks a.next b.locks b.next in
-          let R : MachineOf → Type 0 = λ x. Shows x files trees b.locks b.next in
-          record {
-            locks = b.locks;
-            next = b.next;
-            repeated =
-                repeated_then trees (bounds_of old.limits) event m n inflated state a.locks a.next b.locks b.next a.repeated
-                (subst Q (ap (λ (x : MachineOf). x.limits) first.same) b.repeated);
-            shows = subst R machine b.shows;
-          };
-    }

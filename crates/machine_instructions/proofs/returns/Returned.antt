@@ -38,7 +38,7 @@ use Rattle.machine_state.specs.declared.refusals.EventRefusal.{EventRefusal}
 use Rattle.machine_state.specs.declared.refusals.EventRefusal.TheVariants as refusal
 use Rattle.machine_state.specs.Events.{MayBeRefused, IsDone}
 use Rattle.machine_state.specs.Instructions.{Does, instruction_event}
-use Rattle.machine_state.specs.linked_frames.Frames.{IsRunning, DoesOwn, event_of}
+use Rattle.machine_state.specs.linked_frames.Frames.{IsRunning, event_of}
 use Rattle.machine_state.proofs.linked_frames.Frames.{top_shown, finds, meaning_is, event_is}
 use Rattle.machine_instructions.specs.returns.Places.{IsNextOfTop}
 use Rattle.machine_instructions.specs.returns.Leaving.{HasEntered, SaysMayLeave, with_leave, Leaves}
