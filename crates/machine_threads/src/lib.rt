@@ -1,9 +1,4 @@
 //! How threads open, begin, act, wait and end.
-//!
-//! # Wrong bodies
-//!
-//! - Planted by `rt plant`: 16 functions, 1 untried; 19 bodies judged, 1 not judged, 21 not run; proved 2: an event,
-//!   and an instruction, that are tried at once answer that they were not done, which is not asked either.
 #![tactic(auto)]
 
 pub mod instruction_events;
