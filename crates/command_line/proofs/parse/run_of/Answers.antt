@@ -26,4 +26,5 @@ returns-clause-values c = record {
   explain = c.is_set.ensures;
   quiet = c.is_set-2.ensures;
   files_alone = c.is_set-3.ensures;
+  follow = c.in_ok-follow.ensures.follow;
 }
