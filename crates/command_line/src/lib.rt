@@ -48,7 +48,7 @@ pub use options::{
     Trace, TraceForm, Verify,
 };
 pub use parse::command;
-pub use paths::is_same_path;
+pub use paths::{is_absolute, is_same_path, steps_of};
 pub use run_options::{PolicyName, RunOptions};
 pub use sweep_options::{SeedRange, SweepOptions, SweepPolicy};
 pub use usage::Usage;

@@ -18,7 +18,8 @@
 //!     `run` over seeds one for each outcome, in the folder that is asked for (`written_in`), and after a fault those
 //!     before it (`IsSweepUnrecorded`).
 //! - `run` with a complaint: usage only where the words spell no command, or one that would write a file that it reads
-//!   (`IsReadToo`), and nothing is written then. A fault of files only where the words of the command stand for none,
+//!   (`IsReadToo`), and nothing is written then. Over seeds that is one of the folder for the schedules, whose name
+//!   begins and ends as theirs (`may_be_outcome`). A fault of files only where the words of the command stand for none,
 //!   or these have no order; nothing is written then, either (`HasNoFiles`). Another fault only where the engine may
 //!   answer it, or where help can't be written, memory is wanted for paths, or a folder, a class file or the file of
 //!   `differs` can't be read, or the schedule is refused where a class file can't be read (`faulty`, `Stops`,

@@ -25,7 +25,10 @@ pub(crate) fn try_record<F: Folder>(
     ensures failed { IfErr result (λ fault. fault ≡ Device → FolderMayFail F.may_fail) }
 {
     match path {
-        Some(path) => kept(alloc, folder.try_write(alloc, path.as_str()), explanation),
+        Some(path) => {
+            let tried = folder.try_write(alloc, path.as_str());
+            kept(alloc, path.as_str(), tried, explanation)
+        }
         None => Ok(()),
     }
 }
@@ -86,12 +89,13 @@ pub(crate) fn store<F: Folder>(
     ensures failed { IfErr result (λ fault. fault ≡ Device → IsTrue (F.may_fail folder.old path.now)) }
 {
     let written = folder.write(alloc, path, bytes);
-    kept(alloc, written, explanation)
+    kept(alloc, path, written, explanation)
 }
 
-/// The answer of a folder, of which the system's reason is kept.
+/// The answer of a folder at a path, of which the system's reason is kept.
 fn kept(
     alloc: Global,
+    path: &str,
     answer: io::Result<()>,
     explanation: &mut Explanation,
 ) -> Result<(), DeviceFault>
@@ -100,7 +104,7 @@ fn kept(
     match answer {
         Ok(()) => Ok(()),
         Err(error) => {
-            explanation.keep_reason(alloc, &error);
+            explanation.keep_unwritten(alloc, path, &error);
             Err(device_fault(&error))
         }
     }
