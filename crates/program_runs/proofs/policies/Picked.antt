@@ -1,6 +1,7 @@
 -- Which picks past 0 are enabled: at a call on an object, which needs no class first, and of a thread.
-use Rattle.std.proofs.Common.{◌≡◌, ℕ, suc, List, [], ◌∷◌, Option, Some, None, Bool, true, false, if◌then◌else◌, ◌==◌, nat_lt, refl, sym, ap, subst, ◌∙◌}
+use Rattle.std.proofs.Common.{◌≡◌, ℕ, zero, suc, List, [], ◌∷◌, Option, Some, None, Bool, true, false, if◌then◌else◌, ◌==◌, nat_lt, refl, sym, ap, subst, ◌∙◌}
 use Rattle.std.specs.Prelude.{slice_get}
+use Rattle.std.proofs.lemmas.Option.{same_Some}
 use Rattle.model.specs.Calls.{constructor_call, interface_call, special_call, virtual_call}
 use Rattle.model.specs.ClassInitialisation.{IsReady, look_at}
 use Rattle.model.specs.Classes.{Program}
@@ -121,12 +122,9 @@ module _ (all : AreFramesStanding) (p : LinkedProgram) (t : ℕ) (shared : Share
       (λ frame rest e.
       let here = subst (λ (o : StackOf ℕ). IsLent trees p bounds inflated t shared stack state o) e lent in
       let s = all trees p program bounds inflated t shared stack state frame rest here (record { rest = rest; stack = here.is_own; runs = status; pending = pending }) in
-      let same : i ≡ s.instruction = cc_some i s.instruction (found trees bounds inflated t shared state frame rest s.code s.site s.meaning s.instruction s.is) in
+      let same : i ≡ s.instruction = same_Some i s.instruction (found trees bounds inflated t shared state frame rest s.code s.site s.meaning s.instruction s.is) in
       h trees bounds inflated state frame rest s.code s.site s.meaning frames
       (subst (λ (x : LinkedInstruction). IsRunning trees p bounds inflated t shared stack state frame rest s.code s.site s.meaning x) (sym same) s.is) k)
-    where
-      cc_some : (a b : LinkedInstruction) → Some a ≡ Some b → a ≡ b
-      cc_some a b e = cc
 
   pub none_on_top : (n : ℕ) → IsInstruction p stack None → PicksOnTop p t n shared stack
   none_on_top n found trees bounds inflated state own frames program lent status pending k =
@@ -190,6 +188,14 @@ module _ (trees : Program) (frames t k : ℕ) (state : StateOf ℕ) where
       by (model.Relock object count cause) e = unpicked_off t k _
       by (model.Ended exception) e = sym (none_below k)
 
+  -- whether there is one or not
+  pub by_stack : (((thread_at state.world t).status ≡ model.Running) × ((thread_at state.world t).pending ≡ None) → ⊥) → enabled ≡ nat_lt (suc k) 0
+  by_stack n = by (slice_get state.stacks t) refl
+    where
+      by : (o : Option (StackOf ℕ)) → slice_get state.stacks t ≡ o → enabled ≡ nat_lt (suc k) 0
+      by None e = none_there e
+      by (Some own) e = rests_there own e n
+
 -- ---- in a state that is shown
 
 none_at : (trees : Program) (p : LinkedProgram) (ss : List (List ShownEntry)) (ms : List (StackOf ℕ)) → ShowsStacks trees p ss ms → (t : ℕ)
@@ -197,7 +203,7 @@ none_at : (trees : Program) (p : LinkedProgram) (ss : List (List ShownEntry)) (m
 none_at trees p [] [] h t e = refl
 none_at trees p [] (m ∷ ms) h t e = absurd h
 none_at trees p (s ∷ ss) [] h t e = absurd h
-none_at trees p (s ∷ ss) (m ∷ ms) h 0 e = absurd cc
+none_at trees p (s ∷ ss) (m ∷ ms) h zero e = absurd cc
 none_at trees p (s ∷ ss) (m ∷ ms) h (suc t) e = none_at trees p ss ms h.1 t e
 
 module _ (trees : Program) (p : LinkedProgram) (bounds : Bounds) (inflated : List ℕ) (shared : Shared) (state : StateOf ℕ)

@@ -85,7 +85,10 @@ PicksOnTop p t count shared stack =
     → PicksBelow count (λ pick. running_event words trees frames (picked t pick) state.world own)
 
 -- in whatever state is shown
-abbrev pub PicksOf : MachineOf → (t count : ℕ) → Type 0
-PicksOf m t count =
-    (trees : Program) (bounds : Bounds) (inflated : List ℕ) (state : StateOf ℕ) (frames : ℕ) → IsProgram trees m.program → IsShown trees m.program bounds inflated m.shared state
+abbrev pub PicksSo : LinkedProgram → Shared → (t count : ℕ) → Type 0
+PicksSo p shared t count =
+    (trees : Program) (bounds : Bounds) (inflated : List ℕ) (state : StateOf ℕ) (frames : ℕ) → IsProgram trees p → IsShown trees p bounds inflated shared state
     → (k : ℕ) → is_enabled_of words trees frames state (picked t (suc k)) ≡ nat_lt (suc k) count
+
+abbrev pub PicksOf : MachineOf → (t count : ℕ) → Type 0
+PicksOf m = PicksSo m.program m.shared

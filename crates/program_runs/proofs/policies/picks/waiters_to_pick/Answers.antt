@@ -1,12 +1,10 @@
-use Rattle.std.proofs.Common.{sym, ◌∙◌, subst}
-use Rattle.program_runs.proofs.policies.Picked.{goes_on_shown, lent_of, no_stack, none_there, rests_shown, rests_there, runs_there}
+use Rattle.std.proofs.Common.{subst, ◌∙◌}
+use Rattle.linked_code.specs.declared.program.LinkedProgram.{LinkedProgram}
+use Rattle.machine_state.specs.declared.state.Shared.{Shared}
+use Rattle.program_runs.specs.policies.Picks.{PicksSo}
 use Rattle.program_runs.proofs.policies.picks.waiters_to_pick.Goals as goal
 
-pub returns-then-not-goes_on : goal.returns-then-not-goes_on
-returns-then-not-goes_on c = λ trees bounds inflated state frames program shown k. ?rests
-
-pub returns-in-Some : goal.returns-in-Some
-returns-in-Some c = λ trees bounds inflated state frames program shown k. ?some
-
-pub returns-in-None : goal.returns-in-None
-returns-in-None c = λ trees bounds inflated state frames program shown k. ?none
+pub returns : goal.returns
+returns c =
+    subst (λ (p : LinkedProgram). PicksSo p c.args.machine.now.shared c.args.thread c.thread_picks.result) (c.deref.ensures ∙ c.program.ensures)
+    (subst (λ (s : Shared). PicksSo c.deref.result.now s c.args.thread c.thread_picks.result) c.shared.ensures.same c.thread_picks.ensures)
