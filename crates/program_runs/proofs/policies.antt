@@ -6,6 +6,7 @@ pub mod Unpicked
 pub mod Picked
 pub mod Able
 pub mod Drawing
+mod DrawnThreads
 pub mod GivenTurns
 pub mod Mixing
 pub mod Recorded

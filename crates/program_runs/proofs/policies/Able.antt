@@ -20,11 +20,11 @@ module _ (p : ℕ → Bool) where
   more_from : (from i : ℕ) → length (passing from (suc i)) ≡ length (passing from i) + cond (p (from + i)) 1 0
   more_from from zero =
       let same : from + 0 ≡ from = omega arith in
-      subst (λ k. length (passing from 1) ≡ cond (p k) 1 0) (sym same) (by (p from))
+      subst (λ k. length (passing from 1) ≡ length (passing from 0) + cond (p k) 1 0) (sym same) (by (p from))
     where
-      by : (b : Bool) → length (cond b (from ∷ []) []) ≡ cond b 1 0
-      by true = refl
-      by false = refl
+      by : (b : Bool) → length (cond b (from ∷ []) []) ≡ length (passing from 0) + cond b 1 0
+      by true = omega arith
+      by false = omega arith
   more_from from (suc i) =
       let same : suc from + i ≡ from + suc i = omega arith in
       longer (p from) from (cond (p (from + suc i)) 1 0) (passing (suc from) (suc i)) (passing (suc from) i)

@@ -35,63 +35,65 @@ use Rattle.program_runs.proofs.policies.TurnEvents.{cant_where_not_enabled}
 
 -- ---- how many picks there are
 
-module _ (q : ℕ → Bool) (w : ℕ) (first : q 0 ≡ true) (others : (k : ℕ) → q (suc k) ≡ nat_lt (suc k) w) where
-  one_more : (b : Bool) (x : ℕ) → cond b 1 0 + x ≡ cond b (suc x) x
-  one_more true x = omega arith
-  one_more false x = omega arith
+one_more : (b : Bool) (x : ℕ) → cond b 1 0 + x ≡ cond b (suc x) x
+one_more true x = omega arith
+one_more false x = omega arith
 
+-- the lesser of two numbers, each one more
+min_suc : (a b n : ℕ) → b ≡ suc a → suc (min a n) ≡ min b (suc n)
+min_suc a b n e = by (dec_lt a n)
+  where
+    by : Dec (a < n) → suc (min a n) ≡ min b (suc n)
+    by (yes l) = ap suc (min-eq_left (omega (arith, l))) ∙ sym e ∙ sym (min-eq_left (omega (arith, l, e)))
+    by (no g) = ap suc (min-eq_right (omega (arith, g))) ∙ sym (min-eq_right (omega (arith, g, e)))
+
+min_zero : (a n : ℕ) → a ≡ 0 → min a n ≡ 0
+min_zero a n e = ap (λ k. min k n) e ∙ min-eq_left (omega arith)
+
+module _ (q : ℕ → Bool) (w : ℕ) (first : q 0 ≡ true) (others : (k : ℕ) → q (suc k) ≡ nat_lt (suc k) w) where
   -- from the second on
   counted : (from n : ℕ) → count_by q (counting (suc from) n) ≡ min (w - suc from) n
   counted from zero = sym (min-eq_right (omega arith))
-  counted from (suc n) = ap (λ b. cond b 1 0 + count_by q (counting (suc (suc from)) n)) (others from) ∙ by (dec_lt (suc from) w)
+  counted from (suc n) =
+      one_more (q (suc from)) (count_by q (counting (suc (suc from)) n))
+      ∙ ap (λ b. cond b (suc (count_by q (counting (suc (suc from)) n))) (count_by q (counting (suc (suc from)) n))) (others from)
+      ∙ by (dec_lt (suc from) w)
     where
-      by : Dec (suc from < w) → cond (nat_lt (suc from) w) 1 0 + count_by q (counting (suc (suc from)) n) ≡ min (w - suc from) (suc n)
+      by : Dec (suc from < w)
+          → cond (nat_lt (suc from) w) (suc (count_by q (counting (suc (suc from)) n))) (count_by q (counting (suc (suc from)) n)) ≡ min (w - suc from) (suc n)
       by (yes lt) =
-          ap (λ b. cond b 1 0 + count_by q (counting (suc (suc from)) n)) (lt-ltb (suc from) w lt)
-          ∙ ap suc (counted (suc from) n) ∙ sums (w - suc (suc from)) n (w - suc from) (omega (arith, lt))
-        where
-          sums : (a n b : ℕ) → b ≡ suc a → suc (min a n) ≡ min b (suc n)
-          sums a n b e = least (dec_lt a n)
-            where
-              least : Dec (a < n) → suc (min a n) ≡ min b (suc n)
-              least (yes l) = ap suc (min-eq_left (omega (arith, l))) ∙ sym e ∙ sym (min-eq_left (omega (arith, l, e)))
-              least (no g) = ap suc (min-eq_right (omega (arith, g))) ∙ sym (min-eq_right (omega (arith, g, e)))
+          ap (λ b. cond b (suc (count_by q (counting (suc (suc from)) n))) (count_by q (counting (suc (suc from)) n))) (lt-ltb (suc from) w lt)
+          ∙ ap suc (counted (suc from) n) ∙ min_suc (w - suc (suc from)) (w - suc from) n (omega (arith, lt))
       by (no ge) =
-          ap (λ b. cond b 1 0 + count_by q (counting (suc (suc from)) n)) (le-ltb (suc from) w (omega (arith, ge)))
+          ap (λ b. cond b (suc (count_by q (counting (suc (suc from)) n))) (count_by q (counting (suc (suc from)) n))) (le-ltb (suc from) w (omega (arith, ge)))
           ∙ counted (suc from) n
-          ∙ ap (λ k. min k n) (let none : w - suc (suc from) ≡ 0 = omega (arith, ge) in none) ∙ min-eq_left (omega arith)
-          ∙ sym (ap (λ k. min k (suc n)) (let none : w - suc from ≡ 0 = omega (arith, ge) in none) ∙ min-eq_left (omega arith))
+          ∙ min_zero (w - suc (suc from)) n (omega (arith, ge)) ∙ sym (min_zero (w - suc from) (suc n) (omega (arith, ge)))
 
   pub count_is : (n : ℕ) → 0 < n → count_by q (counting 0 n) ≡ suc (min (w - 1) (n - 1))
   count_is zero some = absurd (omega (arith, some))
   count_is (suc n) some =
-      ap (λ b. cond b 1 0 + count_by q (counting 1 n)) first ∙ ap suc (counted 0 n)
-      ∙ ap (λ k. suc (min (w - 1) k)) (let same : n ≡ suc n - 1 = omega arith in same)
+      let same : n ≡ suc n - 1 = omega arith in
+      one_more (q 0) (count_by q (counting 1 n))
+      ∙ ap (λ b. cond b (suc (count_by q (counting 1 n))) (count_by q (counting 1 n))) first
+      ∙ ap suc (counted 0 n) ∙ ap (λ k. suc (min (w - 1) k)) same
 
   -- nothing is drawn of one, nor of none
   pub draws_same : (n : ℕ) → 0 < n → (s : Stream) → pick_of (min w n) s ≡ pick_of (count_by q (counting 0 n)) s
   draws_same n some s = by (dec_lt 0 w)
     where
       few : (a b : ℕ) → a ≤ 1 → b ≤ 1 → pick_of a s ≡ pick_of b s
-      few a b x y =
-          ap (λ t. if t then below a s else (0, s)) (le-ltb 1 a x) ∙ sym (ap (λ t. if t then below b s else (0, s)) (le-ltb 1 b y))
+      few a b x y = ap (λ t. if t then below a s else (0, s)) (le-ltb 1 a x) ∙ sym (ap (λ t. if t then below b s else (0, s)) (le-ltb 1 b y))
 
       by : Dec (0 < w) → pick_of (min w n) s ≡ pick_of (count_by q (counting 0 n)) s
-      by (yes lt) = ap (λ k. pick_of k s) (least w n lt some ∙ sym (count_is n some))
-        where
-          least : (w n : ℕ) → 0 < w → 0 < n → min w n ≡ suc (min (w - 1) (n - 1))
-          least w n x y = case (dec_lt w n)
-            where
-              case : Dec (w < n) → min w n ≡ suc (min (w - 1) (n - 1))
-              case (yes l) =
-                  min-eq_left (omega (arith, l)) ∙ (let same : w ≡ suc (w - 1) = omega (arith, x) in same)
-                  ∙ sym (ap suc (min-eq_left (omega (arith, l))))
-              case (no g) =
-                  min-eq_right (omega (arith, g)) ∙ (let same : n ≡ suc (n - 1) = omega (arith, y) in same)
-                  ∙ sym (ap suc (min-eq_right (omega (arith, g))))
+      by (yes lt) =
+          let one : w ≡ suc (w - 1) = omega (arith, lt) in
+          let two : n ≡ suc (n - 1) = omega (arith, some) in
+          ap (λ k. pick_of k s) (ap (min w) two ∙ sym (min_suc (w - 1) w (n - 1) one) ∙ sym (count_is n some))
       by (no ge) =
-          few (min w n) (count_by q (counting 0 n)) (omega (arith, ge, min-le_left w n))
-          (omega (arith, count_is n some, ge, min-le_left (w - 1) (n - 1)))
+          let low = min-le_left w n in
+          let least = min-le_left (w - 1) (n - 1) in
+          let is = count_is n some in
+          few (min w n) (count_by q (counting 0 n)) (omega (arith, ge, low)) (omega (arith, is, ge, least))
 
 -- ---- in a world
 
@@ -222,4 +224,8 @@ module _ (reported : AreReportsOfWords) (w : WorldOf) (holds : Holds w) where
         by false = refl
 
     pub random_none : (s : Stream) → (turn s).events ≡ w.events
-    random_none s = ap (λ (x : Turned Stream). x.events) (turn_is s) ∙ nothing _ _
+    random_none s =
+        let place = below (length able) s in
+        let t = slice_index able place.0 in
+        let pick = pick_of (pick_count w.trees frames state t) place.1 in
+        ap (λ (x : Turned Stream). x.events) (turn_is s) ∙ nothing t pick.0
