@@ -179,8 +179,8 @@ module _ (trees : Program) (frames t k : ℕ) (state : StateOf ℕ) where
   rests_there own e n = whole own e ∙ by (thread_at state.world t).status refl
     where
       by_pending : (o : Option ℕ) → (o ≡ None → ⊥) → is_enabled_by (going_event words trees frames (picked t (suc k)) state.world own o) ≡ nat_lt (suc k) 0
-      by_pending None no = absurd (no refl)
-      by_pending (Some exception) no = unpicked_off t k _
+      by_pending None other = absurd (other refl)
+      by_pending (Some exception) other = unpicked_off t k _
 
       by : (status : ThreadStatus) → (thread_at state.world t).status ≡ status → by_status own status ≡ nat_lt (suc k) 0
       by model.Running e = by_pending (thread_at state.world t).pending (λ q. n (e, q))

@@ -2,7 +2,7 @@ use Rattle.std.proofs.Common.{◌+◌, suc, refl, sym, ap, ◌∙◌}
 use Rattle.model.specs.Step.{is_enabled_by}
 use Rattle.machine_state.specs.declared.answers.MachineException.TheVariants as exception
 use Rattle.machine_state.specs.declared.answers.Effect.TheVariants as effect
-use Rattle.machine_instructions.proofs.called_methods.Receivers.{interface_null, interface_none, interface_event, interface_invoking, chosen_interface}
+use Rattle.machine_instructions.proofs.called_methods.Receivers.{interface_null, interface_missing, interface_event, interface_invoking, chosen_interface}
 use Rattle.program_runs.proofs.policies.Picked.{not_raised}
 use Rattle.program_runs.proofs.policies.Unpicked.{none_below}
 use Rattle.program_runs.proofs.policies.picks.interface_picks.Goals as goal
@@ -14,7 +14,7 @@ returns-in_default c = λ trees bounds inflated state frame rest code site meani
 
 pub returns-in_default-interface_method : goal.returns-in_default-interface_method
 returns-in_default-interface_method c = λ trees bounds inflated state frame rest code site meaning frames is k.
-    ap is_enabled_by (interface_none trees c.args.program.now bounds inflated c.args.thread c.args.shared.now c.args.stack.now state frame rest code site meaning c.args.parameters c.args.selector is c.in-Some.object c.in-Some.ensures c.in_default-interface_method.ensures frames (suc k) effect.NotEnabled (not_raised exception.IncompatibleClassChange k)).0
+    ap is_enabled_by (interface_missing trees c.args.program.now bounds inflated c.args.thread c.args.shared.now c.args.stack.now state frame rest code site meaning c.args.parameters c.args.selector is c.in-Some.object c.in-Some.ensures c.in_default-interface_method.ensures frames (suc k) effect.NotEnabled (not_raised exception.IncompatibleClassChange k)).0
     ∙ sym (none_below k)
 
 pub returns : goal.returns
