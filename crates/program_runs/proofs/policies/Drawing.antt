@@ -24,7 +24,7 @@ use Rattle.machine_state.specs.shown_runs.Runs.{HasRun}
 use Rattle.machine.specs.Machines.{MachineOf}
 use Rattle.machine.specs.Tops.{plain}
 use Rattle.program_runs.specs.policies.Draws.{below}
-use Rattle.program_runs.specs.policies.Drawn.{IsDrawn, IsPickDrawn, able_in, words_after}
+use Rattle.program_runs.specs.policies.Drawn.{IsDrawn, IsPickDrawn, able_in, drawn_of, words_after}
 use Rattle.program_runs.specs.policies.Picks.{PicksOf, picked}
 use Rattle.program_runs.specs.policies.PolicyTurns.{DoesTurn, IsOn, IsOver, IsShort}
 use Rattle.program_runs.specs.policies.Runs.{Turned, can_do, pick_count, pick_of, random_event, random_turn, turned_if, with_picked, with_turn}
@@ -156,13 +156,10 @@ module _ (reported : AreReportsOfWords) (w : WorldOf) (holds : Holds w) where
       ∙ ap (λ k. pick_of (count_by (λ p. is_enabled w.trees frames state (picked t p)) (counting 0 k)) s) counts
 
   module _ (old mid new : List ℕ) (t pick : ℕ) (drawn : IsDrawn m old (Some t) mid) (there : t < n) (may : may_step w.trees frames state t ≡ true) (picks : IsPickDrawn m t mid pick new) where
-    abbrev place : ℕ × Stream
-    place = below (length able) (words_after old)
-
-    thread_is : (t, words_after mid) ≡ (slice_index able place.0, place.1)
+    thread_is : (t, words_after mid) ≡ drawn_of able (words_after old)
     thread_is =
         drawn w.trees bounds (inflated w.trees frames w.events) has.at holds.done.program has.shown
-        ∙ ap (λ (l : List ℕ). let found : ℕ × Stream = (slice_index l (below (length l) (words_after old)).0, (below (length l) (words_after old)).1) in found) able_is
+        ∙ ap (λ (l : List ℕ). drawn_of l (words_after old)) able_is
 
     abbrev by_pick : ℕ → ℕ × Stream → Turned Stream
     by_pick u p = record { kept = p.1; events = with_picked w.trees bounds w.budget p.0 1 u w.events }

@@ -43,14 +43,14 @@ AreAble m count = InShown m (λ trees state. count ≡ length (able_in m trees s
 abbrev pub IsAbleAt : MachineOf → (place : ℕ) → Option ℕ → Type 0
 IsAbleAt m place found = InShown m (λ trees state. found ≡ slice_get (able_in m trees state) place)
 
+-- one of some threads, and what is left to draw from
+abbrev pub drawn_of : List ℕ → Stream → ℕ × Stream
+drawn_of able s = (slice_index able (below (length able) s).0, (below (length able) s).1)
+
 -- one of them is drawn, if there is one
 abbrev pub IsDrawn : MachineOf → (old : List ℕ) → Option ℕ → (new : List ℕ) → Type 0
 IsDrawn m old None new = MayNone m 0 (length m.shared.threads.threads)
-IsDrawn m old (Some t) new =
-    InShown m (λ trees state. (t, words_after new) ≡ (
-      slice_index (able_in m trees state) (below (length (able_in m trees state)) (words_after old)).0,
-      (below (length (able_in m trees state)) (words_after old)).1,
-    ))
+IsDrawn m old (Some t) new = InShown m (λ trees state. (t, words_after new) ≡ drawn_of (able_in m trees state) (words_after old))
 
 -- one of the waiters is drawn that its next event may wake
 pub record IsPickDrawn (m : MachineOf) (t : ℕ) (old : List ℕ) (pick : ℕ) (new : List ℕ) : Type 0 where
