@@ -195,9 +195,11 @@ module _ {A : Type 0} where
       begun_stays : (class : Name) (stack : StackOf A) → is_finished (status_of base class) ≡ false
           → Stays t on base (on_to (with_class_begun C files t class base) (Initialisation class Super ∷ stack))
       begun_stays class stack h =
-          let marked = with_class_status base class (InProgress t) in
-          (kept_then t on base marked (with_class_begun C files t class base) (kept_begun t on class base h)
-          (statics_steady marked (with_class_begun C files t class base) (class_only class base (class_of files class))), tt)
+          let marked = with_class_status base class (InProgress t) in (
+            kept_then t on base marked (with_class_begun C files t class base) (kept_begun t on class base h)
+                (statics_steady marked (with_class_begun C files t class base) (class_only class base (class_of files class))),
+            tt,
+          )
 
       here : Reached t on base base
       here = record { kept = kept_self t on base; quiet = quiet_self t base }

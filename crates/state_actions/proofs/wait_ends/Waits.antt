@@ -178,9 +178,9 @@ module _ (t : ℕ) (waiting_on : List ℕ) (old new : World) (ended : is_over ne
       let sum : n + (m - n) ≡ m = omega arith in
       both_tests (λ u. is_waiting (thread_at old u).status) (λ u. not (list_any (λ other. other == u) (waiting new))) (is_listed waiting_on) 0 n (m - n)
       (λ u le lt.
-          ap (λ b. is_waiting (thread_at old u).status && not b)
-          (any_passing (λ v. is_waiting (thread_at new v).status) 0 m u le (omega arith) ∙ waits_now u)
-          ∙ still (is_waiting (thread_at old u).status) (is_listed waiting_on u) (listed_wait u))
+      ap (λ b. is_waiting (thread_at old u).status && not b)
+      (any_passing (λ v. is_waiting (thread_at new v).status) 0 m u le (omega arith) ∙ waits_now u)
+      ∙ still (is_waiting (thread_at old u).status) (is_listed waiting_on u) (listed_wait u))
       (λ u le. unlisted (is_waiting (thread_at old u).status) (is_listed waiting_on u) (past old.threads u (omega arith)) (listed_wait u))
       ∙ ap (λ c. filter (is_listed waiting_on) (counting 0 c)) sum
 
