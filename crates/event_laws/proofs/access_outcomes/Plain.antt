@@ -88,8 +88,8 @@ local_plain : (row : Row) → Plain (local_meaning values row)
 local_plain row event world slots ops rest = either_plain (row.fails (values.words ops)) _ _ tt tt
 
 -- another instruction
-aside : (i j : Instr) (m : MeaningOf Value) → i ≡ j → names_variable j ≡ false → PlainAt i m
-aside i j m e n h event world slots ops rest = absurd (let f : true ≡ false = sym h ∙ ap names_variable e ∙ n in cc)
+aside : (i j : Instr) → i ≡ j → names_variable j ≡ false → names_variable i ≡ true → ⊥
+aside i j e n h = let f : true ≡ false = sym h ∙ ap names_variable e ∙ n in cc
 
 module _ (files : Program) where
   load_plain : (site : Site) (kind : ArrayKind) → Plain (load_of values files site kind)
@@ -117,12 +117,12 @@ module _ (files : Program) where
     operation_plain (GetField f) h = λ event world slots ops rest. null_plain (referent values ops 0) _ (λ r. tt)
     operation_plain (PutField f) h = λ event world slots ops rest. null_plain (referent values ops 1) _ (λ r. tt)
     operation_plain (Println call e) h = λ event world slots ops rest. null_plain (referent values ops 1) _ (λ r. tt)
-    operation_plain (CallVirtual call e m) h = aside site.instr _ _ call.instruction refl h
-    operation_plain (CallConstructor call e passes) h = aside site.instr _ _ call.instruction refl h
-    operation_plain (CallSpecial call e m) h = aside site.instr _ _ call.instruction refl h
-    operation_plain (CallStatic index i m) h = aside site.instr _ _ i refl h
-    operation_plain (CallInterface call m) h = aside site.instr _ _ call.instruction refl h
-    operation_plain (Return kind i) h = aside site.instr _ _ i refl h
+    operation_plain (CallVirtual call e m) h = λ event world slots ops rest. absurd (aside site.instr _ call.instruction refl h)
+    operation_plain (CallConstructor call e passes) h = λ event world slots ops rest. absurd (aside site.instr _ call.instruction refl h)
+    operation_plain (CallSpecial call e m) h = λ event world slots ops rest. absurd (aside site.instr _ call.instruction refl h)
+    operation_plain (CallStatic index i m) h = λ event world slots ops rest. absurd (aside site.instr _ i refl h)
+    operation_plain (CallInterface call m) h = λ event world slots ops rest. absurd (aside site.instr _ call.instruction refl h)
+    operation_plain (Return kind i) h = λ event world slots ops rest. absurd (aside site.instr _ i refl h)
     operation_plain (LoadClass constant file e) h = λ event world slots ops rest. tt
     operation_plain (LoadString constant) h = λ event world slots ops rest. tt
     operation_plain (New class file e) h = λ event world slots ops rest. tt
@@ -133,7 +133,7 @@ module _ (files : Program) where
     operation_plain (StoreElement kind i) h = store_plain site kind
     operation_plain (CheckCast class) h = λ event world slots ops rest. cast_plain _ site.next (operand values ops 0) world slots rest
     operation_plain (InstanceOf class) h = λ event world slots ops rest. tt
-    operation_plain (Throw i) h = aside site.instr _ _ i refl h
+    operation_plain (Throw i) h = λ event world slots ops rest. absurd (aside site.instr _ i refl h)
     operation_plain (MonitorEnter i) h = λ event world slots ops rest. null_plain (referent values ops 0) _ (λ r. tt)
     operation_plain (MonitorExit i) h = λ event world slots ops rest. null_plain (referent values ops 0) _ (λ r. left_plain (is_owner world event.thread r) site.next event.thread r world slots rest)
 

@@ -11,13 +11,13 @@ use Rattle.model.specs.Types.{is_object_of}
 use Rattle.model.specs.Operands.{Carrier, words, values, under}
 use Rattle.model.specs.Lookup.{select}
 use Rattle.model.specs.Opening.{arguments_reference, class_reference}
-use Rattle.model.specs.State.{Monitor, types_of, Erroneous, WakeCause, Notified, Interrupted, ThreadStatus, Running, Waiting, Relock, Ended, FrameOf, Phase, Super, End, Invocation, Initialisation, StackOf, WorldOf, StateOf}
-use Rattle.model.specs.Outcomes.{Cost, MachineException, OutcomeOf, Goes, Raises, Throws, Interrupts, Calls, Returns, Waits, NoClassDefFound, StackOverflow, IllegalMonitorState, InterruptedWait, AbstractMethod, ExceptionInInitializer}
+use Rattle.model.specs.State.{Monitor, Instance, types_of, Erroneous, Initialised, InProgress, WakeCause, Notified, Interrupted, ThreadStatus, Running, Waiting, Relock, Ended, FrameOf, Phase, Super, End, Invocation, Initialisation, StackOf, WorldOf, StateOf}
+use Rattle.model.specs.Outcomes.{Cost, MachineException, exception_class, OutcomeOf, Goes, Raises, Throws, Interrupts, Calls, Returns, Waits, NoClassDefFound, StackOverflow, IllegalMonitorState, InterruptedWait, AbstractMethod, ExceptionInInitializer}
 use Rattle.model.specs.Monitors as monitors
 use Rattle.model.specs.Monitors.{monitor_at, owns}
-use Rattle.model.specs.Worlds.{thread_at, with_begun, with_status, object_at, class_of_object, is_owner, may_enter, with_entry, entry_cost, with_exit, with_interrupted, with_monitors, is_done}
-use Rattle.model.specs.ClassInitialisation.{status_of, with_class_status, Look, IsReady, IsNew, IsHeld, HasFailed, look_by}
-use Rattle.model.specs.Frames.{frame_with, entered_by, frame_count, at_call}
+use Rattle.model.specs.Worlds.{thread_at, with_begun, with_pending, with_caught, with_status, allocated, object_at, class_of_object, is_owner, may_enter, with_entry, entry_cost, with_exit, with_interrupted, with_monitors, is_done}
+use Rattle.model.specs.ClassInitialisation.{status_of, with_class_status, with_class_begun, Look, IsReady, IsNew, IsHeld, HasFailed, look_by}
+use Rattle.model.specs.Frames.{frame_with, entered_by, frame_count, at_call, at_offset}
 use Rattle.model.specs.Sites.{MeaningOf, site_at}
 use Rattle.model.specs.Meanings.{meaning_of}
 use Rattle.model.specs.Step.{SteppedOf, NotEnabled, WrongKind, Next, PartOf, part, on_to, enabled_if, unpicked, is_over, with_end, end_of, settled, raised, needing, needing_class, entering, pushed, leaving, returned, become, ops_of, done, bytecode_by, bytecode_in, initialiser_event, before, initialisation_event, initial_class, main_frame, run_frame, run_of, begin_event, handler_in, unwound, failed, pending_event, after_wait, relock_event, running_event, going_event, thread_event, with_part, event_of}
@@ -48,7 +48,7 @@ module _ {A : Type 0} (fat : ℕ → Bool) (t : ℕ) (own : StackOf A) (base : W
   either_tells false x y h g = g
 
   raised_tells : (fault : MachineException) (world : WorldOf A) (stack : StackOf A) → nat_lt (length own) (length stack) ≡ false → Tells (raised t fault world stack)
-  raised_tells fault world stack e = as_deep stack _ e
+  raised_tells fault world stack e = as_deep stack (with_pending (allocated world (Instance (exception_class fault) [])) t (length world.heap)) e
 
   -- the monitor that a new invocation enters
   entry_told : (world : WorldOf A) (rest : StackOf A) (frame : FrameOf A) (object : ℕ) → frame.entered ≡ Some object → world.monitors ≡ base.monitors
@@ -63,7 +63,7 @@ module _ {A : Type 0} (fat : ℕ → Bool) (t : ℕ) (own : StackOf A) (base : W
 
   entering_tells : (world : WorldOf A) (rest : StackOf A) (frame : FrameOf A) (o : Option ℕ) → frame.entered ≡ o → world.monitors ≡ base.monitors
       → Tells (entering t world rest frame o)
-  entering_tells world rest frame None e same l object entered = absurd (let f : None ≡ Some object = sym e ∙ entered in cc)
+  entering_tells world rest frame None e same = λ l object entered. absurd (let f : None ≡ Some object = sym e ∙ entered in cc)
   entering_tells world rest frame (Some object) e same =
       enabled_tells (may_enter world t object) (Next (entry_cost world object) (part (with_entry world t object) (Invocation frame ∷ rest)))
       (λ may. entry_told world rest frame object e same may)
@@ -87,7 +87,7 @@ module _ {A : Type 0} (fat : ℕ → Bool) (t : ℕ) (own : StackOf A) (base : W
     needing_tells : (class : Name) (look : Look) (world : WorldOf A) (stack : StackOf A) (x : SteppedOf (PartOf A)) → nat_lt (length own) (length stack) ≡ false → Tells x
         → Tells (needing C files t class look world stack x)
     needing_tells class IsReady world stack x e k = k
-    needing_tells class IsNew world stack x e k = with_class class Super stack _
+    needing_tells class IsNew world stack x e k = with_class class Super stack (with_class_begun C files t class world)
     needing_tells class IsHeld world stack x e k = tt
     needing_tells class HasFailed world stack x e k = raised_tells NoClassDefFound world stack e
 
@@ -113,11 +113,11 @@ module _ {A : Type 0} (C : Carrier A) (files : Program) (frames : ℕ) (world : 
   module _ (event : Event) where
     become_tells : (frame : FrameOf A) (stack : StackOf A) (o : OutcomeOf A) → tells event.thread (Invocation frame ∷ stack) (become files frames event.thread world frame stack o)
     become_tells frame stack (Goes cost after slots to) =
-        as_deep fat event.thread (Invocation frame ∷ stack) world counted _ after (no_longer (suc (length stack)))
+        as_deep fat event.thread (Invocation frame ∷ stack) world counted (Invocation (at_offset frame to slots) ∷ stack) after (no_longer (suc (length stack)))
     become_tells frame stack (Raises fault) =
         raised_tells fat event.thread (Invocation frame ∷ stack) world counted fault world (Invocation frame ∷ stack) (no_longer (suc (length stack)))
     become_tells frame stack (Throws exception) =
-        as_deep fat event.thread (Invocation frame ∷ stack) world counted (Invocation frame ∷ stack) _ (no_longer (suc (length stack)))
+        as_deep fat event.thread (Invocation frame ∷ stack) world counted (Invocation frame ∷ stack) (with_pending world event.thread exception) (no_longer (suc (length stack)))
     become_tells frame stack Interrupts =
         raised_tells fat event.thread (Invocation frame ∷ stack) world counted InterruptedWait (with_interrupted world event.thread false) (Invocation frame ∷ stack) (no_longer (suc (length stack)))
     become_tells frame stack (Calls callee rest) =
@@ -127,7 +127,7 @@ module _ {A : Type 0} (C : Carrier A) (files : Program) (frames : ℕ) (world : 
         leaving_tells fat event.thread (Invocation frame ∷ stack) world counted frame.entered after (returned files results stack) (Invocation frame ∷ stack)
         (returned_deep (suc (length stack)) results stack (shorter (length stack))) (no_longer (suc (length stack)))
     become_tells frame stack (Waits cost after rest) =
-        as_deep fat event.thread (Invocation frame ∷ stack) world counted _ after (no_longer (suc (length stack)))
+        as_deep fat event.thread (Invocation frame ∷ stack) world counted (Invocation (at_call frame rest) ∷ stack) after (no_longer (suc (length stack)))
 
     bytecode_by_tells : (frame : FrameOf A) (stack : StackOf A) (max_stack : ℕ) (o : Option (MeaningOf A))
         → tells event.thread (Invocation frame ∷ stack) (bytecode_by C files frames event world frame stack max_stack o)
@@ -160,7 +160,7 @@ module _ {A : Type 0} (C : Carrier A) (files : Program) (frames : ℕ) (world : 
   initialisation_tells t class Super stack =
       needing_class_tells fat t (Initialisation class Super ∷ stack) world counted C files (before files class) world (Initialisation class Super ∷ stack) _ (no_longer (suc (length stack)))
       (initialiser_tells t (Initialisation class Super ∷ stack) (initialiser_of class) (Initialisation class End ∷ stack) (body_of files (initialiser_of class)) (no_longer (suc (length stack))))
-  initialisation_tells t class End stack = as_deep fat t (Initialisation class End ∷ stack) world counted stack _ (shorter (length stack))
+  initialisation_tells t class End stack = as_deep fat t (Initialisation class End ∷ stack) world counted stack (with_class_status world class Initialised) (shorter (length stack))
 
   main_tells : (main : Member) (o : Option Body) → tells 0 [] (main_frame C files frames world main o)
   main_tells main None = tt
@@ -192,11 +192,12 @@ module _ {A : Type 0} (C : Carrier A) (files : Program) (frames : ℕ) (world : 
       → tells t (Invocation frame ∷ stack) (unwound C t exception world frame stack o)
   unwound_tells t exception frame stack None =
       leaving_tells fat t (Invocation frame ∷ stack) world counted frame.entered world stack stack (shorter (length stack)) (shorter (length stack))
-  unwound_tells t exception frame stack (Some entry) = as_deep fat t (Invocation frame ∷ stack) world counted _ _ (no_longer (suc (length stack)))
+  unwound_tells t exception frame stack (Some entry) = as_deep fat t (Invocation frame ∷ stack) world counted
+      (Invocation (at_offset frame entry.handler (record { locals = frame.place.slots.locals; stack = C.reference exception ∷ [] })) ∷ stack) (with_caught world t) (no_longer (suc (length stack)))
 
   failed_tells : (t : ℕ) (b : Bool) (class : Name) (phase : Phase) (stack : StackOf A)
       → tells t (Initialisation class phase ∷ stack) (failed t b (with_class_status world class Erroneous) stack)
-  failed_tells t true class phase stack = as_deep fat t (Initialisation class phase ∷ stack) world counted stack _ (shorter (length stack))
+  failed_tells t true class phase stack = as_deep fat t (Initialisation class phase ∷ stack) world counted stack (with_class_status world class Erroneous) (shorter (length stack))
   failed_tells t false class phase stack =
       raised_tells fat t (Initialisation class phase ∷ stack) world counted ExceptionInInitializer (with_class_status world class Erroneous) stack (shorter (length stack))
 
@@ -254,7 +255,7 @@ module _ {A : Type 0} where
       (at_own : slice_get state.stacks t ≡ Some own) (at_new : slice_get next.stacks t ≡ Some stack) where
     -- where the thread ends its stack is empty
     ended_tells : (world : WorldOf A) (rest : StackOf A) → TellsOwner t own rest state.world world → TellsOwner t own rest state.world (end_of t world rest)
-    ended_tells world [] h l object e = absurd cc
+    ended_tells world [] h = λ l object e. absurd cc
     ended_tells world (entry ∷ rest) h = h
 
     put_tells : (x : SteppedOf (PartOf A)) → Tells fat t own state.world counted x → with_part state t (settled t x) ≡ Next cost next → TellsOwner t own stack state.world next.world

@@ -31,6 +31,33 @@ WaitsAlike new old = is_waiting new.status ≡ is_waiting old.status
 abbrev pub IsOfObject : Thread → Thread → Type 0
 IsOfObject new old = new.object ≡ old.object
 
+abbrev SameWaiters : Monitor → Monitor → Type 0
+SameWaiters new old = new.waiters ≡ old.waiters
+
+length_added : {X : Type 0} (xs : List X) (x : X) → length (xs ++ x ∷ []) ≡ length xs + 1
+length_added [] x = refl
+length_added (y ∷ ys) x = let e = length_added ys x in omega arith
+
+-- ---- classes
+
+finished_or : (b : Bool) (s r : ClassStatus) → is_finished s ≡ is_finished r → is_finished (if b then Initialised else s) ≡ is_finished (if b then Initialised else r)
+finished_or true s r h = refl
+finished_or false s r h = h
+
+unfinished_in : (b : Bool) (s : ClassStatus) → is_finished (if b then Initialised else s) ≡ false → is_finished s ≡ false
+unfinished_in true s h = absurd cc
+unfinished_in false s h = h
+
+begun_status : (class other : Name) (t : ℕ) (cs : List (Name × ClassStatus)) → is_finished (status_in class cs) ≡ false → (b : Bool) → name_eq class other ≡ b
+    → is_finished (status_in other (with_status_in class (InProgress t) cs)) ≡ is_finished (status_in other cs)
+begun_status class other t cs h true e =
+    let same : class ≡ other = names_same class other e in
+    subst (λ (n : Name). is_finished (status_in n (with_status_in class (InProgress t) cs)) ≡ is_finished (status_in n cs)) same
+    (still_unfinished class (InProgress t) cs refl h ∙ sym h)
+begun_status class other t cs h false e = ap is_finished (other_status class other (InProgress t) cs e)
+
+-- ---- worlds
+
 module _ {A : Type 0} where
   -- no thread is started or ends, and no exception is thrown or caught
   pub record Keeps (old new : WorldOf A) : Type 0 where
@@ -87,10 +114,6 @@ module _ {A : Type 0} where
         ends = h.ends;
         pending = h.pending;
       }
-
-  length_added : {X : Type 0} (xs : List X) (x : X) → length (xs ++ x ∷ []) ≡ length xs + 1
-  length_added [] x = refl
-  length_added (y ∷ ys) x = let e = length_added ys x in omega arith
 
   pub leaves_started : (world : WorldOf A) (object : ℕ) → Leaves world (with_started world object)
   leaves_started world object =
@@ -154,9 +177,6 @@ module _ {A : Type 0} where
           waiters = λ object. refl;
         };
       }
-
-  abbrev SameWaiters : Monitor → Monitor → Type 0
-  SameWaiters new old = new.waiters ≡ old.waiters
 
   -- a call of a monitor that keeps its wait set
   pub steady_call : (t : ℕ) (world : WorldOf A) (object : ℕ) (call : Monitor → Answered Monitor) → ((m : Monitor) → (call m).after.waiters ≡ m.waiters)
@@ -230,10 +250,6 @@ module _ {A : Type 0} where
 
   -- ---- classes
 
-  finished_or : (b : Bool) (s r : ClassStatus) → is_finished s ≡ is_finished r → is_finished (if b then Initialised else s) ≡ is_finished (if b then Initialised else r)
-  finished_or true s r h = refl
-  finished_or false s r h = h
-
   -- the class on top of the stack gets a status
   pub kept_class : (t : ℕ) (class : Name) (status : ClassStatus) (world : WorldOf A) → Kept t (Some class) world (with_class_status world class status)
   kept_class t class status world =
@@ -244,18 +260,6 @@ module _ {A : Type 0} where
         one = omega arith;
         ends = λ e. e;
       }
-
-  unfinished_in : (b : Bool) (s : ClassStatus) → is_finished (if b then Initialised else s) ≡ false → is_finished s ≡ false
-  unfinished_in true s h = absurd cc
-  unfinished_in false s h = h
-
-  begun_status : (class other : Name) (t : ℕ) (cs : List (Name × ClassStatus)) → is_finished (status_in class cs) ≡ false → (b : Bool) → name_eq class other ≡ b
-      → is_finished (status_in other (with_status_in class (InProgress t) cs)) ≡ is_finished (status_in other cs)
-  begun_status class other t cs h true e =
-      let same : class ≡ other = names_same class other e in
-      subst (λ (n : Name). is_finished (status_in n (with_status_in class (InProgress t) cs)) ≡ is_finished (status_in n cs)) same
-      (still_unfinished class (InProgress t) cs refl h ∙ sym h)
-  begun_status class other t cs h false e = ap is_finished (other_status class other (InProgress t) cs e)
 
   -- a class that isn't done is begun
   pub kept_begun : (t : ℕ) (class : Option Name) (begun : Name) (world : WorldOf A) → is_finished (status_of world begun) ≡ false

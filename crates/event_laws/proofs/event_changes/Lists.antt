@@ -89,10 +89,12 @@ other_status class other s (c ∷ cs) h = by (other_status class other s cs h) (
 pub still_unfinished : (class : Name) (s : ClassStatus) (cs : List (Name × ClassStatus)) → is_finished s ≡ false → is_finished (status_in class cs) ≡ false
     → is_finished (status_in class (with_status_in class s cs)) ≡ false
 still_unfinished class s [] u h = refl
-still_unfinished class s (c ∷ cs) u h = by (name_eq c.0 class) refl
+still_unfinished class s (c ∷ cs) u h = by (name_eq c.0 class) refl (λ e. still_unfinished class s cs u e)
   where
-    by : (b : Bool) → name_eq c.0 class ≡ b → is_finished (status_in class (if b then (c.0, s) ∷ cs else c ∷ with_status_in class s cs)) ≡ false
-    by true same = ap (λ x. is_finished (if x then s else status_in class cs)) same ∙ u
-    by false same =
+    by : (b : Bool) → name_eq c.0 class ≡ b
+        → (is_finished (status_in class cs) ≡ false → is_finished (status_in class (with_status_in class s cs)) ≡ false)
+        → is_finished (status_in class (if b then (c.0, s) ∷ cs else c ∷ with_status_in class s cs)) ≡ false
+    by true same rest = ap (λ x. is_finished (if x then s else status_in class cs)) same ∙ u
+    by false same rest =
         ap (λ x. is_finished (if x then c.1 else status_in class (with_status_in class s cs))) same
-        ∙ still_unfinished class s cs u (sym (ap (λ x. is_finished (if x then c.1 else status_in class cs)) same) ∙ h)
+        ∙ rest (sym (ap (λ x. is_finished (if x then c.1 else status_in class cs)) same) ∙ h)

@@ -15,7 +15,7 @@ use Rattle.model.specs.Operands.{Carrier, words, values, under}
 use Rattle.model.specs.Lookup.{select, field_member}
 use Rattle.model.specs.Opening.{arguments_reference, class_reference}
 use Rattle.model.specs.State.{Monitor, Waiter, Instance, types_of, ClassStatus, NotInitialised, InProgress, Initialised, Erroneous, WakeCause, Notified, Interrupted, ThreadStatus, Running, Waiting, Relock, Ended, Thread, FrameOf, Phase, Super, End, Invocation, Initialisation, StackOf, WorldOf, StateOf}
-use Rattle.model.specs.Outcomes.{Cost, MachineException, exception_class, OutcomeOf, Goes, Raises, Throws, Interrupts, Calls, Returns, Waits, NoClassDefFound, StackOverflow, IllegalMonitorState, InterruptedWait, AbstractMethod, ExceptionInInitializer}
+use Rattle.model.specs.Outcomes.{Cost, Free, Makes, MachineException, exception_class, OutcomeOf, Goes, Raises, Throws, Interrupts, Calls, Returns, Waits, NoClassDefFound, StackOverflow, IllegalMonitorState, InterruptedWait, AbstractMethod, ExceptionInInitializer}
 use Rattle.model.specs.Monitors as monitors
 use Rattle.model.specs.Worlds.{no_thread, thread_at, with_thread, with_begun, with_pending, with_caught, with_status, with_static, put_value, allocated, object_at, class_of_object, has_ended, is_owner, may_enter, with_entry, entry_cost, with_exit, with_monitors, with_interrupted, is_done, woken, all_woken, waiters_of}
 use Rattle.model.specs.ClassInitialisation.{status_in, status_of, with_class_status, with_class_begun, constant_value, with_constant, with_constants, Look, IsReady, IsNew, IsHeld, HasFailed, look_by}
@@ -113,7 +113,7 @@ module _ {A : Type 0} where
     raised_stays fault world stack h =
         let made = allocated world (Instance (exception_class fault) []) in
         let after = with_pending made t (length world.heap) in
-        reached_stays _ after stack (reached_then made after (reached_then world made h (steady_allocated t world (Instance (exception_class fault) []))) (pending_steady made (length world.heap)))
+        reached_stays (Makes 0) after stack (reached_then made after (reached_then world made h (steady_allocated t world (Instance (exception_class fault) []))) (pending_steady made (length world.heap)))
 
     entry_steady : (world : WorldOf A) (object : ℕ) → Steady t world (with_entry world t object)
     entry_steady world object = steady_call t world object (monitors.monitor_enter t) (enter_waiters t)
@@ -122,7 +122,7 @@ module _ {A : Type 0} where
     exit_steady world object = steady_call t world object (monitors.monitor_exit t) (exit_waiters t)
 
     entering_stays : (world : WorldOf A) (rest : StackOf A) (frame : FrameOf A) (o : Option ℕ) → Reached world → stays (entering t world rest frame o)
-    entering_stays world rest frame None h = reached_stays _ world (Invocation frame ∷ rest) h
+    entering_stays world rest frame None h = reached_stays Free world (Invocation frame ∷ rest) h
     entering_stays world rest frame (Some object) h =
         enabled_stays (may_enter world t object) (Next (entry_cost world object) (part (with_entry world t object) (Invocation frame ∷ rest)))
         (reached_stays (entry_cost world object) (with_entry world t object) (Invocation frame ∷ rest) (reached_then world (with_entry world t object) h (entry_steady world object)))
@@ -134,10 +134,10 @@ module _ {A : Type 0} where
         (entering_stays after rest frame frame.entered g) (raised_stays StackOverflow world stack h)
 
     leaving_stays : (o : Option ℕ) (world : WorldOf A) (rest stack : StackOf A) → Reached world → stays (leaving t o world rest stack)
-    leaving_stays None world rest stack h = reached_stays _ world rest h
+    leaving_stays None world rest stack h = reached_stays Free world rest h
     leaving_stays (Some object) world rest stack h =
         either_stays (is_owner world t object) (on_to (with_exit world t object) rest) (raised t IllegalMonitorState world stack)
-        (reached_stays _ (with_exit world t object) rest (reached_then world (with_exit world t object) h (exit_steady world object)))
+        (reached_stays Free (with_exit world t object) rest (reached_then world (with_exit world t object) h (exit_steady world object)))
         (raised_stays IllegalMonitorState world stack h)
 
   -- ---- classes
@@ -268,7 +268,7 @@ module _ {A : Type 0} where
     -- ---- classes that are initialised
 
     initialiser_stays : (on : Option Name) (m : Member) (stack : StackOf A) (o : Option Body) → Stays t on world (initialiser_event C frames t m world stack o)
-    initialiser_stays on m stack None = reached_stays t on world _ world stack (at_start on)
+    initialiser_stays on m stack None = reached_stays t on world Free world stack (at_start on)
     initialiser_stays on m stack (Some body) =
         pushed_stays t on world frames world world stack stack (frame_with C m [] None body) (at_start on) (at_start on)
 
@@ -281,7 +281,7 @@ module _ {A : Type 0} where
     initialisation_stays class Super stack =
         needing_class_stays C files t (Some class) world (before files class) (Initialisation class Super ∷ stack) _
         (initialiser_stays (Some class) (initialiser_of class) (Initialisation class End ∷ stack) (body_of files (initialiser_of class)))
-    initialisation_stays class End stack = reached_stays t (Some class) world _ (with_class_status world class Initialised) stack (marked class Initialised)
+    initialisation_stays class End stack = reached_stays t (Some class) world Free (with_class_status world class Initialised) stack (marked class Initialised)
 
     -- ---- threads that begin
 
@@ -305,7 +305,7 @@ module _ {A : Type 0} where
     unwound_stays exception frame stack (Some entry) = (kept_steady t None world (with_caught world t) (caught_steady t None world world), tt)
 
     failed_stays : (b : Bool) (class : Name) (stack : StackOf A) → Stays t (Some class) world (failed t b (with_class_status world class Erroneous) stack)
-    failed_stays true class stack = reached_stays t (Some class) world _ (with_class_status world class Erroneous) stack (marked class Erroneous)
+    failed_stays true class stack = reached_stays t (Some class) world Free (with_class_status world class Erroneous) stack (marked class Erroneous)
     failed_stays false class stack = raised_stays t (Some class) world ExceptionInInitializer (with_class_status world class Erroneous) stack (marked class Erroneous)
 
     pending_stays : (exception : ℕ) (thrown : Option ReferenceType) (stack : StackOf A) → Stays t (class_on stack) world (pending_event C files t exception thrown world stack)
@@ -317,7 +317,7 @@ module _ {A : Type 0} where
 
     after_wait_stays : (on : Option Name) (cause : WakeCause) (after : WorldOf A) (stack : StackOf A) → Reached t on world after
         → Stays t on world (after_wait files t cause after stack)
-    after_wait_stays on Notified after stack h = reached_stays t on world _ after (returned files [] stack) h
+    after_wait_stays on Notified after stack h = reached_stays t on world Free after (returned files [] stack) h
     after_wait_stays on Interrupted after stack h =
         raised_stays t on world InterruptedWait (with_interrupted after t false) stack
         (reached_then t on world after (with_interrupted after t false) h (interrupted_steady t on world after false))
