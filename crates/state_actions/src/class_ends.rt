@@ -12,7 +12,7 @@
 //!
 //! - That an event ends the initialisation of the class on top alone is a theorem of `event_changes`.
 
-ghost use Rattle.std.specs.Prelude.{◌≡◌, slice_get, unwrap_or};
+ghost use Rattle.std.specs.Prelude.{◌≡◌, Some, slice_get, unwrap_or};
 ghost use Rattle.machine_state.specs.declared.state.ClassStatus.{ClassStatus};
 ghost use Rattle.machine_state.specs.class_initialisation.Statuses.{IsFileOf, IsStatus};
 ghost use Rattle.machine_state.specs.Shown.{shown_status};
@@ -70,13 +70,36 @@ pub fn is_finished(shared: &Shared, class: u16) -> bool
     is_finished_by(class_status(shared, class))
 }
 
+/// By which action an event finds the class of a number.
+fn finding(shared: &Shared, class: u16) -> Option<Action>
+    ensures { FindsClass shared.now (Some class) result }
+{
+    if is_finished(shared, class) {
+        Some(Action::FindInitialised(class))
+    } else {
+        None
+    }
+}
+
 /// By which action an event finds a class that it needs first, before the event.
 pub fn found_class(shared: &Shared, class: Option<u16>) -> Option<Action>
     ensures { FindsClass shared.now class result }
 {
-    let class = class?;
+    match class {
+        Some(class) => finding(shared, class),
+        None => None,
+    }
+}
+
+/// By which action an event ended the initialisation of the class of a number.
+fn finishing(shared: &Shared, class: u16, was_finished: bool) -> Option<Action>
+    ensures { FinishesClass shared.now (Some class) was_finished result }
+{
+    if was_finished {
+        return None;
+    }
     if is_finished(shared, class) {
-        Some(Action::FindInitialised(class))
+        Some(Action::FinishInitialisation(class))
     } else {
         None
     }
@@ -86,12 +109,8 @@ pub fn found_class(shared: &Shared, class: Option<u16>) -> Option<Action>
 pub fn finished_class(shared: &Shared, class: Option<u16>, was_finished: bool) -> Option<Action>
     ensures { FinishesClass shared.now class was_finished result }
 {
-    let class = class?;
-    if was_finished {
-        None
-    } else if is_finished(shared, class) {
-        Some(Action::FinishInitialisation(class))
-    } else {
-        None
+    match class {
+        Some(class) => finishing(shared, class, was_finished),
+        None => None,
     }
 }

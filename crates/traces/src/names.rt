@@ -98,11 +98,7 @@ impl<'a> ProgramNames<'a> {
     }
 
     /// Writes the name of a method as it stands in a line.
-    pub(crate) fn push_printed_method(
-        &self,
-        text: &mut Vec<u8>,
-        number: u32,
-    ) -> Result<(), AllocError>
+    pub fn push_printed_method(&self, text: &mut Vec<u8>, number: u32) -> Result<(), AllocError>
         ensures { (method : _) → IsMethodAt self.now.linked.now number method
             → OnOk result (text.new.items ≡ text.old.items ++ printed (method_words method)) }
     {

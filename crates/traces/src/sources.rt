@@ -24,7 +24,7 @@ fn push_line(text: &mut Vec<u8>, method: &MethodCode<'_>, offset: u16) -> Result
 impl ProgramNames<'_> {
     /// The line of the source, `Counter.java:12`, at an offset of a method, by the method's number. Whether the class
     /// file tells it.
-    pub(crate) fn push_source_line(
+    pub fn push_source_line(
         &self,
         text: &mut Vec<u8>,
         method: u32,

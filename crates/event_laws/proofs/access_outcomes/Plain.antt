@@ -1,5 +1,5 @@
 -- Instructions that name a variable go on or raise an exception, and the others name none.
-use Rattle.std.proofs.Common.{◌≡◌, ℕ, List, [], ◌∷◌, Bool, true, false, Option, Some, None, refl, sym, ap, ◌∙◌}
+use Rattle.std.proofs.Common.{◌≡◌, ℕ, List, [], Bool, true, false, Option, Some, None, refl, sym, ap, ◌∙◌}
 use Rattle.std.specs.Prelude.{if◌then◌else◌}
 use Rattle.model.specs.declared.event.Event.{Event}
 use Rattle.model.specs.declared.value.Value.{Value}
@@ -19,7 +19,6 @@ use Rattle.model.specs.Arrays.{is_negative, made_array, in_range, at_index, load
 use Rattle.model.specs.MonitorMeanings.{left}
 use Rattle.model.specs.Meanings.{local_meaning, meaning_of}
 use Rattle.run_laws.proofs.laws.Operations.{Operation, OfRow, GetSystemOut, GetStatic, PutStatic, GetField, PutField, Println, CallVirtual, CallConstructor, CallSpecial, CallStatic, CallInterface, Return, LoadClass, LoadString, New, NewArray, NewReferenceArray, ArrayLength, LoadElement, StoreElement, CheckCast, InstanceOf, Throw, MonitorEnter, MonitorExit, operation, OfMeaning, each_meaning}
-use Rattle.data_races.specs.Actions.{Action}
 use Rattle.data_races.specs.EventActions.{access_by}
 
 -- it goes on, or the machine makes an exception

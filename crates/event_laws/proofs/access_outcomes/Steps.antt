@@ -1,21 +1,21 @@
 -- The step of an instruction, and what is pending after it.
 use Rattle.std.proofs.Common.{◌≡◌, refl, sym, ◌∙◌, ap, subst, ℕ, ◌<◌, ◌-◌, List, [], ◌∷◌, ◌++◌, length, true, false}
-use Rattle.std.specs.Prelude.{Option, Some, None, Bool, not, ◌&&◌, ◌==◌, if◌then◌else◌, is_some, slice_get, slice_set, slice_index_or, replicate}
+use Rattle.std.specs.Prelude.{Option, Some, None, Bool, not, ◌&&◌, ◌==◌, if◌then◌else◌, is_some, slice_set, replicate}
 use Rattle.std.specs.Option.{option_and_then}
 use Rattle.std.proofs.lemmas.List.{get_or-set_same}
 use Rattle.model.specs.declared.event.Event.{Event}
 use Rattle.model.specs.declared.value.Value.{Value}
 use Rattle.model.specs.Names.{Name}
-use Rattle.model.specs.Classes.{Program, Body, body_of}
+use Rattle.model.specs.Classes.{Program}
 use Rattle.model.specs.Operands.{Slots, values, under}
 use Rattle.model.specs.State as state
 use Rattle.model.specs.State.{Instance, types_of, Thread, Running, Frame, StackOf, World, State}
-use Rattle.model.specs.Outcomes.{MachineException, exception_class, Cost, OutcomeOf, Goes, Raises, Throws, Interrupts, Calls, Returns, Waits}
+use Rattle.model.specs.Outcomes.{exception_class, Cost, OutcomeOf, Goes, Raises, Throws, Interrupts, Calls, Returns, Waits}
 use Rattle.model.specs.Worlds.{no_thread, thread_at, with_pending, allocated}
 use Rattle.model.specs.ClassInitialisation.{Look, IsReady, IsNew, IsHeld, HasFailed, look_by, look_at, status_of}
-use Rattle.model.specs.Sites.{MeaningOf, Site, site_at}
+use Rattle.model.specs.Sites.{MeaningOf}
 use Rattle.model.specs.Meanings.{meaning_of}
-use Rattle.model.specs.Step.{SteppedOf, NotEnabled, WrongKind, Next, PartOf, enabled_if, unpicked, settled, needing_class, needing, done, become, bytecode_by, bytecode_in, going_event, thread_event, with_part, event_of, stepped, ops_of}
+use Rattle.model.specs.Step.{SteppedOf, WrongKind, Next, PartOf, enabled_if, unpicked, settled, needing_class, needing, done, become, bytecode_by, bytecode_in, going_event, thread_event, with_part, event_of, stepped, ops_of}
 use Rattle.run_laws.proofs.laws.Operations.{OfMeaning}
 use Rattle.data_races.specs.Actions.{Action}
 use Rattle.data_races.specs.EventActions.{Instruction, Does, only_if, is_done, is_ready, goes_on, outcome_at, operands_of, access_by, accesses_of}

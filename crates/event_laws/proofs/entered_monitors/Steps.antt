@@ -1,7 +1,7 @@
 -- What each event tells of a monitor that an invocation entered.
-use Rattle.std.proofs.Common.{◌≡◌, ℕ, zero, suc, ◌<◌, List, [], ◌∷◌, ◌++◌, length, nat_lt, Bool, true, false, ◌==◌, Option, Some, None, refl, sym, ap, subst, ◌∙◌}
+use Rattle.std.proofs.Common.{◌≡◌, ℕ, zero, suc, List, [], ◌∷◌, ◌++◌, length, nat_lt, Bool, true, false, ◌==◌, Option, Some, None, refl, sym, ap, subst, ◌∙◌}
 use Rattle.std.specs.Prelude.{slice_get, slice_set, replicate, ◌-◌, not, ◌&&◌, if◌then◌else◌}
-use Rattle.std.specs.Option.{option_map_or, option_and_then}
+use Rattle.std.specs.Option.{option_and_then}
 use Rattle.model.specs.declared.event.Event.{Event}
 use Rattle.model.specs.declared.class_file.ExceptionEntry.{ExceptionEntry}
 use Rattle.model.specs.Names.{Name, Member, main_of, thread_run, initialiser_of, java_lang_error}
@@ -11,7 +11,7 @@ use Rattle.model.specs.Types.{is_object_of}
 use Rattle.model.specs.Operands.{Carrier, words, values, under}
 use Rattle.model.specs.Lookup.{select}
 use Rattle.model.specs.Opening.{arguments_reference, class_reference}
-use Rattle.model.specs.State.{Monitor, Instance, types_of, Erroneous, Initialised, InProgress, WakeCause, Notified, Interrupted, ThreadStatus, Running, Waiting, Relock, Ended, FrameOf, Phase, Super, End, Invocation, Initialisation, StackOf, WorldOf, StateOf}
+use Rattle.model.specs.State.{Monitor, Instance, types_of, Erroneous, Initialised, WakeCause, Notified, Interrupted, ThreadStatus, Running, Waiting, Relock, Ended, FrameOf, Phase, Super, End, Invocation, Initialisation, StackOf, WorldOf, StateOf}
 use Rattle.model.specs.Outcomes.{Cost, MachineException, exception_class, OutcomeOf, Goes, Raises, Throws, Interrupts, Calls, Returns, Waits, NoClassDefFound, StackOverflow, IllegalMonitorState, InterruptedWait, AbstractMethod, ExceptionInInitializer}
 use Rattle.model.specs.Monitors as monitors
 use Rattle.model.specs.Monitors.{monitor_at, owns}
@@ -20,9 +20,8 @@ use Rattle.model.specs.ClassInitialisation.{status_of, with_class_status, with_c
 use Rattle.model.specs.Frames.{frame_with, entered_by, frame_count, at_call, at_offset}
 use Rattle.model.specs.Sites.{MeaningOf, site_at}
 use Rattle.model.specs.Meanings.{meaning_of}
-use Rattle.model.specs.Step.{SteppedOf, NotEnabled, WrongKind, Next, PartOf, part, on_to, enabled_if, unpicked, is_over, with_end, end_of, settled, raised, needing, needing_class, entering, pushed, leaving, returned, become, ops_of, done, bytecode_by, bytecode_in, initialiser_event, before, initialisation_event, initial_class, main_frame, run_frame, run_of, begin_event, handler_in, unwound, failed, pending_event, after_wait, relock_event, running_event, going_event, thread_event, with_part, event_of}
+use Rattle.model.specs.Step.{SteppedOf, NotEnabled, WrongKind, Next, PartOf, part, on_to, enabled_if, unpicked, end_of, settled, raised, needing, needing_class, entering, pushed, leaving, returned, become, ops_of, done, bytecode_by, bytecode_in, initialiser_event, before, initialisation_event, initial_class, main_frame, run_frame, run_of, begin_event, handler_in, unwound, failed, pending_event, after_wait, relock_event, running_event, going_event, thread_event, with_part, event_of}
 use Rattle.run_laws.specs.monitor_counts.Counts.{AreMonitorsCounted}
-use Rattle.monitor_laws.specs.owners.Owners.{entered_in}
 use Rattle.event_laws.specs.entered_monitors.Entries.{TellsOwner, DoEntriesTellBy, DoEntriesTell}
 use Rattle.event_laws.proofs.entered_monitors.Counts.{no_longer, shorter, entry_tells}
 

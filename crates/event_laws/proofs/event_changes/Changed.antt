@@ -1,11 +1,10 @@
 -- What is kept of classes and threads, and what becomes of it by one more change.
-use Rattle.std.proofs.Common.{◌≡◌, ℕ, ◌≤◌, ◌+◌, List, [], ◌∷◌, ◌++◌, length, Bool, true, false, Option, Some, None, refl, sym, ap, ◌∙◌, subst, arith}
-use Rattle.std.specs.Prelude.{slice_set, slice_index_or, if◌then◌else◌}
+use Rattle.std.proofs.Common.{◌≡◌, ℕ, ◌≤◌, ◌+◌, List, [], ◌∷◌, ◌++◌, length, Bool, true, false, Option, Some, refl, sym, ap, ◌∙◌, subst, arith}
+use Rattle.std.specs.Prelude.{slice_index_or, if◌then◌else◌}
 use Rattle.std.proofs.lemmas.List.{length-set}
 use Rattle.model.specs.Names.{Name, name_eq}
 use Rattle.model.specs.Classes.{is_built_in}
-use Rattle.model.specs.State.{ClassStatus, NotInitialised, InProgress, Initialised, Erroneous, Waiter, Monitor, WakeCause, ThreadStatus, Running, Waiting, Relock, Ended, Thread, StackOf, Invocation, Initialisation, ObjectOf, WorldOf, new_thread}
-use Rattle.model.specs.Monitors as monitors
+use Rattle.model.specs.State.{ClassStatus, InProgress, Initialised, Monitor, ThreadStatus, Thread, ObjectOf, WorldOf, new_thread}
 use Rattle.model.specs.Monitors.{Answered, unlocked, monitor_at, at_object}
 use Rattle.model.specs.Worlds.{no_thread, thread_at, with_thread, with_status, has_ended, allocated}
 use Rattle.model.specs.ClassInitialisation.{status_in, with_status_in, status_of, with_class_status}
@@ -13,7 +12,7 @@ use Rattle.model.specs.BuiltInMethods.{with_started}
 use Rattle.run_laws.proofs.laws.Classes.{names_same}
 use Rattle.run_laws.proofs.laws.RootedOf.{name_sides}
 use Rattle.data_races.specs.EventActions.{is_finished, is_waiting}
-use Rattle.event_laws.specs.event_changes.Changes.{class_on, is_class, class_names}
+use Rattle.event_laws.specs.event_changes.Changes.{is_class, class_names}
 use Rattle.event_laws.proofs.event_changes.Lists.{set_relates, added_relates, names_stay, other_status, still_unfinished}
 
 -- ---- threads

@@ -1,11 +1,10 @@
 -- Threads, monitors and classes in lists of which one element is set or added.
 use Rattle.std.proofs.Common.{◌≡◌, ℕ, zero, suc, List, [], ◌∷◌, ◌++◌, Bool, true, false, refl, sym, ap, ◌∙◌, subst}
-use Rattle.std.specs.Prelude.{slice_set, slice_index_or, not, ◌&&◌, ◌==◌, map, if◌then◌else◌}
+use Rattle.std.specs.Prelude.{slice_set, slice_index_or, not, ◌&&◌, ◌==◌, if◌then◌else◌}
 use Rattle.std.proofs.lemmas.Bool.{cond_both, eq-eqb, eqb-true}
 use Rattle.std.proofs.lemmas.List.{get_or-set_other}
 use Rattle.model.specs.Names.{Name, name_eq}
-use Rattle.model.specs.State.{ClassStatus, Thread, Waiter, Monitor}
-use Rattle.model.specs.Monitors.{unlocked}
+use Rattle.model.specs.State.{ClassStatus, Thread}
 use Rattle.model.specs.Worlds.{no_thread}
 use Rattle.model.specs.ClassInitialisation.{status_in, with_status_in}
 use Rattle.run_laws.proofs.laws.Classes.{names_same}

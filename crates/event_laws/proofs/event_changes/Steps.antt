@@ -1,5 +1,5 @@
 -- What each event keeps of classes and threads.
-use Rattle.std.proofs.Common.{◌≡◌, ℕ, zero, suc, ◌≤◌, ◌+◌, List, [], ◌∷◌, ◌++◌, length, nat_lt, Bool, true, false, ◌==◌, Option, Some, None, refl, sym, ap, subst, ◌∙◌, arith}
+use Rattle.std.proofs.Common.{◌≡◌, ℕ, zero, suc, List, [], ◌∷◌, ◌++◌, length, nat_lt, Bool, true, false, ◌==◌, Option, Some, None, refl, sym, ap, subst, ◌∙◌, arith}
 use Rattle.std.specs.Prelude.{slice_get, slice_set, slice_index_or, replicate, ◌-◌, not, ◌&&◌, ◌||◌, if◌then◌else◌}
 use Rattle.std.proofs.lemmas.Bool.{cond_both, eqb-true}
 use Rattle.std.proofs.lemmas.List.{length-set}
@@ -27,7 +27,7 @@ use Rattle.data_races.specs.EventActions.{is_finished, is_waiting}
 use Rattle.run_laws.proofs.laws.Operations.{OfMeaning}
 use Rattle.event_laws.specs.event_changes.Changes.{class_on, class_names, KeepsClasses, AddsThread, is_in_set, WakesWaiters, OfEvents, AreClassesKept, AreThreadsAdded, DoEndsWake}
 use Rattle.event_laws.proofs.event_changes.Lists.{waits_but_one}
-use Rattle.event_laws.proofs.event_changes.Changed.{Leaves, Quiet, Steady, Kept, EndsNot, keeps_same, keeps_then, Keeps, quiet_then, quiet_self, steady_then, steady_self, steady_thread, steady_call, steady_allocated, kept_left, kept_then, kept_self, kept_steady, kept_class, kept_begun}
+use Rattle.event_laws.proofs.event_changes.Changed.{Quiet, Steady, Kept, keeps_same, quiet_then, quiet_self, steady_thread, steady_call, steady_allocated, kept_left, kept_then, kept_self, kept_steady, kept_class, kept_begun}
 use Rattle.event_laws.proofs.event_changes.Worlds.{OutcomeLeaves, all_woken_keeps}
 use Rattle.event_laws.proofs.event_changes.Table.{Leaving, meaning_leaves}
 

@@ -8,7 +8,7 @@ use Rattle.model.specs.Outcomes.{OutcomeOf, Goes, Raises, Throws, Interrupts, Ca
 use Rattle.model.specs.Monitors as monitors
 use Rattle.model.specs.Worlds.{thread_at, thread_of, is_alive, is_owner, with_monitors, with_interrupted, with_status, woken, all_woken, waiters_of}
 use Rattle.model.specs.Sites.{pushing}
-use Rattle.model.specs.BuiltInMethods.{BuiltInMethod, Construct, ConstructWithTarget, ObjectWait, ObjectNotify, ObjectNotifyAll, ThreadStart, ThreadInterrupt, ThreadIsInterrupted, ThreadInterrupted, ThreadYield, ThreadCurrentThread, ThreadJoin, ThreadIsAlive, PrintStreamPrintln, object_of, waiting, wait_by, notified_one, notified, notified_all, if_owner, start_by, with_started, interrupted_in, interrupted_on, join_by, built_in_does}
+use Rattle.model.specs.BuiltInMethods.{BuiltInMethod, Construct, ConstructWithTarget, ObjectWait, ObjectNotify, ObjectNotifyAll, ThreadStart, ThreadInterrupt, ThreadIsInterrupted, ThreadInterrupted, ThreadYield, ThreadCurrentThread, ThreadJoin, ThreadIsAlive, PrintStreamPrintln, object_of, waiting, wait_by, notified_one, notified, notified_all, if_owner, start_by, interrupted_in, interrupted_on, join_by, built_in_does}
 use Rattle.event_laws.proofs.event_changes.Changed.{Keeps, Leaves, keeps_same, keeps_then, keeps_thread, keeps_status, leaves_of, leaves_started}
 
 -- what an instruction leaves of a world

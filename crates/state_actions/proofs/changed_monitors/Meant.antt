@@ -67,20 +67,20 @@ any_keeps object old new h other e = h other refl
 
 -- by what is said before the event, if that is any
 module _ (t : ℕ) (own stack : StackOf ℕ) (old new : WorldOf ℕ) where
-  shallow : (before : Option ℕ) → before ≡ None → nat_lt (length own) (length stack) ≡ false → meant before own stack ≡ None
-  shallow None e f = ap (λ b. if b then entered_in stack else None) f
-  shallow (Some object) e f = absurd cc
-
   said_changes : (object : ℕ) (before : Option ℕ) → IsMeant (Some object) before own stack → KeepsOwners (meant before own stack) old.monitors new.monitors
       → KeepsOwners (Some object) old.monitors new.monitors
   said_changes object before is h =
       elim is [
         | inl e ↦ subst (λ (o : Option ℕ). KeepsOwners (meant o own stack) old.monitors new.monitors) (sym e) h
-        | inr e ↦ any_keeps (Some object) old.monitors new.monitors (subst (λ (o : Option ℕ). KeepsOwners o old.monitors new.monitors) (shallow before e.0 e.1) h)
+        | inr e ↦ any_keeps (Some object) old.monitors new.monitors (subst (λ (o : Option ℕ). KeepsOwners o old.monitors new.monitors) e h)
       ]
 
+  no_meaning : (before : Option ℕ) → meant before own stack ≡ None → before ≡ None
+  no_meaning None e = refl
+  no_meaning (Some object) e = absurd cc
+
   none_meant : (before : Option ℕ) → IsMeant None before own stack → before ≡ None
-  none_meant before is = elim is [ inl e ↦ sym e | inr e ↦ e.0 ]
+  none_meant before is = elim is [ inl e ↦ sym e | inr e ↦ no_meaning before e ]
 
   -- or by the invocation that is new
   entered_was : (b : Bool) → nat_lt (length own) (length stack) ≡ b → (o : Option ℕ) → entered_in stack ≡ o → TellsOwner t own stack old new

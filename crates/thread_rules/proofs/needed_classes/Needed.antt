@@ -79,7 +79,7 @@ module _ (p : LinkedProgram) (t : ℕ) (by_instruction : Option ℕ) where
       → NeedsBy p told t by_instruction number
   initialises told class at number e h =
       told_as told (rule.Initialisation class at) number e
-      (λ trees program meant is. of_rule trees number meant (Initialises is.0 (phase_of at)) is.1.1 (h trees program is.0 is.1.0))
+      (λ trees program meant is. of_rule trees number meant (Initialises is.0 (phase_of at)) is.2 (h trees program is.0 is.1))
 
   pub instruction : (told : NextRule) → told ≡ rule.Bytecode → NeedsBy p told t by_instruction by_instruction
-  instruction told e = told_as told rule.Bytecode by_instruction e (λ trees program meant is. of_rule trees by_instruction meant (Does is.0) is.1.0 is.1.1)
+  instruction told e = told_as told rule.Bytecode by_instruction e (λ trees program meant is. of_rule trees by_instruction meant (Does is.0) is.1 is.2)

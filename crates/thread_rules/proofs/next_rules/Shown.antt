@@ -164,11 +164,11 @@ module _ (trees : Program) (p : LinkedProgram) (bounds : Bounds) (inflated : Lis
   going_told [] [] e lends s q told is =
       subst (MeansRule trees p bounds inflated t shared [] state) (sym is) (going trees p bounds inflated shared state program shown t [] [] None e s q)
   going_told [] (entry ∷ own) e lends s q told is = absurd lends.shows_stack
-  going_told (Invocation on_top ∷ others) [] e lends s q told is = absurd lends.shows_stack
-  going_told (Invocation on_top ∷ others) (model.Invocation frame ∷ rest) e lends s q told is =
-      subst (MeansRule trees p bounds inflated t shared (Invocation on_top ∷ others) state) (sym is)
-      (at_instruction trees p bounds inflated shared state program shown t (Invocation on_top ∷ others) stand frame rest lends e s q (is_there (model.Invocation frame ∷ rest) e))
-  going_told (Invocation on_top ∷ others) (model.Initialisation class phase ∷ rest) e lends s q told is = absurd lends.shows_stack.0
+  going_told (Invocation first ∷ others) [] e lends s q told is = absurd lends.shows_stack
+  going_told (Invocation first ∷ others) (model.Invocation frame ∷ rest) e lends s q told is =
+      subst (MeansRule trees p bounds inflated t shared (Invocation first ∷ others) state) (sym is)
+      (at_instruction trees p bounds inflated shared state program shown t (Invocation first ∷ others) stand frame rest lends e s q (is_there (model.Invocation frame ∷ rest) e))
+  going_told (Invocation first ∷ others) (model.Initialisation class phase ∷ rest) e lends s q told is = absurd lends.shows_stack.0
   going_told (Initialisation number at ∷ others) [] e lends s q told is = absurd lends.shows_stack
   going_told (Initialisation number at ∷ others) (model.Invocation frame ∷ rest) e lends s q told is = absurd lends.shows_stack.0
   going_told (Initialisation number at ∷ others) (model.Initialisation class phase ∷ rest) e lends s q told is =
@@ -191,8 +191,8 @@ module _ (trees : Program) (p : LinkedProgram) (bounds : Bounds) (inflated : Lis
     by (Waiting object count) s pending q told is =
         subst meant (sym is) (with_status trees p bounds inflated shared state program shown t stack own (Waiting object count) e s)
     by (Relock object count cause) s pending q told is =
-        subst meant (sym is.1.0)
-        (with_status trees p bounds inflated shared state program shown t stack own (Relock object count cause) e s ∙ ap (λ (c : WakeCause). Relocks c) (sym is.1.1))
+        subst meant (sym is.1)
+        (with_status trees p bounds inflated shared state program shown t stack own (Relock object count cause) e s ∙ ap (λ (c : WakeCause). Relocks c) (sym is.2))
     by (Ended exception) s pending q told is =
         subst meant (sym is) (with_status trees p bounds inflated shared state program shown t stack own (Ended exception) e s)
 

@@ -24,15 +24,15 @@ pub struct Before {
     /// The class on top of its stack, by its number, if the thread initialises one there.
     pub class: Option<u16>,
     /// The instruction at which it stands.
-    pub(crate) instruction: Option<LinkedInstruction>,
+    pub instruction: Option<LinkedInstruction>,
     /// How many frames its stack has.
-    pub(crate) frames: usize,
+    pub frames: usize,
     /// The operands on top of its frame, the topmost first.
-    pub(crate) operands: [u32; 3],
+    pub operands: [u32; 3],
     /// The word of the receiver of the method that the instruction calls.
-    pub(crate) receiver: u32,
+    pub receiver: u32,
     /// The number of the method that the instruction calls.
-    pub(crate) called: Option<u32>,
+    pub called: Option<u32>,
     /// The threads that wait on the object of a notify, in the order in which they joined.
     pub(crate) waiting: Vec<u16>,
 }

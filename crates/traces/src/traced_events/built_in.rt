@@ -7,10 +7,7 @@ use machine_state::Shared;
 use machine_state::method_selection::method_at;
 
 /// The built-in method of a number, if it is one.
-pub(crate) fn built_in_called(
-    program: &LinkedProgram,
-    method: Option<u32>,
-) -> Option<BuiltInMethod> {
+pub fn built_in_called(program: &LinkedProgram, method: Option<u32>) -> Option<BuiltInMethod> {
     match &method_at(program, method?)?.body {
         MethodBody::BuiltIn(built_in) => Some(*built_in),
         MethodBody::Abstract | MethodBody::Code(_) => None,

@@ -21,6 +21,7 @@ mod rules;
 mod told;
 
 pub use before::{Before, class_on_top};
+pub use built_in::built_in_called;
 pub use deed::{Deed, Entries};
 pub use frames::FrameBefore;
 pub(crate) use frames::offset_of;
