@@ -1,0 +1,5 @@
+mod Both
+mod Appended
+mod Fronts
+mod Stands
+mod Differ

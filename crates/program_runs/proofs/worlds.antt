@@ -1,0 +1,10 @@
+mod Finding
+mod FindingDownwards
+pub mod Repeating
+mod Shared
+mod Copying
+mod Committing
+pub mod Staying
+pub mod Finishing
+mod Recording
+mod Opening

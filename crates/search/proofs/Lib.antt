@@ -1,0 +1,6 @@
+mod Shown
+mod Schedules
+mod Growth
+mod Expanded
+mod Visits
+mod Whole

@@ -1,0 +1,51 @@
+//! A search over all schedules of a program: every outcome that any of them can have, or one that is wanted.
+//!
+//! # Proved
+//!
+//! - `search`, memory aside, for the linked program of all accepted files (`IsProgramOf`), limits and numbers of
+//!   states: *Found* is a schedule, in entries that are joined, whose events lead to a state in which no thread may
+//!   step, with an outcome that is wanted, and no limit stood at any of them; *Complete* has the outcomes of all runs
+//!   that end, and no other, and none is wanted; *GaveUp* comes only where as many states were met as may be, or some
+//!   run can't be gone on with, or where the progress said that the search is over (`Says`, `GivesUp`, `may_stop` of
+//!   `Progress`). Of runs that never end nothing is said.
+//! - The number of states that is told is at most the number that may be met, if that is at least 1 (`few`); of
+//!   *Complete* it is that of schedules among which the search is whole (`HasMetAll`). `states_within` is a 128th of
+//!   the bytes.
+//! - `GivesUp`: as many states were met as may be (`most`), or some run leads to a state with an enabled event that a
+//!   limit forbids, or a thread may pick the last of 65,535 that wait. An outcome is what was printed, and how each
+//!   thread stands. A program in which a thread waits for a flag in a loop can be *Complete* though one of its runs
+//!   goes on for ever: of such runs nothing is said.
+//!
+//! # Not proved
+//!
+//! - Not said: that each state is met once. Nor is it that a state takes 128 bytes.
+//!
+//! # Wrong bodies
+//!
+//! - `opening-state-is-skipped`, `first-thread-is-skipped`: a search passes over the opening state, or over the main
+//!   thread; refused by what `visit_all` keeps (`HasVisited`), for `Says`; `AreMetByThreads` of `expand_threads`.
+//! - `silent-outcomes-are-dropped`: an outcome of a run that printed nothing is dropped; refused by the contract of
+//!   `is_found` (`ListsOr`).
+//! - `event-itself-is-left-out`: an entry has the local events alone, and not the one before them; refused by `repeat`
+//!   of `GoesPast`, of `go_past`.
+//! - `gives-up-unasked`: a search gives up though it isn't over; refused by `Says`: `may_stop` of `Progress` follows from
+//!   the answer of `is_over` alone.
+//! - Planted by `rt plant`: 18 functions, 4 untried; 33 bodies judged, 0 not judged, 0 not run; proved 10: the real
+//!   one; two that give up at once, which may be (docs/THEOREM.md); six of the index of states and one that finds no
+//!   local event, which cost states.
+#![tactic(auto)]
+
+mod expanding;
+pub mod local_runs;
+mod machines;
+pub mod met_states;
+mod progress;
+pub mod run_outcomes;
+pub mod search_reports;
+mod searching;
+pub mod state_index;
+mod states;
+
+pub use progress::Progress;
+pub use searching::{Searched, Verdict, search};
+pub use states::states_within;
