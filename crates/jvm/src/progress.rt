@@ -21,7 +21,7 @@ pub struct Progress<'a, R> {
     rt: &'a R,
     /// When the command began, where the clock can be read.
     begun: Option<Instant>,
-    /// The same, where there is something to tell.
+    /// When the command began, where there is something to tell.
     start: Option<Instant>,
     /// How many times so many were done or met when the clock was looked at.
     looks: AtomicU64,

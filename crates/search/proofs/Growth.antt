@@ -7,21 +7,24 @@ use Rattle.model.specs.declared.event.ScheduleEntry.{ScheduleEntry}
 use Rattle.model.specs.declared.limits.Limits.{Limits}
 use Rattle.model.specs.Run.{run}
 use Rattle.run_laws.specs.interleavings.Ends.{Has}
+use Rattle.kept_states.specs.declared.numbered.Numbered.{Numbered}
+use Rattle.kept_states.proofs.Written.{grows_not, grows_on, numbered_stays}
 use Rattle.machine_state.specs.Shown.{IsProgram}
 use Rattle.machine.specs.Machines.{MachineOf}
 use Rattle.search.specs.local_runs.Local.{AreLocalAfter}
 use Rattle.search.specs.met_states.Met.{IsNextMet, AreListed, AreNewStatesMet, AreMetStatesKept}
 use Rattle.search.specs.Machines.{IsAt}
-use Rattle.search.specs.States.{StatesOf, IsSchedule, IsInState, IsMetFrom, LeadsOnFrom, CantGoOn, Grows, GrowsTo, IsLocalFrom, IsPushed}
+use Rattle.search.specs.States.{StatesOf, IsSchedule, IsInState, IsMetFrom, LeadsOnFrom, CantGoOn, Grows, GrowsTo, IsStateOf, machine_of, IsLocalFrom, IsPushed}
 
 pub stays : (s : StatesOf) → Grows s s
-stays s = record { program = refl; limits_are = refl; kept = λ number events is. is }
+stays s = record { program = refl; limits_are = refl; parts = grows_not s.parts; kept = λ number events is. is }
 
 pub further : (old mid new : StatesOf) → Grows old mid → Grows mid new → Grows old new
 further old mid new first second =
     record {
       program = second.program ∙ first.program;
       limits_are = second.limits_are ∙ first.limits_are;
+      parts = grows_on old.parts mid.parts new.parts first.parts second.parts;
       kept = λ number events is. second.kept number events (first.kept number events is);
     }
 
@@ -39,6 +42,14 @@ module _ (old new : StatesOf) (grows : Grows old new) (number : ℕ) (lt : numbe
   pub still_there : (m : MachineOf) → IsInState old number m → IsInState new number m
   still_there m there events is =
       subst (λ p. IsAt p new.limits events m) (sym grows.program) (subst (λ l. IsAt old.program l events m) (sym grows.limits_are) (there events (earlier events is)))
+
+  pub still_state : (state : Numbered) → IsStateOf old number state → IsStateOf new number state
+  still_state state of = record {
+    is = subst (λ p. IsInState new number (machine_of p new.limits state.shared)) (sym grows.program)
+        (subst (λ l. IsInState new number (machine_of old.program l state.shared)) (sym grows.limits_are)
+        (still_there (machine_of old.program old.limits state.shared) of.is));
+    numbered = numbered_stays old.parts new.parts state grows.parts of.numbered;
+  }
 
   listed : AreListed old.schedules new.schedules
   listed schedule h = (h.0, grows.kept h.0 schedule h.1)

@@ -1,6 +1,7 @@
 mod Shown
 mod Schedules
 mod Growth
+mod Kept
 mod Expanded
 mod Visits
 mod Whole

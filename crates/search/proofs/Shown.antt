@@ -75,15 +75,6 @@ more_done event n old new result repeats most =
     }
 
 module _ (p : LinkedProgram) (limits : Limits) (events : List Event) where
-  pub gone_through : (schedule : List Event) (old new : MachineOf) (result : ℕ × Stopped) → IsAt p limits events old → GoesThrough result schedule old new → result.1 ≡ stopped.Most
-      → IsAt p limits (events ++ schedule) new
-  gone_through schedule old new result at goes most =
-      record {
-        program = ap (λ (x : MachineOf). x.program) goes.0 ∙ at.program;
-        limits_are = ap (λ (x : MachineOf). x.limits) goes.0 ∙ at.limits_are;
-        done = λ files trees accepted program. all_done schedule old new result goes most files trees events (at.done files trees accepted program);
-      }
-
   pub gone_more : (event : Event) (n : ℕ) (old new : MachineOf) → IsAt p limits events old → HasDoneMore event n old new → IsAt p limits (events ++ replicate n event) new
   gone_more event n old new at more =
       record {

@@ -28,11 +28,11 @@
 //!   `is_found` (`ListsOr`).
 //! - `event-itself-is-left-out`: an entry has the local events alone, and not the one before them; refused by `repeat`
 //!   of `GoesPast`, of `go_past`.
-//! - `gives-up-unasked`: a search gives up though it isn't over; refused by `Says`: `may_stop` of `Progress` follows from
-//!   the answer of `is_over` alone.
-//! - Planted by `rt plant`: 18 functions, 4 untried; 33 bodies judged, 0 not judged, 0 not run; proved 10: the real
-//!   one; two that give up at once, which may be (docs/THEOREM.md); six of the index of states and one that finds no
-//!   local event, which cost states.
+//! - `gives-up-unasked`: a search gives up though it isn't over; refused by `Says`: `may_stop` of `Progress` follows
+//!   from the answer of `is_over` alone.
+//! - `goes-back-to-the-opening`, `quiet-states-are-passed-over`: the events of each state are tried in the opening
+//!   state, or an event is said to have led on before any was done; refused by the contracts of `expand` and of what it
+//!   calls (`IsStateOf`, `IsThere`).
 #![tactic(auto)]
 
 mod expanding;
@@ -43,7 +43,6 @@ mod progress;
 pub mod run_outcomes;
 pub mod search_reports;
 mod searching;
-pub mod state_index;
 mod states;
 
 pub use progress::Progress;

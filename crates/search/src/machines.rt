@@ -2,7 +2,6 @@
 
 ghost use Rattle.std.specs.Prelude.{◌≡◌, ◌<◌, ◌≤◌, [], IfOk, OnOk};
 ghost use Rattle.std.specs.Arc.{arc_value};
-ghost use Rattle.model.specs.Schedule.{events_of};
 ghost use Rattle.machine.specs.Machines.{IsOfAccepted};
 ghost use Rattle.machine_state.specs.declared.refusals.EventRefusal.TheVariants as refusals;
 ghost use Rattle.search.specs.Machines.{IsAt, GoesOrStops, HasDoneMore, AreLocalBehind, GoesPast, TellsOutcome};
@@ -12,13 +11,11 @@ use crate::run_outcomes::Outcome;
 use hierarchy::ClassSet;
 use linked_code::LinkedProgram;
 use machine::machine_reports::{is_quiet, report_of};
-use machine::schedule_runs::run_schedule;
 use machine::{Machine, Stopped};
 use machine_state::shown_runs::{runs_are_opened, runs_go_on};
 use machine_state::{Answer, EventRefusal};
 use model::{Event, Limits, ScheduleEntry};
 use run_laws::word_reports::reports_of_words;
-use schedule::Schedule;
 use std::alloc::{AllocError, Global};
 use std::sync::Arc;
 
@@ -33,24 +30,6 @@ pub(crate) fn opened(
 {
     runs_are_opened();
     Machine::open(alloc, program, limits)
-}
-
-/// A machine that has done a schedule whose events were all done before, so that the only error is a want of memory.
-pub(crate) fn at_schedule(
-    alloc: Global,
-    program: Arc<LinkedProgram>,
-    limits: Limits,
-    schedule: &Schedule,
-) -> Result<Machine, AllocError>
-    requires { IsOfAccepted (arc_value program) }
-    ensures { IfOk result (IsAt (arc_value program) limits (events_of schedule.now)) }
-{
-    let mut machine = opened(alloc, program, limits)?;
-    let (_done, why) = run_schedule(&mut machine, schedule);
-    match why {
-        Stopped::Most => Ok(machine),
-        Stopped::NotEnabled | Stopped::Refused(_) => Err(AllocError),
-    }
 }
 
 /// An error where an event was refused for want of memory.

@@ -51,6 +51,13 @@ AreOtherThreadsLeft =
     → HasRun trees p bounds shared events → length shared.threads.threads ≤ event.thread
     → IsNextMet trees bounds.frames schedules events event
 
+-- it leads on, so some thread may step
+abbrev pub AreMovingStatesNotQuiet : Type 0
+AreMovingStatesNotQuiet =
+    (trees : Program) (p : LinkedProgram) (bounds : Bounds) (events : List Event) (event : Event) (shared : Shared) (state next : State)
+    → HasRun trees p bounds shared events → run trees bounds.frames events ≡ Some state → run trees bounds.frames (events ++ event ∷ []) ≡ Some next
+    → IsFalse (is_quiet trees bounds.frames state)
+
 -- ---- many
 
 -- each schedule of the one list is one of the other

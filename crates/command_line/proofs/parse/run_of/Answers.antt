@@ -15,7 +15,8 @@ returns-in_err-check_files-clause-none c =
 pub returns-in_err-follow-clause-none : goal.returns-in_err-follow-clause-none
 returns-in_err-follow-clause-none c =
     let p = err_from_is_err_and c.from_residual-in_err-follow.result c.from_residual-in_err-follow.ensures.1 in
-    rw (p.1, p.2) (refuses_more c.in_err-follow.field-0.0 _ _ (λ none run are. none run.follow are.follow) c.in_err-follow.ensures.none)
+    rw (p.1, p.2)
+    (refuses_more c.in_err-follow.field-0.0 _ _ (λ none run are. none run.follow are.follow) c.in_err-follow.ensures.none)
 
 pub returns-clause-values : goal.returns-clause-values
 returns-clause-values c = record {

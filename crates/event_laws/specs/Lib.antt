@@ -1,0 +1,3 @@
+pub mod access_outcomes
+pub mod event_changes
+pub mod entered_monitors
