@@ -226,6 +226,7 @@ fn done_over<
         ),
         Command::Replay(options) => replay(
             alloc,
+            gate,
             folder,
             files,
             given,

@@ -10,10 +10,7 @@ use crate::worlds::World;
 pub(crate) fn behind_turn<G: Gate>(world: &mut World, gate: &G)
     ensures { StopsFor (G.may_stop gate.now) world.old world.new }
 {
-    gate.turn_ends(world.count());
-    if gate.is_watching() {
-        world.show(gate);
-    }
+    world.tell(gate);
     if gate.is_over() {
         world.stop();
     }

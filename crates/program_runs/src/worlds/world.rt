@@ -117,6 +117,14 @@ impl World {
         &self.machine
     }
 
+    /// Tells a gate how many events it has done, and shows it these where it wants to see them.
+    pub(crate) fn tell<G: Gate>(&self, gate: &G) {
+        gate.turn_ends(self.count());
+        if gate.is_watching() {
+            self.show(gate);
+        }
+    }
+
     /// Shows a gate what it has done so far.
     pub(crate) fn show<G: Gate>(&self, gate: &G) {
         gate.watch_record(&self.recorded);
