@@ -68,9 +68,9 @@ pub(crate) fn check_record(alloc: Global, command: &Command, files: &[String]) -
 /// Refuses a file that is to be written and is one of these.
 fn check_path(alloc: Global, path: Option<&str>, files: &[String]) -> Result<(), Usage>
     ensures apart { IfOk result (λ _.
-        IsUnreadAt (option_map (λ path. path.now) path) (map string_bytes files.now)) }
+        IsUnreadAt (option_map (λ path. path.now) path.entry) (map string_bytes files.now)) }
     ensures read { IfErr result (λ usage. Refuses usage
-        (IsReadAt (option_map (λ path. path.now) path) (map string_bytes files.now))) }
+        (IsReadAt (option_map (λ path. path.now) path.entry) (map string_bytes files.now))) }
 {
     let Some(path) = path else {
         return Ok(());
@@ -84,9 +84,9 @@ fn check_path(alloc: Global, path: Option<&str>, files: &[String]) -> Result<(),
 /// Refuses a folder for the schedules of outcomes, one of which may be one of these files.
 fn check_outcomes(alloc: Global, folder: Option<&str>, files: &[String]) -> Result<(), Usage>
     ensures apart { IfOk result (λ _.
-        IsUnreadIn (option_map (λ path. path.now) folder) (map string_bytes files.now)) }
+        IsUnreadIn (option_map (λ path. path.now) folder.entry) (map string_bytes files.now)) }
     ensures read { IfErr result (λ usage. Refuses usage
-        (IsReadIn (option_map (λ path. path.now) folder) (map string_bytes files.now))) }
+        (IsReadIn (option_map (λ path. path.now) folder.entry) (map string_bytes files.now))) }
 {
     match folder {
         Some(folder) => check_folder(alloc, folder, files),
