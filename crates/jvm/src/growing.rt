@@ -3,7 +3,7 @@
 use schedule::recorded_events::RecordedEvents;
 use schedule::report::push_printed;
 use std::fs::OpenOptions;
-use std::io::{ErrorKind, Write};
+use std::io::{ErrorKind, Read, Write};
 use std::rt::{Clock, Files};
 use std::sync::atomic::{AtomicBool, AtomicU64, Ordering};
 use std::sync::{Mutex, Wait};
@@ -15,6 +15,9 @@ const BETWEEN: u32 = 1024;
 
 /// How many milliseconds pass between two times at which what is new is shown.
 const PERIOD: u64 = 100;
+
+/// What each text begins with in which a record grows.
+const FIRST_WORD: &[u8] = b"#growing";
 
 /// What of a run is shown so far.
 #[derive(Drop)]
@@ -165,7 +168,7 @@ impl<'a, R: Clock + Print + Files + AllocGlobal + Wait> Growing<'a, R> {
         let Ok(part) = self.part_of(path) else {
             return;
         };
-        if !self.is_file(path) || !self.is_file(part.as_str()) {
+        if !self.is_file(path) || !self.is_free(part.as_str()) {
             return;
         }
         if self.begin_file(part.as_str(), front).is_ok() {
@@ -212,6 +215,21 @@ impl<'a, R: Clock + Print + Files + AllocGlobal + Wait> Growing<'a, R> {
         }
     }
 
+    /// Whether nothing is at a path, or a regular file in which a record has grown before.
+    fn is_free(&self, path: &str) -> bool {
+        if !self.is_file(path) {
+            return false;
+        }
+        let mut begun = [0u8; 8];
+        match fs::open(self.rt, path) {
+            Ok(file) => match read_once(file, &mut begun) {
+                Ok(length) => FIRST_WORD.starts_with(begun.get(..length).unwrap_or(&[])),
+                Err(_) => false,
+            },
+            Err(error) => error.kind() == ErrorKind::NotFound,
+        }
+    }
+
     /// Tries whether a file can be written at a path. What is there stays as it is, and is only opened where it is a
     /// file or a folder.
     fn tried(&self, path: &str) -> io::Result<()> {
@@ -244,6 +262,12 @@ impl<'a, R: Clock + Print + Files + AllocGlobal + Wait> Growing<'a, R> {
         let mut file = OpenOptions::new().append(true).open(self.rt, path)?;
         file.write_all(bytes)
     }
+}
+
+/// Reads some of the first bytes of a file.
+fn read_once<T: Read + Drop>(file: T, bytes: &mut [u8]) -> io::Result<usize> {
+    let mut file = file;
+    file.read(bytes)
 }
 
 /// Makes a number greater, if it is less, and says so to one of those that do that at the same time.
