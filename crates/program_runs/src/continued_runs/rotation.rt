@@ -12,12 +12,12 @@ pub(crate) fn take_turns<G: Gate>(world: &mut World, gate: &G)
 {
     let mut from = 0u16;
     'turns: loop {
+        world.tell(gate);
         if world.end().is_some() {
             return;
         }
         if let Some(thread) = world.shared_steps(from, 1) {
             from = thread.wrapping_add(1);
         }
-        world.tell(gate);
     }
 }
