@@ -25,13 +25,14 @@ module _ {A : Type 0} (p : A → Bool) where
 
   split_joined : (xs : List A) (s : A) (ys : List A) → p s ≡ true → slice_split p (xs ++ s ∷ ys) ≡ slice_split p xs ++ slice_split p ys
   split_joined [] s ys cuts = slice_split-cons_yes p s ys cuts
-  split_joined (x ∷ xs) s ys cuts = by (p x) refl
+  split_joined (x ∷ xs) s ys cuts = by (p x) refl (split_joined xs s ys cuts)
     where
-      by : (b : Bool) → p x ≡ b → slice_split p (x ∷ (xs ++ s ∷ ys)) ≡ slice_split p (x ∷ xs) ++ slice_split p ys
-      by true here =
-          slice_split-cons_yes p x (xs ++ s ∷ ys) here ∙ ap (λ l. [] ∷ l) (split_joined xs s ys cuts) ∙ ap (λ l. l ++ slice_split p ys) (sym (slice_split-cons_yes p x xs here))
-      by false not_here =
-          slice_split-cons_no p x (xs ++ s ∷ ys) not_here ∙ ap (onto_first x) (split_joined xs s ys cuts)
+      by : (b : Bool) → p x ≡ b → slice_split p (xs ++ s ∷ ys) ≡ slice_split p xs ++ slice_split p ys
+          → slice_split p (x ∷ (xs ++ s ∷ ys)) ≡ slice_split p (x ∷ xs) ++ slice_split p ys
+      by true here joined =
+          slice_split-cons_yes p x (xs ++ s ∷ ys) here ∙ ap (λ l. [] ∷ l) joined ∙ ap (λ l. l ++ slice_split p ys) (sym (slice_split-cons_yes p x xs here))
+      by false not_here joined =
+          slice_split-cons_no p x (xs ++ s ∷ ys) not_here ∙ ap (onto_first x) joined
           ∙ onto_joined x (slice_split p xs) (slice_split p ys) (omega (arith, length-slice_split p xs))
           ∙ ap (λ l. l ++ slice_split p ys) (sym (slice_split-cons_no p x xs not_here))
 

@@ -18,10 +18,14 @@ use Rattle.engines.specs.Files.{Path, Written}
 abbrev pub outcome_path : (folder : Path) → ℕ → Path
 outcome_path folder i = folder ++ (codes "/outcome-" ++ (number i ++ codes ".schedule"))
 
+-- steps begin so, and end as those of the schedules of outcomes
+abbrev pub lead_to_outcome : (steps front : List ℕ) → Bool
+lead_to_outcome steps front = starts_with (λ a b. a == b) steps front && ends_with (λ a b. a == b) steps (codes ".schedule")
+
 -- a file in a folder may be that of an outcome: so its name begins and ends
 abbrev pub may_be_outcome : (folder file : Path) → Bool
-may_be_outcome folder file = beq (is_absolute (folder ++ codes "/outcome-")) (is_absolute file)
-    && (starts_with (λ a b. a == b) (steps_of file) (steps_of (folder ++ codes "/outcome-")) && ends_with (λ a b. a == b) (steps_of file) (codes ".schedule"))
+may_be_outcome folder file =
+    beq (is_absolute (folder ++ codes "/outcome-")) (is_absolute file) && lead_to_outcome (steps_of file) (steps_of (folder ++ codes "/outcome-"))
 
 -- one of these files may
 abbrev pub has_outcome : (folder : Path) → (files : List Path) → Bool

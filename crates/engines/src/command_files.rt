@@ -6,7 +6,7 @@ ghost use Rattle.program_files.specs.Folders.{FolderMayFail};
 ghost use Rattle.program_files.specs.declared.files_fault.FilesFault.TheVariants.{Device};
 ghost use Rattle.command_line.specs.CommandLine.{Refuses};
 ghost use Rattle.engines.specs.Commands.{AreFiles, AreVerified, HasNoFiles, IsReadAt, IsReadIn, IsReadToo, IsUnread, IsUnreadAt, IsUnreadIn, IsUnverified, outcome_folder, record_path};
-ghost use Rattle.engines.specs.OutcomeFiles.{has_outcome, may_be_outcome};
+ghost use Rattle.engines.specs.OutcomeFiles.{has_outcome, lead_to_outcome, may_be_outcome};
 
 use command_line::{Command, Usage, Verify, is_absolute, steps_of};
 use program_files::{FilesFault, Folder, given_paths, handed_on, is_given};
@@ -114,10 +114,17 @@ fn may_be_outcome(alloc: Global, folder: &str, file: &str) -> Result<bool, Alloc
     let front = format!(in alloc; "{folder}/outcome-")?;
     let front_steps = steps_of(alloc, front.as_str())?;
     let steps = steps_of(alloc, file)?;
-    let begins = is_absolute(front.as_str()) == is_absolute(file);
-    let leads = steps.as_bytes().starts_with(front_steps.as_bytes());
-    let ends = steps.as_bytes().ends_with(b".schedule");
-    Ok(begins && leads && ends)
+    Ok(
+        is_absolute(front.as_str()) == is_absolute(file)
+            && lead_to_outcome(steps.as_str(), front_steps.as_str()),
+    )
+}
+
+/// Whether steps begin as those of the files of outcomes, which are given, and end as these.
+fn lead_to_outcome(steps: &str, front: &str) -> bool
+    ensures { result ≡ lead_to_outcome steps.now front.now }
+{
+    steps.as_bytes().starts_with(front.as_bytes()) && steps.as_bytes().ends_with(b".schedule")
 }
 
 /// The folder in which the schedules of the outcomes of a sweep are written, if they are.
