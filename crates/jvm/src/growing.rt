@@ -98,7 +98,8 @@ impl<'a, R: Clock + Print + Files + AllocGlobal + Wait> Growing<'a, R> {
         let Ok(passed) = begun.elapsed(self.rt) else {
             return;
         };
-        if rises(&self.periods, passed.as_millis() as u64 / PERIOD) {
+        let millis = passed.as_millis().min(u128::from(u64::MAX)) as u64;
+        if rises(&self.periods, millis / PERIOD) {
             self.is_due.store(true, Ordering::SeqCst);
         }
     }
