@@ -98,7 +98,8 @@ impl<'a, R: Clock + Print + Files + AllocGlobal + Wait> Growing<'a, R> {
         let Ok(passed) = begun.elapsed(self.rt) else {
             return;
         };
-        if rises(&self.periods, passed.as_millis() as u64 / PERIOD) {
+        let millis = passed.as_millis().min(u128::from(u64::MAX)) as u64;
+        if rises(&self.periods, millis / PERIOD) {
             self.is_due.store(true, Ordering::SeqCst);
         }
     }
@@ -220,12 +221,8 @@ impl<'a, R: Clock + Print + Files + AllocGlobal + Wait> Growing<'a, R> {
         if !self.is_file(path) {
             return false;
         }
-        let mut begun = [0u8; 8];
         match fs::open(self.rt, path) {
-            Ok(file) => match read_once(file, &mut begun) {
-                Ok(length) => FIRST_WORD.starts_with(begun.get(..length).unwrap_or(&[])),
-                Err(_) => false,
-            },
+            Ok(file) => has_grown(file),
             Err(error) => error.kind() == ErrorKind::NotFound,
         }
     }
@@ -264,10 +261,19 @@ impl<'a, R: Clock + Print + Files + AllocGlobal + Wait> Growing<'a, R> {
     }
 }
 
-/// Reads some of the first bytes of a file.
-fn read_once<T: Read + Drop>(file: T, bytes: &mut [u8]) -> io::Result<usize> {
+/// Whether a file begins as a text in which a record grows. That may be cut off within its first word.
+fn has_grown<T: Read + Drop>(file: T) -> bool {
     let mut file = file;
-    file.read(bytes)
+    let mut begun = [0u8; 8];
+    match file.read(&mut begun) {
+        Ok(length) => is_front(&begun, length),
+        Err(_) => false,
+    }
+}
+
+/// Whether the first word begins with the first so many of these bytes.
+fn is_front(bytes: &[u8], length: usize) -> bool {
+    FIRST_WORD.starts_with(bytes.get(..length).unwrap_or(&[]))
 }
 
 /// Makes a number greater, if it is less, and says so to one of those that do that at the same time.
