@@ -1,4 +1,4 @@
-use Rattle.std.proofs.Common.{rules}
+use Rattle.std.proofs.Common.{rules, ◌≡◌}
 use Rattle.std.specs.Arc.{arc_value}
 use Rattle.place_texts.specs.Places.{deeds_of}
 use Rattle.place_runs.proofs.Words.{placed}
