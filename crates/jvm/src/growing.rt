@@ -5,8 +5,8 @@ use schedule::report::push_printed;
 use std::fs::OpenOptions;
 use std::io::{ErrorKind, Read, Write};
 use std::rt::{Clock, Files};
+use std::sync::Mutex;
 use std::sync::atomic::{AtomicBool, AtomicU64, Ordering};
-use std::sync::{Mutex, Wait};
 use std::time::Instant;
 use std::{fs, io};
 
@@ -46,12 +46,13 @@ pub struct Growing<'a, R> {
     periods: AtomicU64,
     /// Whether what is new is to be shown now.
     is_due: AtomicBool,
+    /// Nobody waits for it: the gate is shown a run by one at a time.
     shown: Mutex<Shown>,
     /// How many bytes of the report are shown before it is written.
     bytes: AtomicU64,
 }
 
-impl<'a, R: Clock + Print + Files + AllocGlobal + Wait> Growing<'a, R> {
+impl<'a, R: Clock + Print + Files + AllocGlobal> Growing<'a, R> {
     /// A run of which nothing is shown so far.
     pub fn new(rt: &'a R, begun: Option<Instant>, follows: bool) -> Growing<'a, R> {
         Growing {
@@ -109,7 +110,7 @@ impl<'a, R: Clock + Print + Files + AllocGlobal + Wait> Growing<'a, R> {
         if !self.follows.load(Ordering::SeqCst) {
             return None;
         }
-        let mut shown = self.shown.lock(self.rt);
+        let mut shown = self.shown.try_lock()?;
         let numbers = printed.get(shown.printed..)?;
         if numbers.is_empty() {
             return None;
@@ -172,8 +173,11 @@ impl<'a, R: Clock + Print + Files + AllocGlobal + Wait> Growing<'a, R> {
         if !self.is_file(path) || !self.is_free(part.as_str()) {
             return;
         }
+        let Some(mut shown) = self.shown.try_lock() else {
+            return;
+        };
         if self.begin_file(part.as_str(), front).is_ok() {
-            self.shown.lock(self.rt).part = Some(part);
+            shown.part = Some(part);
             self.grows.store(true, Ordering::SeqCst);
         }
     }
@@ -183,7 +187,9 @@ impl<'a, R: Clock + Print + Files + AllocGlobal + Wait> Growing<'a, R> {
         if !self.grows.load(Ordering::SeqCst) {
             return;
         }
-        let mut shown = self.shown.lock(self.rt);
+        let Some(mut shown) = self.shown.try_lock() else {
+            return;
+        };
         let Some(part) = &shown.part else {
             return;
         };
@@ -198,7 +204,10 @@ impl<'a, R: Clock + Print + Files + AllocGlobal + Wait> Growing<'a, R> {
 
     /// The file of the record is made, and the one that has grown goes.
     pub fn record_is_made(&self) {
-        if let Some(part) = self.shown.lock(self.rt).part.take() {
+        let Some(mut shown) = self.shown.try_lock() else {
+            return;
+        };
+        if let Some(part) = shown.part.take() {
             let _ = fs::remove_file(self.rt, part.as_str());
         }
     }

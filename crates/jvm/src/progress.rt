@@ -7,7 +7,6 @@ use std::io;
 use std::io::Write;
 use std::random::RandomSource;
 use std::rt::{Clock, Files};
-use std::sync::Wait;
 use std::sync::atomic::{AtomicU64, Ordering};
 use std::time::Instant;
 
@@ -31,7 +30,7 @@ pub struct Progress<'a, R> {
     growing: Growing<'a, R>,
 }
 
-impl<'a, R: Clock + Print + Files + AllocGlobal + Wait> Progress<'a, R> {
+impl<'a, R: Clock + Print + Files + AllocGlobal> Progress<'a, R> {
     /// The progress of a run or a search that begins now. Nothing is told unless it is wanted, and the clock can be
     /// read. The lines that a run prints are shown as they are printed where it follows them.
     pub fn new(rt: &'a R, is_wanted: bool, follows: bool) -> Progress<'a, R> {
@@ -77,7 +76,7 @@ impl<'a, R: Clock + Eprint> Progress<'a, R> {
     }
 }
 
-impl<R: Clock + Eprint + Print + Files + AllocGlobal + Wait> Gate for Progress<'_, R> {
+impl<R: Clock + Eprint + Print + Files + AllocGlobal> Gate for Progress<'_, R> {
     ghost use Rattle.std.specs.Prelude.{false};
 
     ghost may_stop = { λ _. false };
@@ -158,7 +157,7 @@ impl<R: Clock + Eprint> Deadline for Progress<'_, R> {
     }
 }
 
-impl<R: Clock + Print + Files + AllocGlobal + Wait> Growth for Progress<'_, R> {
+impl<R: Clock + Print + Files + AllocGlobal> Growth for Progress<'_, R> {
     fn follow(&self) {
         self.growing.follow();
     }
@@ -206,7 +205,7 @@ impl<'a, R, W> Cleared<'a, R, W> {
     }
 }
 
-impl<R: Clock + Eprint + Print + Files + AllocGlobal + Wait, W: Write> Write for Cleared<'_, R, W> {
+impl<R: Clock + Eprint + Print + Files + AllocGlobal, W: Write> Write for Cleared<'_, R, W> {
     fn write(&mut self, buf: &[u8]) -> io::Result<usize> {
         self.progress.clear();
         let shown = self.progress.growing.take_shown(buf.len());
