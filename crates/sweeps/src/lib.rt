@@ -19,9 +19,7 @@
 //!
 //! # Not proved
 //!
-//! - Said by the documents, and by no clause: that by `random` the run with a seed is the one that `jvm run --seed`
-//!   does with it, as `policies` of `program_runs` tells. `oracle/sweeps.py` makes the texts of the sweeps of lessons
-//!   once more.
+//! - Shown by cases, whose texts `oracle/sweeps.py` makes once more: the sweeps of lessons.
 //! - That no more of further runs show another outcome than the text says: that is measured, and not proved.
 //!
 //! # Wrong bodies
