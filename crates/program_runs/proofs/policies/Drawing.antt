@@ -5,6 +5,7 @@ use Rattle.std.specs.List.{count_by, filter}
 use Rattle.std.proofs.Math.Decide.{dec_lt}
 use Rattle.std.proofs.lemmas.Bool.{false≢true, le-ltb, lt-ltb}
 use Rattle.std.proofs.lemmas.Bool.Decides.{nat_tests}
+use Rattle.std.proofs.lemmas.List.Sums.{sum_by-cons}
 use Rattle.std.proofs.lemmas.Option.{none-some}
 use Rattle.std.proofs.Math.Nat.{min-eq_left, min-eq_right, min-le_left, min-le_right}
 use Rattle.rand_core.specs.Stream.{Stream}
@@ -51,29 +52,33 @@ min_zero : (a n : ℕ) → a ≡ 0 → min a n ≡ 0
 min_zero a n e = ap (λ k. min k n) e ∙ min-eq_left (omega arith)
 
 module _ (q : ℕ → Bool) (w : ℕ) (first : q 0 ≡ true) (others : (k : ℕ) → q (suc k) ≡ nat_lt (suc k) w) where
+  -- one more is asked
+  one_on : (from n x : ℕ) → x ≡ min (w - suc (suc from)) n → cond (nat_lt (suc from) w) (suc x) x ≡ min (w - suc from) (suc n)
+  one_on from n x e = by (dec_lt (suc from) w)
+    where
+      by : Dec (suc from < w) → cond (nat_lt (suc from) w) (suc x) x ≡ min (w - suc from) (suc n)
+      by (yes lt) =
+          ap (λ b. cond b (suc x) x) (lt-ltb (suc from) w lt)
+          ∙ ap suc e ∙ min_suc (w - suc (suc from)) (w - suc from) n (omega (arith, lt))
+      by (no ge) =
+          ap (λ b. cond b (suc x) x) (le-ltb (suc from) w (omega (arith, ge)))
+          ∙ e ∙ min_zero (w - suc (suc from)) n (omega (arith, ge)) ∙ sym (min_zero (w - suc from) (suc n) (omega (arith, ge)))
+
   -- from the second on
   counted : (from n : ℕ) → count_by q (counting (suc from) n) ≡ min (w - suc from) n
   counted from zero = sym (min-eq_right (omega arith))
   counted from (suc n) =
-      one_more (q (suc from)) (count_by q (counting (suc (suc from)) n))
+      sum_by-cons (λ k. cond (q k) 1 0) (suc from) (counting (suc (suc from)) n)
+      ∙ one_more (q (suc from)) (count_by q (counting (suc (suc from)) n))
       ∙ ap (λ b. cond b (suc (count_by q (counting (suc (suc from)) n))) (count_by q (counting (suc (suc from)) n))) (others from)
-      ∙ by (dec_lt (suc from) w)
-    where
-      by : Dec (suc from < w)
-          → cond (nat_lt (suc from) w) (suc (count_by q (counting (suc (suc from)) n))) (count_by q (counting (suc (suc from)) n)) ≡ min (w - suc from) (suc n)
-      by (yes lt) =
-          ap (λ b. cond b (suc (count_by q (counting (suc (suc from)) n))) (count_by q (counting (suc (suc from)) n))) (lt-ltb (suc from) w lt)
-          ∙ ap suc (counted (suc from) n) ∙ min_suc (w - suc (suc from)) (w - suc from) n (omega (arith, lt))
-      by (no ge) =
-          ap (λ b. cond b (suc (count_by q (counting (suc (suc from)) n))) (count_by q (counting (suc (suc from)) n))) (le-ltb (suc from) w (omega (arith, ge)))
-          ∙ counted (suc from) n
-          ∙ min_zero (w - suc (suc from)) n (omega (arith, ge)) ∙ sym (min_zero (w - suc from) (suc n) (omega (arith, ge)))
+      ∙ one_on from n (count_by q (counting (suc (suc from)) n)) (counted (suc from) n)
 
   pub count_is : (n : ℕ) → 0 < n → count_by q (counting 0 n) ≡ suc (min (w - 1) (n - 1))
   count_is zero some = absurd (omega (arith, some))
   count_is (suc n) some =
       let same : n ≡ suc n - 1 = omega arith in
-      one_more (q 0) (count_by q (counting 1 n))
+      sum_by-cons (λ k. cond (q k) 1 0) 0 (counting 1 n)
+      ∙ one_more (q 0) (count_by q (counting 1 n))
       ∙ ap (λ b. cond b (suc (count_by q (counting 1 n))) (count_by q (counting 1 n))) first
       ∙ ap suc (counted 0 n) ∙ ap (λ k. suc (min (w - 1) k)) same
 
@@ -131,7 +136,7 @@ module _ (reported : AreReportsOfWords) (w : WorldOf) (holds : Holds w) where
   counts : n ≡ length state.world.threads
   counts = ap length has.shown.represents.world_is.threads ∙ ap (λ (s : StateOf ℕ). length s.world.threads) has.lead.are.are
 
-  able : List ℕ
+  abbrev able : List ℕ
   able = filter (may_step w.trees frames state) (counting 0 (length state.world.threads))
 
   able_is : able_in m w.trees has.at ≡ able

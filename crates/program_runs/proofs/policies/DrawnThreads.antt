@@ -19,11 +19,11 @@ none_able m count able none u low high trees bounds inflated state program shown
 -- the one of a place that is drawn
 pub drawn_is : (m : MachineOf) (count place : ℕ) (old new : List ℕ) → AreAble m count → (r : Option ℕ) → IsAbleAt m place r → (place, words_after new) ≡ below count (words_after old)
     → place < count → IsDrawn m old r new
-drawn_is m count place old new able None at drawn within u low high trees bounds inflated state program shown =
+drawn_is m count place old new able None at drawn within = λ u low high trees bounds inflated state program shown.
     let l = able_in m trees state in
     let inside : place < length l = subst (λ n. place < n) (able trees bounds inflated state program shown) within in
     absurd (none-some (slice_index l place) (at trees bounds inflated state program shown ∙ slice_get-get_or l place 0 inside))
-drawn_is m count place old new able (Some t) at drawn within trees bounds inflated state program shown =
+drawn_is m count place old new able (Some t) at drawn within = λ trees bounds inflated state program shown.
     let l = able_in m trees state in
     let found : slice_index l place ≡ t = get_or_from_slice_get l place t 0 (sym (at trees bounds inflated state program shown)) in
     ap (λ k. let d : ℕ × Stream = (k, words_after new) in d) (sym found)

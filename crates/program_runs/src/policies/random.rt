@@ -41,7 +41,8 @@ fn drawn_thread(random: &mut Xoshiro256PlusPlus, machine: &Machine) -> Option<u1
     enabled_at(machine, below(random, u32::from(count)) as u16)
 }
 
-/// The number of one of the waiters that the next event of a thread may wake, which is drawn; 0 where there are not two.
+/// The number of one of the waiters that the next event of a thread may wake, which is drawn; 0 where there are not
+/// two.
 fn drawn_pick(random: &mut Xoshiro256PlusPlus, machine: &Machine, thread: u16) -> u16
     ensures { IsPickDrawn machine.now thread random.old result random.new }
 {

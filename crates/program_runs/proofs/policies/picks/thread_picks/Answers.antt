@@ -18,7 +18,7 @@ pub returns-in-Some : goal.returns-in-Some
 returns-in-Some c = λ trees bounds inflated state frames program shown k.
     let own = lent_of trees c.args.program.now bounds inflated c.args.shared.now state shown c.args.thread _ c.in-Some.ensures in
     let g = goes_on_shown trees c.args.program.now bounds inflated c.args.shared.now state shown c.args.thread
-        (subst (λ b. GoesOnIf b c.args.shared.now.threads.threads c.args.thread) c.if-not-goes_on.false c.goes_on.ensures) in
+    (subst (λ b. GoesOnIf b c.args.shared.now.threads.threads c.args.thread) c.if-not-goes_on.false c.goes_on.ensures) in
     runs_there trees frames c.args.thread k state own.0 own.1.is_own g.0 g.1
     ∙ c.stack_picks.ensures trees bounds inflated state own.0 frames program own.1 g.0 g.1 k
 
