@@ -8,7 +8,7 @@
 //!   for each seed up to the last, and none shows what is wanted. *Found*: the last run shows it, and none before it.
 //!   *GaveUp* comes only where the watch may stop a sweep, behind a run, and none shows what is wanted (`EndsSo`).
 //! - `PolicyRuns`: a run is the record of one of these class files, under these limits and with this budget, and it
-//!   hasn't ended for want of memory. By `mixed` its events are those of the seed (`IsRunWith`, with `events_by` of
+//!   hasn't ended for want of memory. Its events are those of the policy and the seed (`IsRunWith`, with `events_by` of
 //!   `policies`).
 //! - `SideBySide`: the run with a seed is such a run with that seed, though others are done beside it, ahead of what is
 //!   asked for (`is`, with `AreAhead` of all that are kept). So no clause of `sweep` names the workers: what is told

@@ -17,10 +17,11 @@
 //! - `Policy::has_turns` tells whether each turn is of one event at least, which `run_by_policy` asks for. Where that
 //!   refuses, what it was handed is given up.
 //! - Of what it is made of: `below`, `pick_below`, `short_length` and `long_length` draw the numbers that the documents
-//!   (docs/REFERENCE.md) say, of the words that the generator answers; `TurnLengths::next` counts short turns and draws
-//!   the length as they say (`HasLength`); `next_thread` finds the first thread in rotation (`IsFoundBehind`), `waiting`
-//!   counts those that wait, and `enabled_at` finds a thread that has an event which is enabled. `waiters_to_pick` tells
-//!   how many waiters the next event of a thread may pick from (`PicksOf`).
+//!   (docs/REFERENCE.md) say, of the words that the generator answers. `TurnLengths::next` counts short turns and draws
+//!   the length as they say (`HasLength`). `next_thread` finds the first thread in rotation (`IsFoundBehind`), and
+//!   `waiting` counts those that wait. `enabled_count` counts the threads that have an event which is enabled
+//!   (`AreAble`), and `enabled_at` finds the one of a place among them (`IsAbleAt`). `waiters_to_pick` tells how many
+//!   waiters the next event of a thread may pick from (`PicksOf`).
 //!
 //! # Not proved
 //!
