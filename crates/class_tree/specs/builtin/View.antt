@@ -63,7 +63,7 @@ trees_of classes = map tree_in classes
 
 -- all of its entries have an index each
 abbrev pub fits : declared_class.BuiltInClass → Bool
-fits c = nat_lt (5 + 2 * length c.interfaces.now + length c.operands.now + 2 * length c.natives.now) (2 ^ 16)
+fits c = nat_lt (6 + 2 * length c.interfaces.now + length c.operands.now + 2 * length c.natives.now) (2 ^ 16)
 
 abbrev pub all_fit : List declared_class.BuiltInClass → Bool
 all_fit classes = list_all fits classes

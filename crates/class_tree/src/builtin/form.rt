@@ -301,7 +301,7 @@ fn super_index(class: &BuiltInClass) -> u16
 
 /// The class file of a built-in class.
 pub(crate) fn class_file(alloc: Global, class: &BuiltInClass) -> Result<ClassFile, AllocError>
-    requires { 5 + 2 * length class.now.interfaces.now + length class.now.operands.now + 2 * length class.now.natives.now < 2 ^ 16 }
+    requires { 6 + 2 * length class.now.interfaces.now + length class.now.operands.now + 2 * length class.now.natives.now < 2 ^ 16 }
     ensures { IfOk result (λ c. file_of c ≡ tree_of (class_of class.now)) }
 {
     Ok(ClassFile {
