@@ -3,7 +3,8 @@ use Rattle.std.specs.Prelude.{◌≡◌, ◌+◌, List, [], ◌∷◌, ◌++◌,
 use Rattle.std.specs.List.{flat_map}
 use Rattle.model.specs.Names.{Name}
 use Rattle.model.specs.Tree.{MethodTree, FileTree}
-use Rattle.model.specs.BuiltIn.{object_class, runnable_class, thread_class, system_class, print_stream_class, built_in_classes}
+use Rattle.model.specs.BuiltIn.{object_class, runnable_class, system_class, print_stream_class, built_in_classes}
+use Rattle.model.specs.built_in.Thread.{thread_class}
 use Rattle.model.specs.BuiltInNumbers.{print_stream_number}
 use Rattle.model.specs.Listing.{listing}
 use Rattle.run_laws.specs.examples.Conditions.{malformed_as, names_of, of_operands, of_code, of_hierarchy, of_resolution}
