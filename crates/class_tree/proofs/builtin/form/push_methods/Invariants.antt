@@ -1,8 +1,8 @@
 use Rattle.std.proofs.Common.{◌≡◌, ◌+◌, ◌*◌, ◌++◌, drop, map}
-use Rattle.model.specs.BuiltIn.{methods_from}
+use Rattle.model.specs.BuiltInForm.{methods_from}
 use Rattle.class_tree.specs.View.{method_of}
 use Rattle.class_tree.specs.builtin.View.{members_of}
-use Rattle.class_tree.proofs.builtin.outline.push_methods.Given as goal
+use Rattle.class_tree.proofs.builtin.form.push_methods.Given as goal
 
 abbrev pub invariant-loop-member : goal.invariant-loop-member
 invariant-loop-member l =

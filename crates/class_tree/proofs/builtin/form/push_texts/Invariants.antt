@@ -1,8 +1,8 @@
 use Rattle.std.proofs.Common.{◌≡◌, ◌++◌, drop}
-use Rattle.model.specs.BuiltIn.{texts_of}
+use Rattle.model.specs.BuiltInForm.{texts_of}
 use Rattle.constant_pool.specs.View.{entries_of}
 use Rattle.class_tree.specs.builtin.View.{members_of}
-use Rattle.class_tree.proofs.builtin.outline.push_texts.Given as goal
+use Rattle.class_tree.proofs.builtin.form.push_texts.Given as goal
 
 abbrev pub invariant-loop-member : goal.invariant-loop-member
 invariant-loop-member l =
