@@ -25,8 +25,6 @@ use progress::{Cleared, Progress};
 use std::alloc::AllocError;
 use std::io::{ErrorKind, IsTerminal, Write};
 use std::process::ExitCode;
-use std::random::RandomSource;
-use std::rt::{Clock, Files};
 use std::sync::Wait;
 use std::thread::Threads;
 use std::{env, io};
@@ -43,13 +41,7 @@ fn main(rt: HostRuntime) -> ExitCode {
         Ok(library) => library,
         Err(AllocError) => return ExitCode::from(without_memory(&rt).code()),
     };
-    let ending = done(
-        &rt,
-        library.as_slice(),
-        words.as_slice(),
-        rt.stderr().is_terminal(),
-        rt.stdout().is_terminal(),
-    );
+    let ending = done(&rt, &rt, library.as_slice(), words.as_slice());
     if ending.is_closed {
         return ExitCode::from(CLOSED_PIPE);
     }
@@ -79,26 +71,24 @@ fn is_closed(failure: Option<&io::Error>) -> bool {
     }
 }
 
-/// Does what the words say over the files of the system, with the library, the standard input and the standard output.
-/// The standard error shows how far a run or a search is, if it is a terminal; and the standard output shows the lines
-/// of a run as they are printed, if it is one.
-fn done<
-    'a,
-    R: Files + Input + Print + Eprint + Clock + RandomSource + AllocGlobal + Threads + Wait + Sync,
->(
-    rt: &R,
+/// Does what the words say over the files of the system, with the library, the standard input and the standard output,
+/// in threads of the first of these handles. The standard error shows how far a run or a search is, if it is a
+/// terminal; and the standard output shows the lines of a run as they are printed, if it is one.
+fn done<'a, R: Threads + Wait + Sync>(
+    threads: &R,
+    rt: &HostRuntime,
     library: &[LibraryClass<'a>],
     words: &[String],
-    is_terminal: bool,
-    follows: bool,
 ) -> Ending<'a> {
-    let progress = Progress::new(rt, is_terminal, follows);
+    let is_wanted = rt.stderr().is_terminal();
+    let follows = rt.stdout().is_terminal();
+    let progress = Progress::new(rt, is_wanted, follows);
     let mut output = Counted::new(rt.alloc(), Cleared::new(&progress, io::writer(rt)));
     let mut input = Counted::new(rt.alloc(), rt.reader());
     let mut folder = SystemFolder::new(rt);
     let mut explanation = Explanation::new(rt.alloc(), true);
     let outcome = run(
-        rt,
+        threads,
         rt.alloc(),
         &progress,
         library,
