@@ -25,6 +25,7 @@ use progress::{Cleared, Progress};
 use std::alloc::AllocError;
 use std::io::{ErrorKind, IsTerminal, Write};
 use std::process::ExitCode;
+use std::rt::Files;
 use std::sync::Wait;
 use std::thread::Threads;
 use std::{env, io};
@@ -72,23 +73,23 @@ fn is_closed(failure: Option<&io::Error>) -> bool {
 }
 
 /// Does what the words say over the files of the system, with the library, the standard input and the standard output,
-/// in threads of the first of these handles. The standard error shows how far a run or a search is, if it is a
-/// terminal; and the standard output shows the lines of a run as they are printed, if it is one.
-fn done<'a, R: Threads + Wait + Sync>(
-    threads: &R,
-    rt: &HostRuntime,
+/// all by the first handle. By the other, the same, the standard error shows how far a run or a search is, if it is a
+/// terminal, and the standard output the lines of a run as they are printed, if it is one.
+fn done<'a, R: Files + Input + Print + AllocGlobal + Threads + Wait + Sync>(
+    rt: &R,
+    host: &HostRuntime,
     library: &[LibraryClass<'a>],
     words: &[String],
 ) -> Ending<'a> {
-    let is_wanted = rt.stderr().is_terminal();
-    let follows = rt.stdout().is_terminal();
-    let progress = Progress::new(rt, is_wanted, follows);
+    let is_wanted = host.stderr().is_terminal();
+    let follows = host.stdout().is_terminal();
+    let progress = Progress::new(host, is_wanted, follows);
     let mut output = Counted::new(rt.alloc(), Cleared::new(&progress, io::writer(rt)));
     let mut input = Counted::new(rt.alloc(), rt.reader());
     let mut folder = SystemFolder::new(rt);
     let mut explanation = Explanation::new(rt.alloc(), true);
     let outcome = run(
-        threads,
+        rt,
         rt.alloc(),
         &progress,
         library,
