@@ -28,30 +28,28 @@ class DaskEngine(Engine):
         if importlib.util.find_spec("distributed") is None:
             raise Fault(USAGE, "engine refused Missing dask", "it is in Debian's package python3-distributed")
         if self.scheduler:
-            self.client().close()
+            self.client(self.scheduler).close()
 
-    def client(self) -> Any:
-        """A client of the scheduler, or of one that begins here."""
-        from distributed import Client, LocalCluster
+    @staticmethod
+    def client(scheduler: str) -> Any:
+        """A client of the scheduler at an address."""
+        from distributed import Client
 
-        if not self.scheduler:
-            local = LocalCluster(
-                n_workers=self.jobs, threads_per_worker=1, processes=True, dashboard_address=None, silence_logs="ERROR"
-            )
-            return Client(local)
         try:
-            return Client(self.scheduler, timeout=SECONDS_TO_CONNECT)
+            return Client(scheduler, timeout=SECONDS_TO_CONNECT)
         except (OSError, ValueError) as fault:
-            raise Fault(USAGE, f"engine refused Scheduler {self.scheduler}", str(fault)) from fault
+            raise Fault(USAGE, f"engine refused Scheduler {scheduler}", str(fault)) from fault
 
     def do(self, job: Job, numbers: Sequence[int]) -> None:
-        client = self.client()
-        try:
+        if self.scheduler:
+            with self.client(self.scheduler) as client:
+                self.collect(client, job, numbers)
+            return
+        from distributed import Client, LocalCluster
+
+        local = {"threads_per_worker": 1, "processes": True, "dashboard_address": None, "silence_logs": "CRITICAL"}
+        with LocalCluster(n_workers=self.jobs, **local) as cluster, Client(cluster) as client:
             self.collect(client, job, numbers)
-        finally:
-            if not self.scheduler:
-                client.cluster.close()
-            client.close()
 
     def collect(self, client: Any, job: Job, numbers: Sequence[int]) -> None:
         """Hands parts to the scheduler, some ahead, and keeps what comes back."""
