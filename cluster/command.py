@@ -6,7 +6,7 @@ import pathlib
 import re
 import shutil
 import sys
-from typing import Callable, List, Sequence
+from typing import Callable, Dict, List, Optional, Sequence
 
 from cluster.dask_engine import DaskEngine
 from cluster.engines import Engine, Job, ParallelEngine
@@ -47,7 +47,8 @@ def add_engine(parser: argparse.ArgumentParser) -> None:
     parser.add_argument("--seeds", required=True, metavar="A..B", help="the seeds")
     parser.add_argument("--folder", required=True, type=pathlib.Path, metavar="FOLDER", help="where parts are kept")
     parser.add_argument("--engine", choices=["parallel", "dask"], default="parallel")
-    parser.add_argument("--jobs", type=at_most, default=os.cpu_count(), metavar="N", help="parts at a time on a machine")
+    jobs = "how many parts are done at a time on a machine"
+    parser.add_argument("--jobs", type=at_most, default=os.cpu_count(), metavar="N", help=jobs)
     parser.add_argument("--machines", type=pathlib.Path, metavar="FILE", help="of parallel: its --sshloginfile")
     parser.add_argument("--scheduler", metavar="ADDRESS", help="of dask: its scheduler, as tcp://10.0.0.1:8786")
     size = "how many seeds a part has"
@@ -72,7 +73,7 @@ def sweep_parser(parser: argparse.ArgumentParser) -> None:
     parser.add_argument("--files-alone", action="store_true")
     for name in LIMITS:
         parser.add_argument(f"--{name}", type=number(0, GREATEST), metavar="N")
-    parser.set_defaults(does=lambda options: run(options, sweep_plan(options)))
+    parser.set_defaults(does=lambda options: run(options, sweep_plan), sets=False)
 
 
 def fuzz_parser(parser: argparse.ArgumentParser) -> None:
@@ -80,7 +81,7 @@ def fuzz_parser(parser: argparse.ArgumentParser) -> None:
     add_run(parser)
     parser.add_argument("--budget", type=number(0, GREATEST), default=FUZZ_BUDGET, metavar="N")
     parser.add_argument("--sets", action="store_true", help="tries sets of class files that are made by chance")
-    parser.set_defaults(does=lambda options: run(options, fuzz_plan(options)), record=None)
+    parser.set_defaults(does=lambda options: run(options, fuzz_plan), record=None)
 
 
 def part_parser(parser: argparse.ArgumentParser) -> None:
@@ -96,20 +97,7 @@ def merge_parser(parser: argparse.ArgumentParser) -> None:
     parser.set_defaults(does=lambda options: merge(Folder(options.folder), options.record))
 
 
-def parser_of(text: str) -> argparse.ArgumentParser:
-    parser = Parser("jvm-cluster", description=text, formatter_class=argparse.RawDescriptionHelpFormatter)
-    commands = parser.add_subparsers(dest="command", metavar="COMMAND", required=True)
-    for name, summary, fill in (
-        ("sweep", "a run for each seed, as jvm run --seeds", sweep_parser),
-        ("fuzz", "runs compared with the oracle's, or sets of class files made by chance", fuzz_parser),
-        ("part", "does one part of a folder, as a task of an array does it", part_parser),
-        ("merge", "tells what the parts of a folder tell together", merge_parser),
-    ):
-        fill(commands.add_parser(name, help=summary))
-    return parser
-
-
-def program_path(word: str, is_of_sets: bool) -> str:
+def program_path(word: Optional[str], is_of_sets: bool) -> str:
     """The path of the program, from the root."""
     found = word or str(TRIALS if is_of_sets else JVM)
     found = found if "/" in found else shutil.which(found) or found
@@ -135,10 +123,11 @@ def engine_of(options: argparse.Namespace) -> Engine:
     return ParallelEngine(options.jobs, options.machines)
 
 
-def run(options: argparse.Namespace, asked: Asked) -> int:
+def run(options: argparse.Namespace, plan_of: Callable[[argparse.Namespace], Asked]) -> int:
     """Does a plan, and tells what its parts tell. Nothing is written before its words are looked at."""
+    options.program = program_path(options.program, options.sets)
+    engine, asked = engine_of(options), plan_of(options)
     job = Job(Folder(options.folder.absolute()), options.program)
-    engine = engine_of(options)
     if not options.only_plan:
         engine.check(job)
     job.folder.lay_out(asked.plan, asked.files)
@@ -165,7 +154,7 @@ def do_all(job: Job, engine: Engine, tries: int) -> None:
         raise Fault(FAILED, f"part failed {wanted[0]} seeds {job.folder.plan().part_seeds(wanted[0])}", why)
 
 
-def merge(folder: Folder, record: pathlib.Path) -> int:
+def merge(folder: Folder, record: Optional[pathlib.Path]) -> int:
     """Tells what the parts of a folder tell together."""
     folder.check()
     plan = folder.plan()
@@ -189,12 +178,34 @@ def merge_comparisons(folder: Folder) -> int:
     return int(whole.difference is not None)
 
 
+COMMANDS: Dict[str, Callable[[argparse.ArgumentParser], None]] = {
+    "sweep": sweep_parser,
+    "fuzz": fuzz_parser,
+    "part": part_parser,
+    "merge": merge_parser,
+}
+
+
+def parsed(words: Sequence[str]) -> argparse.Namespace:
+    """The options of the words behind a command. Options and files come in any order, each option once."""
+    if not words or words[0] not in COMMANDS:
+        raise Fault(USAGE, f"error: a command has to be there: {', '.join(COMMANDS)}")
+    parser = Parser(f"jvm-cluster {words[0]}", allow_abbrev=False)
+    COMMANDS[words[0]](parser)
+    names = [word.partition("=")[0] for word in words if word.startswith("--")]
+    twice = [name for name in names if names.count(name) > 1]
+    if twice:
+        raise Fault(USAGE, f"error: the option {twice[0]} is given twice")
+    return parser.parse_intermixed_args(words[1:])
+
+
 def main(words: Sequence[str], text: str) -> int:
     """Does a command, and answers its status."""
+    if list(words) in (["--help"], ["-h"]):
+        print(text.rstrip("\n"))
+        return 0
     try:
-        options = parser_of(text).parse_args(words)
-        if options.command in ("sweep", "fuzz"):
-            options.program = program_path(options.program, getattr(options, "sets", False))
+        options = parsed(words)
         status: int = options.does(options)
         return status
     except Fault as fault:

@@ -6,6 +6,7 @@ cut.
 
 import os
 import pathlib
+import platform
 import re
 from typing import Dict, Iterator, List
 
@@ -18,7 +19,7 @@ PART = re.compile(r"(?P<number>[1-9][0-9]*)(?P<found>\.found)?\.json")
 
 def write_whole(path: pathlib.Path, data: bytes) -> None:
     """Puts a file there at once, with all of its bytes."""
-    new = path.with_name(f"{path.name}.{os.getpid()}.new")
+    new = path.with_name(f"{path.name}.{platform.node()}.{os.getpid()}.new")
     with open(new, "wb") as file:
         file.write(data)
         file.flush()
@@ -64,7 +65,8 @@ class Folder:
             raise Fault(USAGE, f"file refused Missing {fault.filename}", fault.strerror or "") from fault
         for name, told in checksums(found).items():
             if told != plan.files[name]:
-                raise Fault(REFUSED, f"file refused Changed {self.path / 'files' / name}", "its checksum is another one")
+                path = self.path / "files" / name
+                raise Fault(REFUSED, f"file refused Changed {path}", "its checksum is another one")
         return found
 
     def keep(self, part: Part) -> None:

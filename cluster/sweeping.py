@@ -30,7 +30,8 @@ def sweep_command(plan: Plan, program: str, seeds: Seeds) -> List[str]:
 def swept(plan: Plan, scratch: pathlib.Path, seeds: Seeds, program: str) -> Dict[str, Any]:
     """What the runs of some seeds tell, in a folder that has the files."""
     (scratch / RECORDS).mkdir()
-    ran = subprocess.run(sweep_command(plan, program, seeds), cwd=scratch, stdin=subprocess.DEVNULL, capture_output=True)
+    command = sweep_command(plan, program, seeds)
+    ran = subprocess.run(command, cwd=scratch, stdin=subprocess.DEVNULL, capture_output=True)
     if ran.returncode not in (0, 1):
         raise Fault(FAILED, f"part failed seeds {seeds}", told_of(ran))
     text = ran.stdout.decode("latin-1")

@@ -32,7 +32,8 @@ def swept(path: str, options: str) -> str:
 
 class Tables(unittest.TestCase):
     def test_the_tables_of_all_cases_are_read_and_written(self) -> None:
-        texts = re.findall(r"^case sweep-\S+\n((?:outcome|outcomes) .*?^sweep .*?)(?:status|device)", stored(), re.M | re.S)
+        told = r"^case sweep-\S+\n((?:outcome|outcomes) .*?^sweep .*?)(?:status|device)"
+        texts = re.findall(told, stored(), re.M | re.S)
         self.assertGreater(len(texts), 15)
         for text in texts:
             repeated = re.search(r"jvm run --seed \d+(.*)", text)
@@ -208,14 +209,20 @@ class Faults(Scratch):
         return ["sweep", "--folder", self.folder(), "--program", self.program, "--only-plan", *words]
 
     def test_words(self) -> None:
+        self.program = self.script("willing", "exit 0\n")
         for seeds in ("9..3", "1..", "x", "0..18446744073709551616"):
             told = f"error: invalid value for --seeds: {seeds!r} is no range of seeds, as 1..200"
             self.fault(told, *self.sweep("--seeds", seeds, LOST_UPDATE))
-        self.fault("error: unrecognized arguments: --seconds", *self.sweep("--seeds", "1..2", "--seconds", LOST_UPDATE))
+        told = "error: unrecognized arguments: --seconds"
+        self.fault(told, *self.sweep("--seeds", "1..2", "--seconds", LOST_UPDATE))
         told = "error: argument --jobs: '0' is no number from 1 to 4294967295"
         self.fault(told, *self.sweep("--seeds", "1..2", "--jobs", "0", LOST_UPDATE))
         told = "error: invalid value for --seeds-of-a-part"
         self.fault(told, *self.sweep("--seeds", "1..1000001", "--seeds-of-a-part", "1", LOST_UPDATE))
+        told = "error: the option --seeds is given twice"
+        self.fault(told, *self.sweep("--seeds", "1..2", "--seeds=3..4", LOST_UPDATE))
+        self.fault("error: unrecognized arguments: --seed", *self.sweep("--seeds", "1..2", "--seed", LOST_UPDATE))
+        self.fault("error: a command has to be there: sweep, fuzz, part, merge", "search", LOST_UPDATE)
         fuzz = ["fuzz", "--folder", self.folder(), "--seeds", "1..2"]
         self.fault("error: class files, or --sets without any, have to be there", *fuzz)
         self.fault("error: class files, or --sets without any, have to be there", *fuzz, "--sets", LOST_UPDATE)

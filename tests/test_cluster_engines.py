@@ -102,7 +102,8 @@ class Fuzzing(Scratch):
         self.assertEqual((into / "oracle.schedule").read_bytes()[:5], b"JSCH\1")
 
     def test_sets(self) -> None:
-        wrong = "[ $3 = 6 ] && printf '# seed 7: it differs\\nfile A\\n  cafe\\n5 sets of class files, 1 wrong\\n' && exit 1\n"
+        said = "# seed 7: it differs\\nfile A\\n  cafe\\n5 sets of class files, 1 wrong\\n"
+        wrong = f"[ $3 = 6 ] && printf '{said}' && exit 1\n"
         text = "echo \"$4 sets of class files, 0 wrong\"; echo '  2 run accepted'\n"
         self.program = self.script("conformance", text)
         numbers = self.planned("fuzz", "--seeds", "1..9", "--sets", step=5)
