@@ -5,6 +5,7 @@ The workers need no folder that they share. Each has to find this package, and t
 
 import importlib.util
 import sys
+import tempfile
 from typing import Any, Iterator, Optional, Sequence
 
 from cluster.engines import Engine, Job
@@ -48,8 +49,10 @@ class DaskEngine(Engine):
         from distributed import Client, LocalCluster
 
         local = {"threads_per_worker": 1, "processes": True, "dashboard_address": None, "silence_logs": "CRITICAL"}
-        with LocalCluster(n_workers=self.jobs, **local) as cluster, Client(cluster) as client:
-            self.collect(client, job, numbers)
+        with tempfile.TemporaryDirectory(prefix="jvm-cluster-") as space:
+            with LocalCluster(n_workers=self.jobs, local_directory=space, **local) as cluster:
+                with Client(cluster) as client:
+                    self.collect(client, job, numbers)
 
     def collect(self, client: Any, job: Job, numbers: Sequence[int]) -> None:
         """Hands parts to the scheduler, some ahead, and keeps what comes back."""

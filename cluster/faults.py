@@ -13,4 +13,5 @@ class Fault(Exception):
 
     def told(self) -> str:
         """Its lines: the second one is indented, as `jvm` does it."""
-        return "".join(f"{line}\n" for line in [self.line, *(f"  {line}" for line in self.reason.splitlines())])
+        reason = [f"  {line.strip()}" for line in self.reason.splitlines() if line.strip()]
+        return "".join(f"{line}\n" for line in [self.line, *reason])

@@ -14,7 +14,7 @@ from typing import List
 from tests.cluster_scratch import LOST_UPDATE, STAND_IN, Scratch
 from tools.repository import JVM
 
-SWEEP = ["--seeds", "1..21", "--seeds-of-a-part", "7", "--jobs", "2"]
+SWEEP = ["--seeds", "1..21", "--seeds-of-a-part", "7"]
 
 # Ends the worker that does the second part, the first time that it is done, and writes down what is run.
 KILLS = """case "$*" in
@@ -55,7 +55,7 @@ class Engines(Scratch):
 
     @HAS_PARALLEL
     def test_gnu_parallel(self) -> None:
-        self.sweeps("--engine", "parallel")
+        self.sweeps("--engine", "parallel", "--jobs", "2")
 
     @HAS_PARALLEL
     def test_a_part_that_always_fails_on_machines_of_a_file(self) -> None:
@@ -73,7 +73,7 @@ class Engines(Scratch):
 
     @HAS_DASK
     def test_dask(self) -> None:
-        self.sweeps("--engine", "dask")
+        self.sweeps("--engine", "dask", "--jobs", "1")
 
     @HAS_DASK
     def test_a_scheduler_that_is_not_there(self) -> None:
