@@ -30,3 +30,4 @@ pub mod LockEvents
 pub mod LockSteps
 pub mod Instructed
 pub mod OwnedMonitors
+pub mod Moves

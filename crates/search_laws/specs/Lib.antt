@@ -9,3 +9,4 @@ pub mod Waits
 pub mod OwnSteps
 pub mod OwnedMonitors
 pub mod Writes
+pub mod Moves
