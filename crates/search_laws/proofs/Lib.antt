@@ -31,3 +31,4 @@ pub mod LockSteps
 pub mod Instructed
 pub mod OwnedMonitors
 pub mod Moves
+pub mod Schedules

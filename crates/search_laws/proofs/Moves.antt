@@ -41,20 +41,21 @@ get_front (z ∷ zs) ys (suc k) x e = get_front zs ys k x e
 module _ (frame : Frame) (below : StackOf Value) where
   -- neither a call nor a return leaves as many entries
   as_many : {X : Type 0} (after : StackOf Value) → length after ≡ suc (length below) → HasMoved frame below after → X
-  as_many (Invocation callee ∷ rest) e (Called callee rest none deep) = absurd (omega (arith, e, deep))
-  as_many (entry ∷ rest) e (Returned entry rest none deep) = absurd (omega (arith, e, deep))
+  as_many after e (Called callee rest is none deep) = let many = ap length is in absurd (omega (arith, e, deep, many))
+  as_many after e (Returned entry rest is none deep) = let many = ap length is in absurd (omega (arith, e, deep, many))
 
   -- a call is of a frame that entered no monitor
   deeper : (after : StackOf Value) (entry : StackEntryOf Value) (rest : StackOf Value) → after ≡ entry ∷ rest → length rest ≡ suc (length below)
       → HasMoved frame below after → (callee : Frame) × ((entry ≡ Invocation callee) × (callee.entered ≡ None))
-  deeper (Invocation callee ∷ others) entry rest is e (Called callee others none deep) = (callee, (cc, none))
-  deeper (one ∷ others) entry rest is e (Returned one others none deep) =
-      let same : length others ≡ length rest = ap length cc in absurd (omega (arith, e, deep, same))
+  deeper after entry rest own e (Called callee others is none deep) =
+      let same : entry ∷ rest ≡ Invocation callee ∷ others = sym own ∙ is in (callee, (cc, none))
+  deeper after entry rest own e (Returned one others is none deep) =
+      let many = ap length is in let more = ap length own in absurd (omega (arith, e, deep, many, more))
 
   -- a return leaves something, of a frame that had entered none
   higher : (after : StackOf Value) → length after ≡ length below → HasMoved frame below after → (frame.entered ≡ None) × (if_left after ≡ Some after)
-  higher (Invocation callee ∷ rest) e (Called callee rest none deep) = absurd (omega (arith, e, deep))
-  higher (entry ∷ rest) e (Returned entry rest none deep) = (none, refl)
+  higher after e (Called callee rest is none deep) = let many = ap length is in absurd (omega (arith, e, deep, many))
+  higher after e (Returned entry rest is none deep) = (none, ap if_left is ∙ ap (λ (s : StackOf Value). Some s) (sym is))
 
 returned_many : (files : Program) (results : List Value) (stack : StackOf Value) → length (returned files results stack) ≡ length stack
 returned_many files results [] = refl
@@ -165,33 +166,34 @@ module _ (files : Program) (frames t : ℕ) (world : World) (frame : Frame) (bel
 
 module _ (files : Program) (frames t : ℕ) (world : World) (frame : Frame) (below : StackOf Value) (cost : Cost) (left : PartOf Value)
     (moved : HasMoved frame below left.stack) where
-  meant : (site : Site) (meaning : MeaningOf Value) (max_stack : ℕ) → bytecode_by values files frames (next_event t) world frame below max_stack (Some meaning) ≡ Next cost left
-      → own_meant all files frames t world frame below site meaning ≡ Some left.stack
-  meant site meaning max_stack e = by (values.finds files (types_of world.heap) meaning.wants max_stack frame.place.slots) e
-    where
-      abbrev ops_now : List Value
-      ops_now = ops_of values meaning frame.place.slots
+  abbrev all_of : StackOf Value
+  all_of = Invocation frame ∷ below
 
-      abbrev rest_now : SteppedOf (PartOf Value)
-      rest_now = done values files frames (next_event t) world frame below meaning
+  module _ (site : Site) (meaning : MeaningOf Value) where
+    abbrev ops_now : List Value
+    ops_now = ops_of values meaning frame.place.slots
 
-      abbrev whole_now : StackOf Value
-      whole_now = Invocation frame ∷ below
+    abbrev rest_now : SteppedOf (PartOf Value)
+    rest_now = done values files frames (next_event t) world frame below meaning
 
-      by_may : (b : Bool) → enabled_if b (needing_class values files t meaning.looks world whole_now rest_now) ≡ Next cost left
-          → own_meant all files frames t world frame below site meaning ≡ Some left.stack
-      by_may false x = none_left NotEnabled cost left refl x
-      by_may true x =
-          let n = needed files frames t world frame below (asks all files site) cost left moved meaning.looks rest_now x in
-          let does = meaning.does (next_event t) world frame.place.slots ops_now (under meaning.wants frame.place.slots) in
-          ap (λ b. if b then own_outcome files frames frame below (asks all files site) does else None) n.0
-          ∙ came_to files frames t world frame below (asks all files site) cost left moved does n.1
+    by_may : (b : Bool) → enabled_if b (needing_class values files t meaning.looks world all_of rest_now) ≡ Next cost left
+        → own_meant all files frames t world frame below site meaning ≡ Some left.stack
+    by_may false x = none_left NotEnabled cost left refl x
+    by_may true x =
+        let n = needed files frames t world frame below (asks all files site) cost left moved meaning.looks rest_now x in
+        let does = meaning.does (next_event t) world frame.place.slots ops_now (under meaning.wants frame.place.slots) in
+        ap (λ b. if b then own_outcome files frames frame below (asks all files site) does else None) n.0
+        ∙ came_to files frames t world frame below (asks all files site) cost left moved does n.1
 
-      by : (b : Bool)
-          → (if b then enabled_if (meaning.may (next_event t) world ops_now) (needing_class values files t meaning.looks world whole_now rest_now) else unpicked (next_event t) WrongKind) ≡ Next cost left
-          → own_meant all files frames t world frame below site meaning ≡ Some left.stack
-      by false x = none_left WrongKind cost left refl x
-      by true x = by_may (meaning.may (next_event t) world ops_now) x
+    by_found : (b : Bool)
+        → (if b then enabled_if (meaning.may (next_event t) world ops_now) (needing_class values files t meaning.looks world all_of rest_now) else unpicked (next_event t) WrongKind) ≡ Next cost left
+        → own_meant all files frames t world frame below site meaning ≡ Some left.stack
+    by_found false x = none_left WrongKind cost left refl x
+    by_found true x = by_may (meaning.may (next_event t) world ops_now) x
+
+    meant : (max_stack : ℕ) → bytecode_by values files frames (next_event t) world frame below max_stack (Some meaning) ≡ Next cost left
+        → own_meant all files frames t world frame below site meaning ≡ Some left.stack
+    meant max_stack e = by_found (values.finds files (types_of world.heap) meaning.wants max_stack frame.place.slots) e
 
   by_meaning : (site : Site) (max_stack : ℕ) (o : Option (MeaningOf Value)) → bytecode_by values files frames (next_event t) world frame below max_stack o ≡ Next cost left
       → option_and_then (own_meant all files frames t world frame below site) o ≡ Some left.stack

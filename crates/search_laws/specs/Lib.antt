@@ -10,3 +10,4 @@ pub mod OwnSteps
 pub mod OwnedMonitors
 pub mod Writes
 pub mod Moves
+pub mod Schedules

@@ -11,11 +11,11 @@ use Rattle.search_laws.specs.KeptStates.{IsReached}
 use Rattle.search_laws.specs.OwnEvents.{IsFreeOf}
 
 -- A frame has called another one, which entered no monitor; or it has returned to what stood below it, and had entered none.
-pub data HasMoved (frame : Frame) (below : StackOf Value) : StackOf Value → Type 0 where
-  Called : (callee : Frame) (rest : StackOf Value) → callee.entered ≡ None → length rest ≡ suc (length below)
-      → HasMoved frame below (Invocation callee ∷ rest)
-  Returned : (entry : StackEntryOf Value) (rest : StackOf Value) → frame.entered ≡ None → suc (length rest) ≡ length below
-      → HasMoved frame below (entry ∷ rest)
+pub data HasMoved (frame : Frame) (below after : StackOf Value) : Type 0 where
+  Called : (callee : Frame) (rest : StackOf Value) → after ≡ Invocation callee ∷ rest → callee.entered ≡ None
+      → length rest ≡ suc (length below) → HasMoved frame below after
+  Returned : (entry : StackEntryOf Value) (rest : StackOf Value) → after ≡ entry ∷ rest → frame.entered ≡ None
+      → suc (length rest) ≡ length below → HasMoved frame below after
 
 -- the thread ran in a frame, with no exception pending, and has moved
 pub record IsMove (state : State) (t : ℕ) (next : State) : Type 0 where
