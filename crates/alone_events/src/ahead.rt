@@ -4,7 +4,7 @@ ghost use Rattle.std.specs.Prelude.{◌≡◌};
 ghost use Rattle.alone_events.specs.Ahead.{GoesAhead, DoesOrStays, IsTold};
 
 use crate::guesses::is_likely;
-use crate::seen::{Seen, has_moved, seen};
+use crate::seen::{Seen, has_moved, seen_of};
 use crate::theorems::moves_are_alone;
 use machine::Machine;
 use machine_state::shown_runs::runs_go_on;
@@ -37,7 +37,7 @@ fn is_done(machine: &mut Machine, thread: u16) -> bool
 fn has_moved_to(before: Seen, shared: &Shared, thread: u16) -> bool
     ensures { IsTold result before shared.now thread }
 {
-    match seen(shared, thread) {
+    match seen_of(shared, thread) {
         Some(after) => has_moved(before, after),
         None => false,
     }
@@ -52,7 +52,7 @@ pub fn go_ahead(machine: &mut Machine, thread: u16) -> Ahead
     if !is_likely(machine.program(), machine.shared(), thread, frames) {
         return Ahead::Stays;
     }
-    let Some(before) = seen(machine.shared(), thread) else {
+    let Some(before) = seen_of(machine.shared(), thread) else {
         return Ahead::Stays;
     };
     if !is_done(machine, thread) {

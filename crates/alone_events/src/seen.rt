@@ -29,7 +29,7 @@ fn seen_in(stack: &ThreadStack) -> Option<Seen>
 }
 
 /// What is seen of a thread, if it runs, with no exception pending, and has a frame on top of its stack.
-pub(crate) fn seen(shared: &Shared, thread: u16) -> Option<Seen>
+pub(crate) fn seen_of(shared: &Shared, thread: u16) -> Option<Seen>
     ensures { IsSeen shared.now thread result }
 {
     if !goes_on(&shared.threads, thread) {

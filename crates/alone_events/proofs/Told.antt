@@ -1,0 +1,140 @@
+-- What is seen of a thread, and what is told by it.
+use Rattle.std.proofs.Common.{◌≡◌, ℕ, List, [], ◌∷◌, ◌++◌, length, Option, Some, None, Result, Ok, Err, Bool, true, false, refl, sym, ap, ◌∙◌, subst}
+use Rattle.std.specs.Prelude.{◌↔◌, IsTrue, slice_get}
+use Rattle.std.proofs.lemmas.Bool.{false≢true}
+use Rattle.std.proofs.lemmas.List.{append-nil}
+use Rattle.std.proofs.lemmas.Option.{same_Some, none-some}
+use Rattle.model.specs.declared.event.Event.{Event}
+use Rattle.model.specs.declared.limits.Limits.{Limits}
+use Rattle.model.specs.Classes.{Program}
+use Rattle.model.specs.LimitStands.{bounds_of, inflated}
+use Rattle.linked_code.specs.declared.program.LinkedProgram.{LinkedProgram}
+use Rattle.thread_stacks.specs.Stacks.{ShownFrame, ShownEntry, Invocation, Initialisation, IsTopFrame}
+use Rattle.machine_state.specs.declared.answers.Answer.{Answer}
+use Rattle.machine_state.specs.declared.answers.Answer.TheVariants as answer
+use Rattle.machine_state.specs.declared.refusals.EventRefusal.{EventRefusal}
+use Rattle.machine_state.specs.declared.state.Shared.{Shared}
+use Rattle.machine_state.specs.linked_frames.Frames.{event_of}
+use Rattle.machine_state.specs.shown_runs.Runs.{HasRun, AreRunsGoingOn, GoesOn}
+use Rattle.machine.specs.Machines.{MachineOf, Steps}
+use Rattle.machine.specs.schedule_runs.Done.{HasDone}
+use Rattle.machine.specs.top_frames.Tops.{GoesOn as IsGoing}
+use Rattle.alone_events.specs.declared.ahead.Ahead.TheVariants as ahead
+use Rattle.alone_events.specs.declared.seen.Seen.{Seen}
+use Rattle.alone_events.specs.Seen.{IsInFrame, IsSeenIn, RunsInFrame, IsSeen, HasMovedBy}
+use Rattle.alone_events.specs.Ahead.{HasDoneBehind, DoesOrStays, HasCalledOrReturned, IsTold, IsAloneBehind, GoesAhead, AreMovesAloneSeen}
+
+-- ---- one thing is seen
+
+one_top : (stack : List ShownEntry) (a b : ShownFrame) → IsTopFrame stack (Some a) → IsTopFrame stack (Some b) → a ≡ b
+one_top [] a b p q = absurd (none-some a (sym p))
+one_top (Invocation frame ∷ stack) a b p q = same_Some a b (p ∙ sym q)
+one_top (Initialisation class phase ∷ stack) a b p q = absurd (none-some a (sym p))
+
+no_top : (stack : List ShownEntry) (a : ShownFrame) → IsTopFrame stack (Some a) → IsTopFrame stack None → ⊥
+no_top [] a p q = none-some a (sym p)
+no_top (Invocation frame ∷ stack) a p q = none-some frame q
+no_top (Initialisation class phase ∷ stack) a p q = none-some a (sym p)
+
+seen_by : ℕ → Option ℕ → Seen
+seen_by entries entered = record { entries = entries; entered = entered }
+
+module _ (shared : Shared) (t : ℕ) where
+  same_stack : (one other : Seen) (a : RunsInFrame shared t one) (b : RunsInFrame shared t other) → a.stack ≡ b.stack
+  same_stack one other a b = same_Some a.stack b.stack (sym a.is_stack ∙ b.is_stack)
+
+  pub same_seen : (one other : Seen) → RunsInFrame shared t one → RunsInFrame shared t other → one ≡ other
+  same_seen one other a b =
+      let stack = same_stack one other a b in
+      let shown = one_top b.stack a.is_in.shown b.is_in.shown (subst (λ s. IsTopFrame s (Some a.is_in.shown)) stack a.is_in.top) b.is_in.top in
+      let entries : one.entries ≡ other.entries = a.is_in.entries ∙ (ap length stack ∙ sym b.is_in.entries) in
+      let entered : one.entered ≡ other.entered = a.is_in.entered ∙ (ap (λ (f : ShownFrame). f.entered) shown ∙ sym b.is_in.entered) in
+      ap (λ n. seen_by n one.entered) entries ∙ ap (λ o. seen_by other.entries o) entered
+
+  -- ---- what is seen of a thread
+
+  pub seen_in_stack : (stack : List ShownEntry) → IsGoing shared.threads.threads t → slice_get shared.stacks.items t ≡ Some stack → (o : Option Seen) → IsSeenIn stack o
+      → IsSeen shared t o
+  seen_in_stack stack goes is (Some s) x = record { goes = goes; stack = stack; is_stack = is; is_in = x }
+  seen_in_stack stack goes is None x = λ s r. no_top stack r.is_in.shown (subst (λ k. IsTopFrame k (Some r.is_in.shown)) (same_Some r.stack stack (sym r.is_stack ∙ is)) r.is_in.top) x
+
+  pub no_stack : slice_get shared.stacks.items t ≡ None → IsSeen shared t None
+  no_stack is = λ s r. none-some r.stack (sym is ∙ r.is_stack)
+
+  pub not_going : (IsGoing shared.threads.threads t → ⊥) → IsSeen shared t None
+  not_going no = λ s r. no r.goes
+
+  -- ---- what is told by it
+
+  pub told_by : (r : Bool) (before after : Seen) → RunsInFrame shared t after → (IsTrue r ↔ HasMovedBy before after) → IsTold r before shared t
+  told_by true before after runs tells = (after, (runs, tells.0 refl))
+  told_by false before after runs tells = λ other is moved. false≢true (tells.1 (subst (HasMovedBy before) (same_seen other after is runs) moved))
+
+  pub told_none : (before : Seen) → IsSeen shared t None → IsTold false before shared t
+  told_none before none = λ other is moved. none other is
+
+-- ---- the event
+
+nothing_done : (old new : MachineOf) → new ≡ record old { shared = new.shared }
+    → ((files : List (List ℕ)) (trees : Program) (events : List Event) (has : HasDone old files trees events) → HasRun trees old.program (bounds_of old.limits) new.shared events)
+    → HasDoneBehind [] old new
+nothing_done old new is runs =
+    record {
+      program = ap (λ (x : MachineOf). x.program) is;
+      limits_are = ap (λ (x : MachineOf). x.limits) is;
+      done = λ files trees events has.
+          let there : HasDone (record old { shared = new.shared }) files trees (events ++ []) =
+          record { accepted = has.accepted; program = has.program; run = subst (HasRun trees old.program (bounds_of old.limits) new.shared) (sym (append-nil events)) (runs files trees events has) }
+          in
+          subst (λ m. HasDone m files trees (events ++ [])) (sym is) there;
+    }
+
+module _ (goes : AreRunsGoingOn) (t : ℕ) (old new : MachineOf) where
+  turned : (result : Result Answer EventRefusal) → Steps result (event_of t) old new → (files : List (List ℕ)) (trees : Program) (events : List Event) (has : HasDone old files trees events)
+      → GoesOn trees old.program (bounds_of old.limits) events has.run.lead.state (event_of t) result new.shared
+  turned result steps files trees events has =
+      goes files trees has.accepted old.program (bounds_of old.limits) events old.shared new.shared has.run (event_of t) result
+      (steps.1 files trees (inflated trees old.limits.frames events) has.run.at (record { accepted = has.accepted; program = has.program; shown = has.run.shown }))
+
+  pub done_once : Steps (Ok answer.Done) (event_of t) old new → DoesOrStays true t old new
+  done_once steps =
+      record {
+        program = ap (λ (x : MachineOf). x.program) steps.0;
+        limits_are = ap (λ (x : MachineOf). x.limits) steps.0;
+        done = λ files trees events has.
+            let there : HasDone (record old { shared = new.shared }) files trees (events ++ event_of t ∷ []) =
+            record { accepted = has.accepted; program = has.program; run = turned (Ok answer.Done) steps files trees events has }
+            in
+            subst (λ m. HasDone m files trees (events ++ event_of t ∷ [])) (sym steps.0) there;
+      }
+
+  pub not_enabled : Steps (Ok answer.NotEnabled) (event_of t) old new → DoesOrStays false t old new
+  not_enabled steps = nothing_done old new steps.0 (λ files trees events has. (turned (Ok answer.NotEnabled) steps files trees events has).1)
+
+  pub refused : (told : EventRefusal) → Steps (Err told) (event_of t) old new → DoesOrStays false t old new
+  refused told steps = nothing_done old new steps.0 (λ files trees events has. (turned (Err told) steps files trees events has).1.1)
+
+pub stays : (m : MachineOf) → HasDoneBehind [] m m
+stays m = record { program = refl; limits_are = refl; done = λ files trees events has. subst (HasDone m files trees) (sym (append-nil events)) has }
+
+-- ---- whether it was alone
+
+module _ (t : ℕ) (old new : MachineOf) (before : Seen) (was : RunsInFrame old.shared t before) (done : HasDoneBehind (event_of t ∷ []) old new) where
+  pub seen_alone : AreMovesAloneSeen → IsTold true before new.shared t → GoesAhead ahead.Alone t old new
+  seen_alone alone told = (done, (called, behind))
+    where
+      called : HasCalledOrReturned t old.shared new.shared
+      called = record { before = before; was = was; after = told.0; is = told.1.0; moved = told.1.1 }
+
+      behind : IsAloneBehind t old
+      behind files trees events has =
+          let then = (done.done files trees events has).run in
+          let by_program = subst (λ p. HasRun trees p (bounds_of new.limits) new.shared (events ++ event_of t ∷ [])) done.program then in
+          let by_limits = subst (λ (l : Limits). HasRun trees old.program (bounds_of l) new.shared (events ++ event_of t ∷ [])) done.limits_are by_program in
+          alone files trees has.accepted old.program (bounds_of old.limits) old.shared new.shared t events has.run by_limits called
+
+  pub seen_past : IsTold false before new.shared t → GoesAhead ahead.Past t old new
+  seen_past told = (
+    done,
+    λ called. told called.after called.is (subst (λ b. HasMovedBy b called.after) (same_seen old.shared t called.before before called.was was) called.moved),
+  )
