@@ -32,3 +32,5 @@ pub mod Instructed
 pub mod OwnedMonitors
 pub mod Moves
 pub mod Schedules
+pub mod Leaving
+pub mod Releases

@@ -33,7 +33,7 @@ use Rattle.search_laws.proofs.Verdicts.{reached_typed}
 
 -- ---- what is left of a stack
 
-get_front : {A : Type 0} (xs ys : List A) (k : ℕ) (x : A) → slice_get xs k ≡ Some x → slice_get (xs ++ ys) k ≡ Some x
+pub get_front : {A : Type 0} (xs ys : List A) (k : ℕ) (x : A) → slice_get xs k ≡ Some x → slice_get (xs ++ ys) k ≡ Some x
 get_front [] ys k x e = absurd (none-some x e)
 get_front (z ∷ zs) ys zero x e = e
 get_front (z ∷ zs) ys (suc k) x e = get_front zs ys k x e
@@ -57,19 +57,19 @@ module _ (frame : Frame) (below : StackOf Value) where
   higher after e (Called callee rest is none deep) = let many = ap length is in absurd (omega (arith, e, deep, many))
   higher after e (Returned entry rest is none deep) = (none, ap if_left is ∙ ap (λ (s : StackOf Value). Some s) (sym is))
 
-returned_many : (files : Program) (results : List Value) (stack : StackOf Value) → length (returned files results stack) ≡ length stack
+pub returned_many : (files : Program) (results : List Value) (stack : StackOf Value) → length (returned files results stack) ≡ length stack
 returned_many files results [] = refl
 returned_many files results (Invocation frame ∷ stack) = refl
 returned_many files results (Initialisation class phase ∷ stack) = refl
 
 -- what an event leaves, where it leads on
-left_of : (x : SteppedOf (PartOf Value)) (cost other : Cost) (one left : PartOf Value) → x ≡ Next cost one → x ≡ Next other left → one ≡ left
+pub left_of : (x : SteppedOf (PartOf Value)) (cost other : Cost) (one left : PartOf Value) → x ≡ Next cost one → x ≡ Next other left → one ≡ left
 left_of x cost other one left p q = by (sym p ∙ q)
   where
     by : Next cost one ≡ Next other left → one ≡ left
     by e = cc
 
-none_left : {X : Type 0} (x : SteppedOf (PartOf Value)) (cost : Cost) (left : PartOf Value) → next_by x ≡ None → x ≡ Next cost left → X
+pub none_left : {X : Type 0} (x : SteppedOf (PartOf Value)) (cost : Cost) (left : PartOf Value) → next_by x ≡ None → x ≡ Next cost left → X
 none_left x cost left off e = absurd (none-some left (sym off ∙ ap next_by e))
 
 invocation_same : (one other : Frame) → Invocation one ≡ Invocation other → one ≡ other

@@ -11,3 +11,4 @@ pub mod OwnedMonitors
 pub mod Writes
 pub mod Moves
 pub mod Schedules
+pub mod Releases

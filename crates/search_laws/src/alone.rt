@@ -37,6 +37,8 @@
 //!   one that had entered none, that event is alone (`calls_and_returns_are_alone`).
 //! - A monitorexit of a monitor that the thread owns, a monitorenter of one, and the return from a synchronized method
 //!   whose monitor it owns, but for its first method, are alone (`events_on_owned_monitors_are_alone`).
+//! - An event by which a thread leaves a monitor that it owned is alone, where the thread runs on, with no exception
+//!   pending and no more entries on its stack (`events_that_leave_monitors_are_alone`).
 //!
 //! # Not proved
 //!
@@ -49,7 +51,10 @@ ghost use Rattle.search_laws.specs.Moves.{AreMovesAlone};
 ghost use Rattle.search_laws.specs.OwnEvents.{AreLocalEventsOwn, AreOwnEventsAlone};
 ghost use Rattle.search_laws.specs.OwnSteps.{AreOwnStepsOwn};
 ghost use Rattle.search_laws.specs.OwnedMonitors.{AreOwnedMonitorsAlone};
+ghost use Rattle.search_laws.specs.Releases.{AreReleasesAlone};
 ghost use Rattle.search_laws.specs.Writes.{AreVariablesKept, AreWritesOfProgramKept};
+
+use monitor_laws::owners::owners_are_kept;
 
 /// Well-typed states with the same words do the same.
 pub fn states_with_the_same_words_are_bisimilar()
@@ -107,3 +112,10 @@ pub fn calls_and_returns_are_alone()
 pub fn events_on_owned_monitors_are_alone()
     ensures holds { AreOwnedMonitorsAlone }
 {}
+
+/// An event by which a thread leaves a monitor, and runs on, is alone.
+pub fn events_that_leave_monitors_are_alone()
+    ensures holds { AreReleasesAlone }
+{
+    owners_are_kept();
+}
