@@ -2,3 +2,4 @@ pub mod Runs
 pub mod Standing
 pub mod Moves
 pub mod Told
+pub mod Releases

@@ -1,5 +1,5 @@
 -- What is seen of a thread, and what is told by it.
-use Rattle.std.proofs.Common.{◌≡◌, ℕ, List, [], ◌∷◌, ◌++◌, length, Option, Some, None, Result, Ok, Err, Bool, true, false, refl, sym, ap, ◌∙◌, subst}
+use Rattle.std.proofs.Common.{◌≡◌, inl, inr, ℕ, List, [], ◌∷◌, ◌++◌, length, Option, Some, None, Result, Ok, Err, Bool, true, false, refl, sym, ap, ◌∙◌, subst}
 use Rattle.std.specs.Prelude.{◌↔◌, IsTrue, slice_get}
 use Rattle.std.proofs.lemmas.Bool.{false≢true}
 use Rattle.std.proofs.lemmas.List.{append-nil}
@@ -19,10 +19,12 @@ use Rattle.machine_state.specs.shown_runs.Runs.{HasRun, AreRunsGoingOn, GoesOn}
 use Rattle.machine.specs.Machines.{MachineOf, Steps}
 use Rattle.machine.specs.schedule_runs.Done.{HasDone}
 use Rattle.machine.specs.top_frames.Tops.{GoesOn as IsGoing}
+use Rattle.alone_events.specs.declared.ahead.Ahead.{Ahead}
 use Rattle.alone_events.specs.declared.ahead.Ahead.TheVariants as ahead
+use Rattle.alone_events.specs.declared.ahead.Before.{Before}
 use Rattle.alone_events.specs.declared.seen.Seen.{Seen}
 use Rattle.alone_events.specs.Seen.{IsInFrame, IsSeenIn, RunsInFrame, IsSeen, HasMovedBy}
-use Rattle.alone_events.specs.Ahead.{HasDoneBehind, DoesOrStays, HasCalledOrReturned, IsTold, IsAloneBehind, GoesAhead, AreMovesAloneSeen}
+use Rattle.alone_events.specs.Ahead.{HasDoneBehind, DoesOrStays, HasCalledOrReturned, IsTold, IsOwned, HasLeftMonitor, Tells, IsAloneBehind, GoesAhead, TellsAlone, AreMovesAloneSeen, AreReleasesAloneSeen}
 
 -- ---- one thing is seen
 
@@ -119,22 +121,24 @@ stays m = record { program = refl; limits_are = refl; done = λ files trees even
 
 -- ---- whether it was alone
 
-module _ (t : ℕ) (old new : MachineOf) (before : Seen) (was : RunsInFrame old.shared t before) (done : HasDoneBehind (event_of t ∷ []) old new) where
-  pub seen_alone : AreMovesAloneSeen → IsTold true before new.shared t → GoesAhead ahead.Alone t old new
-  seen_alone alone told = (done, (called, behind))
-    where
-      called : HasCalledOrReturned t old.shared new.shared
-      called = record { before = before; was = was; after = told.0; is = told.1.0; moved = told.1.1 }
+module _ (t : ℕ) (old new : MachineOf) (done : HasDoneBehind (event_of t ∷ []) old new) where
+  behind : (P : ℕ → (old new : Shared) → Type 0) → TellsAlone P → P t old.shared new.shared → IsAloneBehind t old
+  behind P alone seen files trees events has =
+      let then = (done.done files trees events has).run in
+      let by_program = subst (λ p. HasRun trees p (bounds_of new.limits) new.shared (events ++ event_of t ∷ [])) done.program then in
+      let by_limits = subst (λ (l : Limits). HasRun trees old.program (bounds_of l) new.shared (events ++ event_of t ∷ [])) done.limits_are by_program in
+      alone files trees has.accepted old.program (bounds_of old.limits) old.shared new.shared t events has.run by_limits seen
 
-      behind : IsAloneBehind t old
-      behind files trees events has =
-          let then = (done.done files trees events has).run in
-          let by_program = subst (λ p. HasRun trees p (bounds_of new.limits) new.shared (events ++ event_of t ∷ [])) done.program then in
-          let by_limits = subst (λ (l : Limits). HasRun trees old.program (bounds_of l) new.shared (events ++ event_of t ∷ [])) done.limits_are by_program in
-          alone files trees has.accepted old.program (bounds_of old.limits) old.shared new.shared t events has.run by_limits called
-
-  pub seen_past : IsTold false before new.shared t → GoesAhead ahead.Past t old new
-  seen_past told = (
+  pub goes_by : AreMovesAloneSeen → AreReleasesAloneSeen → (before : Before) → RunsInFrame old.shared t before.frame → IsOwned old.shared t before.left
+      → (a : Ahead) → Tells a before new.shared t → GoesAhead a t old new
+  goes_by moves releases before was owned ahead.Stays told = absurd told
+  goes_by moves releases before was owned ahead.Alone (inl told) =
+      let called : HasCalledOrReturned t old.shared new.shared = record { before = before.frame; was = was; after = told.0; is = told.1.0; moved = told.1.1 } in
+      (done, (inl called, behind HasCalledOrReturned moves called))
+  goes_by moves releases before was owned ahead.Alone (inr told) =
+      let left : HasLeftMonitor t old.shared new.shared = record { before = before; was = was; owned = owned; leaves = told } in
+      (done, (inr left, behind HasLeftMonitor releases left))
+  goes_by moves releases before was owned ahead.Past told = (
     done,
-    λ called. told called.after called.is (subst (λ b. HasMovedBy b called.after) (same_seen old.shared t called.before before called.was was) called.moved),
+    λ called. told called.after called.is (subst (λ b. HasMovedBy b called.after) (same_seen old.shared t called.before before.frame called.was was) called.moved),
   )

@@ -59,6 +59,34 @@ fn called(
     }
 }
 
+/// The object whose monitor the instruction of the frame on top leaves: the one on top of its operands, or the one that
+/// the frame has entered.
+fn left_by(stack: &ThreadStack, instruction: LinkedInstruction) -> Option<u32> {
+    match instruction {
+        LinkedInstruction::MonitorExit => receiver(stack, 0),
+        LinkedInstruction::Return | LinkedInstruction::ReturnValue => stack.frame()?.entered,
+        _ => None,
+    }
+}
+
+/// Whether the monitor of an object was entered once.
+fn is_entered_once(heap: &Heap, object: u32) -> bool {
+    object < heap.len() && heap.entries(object) == 1
+}
+
+/// The object whose monitor a thread that runs, with no exception pending, is likely to leave for good by its next
+/// event, where it owns that.
+pub(crate) fn likely_left(program: &LinkedProgram, shared: &Shared, thread: u16) -> Option<u32> {
+    let stack = shared.stacks.get(usize::from(thread))?;
+    let instruction = instruction_at(program, stack)?;
+    let object = left_by(stack, instruction)?;
+    if is_entered_once(&shared.heap, object) {
+        Some(object)
+    } else {
+        None
+    }
+}
+
 /// Whether the frame on top has entered no monitor, and is not the only entry.
 fn returns_alone(stack: &ThreadStack) -> bool {
     match stack.frame() {

@@ -1,8 +1,10 @@
 //! What is seen of a thread that runs in a frame.
 
 ghost use Rattle.std.specs.Prelude.{◌≡◌, ◌↔◌, IsTrue};
+ghost use Rattle.model.specs.Monitors.{owns as is_owned_by, monitor_at};
 ghost use Rattle.alone_events.specs.Seen.{IsSeenIn, IsSeen, HasMovedBy};
 
+use heap::Heap;
 use machine::top_frames::goes_on;
 use machine_state::Shared;
 use thread_stacks::ThreadStack;
@@ -49,5 +51,16 @@ pub(crate) fn has_moved(before: Seen, after: Seen) -> bool
         after.entries - before.entries == 1 && after.entered.is_none()
     } else {
         before.entries - after.entries == 1 && before.entered.is_none()
+    }
+}
+
+/// Whether a thread owns the monitor of an object.
+pub(crate) fn owns(heap: &Heap, object: u32, thread: u16) -> bool
+    ensures { result ≡ is_owned_by thread (monitor_at heap.now.locks.monitors object).owner }
+{
+    if object < heap.len() {
+        heap.owner(object) == Some(thread)
+    } else {
+        false
     }
 }
