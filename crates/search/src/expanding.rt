@@ -58,9 +58,9 @@ fn meet(
         moved: _,
     } = walk;
     let (entry, is_past) = go_past(alloc, &mut machine, event)?;
-    let machine = settled(&states, number, state, machine, entry, is_past)?;
-    let (added, states) = states.add(number, state, entry, &machine, most)?;
-    let machine = states.again(number, machine, state)?;
+    let after = settled(&states, number, state, machine, entry, is_past)?;
+    let (added, states) = states.add(number, state, entry, &after, most)?;
+    let machine = states.again(number, after, state)?;
     let walk = Walk {
         states,
         machine,

@@ -125,7 +125,7 @@ module _ (files : Program) (frames t : ℕ) (state : State) (thread : Thread) (i
   -- a frame that returns has one below it
   pub returns_below : (results : List Value) (r : ℕ) (after : World) → after ≡ world → is_owner world t r ≡ true → (stack : StackOf Value) → below ≡ stack → frame.entered ≡ Some r
       → become files frames t world frame below (ReturnsTo after results) ≡ Next cost left → (one : StackEntryOf Value) × (others : StackOf Value) × (below ≡ one ∷ others)
-  returns_below results r after unchanged owned (one ∷ others) is entered e = (one, (others, is))
+  returns_below results r after unchanged owned (one ∷ others) is entered e = (one, others, is)
   returns_below results r after unchanged owned [] is entered e =
       let gone = returned files results below in
       let out = on_to (with_exit after t r) gone in
@@ -194,7 +194,7 @@ module _ (owners : AreOwnersKeptBy values) (files : List (List ℕ)) (trees : Pr
   module _ (body : Body) (is_body : body_of trees m.frame.method ≡ Some body) (site : Site) (is_site : site_at m.frame.method body m.frame.place.offset ≡ Some site)
       (meaning : MeaningOf Value) (means : meaning_of values trees site ≡ Some meaning)
       (came_by : bytecode_by values trees frames (next_event t) state.world m.frame m.below body.code.max_stack (Some meaning) ≡ Next d.cost d.left) where
-    at : IsAt trees state t
+    abbrev at : IsAt trees state t
     at = record {
       frame = m.frame;
       stack = m.below;
@@ -276,7 +276,7 @@ module _ (owners : AreOwnersKeptBy values) (files : List (List ℕ)) (trees : Pr
         returns_below trees frames t state there_now.0 there_now.1 m.frame m.below d.cost d.left m.entry m.rest left_is m.no_deeper
         (ap (λ (w : World). (thread_at w t).status) (sym world_is) ∙ m.runs) (ap (λ (w : World). (thread_at w t).pending) (sym world_is) ∙ m.calm) results r after told.1.1 m.owned m.below refl q b
         in
-        Returns at told.0 told.1.0 q k.0 k.1.0 k.1.1
+        Returns at told.0 told.1.0 q k.0 k.1 k.2
     by_outcome (Waits some after others) b told q =
         not_waiting trees frames t state there_now.0 there_now.1 m.frame m.below d.cost d.left m.entry m.rest left_is m.no_deeper
         (ap (λ (w : World). (thread_at w t).status) (sym world_is) ∙ m.runs) (ap (λ (w : World). (thread_at w t).pending) (sym world_is) ∙ m.calm) some after others b told
