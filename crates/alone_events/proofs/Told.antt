@@ -1,14 +1,11 @@
 -- What is seen of a thread, and what is told by it.
-use Rattle.std.proofs.Common.{◌≡◌, inl, inr, ℕ, List, [], ◌∷◌, ◌++◌, length, Option, Some, None, Result, Ok, Err, Bool, true, false, refl, sym, ap, ◌∙◌, subst}
-use Rattle.std.specs.Prelude.{◌↔◌, IsTrue, slice_get}
-use Rattle.std.proofs.lemmas.Bool.{false≢true}
+use Rattle.std.proofs.Common.{◌≡◌, inl, inr, ℕ, List, [], ◌∷◌, ◌++◌, length, Option, Some, Result, Ok, Err, true, false, sym, ap, ◌∙◌, subst}
 use Rattle.std.proofs.lemmas.List.{append-nil}
 use Rattle.std.proofs.lemmas.Option.{same_Some, none-some}
 use Rattle.model.specs.declared.event.Event.{Event}
 use Rattle.model.specs.declared.limits.Limits.{Limits}
 use Rattle.model.specs.Classes.{Program}
 use Rattle.model.specs.LimitStands.{bounds_of, inflated}
-use Rattle.linked_code.specs.declared.program.LinkedProgram.{LinkedProgram}
 use Rattle.thread_stacks.specs.Stacks.{ShownFrame, ShownEntry, Invocation, Initialisation, IsTopFrame}
 use Rattle.machine_state.specs.declared.answers.Answer.{Answer}
 use Rattle.machine_state.specs.declared.answers.Answer.TheVariants as answer
@@ -18,13 +15,12 @@ use Rattle.machine_state.specs.linked_frames.Frames.{event_of}
 use Rattle.machine_state.specs.shown_runs.Runs.{HasRun, AreRunsGoingOn, GoesOn}
 use Rattle.machine.specs.Machines.{MachineOf, Steps}
 use Rattle.machine.specs.schedule_runs.Done.{HasDone}
-use Rattle.machine.specs.top_frames.Tops.{GoesOn as IsGoing}
 use Rattle.alone_events.specs.declared.ahead.Ahead.{Ahead}
 use Rattle.alone_events.specs.declared.ahead.Ahead.TheVariants as ahead
 use Rattle.alone_events.specs.declared.ahead.Before.{Before}
 use Rattle.alone_events.specs.declared.seen.Seen.{Seen}
-use Rattle.alone_events.specs.Seen.{IsInFrame, IsSeenIn, RunsInFrame, IsSeen, HasMovedBy}
-use Rattle.alone_events.specs.Ahead.{HasDoneBehind, DoesOrStays, HasCalledOrReturned, IsTold, IsOwned, HasLeftMonitor, Tells, IsAloneBehind, GoesAhead, TellsAlone, AreMovesAloneSeen, AreReleasesAloneSeen}
+use Rattle.alone_events.specs.Seen.{RunsInFrame, HasMovedBy}
+use Rattle.alone_events.specs.Ahead.{HasDoneBehind, DoesOrStays, HasCalledOrReturned, IsOwned, HasLeftMonitor, Tells, IsAloneBehind, GoesAhead, TellsAlone, AreMovesAloneSeen, AreReleasesAloneSeen}
 
 -- ---- one thing is seen
 
@@ -33,12 +29,7 @@ one_top [] a b p q = absurd (none-some a (sym p))
 one_top (Invocation frame ∷ stack) a b p q = same_Some a b (p ∙ sym q)
 one_top (Initialisation class phase ∷ stack) a b p q = absurd (none-some a (sym p))
 
-no_top : (stack : List ShownEntry) (a : ShownFrame) → IsTopFrame stack (Some a) → IsTopFrame stack None → ⊥
-no_top [] a p q = none-some a (sym p)
-no_top (Invocation frame ∷ stack) a p q = none-some frame q
-no_top (Initialisation class phase ∷ stack) a p q = none-some a (sym p)
-
-seen_by : ℕ → Option ℕ → Seen
+abbrev seen_by : ℕ → Option ℕ → Seen
 seen_by entries entered = record { entries = entries; entered = entered }
 
 module _ (shared : Shared) (t : ℕ) where
@@ -52,28 +43,6 @@ module _ (shared : Shared) (t : ℕ) where
       let entries : one.entries ≡ other.entries = a.is_in.entries ∙ (ap length stack ∙ sym b.is_in.entries) in
       let entered : one.entered ≡ other.entered = a.is_in.entered ∙ (ap (λ (f : ShownFrame). f.entered) shown ∙ sym b.is_in.entered) in
       ap (λ n. seen_by n one.entered) entries ∙ ap (λ o. seen_by other.entries o) entered
-
-  -- ---- what is seen of a thread
-
-  pub seen_in_stack : (stack : List ShownEntry) → IsGoing shared.threads.threads t → slice_get shared.stacks.items t ≡ Some stack → (o : Option Seen) → IsSeenIn stack o
-      → IsSeen shared t o
-  seen_in_stack stack goes is (Some s) x = record { goes = goes; stack = stack; is_stack = is; is_in = x }
-  seen_in_stack stack goes is None x = λ s r. no_top stack r.is_in.shown (subst (λ k. IsTopFrame k (Some r.is_in.shown)) (same_Some r.stack stack (sym r.is_stack ∙ is)) r.is_in.top) x
-
-  pub no_stack : slice_get shared.stacks.items t ≡ None → IsSeen shared t None
-  no_stack is = λ s r. none-some r.stack (sym is ∙ r.is_stack)
-
-  pub not_going : (IsGoing shared.threads.threads t → ⊥) → IsSeen shared t None
-  not_going no = λ s r. no r.goes
-
-  -- ---- what is told by it
-
-  pub told_by : (r : Bool) (before after : Seen) → RunsInFrame shared t after → (IsTrue r ↔ HasMovedBy before after) → IsTold r before shared t
-  told_by true before after runs tells = (after, (runs, tells.0 refl))
-  told_by false before after runs tells = λ other is moved. false≢true (tells.1 (subst (HasMovedBy before) (same_seen other after is runs) moved))
-
-  pub told_none : (before : Seen) → IsSeen shared t None → IsTold false before shared t
-  told_none before none = λ other is moved. none other is
 
 -- ---- the event
 
@@ -114,10 +83,7 @@ module _ (goes : AreRunsGoingOn) (t : ℕ) (old new : MachineOf) where
   not_enabled steps = nothing_done old new steps.0 (λ files trees events has. (turned (Ok answer.NotEnabled) steps files trees events has).1)
 
   pub refused : (told : EventRefusal) → Steps (Err told) (event_of t) old new → DoesOrStays false t old new
-  refused told steps = nothing_done old new steps.0 (λ files trees events has. (turned (Err told) steps files trees events has).1.1)
-
-pub stays : (m : MachineOf) → HasDoneBehind [] m m
-stays m = record { program = refl; limits_are = refl; done = λ files trees events has. subst (HasDone m files trees) (sym (append-nil events)) has }
+  refused told steps = nothing_done old new steps.0 (λ files trees events has. (turned (Err told) steps files trees events has).2)
 
 -- ---- whether it was alone
 

@@ -104,7 +104,8 @@ fn do_alone(alloc: Global, machine: &mut Machine, event: Event) -> Result<Behind
 {
     let mut count = 0;
     'rounds: for round in 0..ROUNDS {
-        count += do_local(alloc, machine, event)?;
+        let local = do_local(alloc, machine, event)?;
+        count += local;
         match go_ahead(machine, event.thread) {
             Ahead::Alone => count += 1,
             Ahead::Stays => {

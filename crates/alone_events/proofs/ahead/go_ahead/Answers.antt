@@ -1,4 +1,4 @@
-use Rattle.std.proofs.Common.{Some, subst}
+use Rattle.std.proofs.Common.{subst}
 use Rattle.alone_events.specs.Ahead.{DoesOrStays, IsOwned, IsLikely, Tells}
 use Rattle.alone_events.specs.Seen.{RunsInFrame}
 use Rattle.alone_events.proofs.Told.{goes_by}
