@@ -133,6 +133,13 @@ module _ (event : Event) where
     pub all_behind : GoesAlone event n old new → GoesBehind event (record { count = n; is_past = false }) old new
     all_behind goes = record { are_alone = goes.are_alone; more = λ e. goes.more; unpicked = λ e. plain }
 
+    -- none more was done
+    pub stays_behind : (mid : MachineOf) → GoesAlone event n old mid → GoesAlone event 0 mid new → GoesBehind event (record { count = n; is_past = false }) old new
+    stays_behind mid goes none =
+        let none_more : n + 0 ≡ n = omega arith in
+        let all = subst (λ k. GoesAlone event k old new) none_more (goes_on n 0 old mid new goes none) in
+        record { are_alone = all.are_alone; more = λ e. all.more; unpicked = λ e. plain }
+
     pub one_past : (mid : MachineOf) → GoesAlone event n old mid → GoesBehind event (record { count = n; is_past = true }) old new
     one_past mid goes = record { are_alone = goes.are_alone; more = λ e. absurd (true_not e); unpicked = λ e. plain }
       where
