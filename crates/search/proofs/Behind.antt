@@ -27,8 +27,10 @@ use Rattle.search.specs.Machines.{HasDoneMore, AreAloneBehind, GoesAlone, GoesBe
 -- ---- lists
 
 replicate_more : {A : Type 0} (n k : ℕ) (x : A) → replicate (n + k) x ≡ replicate n x ++ replicate k x
-replicate_more zero k x = refl
-replicate_more (suc n) k x = ap (λ l. x ∷ l) (replicate_more n k x)
+replicate_more zero k x = let e : zero + k ≡ k = omega arith in ap (λ m. replicate m x) e
+replicate_more (suc n) k x =
+    let e : suc n + k ≡ suc (n + k) = omega arith in
+    ap (λ m. replicate m x) e ∙ ap (λ l. x ∷ l) (replicate_more n k x)
 
 -- ---- runs
 

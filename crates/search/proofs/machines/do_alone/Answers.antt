@@ -1,10 +1,7 @@
 use Rattle.std.proofs.Common.{◌+◌, arith, subst}
 use Rattle.alone_events.specs.Ahead.{GoesAhead}
-use Rattle.search.proofs.Behind.{all_behind, begins, goes_on, none_ahead, one_alone, one_past, stays_behind}
+use Rattle.search.proofs.Behind.{goes_on, none_ahead, one_alone, one_past, stays_behind}
 use Rattle.search.proofs.machines.do_alone.Goals as goal
-
-pub rounds-starts : goal.rounds-starts
-rounds-starts c = (begins c.args.event c.args.machine.now, omega arith)
 
 pub rounds-preserved : goal.rounds-preserved
 rounds-preserved c =
@@ -28,6 +25,3 @@ pub returns-in-Past-clause-alone : goal.returns-in-Past-clause-alone
 returns-in-Past-clause-alone c =
     let local = goes_on c.args.event c.rounds.count c.in_ok-local.local c.args.machine.now c.rounds.machine c.do_local.new.machine c.rounds.invariant.0 c.in_ok-local.ensures.alone in
     one_past c.args.event c.requires (c.rounds.count + c.in_ok-local.local) c.args.machine.now c.go_ahead.new.machine c.do_local.new.machine local
-
-pub returns-clause-alone : goal.returns-clause-alone
-returns-clause-alone c = all_behind c.args.event c.requires c.rounds.count c.args.machine.now c.rounds.machine c.rounds.invariant.0
