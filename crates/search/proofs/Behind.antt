@@ -1,10 +1,8 @@
 -- Events behind an event that was done, each of which is alone.
-use Rattle.std.proofs.Common.{◌≡◌, ◌<◌, ◌+◌, ℕ, zero, suc, List, [], ◌∷◌, ◌++◌, replicate, Some, Result, Ok, Err, Bool, true, false, refl, sym, ap, subst, ◌∙◌, arith}
-use Rattle.std.specs.Prelude.{IfOk}
+use Rattle.std.proofs.Common.{◌≡◌, ◌+◌, ℕ, zero, suc, List, [], ◌∷◌, ◌++◌, replicate, Some, true, false, refl, sym, ap, subst, ◌∙◌, arith}
 use Rattle.std.proofs.lemmas.Bool.{false≢true}
 use Rattle.std.proofs.lemmas.List.{append-nil, append_assoc}
 use Rattle.model.specs.declared.event.Event.{Event}
-use Rattle.model.specs.declared.event.ScheduleEntry.{ScheduleEntry}
 use Rattle.model.specs.declared.limits.Limits.{Limits}
 use Rattle.model.specs.Accepted.{IsAccepted}
 use Rattle.model.specs.Classes.{Program}
@@ -19,7 +17,7 @@ use Rattle.machine.specs.Machines.{MachineOf}
 use Rattle.machine.specs.schedule_runs.Done.{HasDone}
 use Rattle.alone_events.specs.declared.ahead.Ahead.TheVariants as ahead
 use Rattle.alone_events.specs.Alone.{AreAloneAfter}
-use Rattle.alone_events.specs.Ahead.{HasDoneBehind, GoesAhead}
+use Rattle.alone_events.specs.Ahead.{GoesAhead}
 use Rattle.search.specs.local_runs.Local.{AreLocalAfter, AreNextLocal}
 use Rattle.search.specs.declared.machines.Behind.{Behind}
 use Rattle.search.specs.Machines.{HasDoneMore, AreAloneBehind, GoesAlone, GoesBehind, GoesPast}
