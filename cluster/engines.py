@@ -1,5 +1,6 @@
 """The engines that do the parts of a plan: GNU parallel, and what an engine is. That of Dask is in dask_engine.py."""
 
+import abc
 import os
 import pathlib
 import shutil
@@ -24,16 +25,16 @@ class Job(NamedTuple):
     program: str
 
 
-class Engine:
+class Engine(abc.ABC):
     """What does parts: each that is done is kept in the folder, and one that fails is left out."""
 
+    @abc.abstractmethod
     def check(self, job: Job) -> None:
         """Raises a fault where the engine can't be used, before anything is written."""
-        raise NotImplementedError
 
+    @abc.abstractmethod
     def do(self, job: Job, numbers: Sequence[int]) -> None:
         """Does these parts, or fewer. It may leave out those behind one that has found what is looked for."""
-        raise NotImplementedError
 
 
 class ParallelEngine(Engine):

@@ -106,7 +106,8 @@ class Folder:
 
     def is_needless(self, number: int) -> bool:
         """Whether a part before it has found what is looked for."""
-        return any(is_found and earlier < number for earlier, is_found in self.numbers().items())
+        names = (PART.fullmatch(path.name) for path in (self.path / "parts").glob(part_name("*", True)))
+        return any(name and int(name["number"]) < number for name in names)
 
     def parts(self) -> Iterator[Part]:
         """The parts in their order, up to the first that has found something. One that is left out is refused."""

@@ -2,7 +2,7 @@
 
 import json
 import pathlib
-from typing import Any, Dict, List, NamedTuple
+from typing import Any, Dict, List, NamedTuple, Union
 
 from cluster.faults import REFUSED, Fault
 from cluster.plans import Plan, Seeds, checksum
@@ -29,8 +29,8 @@ class Part(NamedTuple):
         return part_name(self.number, self.is_found)
 
 
-def part_name(number: int, is_found: bool) -> str:
-    """The name of a part's file, which tells, too, whether a run of it showed what is looked for."""
+def part_name(number: Union[int, str], is_found: bool) -> str:
+    """The name of a part's file, or a pattern of such. It tells whether a run of it showed what is looked for."""
     return f"{number}.found.json" if is_found else f"{number}.json"
 
 
