@@ -1,9 +1,8 @@
 """The built-in classes as definitions of the model, and as tables of the crate `class_tree`.
 
 The class files of builtin/ are written as records `BuiltInClass` of `crates/model/specs/BuiltInForm.antt`, and as
-values `BuiltInClass` of `crates/class_tree/src/builtin/form.rt`. A class that has code is a module of its own in both.
-Its code is another one where both together would be long.
-"""
+values `BuiltInClass` of `crates/class_tree/src/builtin/form.rt`. A class that has code is a module of its own in both,
+and its code another one where both together would be long."""
 
 import pathlib
 import re
