@@ -4,6 +4,7 @@ import pathlib
 import tempfile
 import unittest
 
+from tools import built_in_tables
 from tools.built_in_files import BuiltInFault, Told, laid_out, read_tree, spelled
 from tools.class_files import METHODREF, Pool, class_file, code_attribute, member
 from tools.definitions import Definitions
@@ -20,8 +21,18 @@ pairs at (m ∷ others) =
     -- two of them
     Class at ∷ Pair m three ∷ pairs (at + 2) others
 
+abbrev pub above : Option Name → List Name → List Name
+above None names = names
+above (Some name) names = name ∷ names
+
+abbrev pub count_of : List Name → ℕ
+count_of names = 2 * length names + 1
+
 abbrev pub all_of_them : Tree
 all_of_them = record { name = codes "a/B"; parts = pairs three (7 ∷ 8 ∷ []) ++ Last ∷ []; }
+
+abbrev pub escaped : Name
+escaped = codes "a\\"\\\\\\n"
 
 pub record Named : Type 0 where
   pub name : ℕ
@@ -45,6 +56,13 @@ class Read(unittest.TestCase):
         self.assertEqual(found, {"name": b"a/B", "parts": parts})
         self.assertEqual(definitions.applied("name_of", [found]), b"a/B")
         self.assertEqual(definitions.applied("pairs", [1, []]), [])
+
+    def test_constructors_and_texts(self) -> None:
+        definitions = self.definitions()
+        self.assertEqual(definitions.applied("above", [("None",), [b"b"]]), [b"b"])
+        self.assertEqual(definitions.applied("above", [("Some", b"a"), [b"b"]]), [b"a", b"b"])
+        self.assertEqual(definitions.applied("count_of", [[b"a", b"b"]]), 5)
+        self.assertEqual(definitions.value("escaped"), b'a"\\\n')
 
     def test_what_no_clause_takes(self) -> None:
         with self.assertRaises(ValueError):
@@ -76,7 +94,7 @@ class LaidOut(unittest.TestCase):
 
     def test_constructors(self) -> None:
         found = [self.flags(methods) for methods in ("public", "private", "made", "public made", "sets")]
-        self.assertEqual(found, ["101 native", "", "1 6", "101 native 1 6", ""])
+        self.assertEqual(found, ["101 native", "", "1 6", "1 6 101 native", ""])
 
     def test_an_initialiser_that_does_something(self) -> None:
         with self.assertRaises(BuiltInFault):
@@ -92,6 +110,28 @@ class LaidOut(unittest.TestCase):
         data = of_javac("public")
         with self.assertRaises(BuiltInFault):
             read_tree(data[:7] + b"\x34" + data[8:])
+
+
+class InTables(unittest.TestCase):
+    def test_methods_with_code_stand_first(self) -> None:
+        tree = laid_out(of_javac("public made"))
+        form = built_in_tables.form_of(tree)
+        self.assertEqual([name for name, _, _ in form.coded], ["init"])
+        self.assertEqual(form.operands[-1], ("Utf8", b"Code"))
+        tree["methods"].reverse()
+        with self.assertRaises(BuiltInFault):
+            built_in_tables.form_of(tree)
+
+    def test_texts(self) -> None:
+        self.assertEqual(built_in_tables.codes(b'a"\n'), '(codes "a\\"\\n")')
+        self.assertEqual(built_in_tables.codes(b"\xc0\x80"), "(0xc0 ∷ 0x80 ∷ [])")
+        self.assertEqual(built_in_tables.literal(b"a\\\x80"), 'b"a\\\\\\x80"')
+
+    def test_a_long_class_has_its_code_apart(self) -> None:
+        forms = [built_in_tables.form_of(laid_out(of_javac(methods))) for methods in ("public", "made " * 200)]
+        names = [*built_in_tables.definitions(forms), *built_in_tables.tables(forms)]
+        defined = ["BuiltIn.antt", "built_in.antt", "built_in/ACode.antt", "built_in/A.antt"]
+        self.assertEqual(names, [*defined, "mod.rt", "a_code.rt", "a.rt"])
 
 
 class Kept(unittest.TestCase):

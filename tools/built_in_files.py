@@ -270,27 +270,31 @@ class Layout:
         return list(found)
 
 
-def laid_code(layout: Layout, method: Declared) -> Optional[Tree]:
-    if method.code is None:
-        return None
-    if method.code["exceptions"]:
+def laid_code(layout: Layout, method: Declared, code: Tree) -> Tree:
+    if code["exceptions"]:
         raise BuiltInFault(f"{method.name.decode()} has a handler")
-    code = layout.with_operands(bytes(method.code["code"]))
-    return {**method.code, "code": code, "attributes": []}
+    return {**code, "code": layout.with_operands(bytes(code["code"])), "attributes": []}
 
 
 def laid_field(layout: Layout, field: Declared) -> Tree:
+    if any(part[0] == "ConstantOf" for part in field.parts):
+        raise BuiltInFault(f"{field.name.decode()} has a constant value")
     found: Tree = {"flags": field.flags, "name": layout.text(field.name), "descriptor": layout.text(field.descriptor)}
-    constants = [part for part in field.parts if part[0] == "ConstantOf"]
-    found["parts"] = [(part[0], layout.text(b"ConstantValue"), layout.operand(part[2])) for part in constants]
-    return found
+    return {**found, "parts": []}
 
 
-def laid_method(layout: Layout, method: Declared, code: Optional[Tree]) -> Tree:
-    text = layout.added if code is None else layout.text
-    found: Tree = {"flags": method.flags, "name": text(method.name), "descriptor": text(method.descriptor)}
-    found["parts"] = [] if code is None else [("CodeOf", layout.text(b"Code"), code)]
-    return found
+def laid_coded(layout: Layout, methods: List[Declared], codes: List[Tree]) -> List[Tree]:
+    """Methods with code, behind whose texts the text `Code` stands."""
+    found: List[Tree] = []
+    for one in methods:
+        found.append({"flags": one.flags, "name": layout.text(one.name), "descriptor": layout.text(one.descriptor)})
+    at = layout.added(b"Code") if methods else 0
+    return [{**tree, "parts": [("CodeOf", at, code)]} for tree, code in zip(found, codes)]
+
+
+def laid_native(layout: Layout, method: Declared) -> Tree:
+    found: Tree = {"flags": method.flags, "name": layout.added(method.name)}
+    return {**found, "descriptor": layout.added(method.descriptor), "parts": []}
 
 
 def laid_out(data: bytes) -> Tree:
@@ -300,13 +304,12 @@ def laid_out(data: bytes) -> Tree:
     tree: Tree = {"pool": layout.pool, "flags": told.flags, "this_class": layout.class_of(told.name)}
     tree["super_class"] = layout.class_of(told.superclass) if told.superclass else 0
     tree["interfaces"] = [layout.class_of(name) for name in told.interfaces]
-    for one in methods:
-        layout.constants(bytes(one.code["code"]) if one.code else b"")
-    codes = [laid_code(layout, one) for one in methods]
+    coded = [(one, one.code) for one in methods if one.code is not None]
+    for _, code in coded:
+        layout.constants(bytes(code["code"]))
+    codes = [laid_code(layout, one, code) for one, code in coded]
     tree["fields"] = [laid_field(layout, one) for one in told.fields]
-    for one, code in zip(methods, codes):
-        if code is not None:
-            laid_method(layout, one, code)
-    tree["methods"] = [laid_method(layout, one, code) for one, code in zip(methods, codes)]
+    tree["methods"] = laid_coded(layout, [one for one, _ in coded], codes)
+    tree["methods"] += [laid_native(layout, one) for one in methods if one.code is None]
     tree["attributes"] = []
     return tree

@@ -1,21 +1,24 @@
 """Definitions of the model as they stand in its files, and what they come to by their clauses.
 
 What is read of a file are the clauses of its functions, over this part of the notation: numbers, texts, lists, records
-and their fields, constructors, functions of all of their arguments, `∷`, `++` and `+`. A list of bytes is `bytes`, a
-constructor a tuple of its name and what it has, a record a dictionary.
+and their fields, constructors, functions of all of their arguments, `length`, `∷`, `++`, `+` and `*`. A list of bytes is
+`bytes`, a constructor a tuple of its name and what it has, a record a dictionary.
 """
 
 import pathlib
 import re
 from typing import Any, Dict, Iterable, List, NamedTuple, Tuple
 
-TOKEN = re.compile(r'"(?:[^"\\]|\\.)*"|\[\]|\+\+|[\w.]+|[∷+(){};=]')
+TOKEN = re.compile(r'"(?:[^"\\]|\\.)*"|\[\]|\+\+|[\w.]+|[∷+*(){};=]')
 
 # What begins a line at the margin that is no clause.
 OTHER = ("abbrev", "unfoldable", "pub", "use")
 
 # How strongly an operator binds what stands beside it; each of them binds from the right.
-OPERATORS = {"∷": 1, "++": 1, "+": 2}
+OPERATORS = {"∷": 1, "++": 1, "+": 2, "*": 3}
+
+# What stands for what in a text.
+ESCAPES = {"n": "\n"}
 
 Scope = Dict[str, Any]
 
@@ -23,7 +26,7 @@ Scope = Dict[str, Any]
 class Clause(NamedTuple):
     """A clause of a function: its patterns and its value.
 
-    A pattern is a name, `[]`, or the names of the first of a list and of the others.
+    A pattern is a name, `[]`, the names of the first of a list and of the others, or a constructor and names.
     """
 
     patterns: List[List[str]]
@@ -87,7 +90,7 @@ class Expression:
         while OPERATORS.get(self.next(), 0) >= binding:
             operator = self.take()
             right = self.value(OPERATORS[operator])
-            left = [left, *right] if operator == "∷" else left + right
+            left = [left, *right] if operator == "∷" else left * right if operator == "*" else left + right
         return left
 
     def applied(self) -> Any:
@@ -117,7 +120,7 @@ class Expression:
         if token == "record":
             return self.record()
         if token[0] == '"':
-            return token[1:-1].encode("ascii")
+            return re.sub(r"\\(.)", lambda found: ESCAPES.get(found[1], found[1]), token[1:-1]).encode("ascii")
         if token[0].isdigit():
             return int(token, 0)
         return self.named(token)
@@ -151,8 +154,8 @@ class Definitions:
             self.functions.update(clauses_of(path.read_text(encoding="utf-8")))
 
     def arity(self, name: str) -> int:
-        """How many arguments a function takes; of a constructor and of `codes` -1, for as many as stand there."""
-        if is_constructor(name) or name == "codes":
+        """How many arguments a function takes; -1 where as many as stand there."""
+        if is_constructor(name) or name in ("codes", "length"):
             return -1
         return len(self.functions[name][0].patterns)
 
@@ -161,6 +164,8 @@ class Definitions:
             return (name, *arguments)
         if name == "codes":
             return arguments[0]
+        if name == "length":
+            return len(arguments[0])
         for clause in self.functions[name]:
             is_met, scope = matched(clause.patterns, arguments)
             if is_met:
@@ -178,6 +183,10 @@ def matched(patterns: List[List[str]], arguments: List[Any]) -> Tuple[bool, Scop
         if pattern == ["[]"]:
             if argument:
                 return False, {}
+        elif is_constructor(pattern[0]):
+            if argument[0] != pattern[0]:
+                return False, {}
+            scope.update(zip(pattern[1:], argument[1:]))
         elif len(pattern) == 2:
             if not argument:
                 return False, {}

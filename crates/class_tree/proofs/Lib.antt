@@ -3,3 +3,4 @@ mod Appended
 mod Fronts
 mod Stands
 mod Differ
+mod Indices

@@ -1,5 +1,5 @@
 -- What a Code holds stands behind its front.
-use Rattle.std.proofs.Common.{◌≡◌, ℕ, zero, suc, ◌+◌, ◌^◌, ◌<◌, List, [], ◌∷◌, ◌++◌, length, drop, Some, None, refl, sym, ap, ◌∙◌, append_assoc, arith, length-append}
+use Rattle.std.proofs.Common.{◌≡◌, ℕ, zero, suc, ◌+◌, ◌^◌, ◌<◌, List, [], ◌∷◌, ◌++◌, length, drop, Some, sym, ap, ◌∙◌, append_assoc, arith, length-append}
 use Rattle.std.specs.List.{flat_map, slice_get}
 use Rattle.std.proofs.lemmas.List.{drop_at}
 use Rattle.std.proofs.lemmas.List.Concat.{flat_map-cons}
@@ -7,7 +7,7 @@ use Rattle.model.specs.Tree.{CodeTree, MethodPart, CodeOf, SkippedOfMethod, Meth
 use Rattle.model.specs.Spelling.{u2, table, magic, version, pool, skipped, code, field, method_part, method, file, Layout}
 use Rattle.model.specs.Classes.{code_in}
 use Rattle.constant_pool.specs.Checking.{saturated}
-use Rattle.class_tree.specs.CodePlace.{before_fields, before_methods, before_parts, before_code, methods_front, front_of_code}
+use Rattle.class_tree.specs.CodePlace.{before_methods, before_parts, before_code, methods_front, front_of_code}
 use Rattle.class_tree.specs.CodePlace.{BeginsWith}
 
 Split : List ℕ → List ℕ → CodeTree → Type 0

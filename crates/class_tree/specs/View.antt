@@ -1,5 +1,5 @@
 -- The trees of `Rattle.model.specs.Tree` that the values of this crate hold.
-use Rattle.std.specs.Prelude.{List, map}
+use Rattle.std.specs.Prelude.{map}
 use Rattle.class_tree.specs.declared.tree.Attribute.{Attribute}
 use Rattle.class_tree.specs.declared.tree.Code as declared_code
 use Rattle.class_tree.specs.declared.tree.FieldAttribute.{FieldAttribute}

@@ -14,7 +14,7 @@ use Rattle.clap.specs.declared.parser.matches.SubCommand.{SubCommand}
 use Rattle.clap.specs.declared.error.Error.{Error}
 use Rattle.clap.specs.declared.error.kind.ErrorKind.{ErrorKind}
 use Rattle.clap.specs.declared.error.kind.ErrorKind.TheVariants as errors
-use Rattle.command_line.specs.CommandLine.{AreNumbers, AreNumerals, AreValuesOf, Asks, Fails, IsNumber, IsRecordedVersion, IsThenRun, Refuses, Spells, SpellsNothing, jvm, name_of, is_set, parts_of, usage_by, usage_of}
+use Rattle.command_line.specs.CommandLine.{AreNumbers, AreNumerals, AreValuesOf, Asks, Fails, IsMadeVersion, IsNumber, IsRecordedVersion, IsThenRun, Refuses, Spells, SpellsNothing, jvm, name_of, is_set, parts_of, usage_by, usage_of}
 use Rattle.command_line.specs.Numerals.{IsNumeralWithin}
 use Rattle.command_line.specs.declared.usage.Usage.{Usage}
 use Rattle.command_line.specs.declared.usage.Usage.TheVariants.{Parser, Number, Asked, OutOfMemory}
@@ -231,7 +231,19 @@ pub a_version : (rows : List Row) (found same : Option ℕ) → IsNumber 1 3 (fi
 a_version rows found same is none also =
     record { number = subst (IsNumber 1 3 (first_of (codes "as-version") rows)) (also ∙ sym none) is; recording = λ _. none }
 
--- and where nothing is, none is asked for
+-- so it is where no file is made
+pub no_made_version : (rows : List Row) (found : Option ℕ) → IsNumber 1 3 (first_of (codes "as-version") rows) found → is_set (first_of (codes "write") rows) ≡ false
+    → (found ≡ None → ⊥) → (version : Option ℕ) → IsMadeVersion rows version → ⊥
+no_made_version rows None is off asked version are = asked refl
+no_made_version rows (Some number) is off asked version are =
+    number_there (first_of (codes "as-version") rows) number version is are.number (are.writing off)
+
+pub a_made_version : (rows : List Row) (found same : Option ℕ) → IsNumber 1 3 (first_of (codes "as-version") rows) found → same ≡ None → found ≡ None
+    → IsMadeVersion rows same
+a_made_version rows found same is none also =
+    record { number = subst (IsNumber 1 3 (first_of (codes "as-version") rows)) (also ∙ sym none) is; writing = λ _. none }
+
+-- and where nothing is recorded, none is asked for
 pub unversioned : (rows : List Row) (version : Option ℕ) → IsRecordedVersion rows version → first_of (codes "record") rows ≡ None → first_of (codes "as-version") rows ≡ None
 unversioned rows version are none =
     not_there (first_of (codes "as-version") rows) (subst (IsNumber 1 3 (first_of (codes "as-version") rows)) (are.recording none) are.number)

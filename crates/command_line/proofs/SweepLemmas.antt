@@ -1,7 +1,8 @@
 -- The sweep of a run, by its words.
-use Rattle.std.proofs.Common.{◌≡◌, ◌∙◌, ◌==◌, ℕ, Bor, List, [], ◌∷◌, Option, Some, None, ap, codes, get_or, map, refl, subst, suc, sym, zero}
+use Rattle.std.proofs.Common.{◌≡◌, ◌∙◌, ◌==◌, ℕ, Bool, Bor, List, [], ◌∷◌, Option, Some, None, ap, codes, get_or, map, refl, subst, suc, sym, true, false, zero}
 use Rattle.std.specs.List.{slice_split}
 use Rattle.clap.specs.Words.{Row, Text, first_of}
+use Rattle.command_line.specs.CommandLine.{IsFollow, is_set}
 use Rattle.command_line.specs.Sweeps.{AreSeeds, IsSeedRange, IsSweepBy, IsSweepOf}
 use Rattle.command_line.specs.declared.sweep_options.SeedRange.{SeedRange}
 use Rattle.command_line.specs.declared.sweep_options.SweepOptions.{SweepOptions}
@@ -10,6 +11,13 @@ use Rattle.command_line.specs.declared.sweep_options.SweepOptions.{SweepOptions}
 
 pub isnt_there : (text : Option Text) (word : Text) → text ≡ Some word → text ≡ None → ⊥
 isnt_there text word is none = let bad : None ≡ Some word = sym none ∙ is in cc
+
+-- ---- a run of which each line is told, where seeds are named
+
+pub not_followed : (rows : List Row) (found : Bool) → found ≡ is_set (first_of (codes "follow") rows) → (word : Text) → first_of (codes "seeds") rows ≡ Some word
+    → (found ≡ false → ⊥) → (follow : Bool) → IsFollow rows follow → ⊥
+not_followed rows found is word seeds asked true are = isnt_there _ word seeds (are.alone refl)
+not_followed rows found is word seeds asked false are = asked (is ∙ sym are.flag)
 
 -- ---- seeds, by the parts of their word
 

@@ -141,15 +141,19 @@ with_then_run app = with_record (with_rule (with_rule app (flag (codes "then-run
 abbrev pub with_files : App → Rule → App
 with_files app files = with_rule (with_rule (with_rule app (flag (codes "explain"))) (flag (codes "quiet"))) files
 
+-- the same, and whether each line is printed as soon as the run prints it
+abbrev pub with_follow : App → App
+with_follow app = with_rule (with_program app) (flag (codes "follow"))
+
 abbrev pub jvm_run : App
-jvm_run = with_files (with_program (with_record (with_sweep_options (with_run_options (new_app (codes "run")))))) class_files
+jvm_run = with_files (with_follow (with_record (with_sweep_options (with_run_options (new_app (codes "run")))))) class_files
 
 -- under which schedule they run, and whether over any class files
 abbrev pub with_schedule : App → App
 with_schedule app = with_rule (with_rule app schedule_option) (flag (codes "any-files"))
 
 abbrev pub jvm_replay : App
-jvm_replay = with_files (with_program (with_then_run (with_schedule (new_app (codes "replay"))))) class_files
+jvm_replay = with_files (with_follow (with_then_run (with_schedule (new_app (codes "replay"))))) class_files
 
 -- which events are told: from one number up to another, of some threads
 abbrev pub with_window : App → App
@@ -267,6 +271,11 @@ pub record IsRecordedVersion (rows : List Row) (version : Option ℕ) : Type 0 w
   pub number : IsNumber 1 3 (first_of (codes "as-version") rows) version
   pub recording : first_of (codes "record") rows ≡ None → version ≡ None
 
+-- whether each line of a run is printed as soon as it can be, which it never is of a sweep
+pub record IsFollow (rows : List Row) (follow : Bool) : Type 0 where
+  pub flag : follow ≡ is_set (first_of (codes "follow") rows)
+  pub alone : follow ≡ true → first_of (codes "seeds") rows ≡ None
+
 -- who gives the threads turns, and up to how many events, by the words of a run
 pub record AreRunNumbers (rows : List Row) (options : RunOptions) : Type 0 where
   pub workers : IsNumber 1 64 (first_of (codes "workers") rows) options.workers
@@ -290,6 +299,7 @@ pub record AreRunValues (rows : List Row) (run : Run) : Type 0 where
   pub explain : run.explain ≡ is_set (first_of (codes "explain") rows)
   pub quiet : run.quiet ≡ is_set (first_of (codes "quiet") rows)
   pub files_alone : run.files_alone ≡ is_set (first_of (codes "files-alone") rows)
+  pub follow : IsFollow rows run.follow
 
 -- the values that the words give to a run behind a schedule
 pub record AreThenRunValues (rows : List Row) (then_run : ThenRun) : Type 0 where
@@ -316,6 +326,7 @@ pub record AreValues (rows : List Row) (replay : Replay) : Type 0 where
   pub explain : replay.explain ≡ is_set (first_of (codes "explain") rows)
   pub quiet : replay.quiet ≡ is_set (first_of (codes "quiet") rows)
   pub files_alone : replay.files_alone ≡ is_set (first_of (codes "files-alone") rows)
+  pub follow : replay.follow ≡ is_set (first_of (codes "follow") rows)
 
 -- the words ask for this form of a trace, and for no other
 abbrev pub IsTraceForm : List Row → TraceForm → Type 0
@@ -393,6 +404,11 @@ pub record AreDisasmValues (rows : List Row) (disasm : Disasm) : Type 0 where
   pub explain : disasm.explain ≡ is_set (first_of (codes "explain") rows)
   pub quiet : disasm.quiet ≡ is_set (first_of (codes "quiet") rows)
 
+-- the version that a schedule file is of at most, where one is made
+pub record IsMadeVersion (rows : List Row) (version : Option ℕ) : Type 0 where
+  pub number : IsNumber 1 3 (first_of (codes "as-version") rows) version
+  pub writing : is_set (first_of (codes "write") rows) ≡ false → version ≡ None
+
 -- the values that the words give to `jvm schedule` without `--places`: one file, and nothing of class files
 pub record AreScheduleValues (rows : List Row) (schedule : Schedule) : Type 0 where
   pub no_places : is_set (first_of (codes "places") rows) ≡ false
@@ -402,7 +418,7 @@ pub record AreScheduleValues (rows : List Row) (schedule : Schedule) : Type 0 wh
   pub no_files_alone : is_set (first_of (codes "files-alone") rows) ≡ false
   pub file : all_of (codes "files") rows ≡ Some (string_bytes schedule.file ∷ [])
   pub write : schedule.write ≡ is_set (first_of (codes "write") rows)
-  pub as_version : IsNumber 1 3 (first_of (codes "as-version") rows) schedule.as_version
+  pub version : IsMadeVersion rows schedule.as_version
   pub explain : schedule.explain ≡ is_set (first_of (codes "explain") rows)
   pub quiet : schedule.quiet ≡ is_set (first_of (codes "quiet") rows)
 

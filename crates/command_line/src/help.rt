@@ -14,7 +14,8 @@ Statuses:
      or all that a search can find is listed
   1  all threads have ended, some by an exception; or a search has found what it is for
   2  a class file or the schedule is refused
-  3  an event was not enabled or was refused, or memory was missing
+  3  an event was not enabled or was refused, or a place gave up, or memory was
+     missing
   4  nothing can go on, and a thread hasn't ended
   5  the schedule or the budget is used up, and a thread can go on; or a search gave up
   6  the command is wrong, or a file can't be read, or the output not written
@@ -54,6 +55,7 @@ What it does:
   The threads take turns by a policy; each event that is done is one more of the
   schedule, which --record keeps for `jvm replay`. The report has the printed
   numbers, how each thread stands, how many events there were, and why no more.
+  With --follow each number appears as soon as the run prints it.
     mixed           turns in rotation, whose lengths are drawn by a seed
     random          each event is of a thread that is drawn by a seed
     rotation        turns in rotation, of --quantum events
@@ -88,14 +90,19 @@ pub(crate) const REPLAY_PAGE: &str = "\
 What it does:
   Links and verifies the class files, and runs the main method of the first one
   under a schedule: event by event, each of the thread that the schedule names.
-  A schedule is a file that was recorded, or a text such as `0*22 1*4 2`. The
-  same files under the same schedule print the same report.
+  A schedule is a file that was recorded, or a text such as `0*22 1*4 2`. Its
+  word `1@Bank.transfer:25` is a place: thread 1 does an event, and goes on until
+  its next instruction begins line 25 of that method; with +25 in place of :25,
+  until that is at offset 25. A thread that isn't there behind --budget events
+  gives up. The same files under the same schedule print the same report. With
+  --follow each line appears as soon as the run prints it.
 
 Statuses:
   0  all threads have ended
   1  all threads have ended, some by an exception
   2  a class file or the schedule is refused
-  3  an event was not enabled, or was refused for a limit, or memory was missing
+  3  an event was not enabled, or was refused for a limit, or a place gave up; or
+     memory was missing
   4  nothing can go on, and a thread hasn't ended
   5  the schedule or the budget is used up, and a thread can go on
   6  the command is wrong, or a file can't be read, or the output not written
@@ -109,13 +116,15 @@ What it does:
   Runs class files under a schedule as `jvm replay` does, and tells each event on
   a line: its number, its thread, where the thread stood, the instruction, and
   what it did. Behind the lines it prints the report. Events are counted from 0;
-  those that are not told are done all the same.
+  those that are not told are done all the same. Of the words of a schedule, and of
+  places among them, tells `jvm replay --help`.
 
 Statuses:
   0  all threads have ended
   1  all threads have ended, some by an exception
   2  a class file or the schedule is refused
-  3  an event was not enabled, or was refused for a limit, or memory was missing
+  3  an event was not enabled, or was refused for a limit, or a place gave up; or
+     memory was missing
   4  nothing can go on, and a thread hasn't ended
   5  the schedule is used up, and a thread can go on
   6  the command is wrong, or a file can't be read, or the output not written
@@ -157,7 +166,8 @@ What it does:
   it. It leaves out entries, and brings those of a thread together, and tries each
   such schedule, with --budget events at most. What is left is printed as text; a
   run behind it has the outcome. How many entries there were and are is told on
-  standard error. Of the outcomes of --for tells `jvm search --help`.
+  standard error. Of the outcomes of --for tells `jvm search --help`, and of the
+  words of a schedule `jvm replay --help`.
 
 Statuses:
   0  a schedule is printed that has the outcome

@@ -8,9 +8,10 @@
 //!   answer to the words (`refused`).
 //! - In both clauses: what `search --for` seeks is what its word names (`IsGoalWord`). Behind `output=` stand ints,
 //!   each as a report prints it; there is no command where an item is none.
-//! - In both clauses: `schedule` has one file; or with `--places` class files, a schedule of them, and neither
-//!   `--write` nor a version (`AreScheduleValues`, `ArePlacesValues`). Of all others `--as-version` stands beside
-//!   `--record` alone (`IsRecordedVersion`).
+//! - In both clauses: `schedule` has one file, and a version beside `--write` alone (`AreScheduleValues`,
+//!   `IsMadeVersion`); or with `--places` class files, a schedule of them, and neither `--write` nor a version
+//!   (`ArePlacesValues`). Of all others `--as-version` stands beside `--record` alone (`IsRecordedVersion`).
+//! - In both clauses: `--follow` is there where the words have it, and no run of a sweep has it (`IsFollow`).
 //! - In both clauses: the file that `--record` names is none that the command reads, by the words alone (`IsApart`);
 //!   there is no command where it is one.
 //! - The limits are the options or the defaults (`LimitOptions::limits`); `LimitOptions::allow` tells whether none is
@@ -47,7 +48,7 @@ pub use options::{
     Trace, TraceForm, Verify,
 };
 pub use parse::command;
-pub use paths::is_same_path;
+pub use paths::{is_absolute, is_same_path, steps_of};
 pub use run_options::{PolicyName, RunOptions};
 pub use sweep_options::{SeedRange, SweepOptions, SweepPolicy};
 pub use usage::Usage;

@@ -55,6 +55,8 @@ pub struct Run {
     pub quiet: bool,
     /// Whether no class is added from the library.
     pub files_alone: bool,
+    /// Whether each line is printed as soon as the run prints it, and not behind the run.
+    pub follow: bool,
 }
 
 /// `jvm replay`: class files are run under a schedule, and what comes of it is reported.
@@ -79,6 +81,8 @@ pub struct Replay {
     pub quiet: bool,
     /// Whether no class is added from the library.
     pub files_alone: bool,
+    /// Whether each line is printed as soon as the run prints it, and not behind the run.
+    pub follow: bool,
 }
 
 /// `jvm trace`: class files are run under a schedule, and the run is told event by event.

@@ -19,7 +19,7 @@ use crate::paths::{check_file, check_files, check_goal};
 use crate::run_arguments::{policy_of, seed_of};
 use crate::run_options::{Clash, RunOptions};
 use crate::schedule_arguments::listed_of;
-use crate::sweep_arguments::{SEEDS, sweep_of};
+use crate::sweep_arguments::{SEEDS, follow_of, sweep_of};
 use crate::usage::Usage;
 use crate::values::{
     files_of, goal_of, is_set, limits_of, missing, path_of, recorded_version_of, required_path_of,
@@ -106,6 +106,7 @@ fn run_of(alloc: Global, matches: &ArgMatches<'_>) -> Result<Run, Usage>
     let main = path_of(alloc, matches, "main")?;
     let files = files_of(alloc, matches)?;
     check_files(alloc, matches, &files)?;
+    let follow = follow_of(alloc, matches)?;
     Ok(Run {
         options,
         seconds,
@@ -118,6 +119,7 @@ fn run_of(alloc: Global, matches: &ArgMatches<'_>) -> Result<Run, Usage>
         explain: is_set(matches, "explain"),
         quiet: is_set(matches, "quiet"),
         files_alone: is_set(matches, "files-alone"),
+        follow,
     })
 }
 
@@ -145,6 +147,7 @@ fn replay_of(alloc: Global, matches: &ArgMatches<'_>) -> Result<Replay, Usage>
         quiet: is_set(matches, "quiet"),
         any_files: is_set(matches, "any-files"),
         files_alone: is_set(matches, "files-alone"),
+        follow: is_set(matches, "follow"),
     })
 }
 

@@ -3,7 +3,7 @@
 ghost use Rattle.std.specs.Prelude.{◌≡◌, codes, false, IfOk, IfErr};
 ghost use Rattle.clap.specs.Words.{App, app_of, kind_of, new_app, rule_of, with_subcommand};
 ghost use Rattle.clap.specs.declared.error.kind.ErrorKind.TheVariants.{OutOfMemory as no_memory};
-ghost use Rattle.command_line.specs.CommandLine.{IsLocal, class_files, flag, goal_option, jvm, jvm_disasm, jvm_replay, jvm_run, jvm_schedule, jvm_search, jvm_shrink, jvm_trace, jvm_verify, main_option, path_option, record_option, required_goal_option, schedule_option, with_files as over_files, with_limits as limited, with_main as started, with_program as programmed, alone_flag, with_record as recorded};
+ghost use Rattle.command_line.specs.CommandLine.{IsLocal, class_files, flag, goal_option, jvm, jvm_disasm, jvm_replay, jvm_run, jvm_schedule, jvm_search, jvm_shrink, jvm_trace, jvm_verify, main_option, path_option, record_option, required_goal_option, schedule_option, with_files as over_files, with_follow as followed, with_limits as limited, with_main as started, with_program as programmed, alone_flag, with_record as recorded};
 
 use crate::help::{
     ABOUT, AFTER, DISASM_PAGE, FILES_HELP, LISTED_HELP, RECORD_HELP, REPLAY_PAGE, RUN_PAGE,
@@ -84,7 +84,7 @@ fn run_parser<'a>(alloc: Global) -> Result<clap::Command<'a>, AllocError>
     let run = with_record(alloc, run, RUN_RECORD_HELP)?;
     with_files(
         alloc,
-        with_program(alloc, run)?,
+        with_follow(alloc, run)?,
         files_argument(alloc, FILES_HELP),
     )
 }
@@ -109,7 +109,7 @@ fn replay_parser<'a>(alloc: Global) -> Result<clap::Command<'a>, AllocError>
     let replay = with_record(alloc, replay, RECORD_HELP)?;
     with_files(
         alloc,
-        with_program(alloc, replay)?,
+        with_follow(alloc, replay)?,
         files_argument(alloc, FILES_HELP),
     )
 }
@@ -405,6 +405,21 @@ fn with_program<'a>(
     ensures local { IsLocal command.entry → IfOk result IsLocal }
 {
     with_main(alloc, command)?.arg(alone_argument(alloc))
+}
+
+/// The same command with the flag that has lines printed as soon as they can be.
+fn with_follow<'a>(
+    alloc: Global,
+    command: clap::Command<'a>,
+) -> Result<clap::Command<'a>, AllocError>
+    ensures app { IfOk result (λ whole. app_of whole ≡ followed (app_of command.entry)) }
+    ensures local { IsLocal command.entry → IfOk result IsLocal }
+{
+    with_program(alloc, command)?.arg(flag_argument(
+        alloc,
+        "follow",
+        "Prints each line as soon as the run prints it, not behind the run",
+    ))
 }
 
 /// The command with the flags that say how much standard error tells, and with files behind all options.

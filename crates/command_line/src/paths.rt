@@ -81,14 +81,14 @@ pub fn is_same_path(alloc: Global, one: &str, other: &str) -> Result<bool, Alloc
 }
 
 /// Whether a path begins at the root.
-fn is_absolute(path: &str) -> bool
+pub fn is_absolute(path: &str) -> bool
     ensures { result ≡ spec.is_absolute path.now }
 {
     path.starts_with('/')
 }
 
-/// Where a path leads, step by step, without what leads nowhere.
-fn steps_of(alloc: Global, path: &str) -> Result<String, AllocError>
+/// Where a path leads, step by step, without what leads nowhere. Each step has a slash before it.
+pub fn steps_of(alloc: Global, path: &str) -> Result<String, AllocError>
     ensures { IfOk result (λ steps. string_bytes steps ≡ spec.steps_of path.now) }
 {
     let mut steps = String::new(alloc);

@@ -2,13 +2,13 @@
 
 ghost use Rattle.std.specs.Prelude.{◌≡◌, ◌∷◌, [], false, IfErr, IfOk, Some, codes, map, string_bytes, true};
 ghost use Rattle.clap.specs.Words.{Text, all_of, first_of, found_of, rows_of};
-ghost use Rattle.command_line.specs.CommandLine.{ArePlacesValues, AreScheduleValues, AreValuesOf, Refuses, is_set as is_true, name_of};
+ghost use Rattle.command_line.specs.CommandLine.{ArePlacesValues, AreScheduleValues, AreValuesOf, IsMadeVersion, Refuses, is_set as is_true, name_of};
 
 use crate::numbers::AS_VERSION;
 use crate::options::{Command, Places, Schedule};
 use crate::sweep_arguments::check_alone;
 use crate::usage::Usage;
-use crate::values::{files_of, is_set, missing, path_of};
+use crate::values::{files_of, is_set, missing, no_version, path_of};
 use clap::ArgMatches;
 use std::alloc::Global;
 
@@ -38,7 +38,7 @@ fn schedule_of(alloc: Global, matches: &ArgMatches<'_>) -> Result<Schedule, Usag
     check_places_flag(alloc, matches, "any-files")?;
     check_places_flag(alloc, matches, "files-alone")?;
     let file = one_file_of(alloc, matches)?;
-    let as_version = AS_VERSION.number(alloc, matches)?;
+    let as_version = made_version_of(alloc, matches)?;
     Ok(Schedule {
         file,
         write: is_set(matches, "write"),
@@ -46,6 +46,20 @@ fn schedule_of(alloc: Global, matches: &ArgMatches<'_>) -> Result<Schedule, Usag
         quiet: is_set(matches, "quiet"),
         as_version,
     })
+}
+
+/// The version that a file is made in at most. `--as-version` stands beside `--write` alone.
+fn made_version_of(alloc: Global, matches: &ArgMatches<'_>) -> Result<Option<u32>, Usage>
+    ensures version { IfOk result (IsMadeVersion (rows_of (found_of matches.now))) }
+    ensures none { IfErr result (λ usage. Refuses usage ((version : _)
+        → IsMadeVersion (rows_of (found_of matches.now)) version → ⊥)) }
+{
+    let version = AS_VERSION.number(alloc, matches)?;
+    if is_set(matches, "write") {
+        Ok(version)
+    } else {
+        no_version(alloc, version, "--write")
+    }
 }
 
 /// A text with places. That is for words with `--places`.

@@ -3,13 +3,13 @@
 ghost use Rattle.std.specs.Prelude.{◌≡◌, ◌≤◌, ◌==◌, false, IfErr, IfOk, codes, map};
 ghost use Rattle.std.specs.List.{slice_split};
 ghost use Rattle.clap.specs.Words.{first_of, found_of, rows_of, rule_of};
-ghost use Rattle.command_line.specs.CommandLine.{Refuses, path_option};
+ghost use Rattle.command_line.specs.CommandLine.{IsFollow, Refuses, path_option};
 ghost use Rattle.command_line.specs.Sweeps.{AreSeeds, IsSeedRange, IsSweep, IsSweepOf, IsSweepPolicy};
 
 use crate::run_arguments::{SEED, seed_by};
 use crate::sweep_options::{SeedRange, SweepOptions, SweepPolicy};
 use crate::usage::Usage;
-use crate::values::goal_of;
+use crate::values::{goal_of, is_set};
 use clap::{Arg, ArgAction, ArgMatches};
 use std::alloc::{AllocError, Global};
 
@@ -97,6 +97,31 @@ pub(crate) fn check_alone(
     match matches.get_str(name) {
         Some(_) => Err(Usage::not_together(alloc, told, other)),
         None => Ok(()),
+    }
+}
+
+/// Whether a run tells each line as it is printed. A sweep never does.
+pub(crate) fn follow_of(alloc: Global, matches: &ArgMatches<'_>) -> Result<bool, Usage>
+    ensures follow { IfOk result (IsFollow (rows_of (found_of matches.now))) }
+    ensures none { IfErr result (λ usage. Refuses usage ((follow : _)
+        → IsFollow (rows_of (found_of matches.now)) follow → ⊥)) }
+{
+    let follow = is_set(matches, "follow");
+    match matches.get_str(SEEDS) {
+        Some(_) => unfollowed(alloc, follow),
+        None => Ok(follow),
+    }
+}
+
+/// Refuses `--follow`, where there is a sweep.
+fn unfollowed(alloc: Global, follow: bool) -> Result<bool, Usage>
+    ensures none { IfOk result (λ same. (same ≡ false) × (follow ≡ false)) }
+    ensures refused { IfErr result (λ usage. Refuses usage (follow ≡ false → ⊥)) }
+{
+    if follow {
+        Err(Usage::not_together(alloc, "--follow", "--seeds <A..B>"))
+    } else {
+        Ok(false)
     }
 }
 

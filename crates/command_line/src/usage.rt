@@ -81,6 +81,16 @@ impl Usage {
         ))
     }
 
+    /// The fault that a file of the folder that is written to is read, too, in the parser's words for a value that it
+    /// refuses.
+    pub fn read_in(alloc: Global, folder: &str, path: &str) -> Usage
+        ensures { Asks result → ⊥ }
+    {
+        Usage::told(format!(in alloc;
+            "error: invalid value '{folder}' for '--record <FILE>': '{path}' in this folder is read, too\n\n{MORE}\n"
+        ))
+    }
+
     /// The fault that a search can find no such outcome, in the parser's words for a value that isn't one of a few.
     pub(crate) fn no_goal(alloc: Global, text: &str) -> Usage
         ensures { Asks result → ⊥ }

@@ -133,17 +133,21 @@ pub(crate) fn recorded_version_of(
     let version = AS_VERSION.number(alloc, matches)?;
     match matches.get_str("record") {
         Some(_) => Ok(version),
-        None => unrecorded(alloc, version),
+        None => no_version(alloc, version, "--record <FILE>"),
     }
 }
 
-/// Refuses a version, where nothing is recorded.
-fn unrecorded(alloc: Global, version: Option<u32>) -> Result<Option<u32>, Usage>
+/// Refuses a version, where the option isn't there that it stands beside.
+pub(crate) fn no_version(
+    alloc: Global,
+    version: Option<u32>,
+    beside: &str,
+) -> Result<Option<u32>, Usage>
     ensures none { IfOk result (λ same. (same ≡ None) × (version ≡ None)) }
     ensures refused { IfErr result (λ usage. Refuses usage (version ≡ None → ⊥)) }
 {
     match version {
-        Some(_) => Err(Usage::not_provided(alloc, "--record <FILE>")),
+        Some(_) => Err(Usage::not_provided(alloc, beside)),
         None => Ok(None),
     }
 }

@@ -12,7 +12,7 @@ use Rattle.command_line.specs.declared.usage.Usage.{Usage}
 use Rattle.program_files.specs.Folders.{Held, Listed}
 use Rattle.program_files.specs.declared.files_fault.FilesFault.{FilesFault}
 use Rattle.program_files.specs.declared.files_fault.FilesFault.TheVariants as files
-use Rattle.engines.specs.Commands.{AreFiles, HasNoFiles, IsDone, IsDoneOver, IsKeptFirst, IsReadToo, IsUndone, IsUndoneAs, IsUndoneOver, IsUnread, Stops, record_path}
+use Rattle.engines.specs.Commands.{AreFiles, HasNoFiles, IsDone, IsDoneOver, IsKeptFirst, IsReadToo, IsUndone, IsUndoneAs, IsUndoneOver, IsUnread, Stops}
 use Rattle.library_files.specs.Adding.{LibraryFile}
 use Rattle.engines.specs.Complaints.{complaint_of}
 use Rattle.engines.specs.Devices.{IsUnable}
@@ -41,7 +41,7 @@ module _ (library : List LibraryFile) (held : Held) (listed : Listed) (input : O
     are_paths : AreFiles held listed command (map string_bytes paths)
     are_paths = subst (λ files. AreFiles held listed command (map string_bytes files)) (sym same) are
 
-    pub read_too : (usage : Usage) → Refuses usage (IsReadToo (record_path command) (map string_bytes paths)) → new ≡ old
+    pub read_too : (usage : Usage) → Refuses usage (IsReadToo command (map string_bytes paths)) → new ≡ old
         → IsUndone library held listed input command old new (complaints.Usage usage) None
     read_too usage read kept = (refuses_more usage _ _ (λ too. (map string_bytes paths, are_paths, too)) read, kept, refl)
 
@@ -51,7 +51,7 @@ module _ (library : List LibraryFile) (held : Held) (listed : Listed) (input : O
       all = counted ∙ sym (length-map paths string_bytes)
 
       undone_as : (fault : Fault) (refused : Option Name) (written : Written) → refused ≡ refused_name given added fault
-          → IsUnread (record_path command) (map string_bytes paths)
+          → IsUnread command (map string_bytes paths)
           → IsUndoneOver held given own (known files) input command old new fault written
           → IsUndoneAs library held listed input command old new fault refused written
       undone_as fault refused written named unread undone =
@@ -60,7 +60,7 @@ module _ (library : List LibraryFile) (held : Held) (listed : Listed) (input : O
           (map string_bytes paths, are_paths, unread, files, added, own, handed, name, over)
 
       pub undone_over : (fault : Fault) (complaint : Complaint) (written : Written) → IsComplaint given added fault complaint
-          → IsUnread (record_path command) (map string_bytes paths)
+          → IsUnread command (map string_bytes paths)
           → IsUndoneOver held given own (known files) input command old new fault written
           → IsUndone library held listed input command old new complaint written
       undone_over fault (complaints.Usage usage) written is unread undone = absurd is
@@ -70,7 +70,7 @@ module _ (library : List LibraryFile) (held : Held) (listed : Listed) (input : O
       undone_over fault (complaints.Library told name) written (same, is) unread undone =
           subst (λ f. IsUndoneAs library held listed input command old new f (Some name.now) written) (sym same) (undone_as fault (Some name.now) written (sym is) unread undone)
 
-      pub done_over : (text : List ℕ) (written : Written) (status : Status) → IsUnread (record_path command) (map string_bytes paths)
+      pub done_over : (text : List ℕ) (written : Written) (status : Status) → IsUnread command (map string_bytes paths)
           → IsDoneOver held given own (known files) input command text written status
           → IsDone library held listed input command text written status
       done_over text written status unread done =

@@ -9,6 +9,7 @@ pub mod ListingLemmas
 pub mod OpeningLemmas
 pub mod OutcomeFileLemmas
 pub mod OutcomeLemmas
+pub mod OutcomePathLemmas
 pub mod PlaceLemmas
 pub mod RecordLemmas
 pub mod RunLemmas

@@ -17,6 +17,7 @@ use Rattle.schedule.specs.Files.{Recording}
 use Rattle.schedule.specs.declared.schedule_text.either.EitherFault.TheVariants.{Text}
 use Rattle.schedule.specs.declared.schedule_text.fault.TextFault.{TextFault}
 use Rattle.schedule.specs.schedule_text.Either.{GivesEvents, IsMemory}
+use Rattle.schedule.proofs.schedule_text.GrowingLaws.{plain_text}
 use Rattle.schedule.specs.schedule_text.Text.{SpellsSchedule, behind_comments, text_words, words_from}
 use Rattle.place_texts.specs.declared.place.PlacedDeed.{PlacedDeed}
 use Rattle.place_texts.specs.Places.{DeedOf, deed_of, deeds_of}
@@ -184,7 +185,7 @@ unfolding words_from behind_comments
 no_words = refl
 
 pub spells_none : SpellsSchedule (10 ∷ []) None []
-spells_none = record { fits = record { count = omega arith; each = tt }; recording_fits = tt; spelled = no_words }
+spells_none = record { fits = record { count = omega arith; each = tt }; recording_fits = tt; spelled = plain_text (10 ∷ []) [] no_words refl }
 
 pub spells_line : (joined schedule : List ScheduleEntry) (text : List ℕ) → text ≡ 10 ∷ [] → joined ≡ [] → events_of joined ≡ events_of schedule
     → SpellsEvents (events_of schedule) text

@@ -1,6 +1,6 @@
 -- What a command does, by what the files hold that its words stand for: the text that it writes to the output, the files that it writes, and
 -- its status (own). Each does what its engine does, with these files in their order.
-use Rattle.std.specs.Prelude.{◌≡◌, ◌⊎◌, ℕ, ◌-◌, ◌^◌, Bool, true, false, List, [], ◌∷◌, length, map, Option, Some, None, IsTrue, is_some, string_bytes, take, unwrap_or, vec_items, Result, Ok, Err}
+use Rattle.std.specs.Prelude.{◌≡◌, ◌⊎◌, ◌<◌, ℕ, ◌-◌, ◌^◌, Bool, true, false, List, [], ◌∷◌, length, map, Option, Some, None, IsTrue, is_some, string_bytes, take, unwrap_or, vec_items, Result, Ok, Err}
 use Rattle.std.specs.Option.{option_and_then, option_map}
 use Rattle.std.specs.Io.KnownBytes.{Appends}
 use Rattle.model.specs.Devices.{AppendsFront}
@@ -33,7 +33,7 @@ use Rattle.engines.specs.Goals.{IsAskedFor}
 use Rattle.engines.specs.Libraries.{IsUnacceptedLibrary, VerifiesLibrary}
 use Rattle.engines.specs.Listings.{AreClassFiles, IsUnlisted, IsUnnamed, Lists}
 use Rattle.engines.specs.Opening.{IsKeptBy}
-use Rattle.engines.specs.OutcomeFiles.{written_in}
+use Rattle.engines.specs.OutcomeFiles.{has_outcome, outcome_path, written_in}
 use Rattle.engines.specs.RecordForms.{record_form}
 use Rattle.engines.specs.Recordings.{conditions_of}
 use Rattle.engines.specs.Replays.{IsFaulty, Replays}
@@ -101,14 +101,43 @@ record_path (commands.Schedule schedule) = None
 record_path (commands.Places places) = None
 
 -- it is none of these files
-abbrev pub IsUnread : (written : Option Path) → (files : List Path) → Type 0
-IsUnread None files = Unit {0}
-IsUnread (Some path) files = is_given files path ≡ false
+abbrev pub IsUnreadAt : (written : Option Path) → (files : List Path) → Type 0
+IsUnreadAt None files = Unit {0}
+IsUnreadAt (Some path) files = is_given files path ≡ false
 
 -- it is one of them
-abbrev pub IsReadToo : (written : Option Path) → (files : List Path) → Type 0
-IsReadToo None files = ⊥
-IsReadToo (Some path) files = is_given files path ≡ true
+abbrev pub IsReadAt : (written : Option Path) → (files : List Path) → Type 0
+IsReadAt None files = ⊥
+IsReadAt (Some path) files = is_given files path ≡ true
+
+-- the folder in which the schedules of the outcomes of a sweep are written
+abbrev pub outcome_folder : Command → Option Path
+outcome_folder (commands.Run run) = option_and_then (λ (sweep : SweepOptions). option_map string_bytes run.record) run.sweep
+outcome_folder (commands.Replay replay) = None
+outcome_folder (commands.Trace trace) = None
+outcome_folder (commands.Search search) = None
+outcome_folder (commands.Shrink shrink) = None
+outcome_folder (commands.Verify verify) = None
+outcome_folder (commands.Disasm disasm) = None
+outcome_folder (commands.Schedule schedule) = None
+outcome_folder (commands.Places places) = None
+
+-- none of these files is such a schedule
+abbrev pub IsUnreadIn : (folder : Option Path) → (files : List Path) → Type 0
+IsUnreadIn None files = Unit {0}
+IsUnreadIn (Some folder) files = (n : ℕ) → n < 2 ^ 64 → is_given files (outcome_path folder n) ≡ false
+
+-- one of them may be, by its name
+abbrev pub IsReadIn : (folder : Option Path) → (files : List Path) → Type 0
+IsReadIn None files = ⊥
+IsReadIn (Some folder) files = has_outcome folder files ≡ true
+
+-- what a command writes is none of these files, or may be one
+abbrev pub IsUnread : Command → (files : List Path) → Type 0
+IsUnread command files = IsUnreadAt (record_path command) files × IsUnreadIn (outcome_folder command) files
+
+abbrev pub IsReadToo : Command → (files : List Path) → Type 0
+IsReadToo command files = IsReadAt (record_path command) files ⊎ IsReadIn (outcome_folder command) files
 
 -- this is so of the files that a command hands on
 abbrev pub OfFiles : List LibraryFile → Held → Listed → Command → (List (Option (List ℕ)) → Type 0) → Type 0
@@ -310,13 +339,13 @@ IsUndoneOver held given own lefts input (commands.Places places) old new fault w
 -- the same over the files that it hands on, none of which is written
 abbrev pub IsDone : List LibraryFile → Held → Listed → (input : Option (List ℕ)) → Command → List ℕ → Written → Status → Type 0
 IsDone library held listed input command text written status = (paths : List Path) × AreFiles held listed command paths
-    × IsUnread (record_path command) paths × (files : List (List ℕ)) × (added own : List LibraryFile) × AreHanded library command (held_at held paths) files added own
+    × IsUnread command paths × (files : List (List ℕ)) × (added own : List LibraryFile) × AreHanded library command (held_at held paths) files added own
     × IsDoneOver held (length paths) own (known files) input command text written status
 
 -- the same of what keeps it from a status; the class of the library that is refused has this name, if it is one
 abbrev pub IsUndoneAs : List LibraryFile → Held → Listed → (input : Option (List ℕ)) → Command → (old new : Option (List ℕ)) → Fault → (refused : Option (List ℕ)) → Written → Type 0
 IsUndoneAs library held listed input command old new fault refused written = (paths : List Path) × AreFiles held listed command paths
-    × IsUnread (record_path command) paths × (files : List (List ℕ)) × (added own : List LibraryFile)
+    × IsUnread command paths × (files : List (List ℕ)) × (added own : List LibraryFile)
     × AreHanded library command (held_at held paths) files added own × (refused ≡ refused_name (length paths) added fault)
     × IsUndoneOver held (length paths) own (known files) input command old new fault written
 
@@ -336,7 +365,7 @@ IsKeptFirst held command fault = ⊥
 -- fault, of a class file that can't be read, or of the schedule where one can't be.
 abbrev pub IsUndone : List LibraryFile → Held → Listed → (input : Option (List ℕ)) → Command → (old new : Option (List ℕ)) → Complaint → Written → Type 0
 IsUndone library held listed input command old new (complaints.Usage usage) written =
-    Refuses usage ((files : List Path) × AreFiles held listed command files × IsReadToo (record_path command) files)
+    Refuses usage ((files : List Path) × AreFiles held listed command files × IsReadToo command files)
     × (new ≡ old) × (written ≡ None)
 IsUndone library held listed input command old new (complaints.Files fault) written = HasNoFiles held listed command fault × (new ≡ old) × (written ≡ None)
 IsUndone library held listed input command old new (complaints.Fault fault) written =

@@ -36,7 +36,7 @@ pub(crate) fn named_files<'a, F: Folder>(
     Ok(files)
 }
 
-/// These files with the paths, and those behind the paths with the name of what the library adds.
+/// Files with their paths, and those behind the paths with the name of what the library adds.
 fn with_names<'a>(
     alloc: Global,
     handed: &[Vec<u8>],

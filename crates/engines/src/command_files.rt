@@ -1,15 +1,16 @@
 //! The class files of a command.
 
-ghost use Rattle.std.specs.Prelude.{◌≡◌, IfErr, IfOk, Some, map, string_bytes};
+ghost use Rattle.std.specs.Prelude.{◌≡◌, IfErr, IfOk, Some, false, map, string_bytes, true};
 ghost use Rattle.std.specs.Option.{option_map};
 ghost use Rattle.program_files.specs.Folders.{FolderMayFail};
 ghost use Rattle.program_files.specs.declared.files_fault.FilesFault.TheVariants.{Device};
 ghost use Rattle.command_line.specs.CommandLine.{Refuses};
-ghost use Rattle.engines.specs.Commands.{AreFiles, AreVerified, HasNoFiles, IsReadToo, IsUnread, IsUnverified, record_path};
+ghost use Rattle.engines.specs.Commands.{AreFiles, AreVerified, HasNoFiles, IsReadAt, IsReadIn, IsReadToo, IsUnread, IsUnreadAt, IsUnreadIn, IsUnverified, outcome_folder, record_path};
+ghost use Rattle.engines.specs.OutcomeFiles.{has_outcome, lead_to_outcome, may_be_outcome};
 
-use command_line::{Command, Usage, Verify};
+use command_line::{Command, Usage, Verify, is_absolute, steps_of};
 use program_files::{FilesFault, Folder, given_paths, handed_on, is_given};
-use std::alloc::Global;
+use std::alloc::{AllocError, Global};
 
 /// The paths of the class files that the words of a command stand for, in the order in which they are handed on.
 pub(crate) fn command_files<F: Folder>(
@@ -55,19 +56,95 @@ fn verified_files<F: Folder>(
     }
 }
 
-/// Refuses a file that is to be written and is one of these, which are read.
+/// Refuses a file that is to be written, or that may be, and is one of these, which are read.
 pub(crate) fn check_record(alloc: Global, command: &Command, files: &[String]) -> Result<(), Usage>
-    ensures apart { IfOk result (λ _. IsUnread (record_path command.now) (map string_bytes files.now)) }
-    ensures read { IfErr result (λ usage. Refuses usage
-        (IsReadToo (record_path command.now) (map string_bytes files.now))) }
+    ensures apart { IfOk result (λ _. IsUnread command.now (map string_bytes files.now)) }
+    ensures read { IfErr result (λ usage. Refuses usage (IsReadToo command.now (map string_bytes files.now))) }
 {
-    let Some(path) = record_path(command) else {
+    check_path(alloc, record_path(command), files)?;
+    check_outcomes(alloc, outcome_folder(command), files)
+}
+
+/// Refuses a file that is to be written and is one of these.
+fn check_path(alloc: Global, path: Option<&str>, files: &[String]) -> Result<(), Usage>
+    ensures apart { IfOk result (λ _.
+        IsUnreadAt (option_map (λ path. path.now) path.entry) (map string_bytes files.now)) }
+    ensures read { IfErr result (λ usage. Refuses usage
+        (IsReadAt (option_map (λ path. path.now) path.entry) (map string_bytes files.now))) }
+{
+    let Some(path) = path else {
         return Ok(());
     };
     if is_given(alloc, files, path)? {
         return Err(Usage::read_too(alloc, path));
     }
     Ok(())
+}
+
+/// Refuses a folder for the schedules of outcomes, one of which may be one of these files.
+fn check_outcomes(alloc: Global, folder: Option<&str>, files: &[String]) -> Result<(), Usage>
+    ensures apart { IfOk result (λ _.
+        IsUnreadIn (option_map (λ path. path.now) folder.entry) (map string_bytes files.now)) }
+    ensures read { IfErr result (λ usage. Refuses usage
+        (IsReadIn (option_map (λ path. path.now) folder.entry) (map string_bytes files.now))) }
+{
+    match folder {
+        Some(folder) => check_folder(alloc, folder, files),
+        None => Ok(()),
+    }
+}
+
+/// The same of a folder that is there.
+fn check_folder(alloc: Global, folder: &str, files: &[String]) -> Result<(), Usage>
+    ensures apart { IfOk result (λ _. has_outcome folder.now (map string_bytes files.now) ≡ false) }
+    ensures read { IfErr result (λ usage. Refuses usage (has_outcome folder.now (map string_bytes files.now) ≡ true)) }
+{
+    for file in files {
+        if may_be_outcome(alloc, folder, file.as_str())? {
+            return Err(Usage::read_in(alloc, folder, file.as_str()));
+        }
+    }
+    Ok(())
+}
+
+/// Whether a file lies in a folder, by a name that begins and ends as that of the schedule of an outcome.
+fn may_be_outcome(alloc: Global, folder: &str, file: &str) -> Result<bool, AllocError>
+    ensures { IfOk result (λ is. is ≡ may_be_outcome folder.now file.now) }
+{
+    let front = format!(in alloc; "{folder}/outcome-")?;
+    let front_steps = steps_of(alloc, front.as_str())?;
+    let steps = steps_of(alloc, file)?;
+    Ok(
+        is_absolute(front.as_str()) == is_absolute(file)
+            && lead_to_outcome(steps.as_str(), front_steps.as_str()),
+    )
+}
+
+/// Whether steps begin as those of the files of outcomes, which are given, and end as these.
+fn lead_to_outcome(steps: &str, front: &str) -> bool
+    ensures { result ≡ lead_to_outcome steps.now front.now }
+{
+    steps.as_bytes().starts_with(front.as_bytes()) && steps.as_bytes().ends_with(b".schedule")
+}
+
+/// The folder in which the schedules of the outcomes of a sweep are written, if they are.
+fn outcome_folder(command: &Command) -> Option<&str>
+    ensures { option_map (λ path. path.now) result ≡ outcome_folder command.now }
+{
+    match command {
+        Command::Run(options) => match &options.sweep {
+            Some(_) => options.record.as_deref(),
+            None => None,
+        },
+        Command::Replay(_)
+        | Command::Trace(_)
+        | Command::Search(_)
+        | Command::Shrink(_)
+        | Command::Verify(_)
+        | Command::Disasm(_)
+        | Command::Schedule(_)
+        | Command::Places(_) => None,
+    }
 }
 
 /// The path of the file that the schedule of a run is written to, if one is.

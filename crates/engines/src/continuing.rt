@@ -19,7 +19,8 @@ use crate::status::Status;
 use command_line::ThenRun;
 use model::{Limits, Sink, Source};
 use program_runs::continued_runs::{Continued, run_on};
-use program_runs::verified_programs::replay;
+use program_runs::verified_programs::replay_shown;
+use program_runs::workers::Gate;
 use schedule::Schedule;
 use std::alloc::{AllocError, Global};
 use std::sync::Arc;
@@ -33,8 +34,9 @@ use verifier::Verified;
 /// the schedule that the budget allows is not enabled, or a limit refuses it, the report is that of its replay, and
 /// the schedule is the whole that is recorded. What comes before the run, and its faults, are those of
 /// `replay_engine`.
-pub fn continue_engine<S: Source, W: Sink>(
+pub fn continue_engine<G: Gate, S: Source, W: Sink>(
     alloc: Global,
+    gate: &G,
     schedule: &mut S,
     files: &mut [S],
     conditions: &Conditions,
@@ -59,7 +61,7 @@ pub fn continue_engine<S: Source, W: Sink>(
         (S.failures schedule.new + sum_by S.failures files.new + W.failures report.new) }
 {
     let opened = open(alloc, schedule, files, conditions)?;
-    let ran = ran_by(alloc, opened, conditions.given, then_run)?;
+    let ran = ran_by(alloc, gate, opened, conditions.given, then_run)?;
     *file = ran.file;
     report.write_all(ran.text.as_slice())?;
     Ok(ran.status)
@@ -67,8 +69,9 @@ pub fn continue_engine<S: Source, W: Sink>(
 
 /// Runs class files that were opened under their schedule, goes on where it ends, unless it gives up at a place within
 /// the budget, and makes what is to be written. Lets go what was opened.
-fn ran_by(
+fn ran_by<G: Gate>(
     alloc: Global,
+    gate: &G,
     opened: Opened,
     given: usize,
     then_run: &ThenRun,
@@ -83,10 +86,11 @@ fn ran_by(
     ensures asked { IfOk result (λ ran. IsTrue (is_some then_run.now.record) → IsTrue (is_some ran.file)) }
 {
     if gives_up_within(&opened, then_run.budget()) {
-        return ran_up_to(alloc, &opened, given, then_run);
+        return ran_up_to(alloc, gate, &opened, given, then_run);
     }
     ran_on(
         alloc,
+        gate,
         opened.verified,
         &opened.schedule,
         opened.files.as_slice(),
@@ -104,8 +108,9 @@ fn gives_up_within(opened: &Opened, budget: u32) -> bool
 }
 
 /// Runs class files that were opened up to the place at which their schedule gives up, and makes what is to be written.
-fn ran_up_to(
+fn ran_up_to<G: Gate>(
     alloc: Global,
+    gate: &G,
     opened: &Opened,
     given: usize,
     then_run: &ThenRun,
@@ -120,7 +125,13 @@ fn ran_up_to(
         (option_map vec_items ran.file) ran.status) }
     ensures asked { IfOk result (λ ran. IsTrue (is_some then_run.now.record) → IsTrue (is_some ran.file)) }
 {
-    let (report, end) = replay(alloc, &opened.verified, &opened.schedule, opened.limits)?;
+    let (report, end) = replay_shown(
+        alloc,
+        &opened.verified,
+        &opened.schedule,
+        opened.limits,
+        gate,
+    )?;
     let (text, status) = told(alloc, &report, end, true)?;
     let form = RecordForm {
         given,
@@ -138,8 +149,9 @@ fn ran_up_to(
 }
 
 /// Runs accepted class files under the schedule and goes on where it ends, and makes what is to be written.
-fn ran_on(
+fn ran_on<G: Gate>(
     alloc: Global,
+    gate: &G,
     verified: Arc<Verified>,
     schedule: &Schedule,
     files: &[Vec<u8>],
@@ -161,7 +173,7 @@ fn ran_on(
         as_version: then_run.as_version,
     };
     let is_recorded = then_run.record.is_some();
-    match run_on(alloc, verified, schedule, limits, then_run.budget())? {
+    match run_on(alloc, verified, schedule, limits, then_run.budget(), gate)? {
         Continued::Whole(run) => {
             outcome_of(
                 alloc,

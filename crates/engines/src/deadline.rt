@@ -3,6 +3,7 @@
 ghost use Rattle.std.specs.Prelude.{ℕ, Bool, IfSome, IsTrue, is_some};
 
 use program_runs::workers::Gate;
+use schedule::recorded_events::RecordedEvents;
 use search::Progress;
 use sweeps::Watch;
 
@@ -51,6 +52,18 @@ impl<G: Gate + Deadline> Gate for Until<'_, G> {
 
     fn turn_ends(&self, events: u32) {
         self.gate.turn_ends(events);
+    }
+
+    fn is_watching(&self) -> bool {
+        self.gate.is_watching()
+    }
+
+    fn watch_record(&self, events: &RecordedEvents) {
+        self.gate.watch_record(events);
+    }
+
+    fn watch_output(&self, printed: &[i32]) {
+        self.gate.watch_output(printed);
     }
 
     fn is_over(&self) -> bool {

@@ -6,7 +6,7 @@ ghost use Rattle.std.specs.Option.{option_map};
 ghost use Rattle.engines.specs.Advised.{IsExplained, IsToldOf, complaint_fault, is_quiet};
 
 use crate::advised::{advised, named_files};
-use crate::command_files::{command_files, record_path};
+use crate::command_files::command_files;
 use crate::complaint::Complaint;
 use crate::differing_files::differing;
 use crate::explanation::Explanation;
@@ -111,7 +111,7 @@ fn explain_fault<F: Folder>(
         command,
         fault,
         failures,
-        explanation.reason(),
+        explanation.unwritten(),
     );
     explanation.tell(indented(alloc, line));
     explanation.add(advised(alloc, folder, command, library, fault));
@@ -125,10 +125,10 @@ fn told_line<F: Folder>(
     command: &Command,
     fault: &Fault,
     failures: Failures<'_>,
-    recording: Option<&str>,
+    unwritten: Option<&str>,
 ) -> Told {
     match fault {
-        Fault::Device => of_device(alloc, folder, command, failures, recording),
+        Fault::Device => of_device(alloc, folder, command, failures, unwritten),
         _ => line_of(alloc, library, folder, command, fault),
     }
 }
@@ -177,18 +177,12 @@ fn first_of(alloc: Global, command: &Command) -> Option<&str> {
             Some(Goal::Differs(path)) => Some(path.as_str()),
             _ => None,
         },
+        // it is a path, whatever it looks like
+        Command::Schedule(_) => schedule_of(command),
         _ => match schedule_of(command) {
             Some(word) if is_given_word(alloc, word.as_bytes()) => None,
             other => other,
         },
-    }
-}
-
-/// The path of the schedule file that is to be written.
-fn written_path(command: &Command) -> Option<&str> {
-    match command {
-        Command::Schedule(options) if options.write => Some(options.file.as_str()),
-        _ => record_path(command),
     }
 }
 
@@ -272,17 +266,17 @@ fn of_device<F: Folder>(
     folder: &F,
     command: &Command,
     failures: Failures<'_>,
-    recording: Option<&str>,
+    unwritten: Option<&str>,
 ) -> Told {
-    if let (Some(path), Some(reason)) = (written_path(command), recording) {
-        return line_with(alloc, path, &reason);
+    if let Some(line) = unwritten {
+        return Ok(Some(Vec::from_slice(alloc, line.as_bytes())?));
     }
     if let Some(line) = of_streams(alloc, failures)? {
         return Ok(Some(line));
     }
     if let Some(path) = first_of(alloc, command) {
         if let Err(error) = folder.read(alloc, path) {
-            return line_with(alloc, path, &error);
+            return of_first(alloc, command, path, &error);
         }
     }
     let words = words_of(command);
@@ -293,6 +287,17 @@ fn of_device<F: Folder>(
         Ok(paths) => unread(alloc, folder, &paths),
         Err(_) => Ok(None),
     }
+}
+
+/// Why the file can't be read that is read before the class files. Where a schedule could stand in place of its path,
+/// and the path has a mark of one, it is told that it is none.
+fn of_first(alloc: Global, command: &Command, path: &str, error: &io::Error) -> Told {
+    let may_be_word = !matches!(command, Command::Search(_) | Command::Schedule(_));
+    if may_be_word && (path.contains('*') || path.contains('@')) {
+        let line = format!(in alloc; "{path}: {error}; nor is this word a schedule")?;
+        return Ok(Some(line.into_bytes()));
+    }
+    line_with(alloc, path, error)
 }
 
 /// Which of the output and the input failed, and the system's reason.

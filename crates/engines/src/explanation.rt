@@ -19,8 +19,8 @@ const MOST_TIMES: u64 = 3;
 pub struct Explanation {
     is_wanted: bool,
     text: Vec<u8>,
-    /// The system's reason why a file couldn't be written.
-    reason: Option<String>,
+    /// The file that couldn't be written, and the system's reason.
+    unwritten: Option<String>,
 }
 
 impl Model for Explanation {
@@ -37,7 +37,7 @@ impl Explanation {
         Explanation {
             is_wanted,
             text: Vec::new(alloc),
-            reason: None,
+            unwritten: None,
         }
     }
 
@@ -48,7 +48,7 @@ impl Explanation {
 
     /// Whether a file that was asked for couldn't be written.
     pub fn is_file_lost(&self) -> bool {
-        self.reason.is_some()
+        self.unwritten.is_some()
     }
 
     /// Whether it is wanted where the words don't ask for it.
@@ -56,14 +56,14 @@ impl Explanation {
         self.is_wanted
     }
 
-    /// The system's reason why a file couldn't be written, if that is so.
-    pub(crate) fn reason(&self) -> Option<&str> {
-        self.reason.as_deref()
+    /// The file that couldn't be written, and the system's reason, if there is one.
+    pub(crate) fn unwritten(&self) -> Option<&str> {
+        self.unwritten.as_deref()
     }
 
-    /// Keeps the system's reason why a file couldn't be written.
-    pub(crate) fn keep_reason(&mut self, alloc: Global, error: &io::Error) {
-        self.reason = format!(in alloc; "{error}").ok();
+    /// Keeps that the file at a path couldn't be written, and the system's reason.
+    pub(crate) fn keep_unwritten(&mut self, alloc: Global, path: &str, error: &io::Error) {
+        self.unwritten = format!(in alloc; "{path}: {error}").ok();
     }
 
     /// How many events may be done again to tell why a run ended with this status, if that is to be told.

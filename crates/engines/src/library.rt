@@ -4,7 +4,8 @@ ghost use Rattle.std.specs.Prelude.{◌≡◌, ◌∷◌, ◌+◌, IfOk, IfErr, 
 ghost use Rattle.std.specs.Io.KnownBytes.{Appends};
 ghost use Rattle.model.specs.Classes.{Program};
 ghost use Rattle.engines.specs.Engines.{CountsFailure};
-ghost use Rattle.engines.specs.Libraries.{IsLibrary, IsRefusedLibrary, IsUnacceptedLibrary, VerifiesLibrary, file_without_main};
+ghost use Rattle.engines.specs.Libraries.{IsLibrary, IsRefusedLibrary, IsUnacceptedLibrary, VerifiesLibrary};
+ghost use Rattle.engines.specs.Libraries.{file_without_main};
 ghost use Rattle.engines.specs.LibraryMain.{library_main};
 ghost use Rattle.library_files.specs.Adding.{library_file};
 

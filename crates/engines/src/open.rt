@@ -1,6 +1,7 @@
 //! Where nothing is told of a run, a search or a sweep while it goes on.
 
 use crate::deadline::Deadline;
+use crate::growth::Growth;
 use crate::seeds::Seeds;
 use program_runs::workers::Gate;
 use search::Progress;
@@ -69,3 +70,6 @@ impl Seeds for Open {
 
     fn tell(&self, _seed: u32) {}
 }
+
+/// Nothing is seen of a run while it goes on.
+impl Growth for Open {}

@@ -17,6 +17,7 @@ use crate::complaint::Complaint;
 use crate::deadline::Deadline;
 use crate::explanation::Explanation;
 use crate::fault::Fault;
+use crate::growth::Growth;
 use crate::handed::{Handed, handed_files};
 use crate::seeds::Seeds;
 use crate::status::Status;
@@ -43,7 +44,7 @@ use sweeps::Watch;
 pub fn run<
     'a,
     R: Threads + Wait + Sync,
-    G: Gate + Progress + Seeds + Deadline + Watch + Sync,
+    G: Gate + Progress + Seeds + Deadline + Growth + Watch + Sync,
     F: Folder,
     I: Source,
     W: Sink,
@@ -121,7 +122,7 @@ fn write_help<W: Sink>(alloc: Global, usage: &Usage, output: &mut W) -> Result<(
 fn done<
     'a,
     R: Threads + Wait + Sync,
-    G: Gate + Progress + Seeds + Deadline + Watch + Sync,
+    G: Gate + Progress + Seeds + Deadline + Growth + Watch + Sync,
     F: Folder,
     I: Source,
     W: Sink,
@@ -181,7 +182,7 @@ fn done<
 /// Does what a command says, over these files, of which the first so many are given.
 fn done_over<
     R: Threads + Wait + Sync,
-    G: Gate + Progress + Seeds + Deadline + Watch + Sync,
+    G: Gate + Progress + Seeds + Deadline + Growth + Watch + Sync,
     F: Folder,
     I: Source,
     W: Sink,
@@ -225,6 +226,7 @@ fn done_over<
         ),
         Command::Replay(options) => replay(
             alloc,
+            gate,
             folder,
             files,
             given,

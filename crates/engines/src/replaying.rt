@@ -14,7 +14,8 @@ use crate::place_ends::told;
 use crate::recording::Conditions;
 use crate::status::Status;
 use model::{Sink, Source};
-use program_runs::verified_programs::replay;
+use program_runs::verified_programs::replay_shown;
+use program_runs::workers::Gate;
 use std::alloc::{AllocError, Global};
 
 /// Runs the class files under the schedule, writes the report and answers its status.
@@ -23,9 +24,10 @@ use std::alloc::{AllocError, Global};
 /// fault of it is answered before a class file is read, and one of the class files before anything runs. It may say
 /// with which limits it was recorded, and over how many class files, how long each: where they are others, or another
 /// limit is asked for, that is its fault, and it is answered once the class files are read and before one is decoded.
-/// The run has its limits. Where the schedule or a class file is refused, nothing is written.
-pub fn replay_engine<S: Source, W: Sink>(
+/// The run has its limits, and the gate is told of it. Where the schedule or a class file is refused, nothing is written.
+pub fn replay_engine<G: Gate, S: Source, W: Sink>(
     alloc: Global,
+    gate: &G,
     schedule: &mut S,
     files: &mut [S],
     conditions: &Conditions,
@@ -44,29 +46,43 @@ pub fn replay_engine<S: Source, W: Sink>(
         (S.failures schedule.new + sum_by S.failures files.new + W.failures report.new) }
 {
     let opened = open(alloc, schedule, files, conditions)?;
-    let (text, status) = replayed(alloc, opened)?;
+    let (text, status) = replayed(alloc, gate, opened)?;
     report.write_all(text.as_slice())?;
     Ok(status)
 }
 
 /// The text and the status of what the class files do under the schedule. Lets go what was opened.
-fn replayed(alloc: Global, opened: Opened) -> Result<(Vec<u8>, Status), AllocError>
+fn replayed<G: Gate>(
+    alloc: Global,
+    gate: &G,
+    opened: Opened,
+) -> Result<(Vec<u8>, Status), AllocError>
     ensures { IfOk result (λ told. (bytes : _) (options : _)
         → IsOpened bytes (map vec_items opened.files.items) options (arc_value opened.verified)
         (events_of opened.schedule) opened.limits opened.gives_up
         → IsReplayed bytes (map vec_items opened.files.items) options told.0.items told.1) }
 {
-    replay_of(alloc, &opened)
+    replay_of(alloc, gate, &opened)
 }
 
 /// The text and the status of what the class files that were opened do under their schedule.
-fn replay_of(alloc: Global, opened: &Opened) -> Result<(Vec<u8>, Status), AllocError>
+fn replay_of<G: Gate>(
+    alloc: Global,
+    gate: &G,
+    opened: &Opened,
+) -> Result<(Vec<u8>, Status), AllocError>
     ensures { IfOk result (λ told. (bytes : _) (options : _)
         → IsOpened bytes (map vec_items opened.now.files.items) options (arc_value opened.now.verified)
         (events_of opened.now.schedule) opened.now.limits opened.now.gives_up
         → IsReplayed bytes (map vec_items opened.now.files.items) options told.0.items told.1) }
 {
-    let (report, end) = replay(alloc, &opened.verified, &opened.schedule, opened.limits)?;
+    let (report, end) = replay_shown(
+        alloc,
+        &opened.verified,
+        &opened.schedule,
+        opened.limits,
+        gate,
+    )?;
     let (text, status) = told(alloc, &report, end, opened.gives_up)?;
     Ok((text, status))
 }

@@ -17,6 +17,7 @@ ghost use Rattle.schedule.specs.Joined.{RecordedFile};
 use crate::class_files::read_class_files;
 use crate::deadline::{Deadline, Until};
 use crate::fault::Fault;
+use crate::growth::Growth;
 use crate::recording::{RecordForm, recorded_as};
 use crate::seeds::{Seeds, policy_for};
 use crate::status::Status;
@@ -26,6 +27,7 @@ use command_line::Run;
 use model::{End, Limits, Report, Sink, Source};
 use program_runs::policies::run_by_policy;
 use program_runs::workers::{Gate, Recorded, run_workers};
+use schedule::growing_text::growing_front;
 use schedule::report::text;
 use schedule::{Schedule, write_schedule};
 use std::alloc::{AllocError, Global};
@@ -42,7 +44,12 @@ use verifier::Verified;
 ///
 /// A fault of the class files is answered before anything runs, and nothing is written or made then; nor is anything
 /// after a want of memory in the run. The file is there before the report is written.
-pub fn run_engine<R: Threads + Wait + Sync, G: Gate + Seeds + Deadline + Sync, S: Source, W: Sink>(
+pub fn run_engine<
+    R: Threads + Wait + Sync,
+    G: Gate + Seeds + Deadline + Growth + Sync,
+    S: Source,
+    W: Sink,
+>(
     rt: &R,
     alloc: Global,
     gate: &G,
@@ -85,7 +92,7 @@ pub(crate) struct Outcome {
 }
 
 /// Runs accepted class files, and makes what is to be written.
-fn ran<R: Threads + Wait + Sync, G: Gate + Seeds + Deadline + Sync>(
+fn ran<R: Threads + Wait + Sync, G: Gate + Seeds + Deadline + Growth + Sync>(
     rt: &R,
     alloc: Global,
     gate: &G,
@@ -101,11 +108,12 @@ fn ran<R: Threads + Wait + Sync, G: Gate + Seeds + Deadline + Sync>(
     ensures asked { IfOk result (λ ran. IsTrue (is_some options.now.record) → IsTrue (is_some ran.file)) }
 {
     let limits = options.limits.limits();
-    let recorded = recorded_run(rt, alloc, gate, verified, limits, options)?;
     let form = RecordForm {
         given,
         as_version: options.as_version,
     };
+    tell_growth(alloc, gate, files, form, limits, options)?;
+    let recorded = recorded_run(rt, alloc, gate, verified, limits, options)?;
     let outcome = outcome_of(
         alloc,
         files,
@@ -118,6 +126,28 @@ fn ran<R: Threads + Wait + Sync, G: Gate + Seeds + Deadline + Sync>(
     )?;
     let budget = options.options.budget();
     unless_stopped(alloc, outcome, &recorded.report, recorded.end, budget)
+}
+
+/// Tells the gate what is to be seen of a run while it goes on. The only error is a want of memory.
+fn tell_growth<G: Growth>(
+    alloc: Global,
+    gate: &G,
+    files: &[Vec<u8>],
+    form: RecordForm,
+    limits: Limits,
+    options: &Run,
+) -> Result<(), AllocError>
+    requires { length files.now < 2 ^ 32 }
+{
+    if options.follow {
+        gate.follow();
+    }
+    if let Some(path) = &options.record {
+        let told = recorded_as(alloc, limits, form, files)?;
+        let front = growing_front(alloc, told.as_ref())?;
+        gate.record_begins(path.as_str(), front.as_slice());
+    }
+    Ok(())
 }
 
 /// What a run of the class files says that came to this report and this end, by this schedule.
@@ -165,7 +195,7 @@ fn told_file(
 }
 
 /// The record of a run of accepted class files.
-fn recorded_run<R: Threads + Wait + Sync, G: Gate + Seeds + Deadline + Sync>(
+fn recorded_run<R: Threads + Wait + Sync, G: Gate + Seeds + Deadline + Growth + Sync>(
     rt: &R,
     alloc: Global,
     gate: &G,

@@ -6,7 +6,8 @@ ghost use Rattle.model.specs.Accepted.{IsAccepted};
 ghost use Rattle.model.specs.Classes.{Program};
 ghost use Rattle.engines.specs.Engines.{CountsFailure};
 ghost use Rattle.engines.specs.Refusals.{IsRefused};
-ghost use Rattle.engines.specs.Verifications.{IsUnaccepted, Verifies, given_count, of_library, own_line, own_names, verified_line, verified_text};
+ghost use Rattle.engines.specs.Verifications.{IsUnaccepted, Verifies, given_count, of_library};
+ghost use Rattle.engines.specs.Verifications.{own_line, own_names, verified_line, verified_text};
 ghost use Rattle.library_files.specs.Adding.{library_file};
 
 use crate::class_files::read_class_files;

@@ -1,10 +1,12 @@
 //! What a terminal shows of a run, a search or a sweep that takes more than a second.
 
-use engines::{Deadline, Gate, Seeds, Watch};
+use crate::growing::{Growing, rises};
+use engines::{Deadline, Gate, Growth, Seeds, Watch};
+use schedule::recorded_events::RecordedEvents;
 use std::io;
 use std::io::Write;
 use std::random::RandomSource;
-use std::rt::Clock;
+use std::rt::{Clock, Files};
 use std::sync::atomic::{AtomicU64, Ordering};
 use std::time::Instant;
 
@@ -18,18 +20,20 @@ pub struct Progress<'a, R> {
     rt: &'a R,
     /// When the command began, where the clock can be read.
     begun: Option<Instant>,
-    /// The same, where there is something to tell.
+    /// When the command began, where there is something to tell.
     start: Option<Instant>,
     /// How many times so many were done or met when the clock was looked at.
     looks: AtomicU64,
     /// How many seconds had passed when the line was told. 0: there is none.
     seconds: AtomicU64,
+    /// What else is seen of a run while it goes on.
+    growing: Growing<'a, R>,
 }
 
-impl<'a, R: Clock + Eprint> Progress<'a, R> {
+impl<'a, R: Clock + Print + Files + AllocGlobal> Progress<'a, R> {
     /// The progress of a run or a search that begins now. Nothing is told unless it is wanted, and the clock can be
-    /// read.
-    pub fn new(rt: &'a R, is_wanted: bool) -> Progress<'a, R> {
+    /// read. The lines that a run prints are shown as they are printed where it follows them.
+    pub fn new(rt: &'a R, is_wanted: bool, follows: bool) -> Progress<'a, R> {
         let begun = Instant::now(rt).ok();
         let start = if is_wanted { begun } else { None };
         Progress {
@@ -38,9 +42,12 @@ impl<'a, R: Clock + Eprint> Progress<'a, R> {
             start,
             looks: AtomicU64::new(0),
             seconds: AtomicU64::new(0),
+            growing: Growing::new(rt, begun, follows),
         }
     }
+}
 
+impl<'a, R: Clock + Eprint> Progress<'a, R> {
     /// Looks at the clock, where enough more are done since the last look, and tells how many of them there are,
     /// where another second has passed.
     fn look(&self, number: u32, of: &str) {
@@ -69,7 +76,7 @@ impl<'a, R: Clock + Eprint> Progress<'a, R> {
     }
 }
 
-impl<R: Clock + Eprint> Gate for Progress<'_, R> {
+impl<R: Clock + Eprint + Print + Files + AllocGlobal> Gate for Progress<'_, R> {
     ghost use Rattle.std.specs.Prelude.{false};
 
     ghost may_stop = { λ _. false };
@@ -80,6 +87,22 @@ impl<R: Clock + Eprint> Gate for Progress<'_, R> {
 
     fn turn_ends(&self, events: u32) {
         self.look(events, "events");
+        self.growing.turn_ends(events);
+    }
+
+    fn is_watching(&self) -> bool {
+        self.growing.is_due()
+    }
+
+    fn watch_record(&self, events: &RecordedEvents) {
+        self.growing.grow(events);
+    }
+
+    fn watch_output(&self, printed: &[i32]) {
+        if let Some(lines) = self.growing.new_lines(printed) {
+            self.clear();
+            self.growing.show(lines.as_slice());
+        }
     }
 
     fn is_over(&self) -> bool {
@@ -134,6 +157,24 @@ impl<R: Clock + Eprint> Deadline for Progress<'_, R> {
     }
 }
 
+impl<R: Clock + Print + Files + AllocGlobal> Growth for Progress<'_, R> {
+    fn follow(&self) {
+        self.growing.follow();
+    }
+
+    fn can_grow(&self, path: &str) -> bool {
+        self.growing.can_grow(path)
+    }
+
+    fn record_begins(&self, path: &str, front: &[u8]) {
+        self.growing.record_begins(path, front);
+    }
+
+    fn record_is_made(&self) {
+        self.growing.record_is_made();
+    }
+}
+
 /// The seed is of the system's chance, and the standard error is told it, in a line.
 impl<R: Clock + Eprint + RandomSource> Seeds for Progress<'_, R> {
     /// Where the system has none, it is 0.
@@ -150,16 +191,8 @@ impl<R: Clock + Eprint + RandomSource> Seeds for Progress<'_, R> {
     }
 }
 
-/// Makes a number greater, if it is less, and says so to one of those that do that at the same time.
-fn rises(number: &AtomicU64, to: u64) -> bool {
-    let before = number.load(Ordering::SeqCst);
-    before < to
-        && number
-            .compare_exchange(before, to, Ordering::SeqCst, Ordering::SeqCst)
-            .is_ok()
-}
-
-/// A writer before whose first bytes the line of a progress is cleared.
+/// A writer before whose first bytes the line of a progress is cleared. What is shown of a report already isn't written
+/// once more.
 #[derive(Drop)]
 pub struct Cleared<'a, R, W> {
     progress: &'a Progress<'a, R>,
@@ -172,9 +205,13 @@ impl<'a, R, W> Cleared<'a, R, W> {
     }
 }
 
-impl<R: Clock + Eprint, W: Write> Write for Cleared<'_, R, W> {
+impl<R: Clock + Eprint + Print + Files + AllocGlobal, W: Write> Write for Cleared<'_, R, W> {
     fn write(&mut self, buf: &[u8]) -> io::Result<usize> {
         self.progress.clear();
+        let shown = self.progress.growing.take_shown(buf.len());
+        if shown > 0 {
+            return Ok(shown);
+        }
         self.writer.write(buf)
     }
 

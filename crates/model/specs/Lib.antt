@@ -8,6 +8,8 @@ pub mod OpcodeTable
 pub mod Instruction
 pub mod InstructionStarts
 pub mod AccessFlags
+pub mod BuiltInForm
+pub mod built_in
 pub mod BuiltIn
 pub mod Classes
 pub mod ReferenceTypes

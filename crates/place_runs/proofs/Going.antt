@@ -26,12 +26,13 @@ use Rattle.place_runs.specs.Following.{AreUsedUp}
 use Rattle.place_runs.specs.Worlds.{ComesTo, GoesOn, IsStoppedBy}
 use Rattle.place_runs.proofs.Repeated.{at_most, many, reached, stopped_by, within}
 
--- so many events of the thread were done, and the place was not reached
-pub record Going (t : ℕ) (place : PlaceOf) (first w : WorldOf) : Type 0 where
+-- so many events of the thread were done within the budget, and the place was not reached
+pub record Going (t : ℕ) (place : PlaceOf) (budget : ℕ) (first w : WorldOf) : Type 0 where
   pub same : IsOfSame first w
   pub on : w.end ≡ None
   pub count : ℕ
   pub done : w.events ≡ first.events ++ replicate count (plain t)
+  pub within_budget : (count ≡ 0) ⊎ (length w.events ≤ budget)
   pub not_yet : IsNotReached first.trees first.machine.limits.frames first.events t place count
 
 -- ---- fewer events are left
@@ -53,16 +54,16 @@ falls t n why w new repeats some = by w.end refl
         absurd (some (ap (λ (p : ℕ × Stopped). p.0) both))
 
 -- the budget is used up
-pub gives_up : (t : ℕ) (place : PlaceOf) (budget : ℕ) (first w : WorldOf) → Going t place first w → budget ≤ length w.events
+pub gives_up : (t : ℕ) (place : PlaceOf) (budget : ℕ) (first w : WorldOf) → Going t place budget first w → budget ≤ length w.events
     → GoesOn (Some stopped.Most) t place budget first w
 gives_up t place budget first w so_far used_up =
-    record { same = so_far.same; on = so_far.on; count = so_far.count; done = so_far.done; comes = (so_far.not_yet, inl used_up) }
+    record { same = so_far.same; on = so_far.on; count = so_far.count; done = so_far.done; within = so_far.within_budget; comes = (so_far.not_yet, inl used_up) }
 
-pub begins : (t : ℕ) (place : PlaceOf) (w : WorldOf) → w.end ≡ None → Going t place w w
-begins t place w on =
-    record { same = record { trees = refl; budget = refl; limits = refl }; on = on; count = 0; done = sym (append-nil w.events); not_yet = λ k some few. absurd (omega (arith, some, few)) }
+pub begins : (t : ℕ) (place : PlaceOf) (budget : ℕ) (w : WorldOf) → w.end ≡ None → Going t place budget w w
+begins t place budget w on =
+    record { same = record { trees = refl; budget = refl; limits = refl }; on = on; count = 0; done = sym (append-nil w.events); within_budget = inl refl; not_yet = λ k some few. absurd (omega (arith, some, few)) }
 
-module _ (t : ℕ) (place : PlaceOf) (first w : WorldOf) (so_far : Going t place first w) (n : ℕ) (why : Stopped) (new : WorldOf)
+module _ (t : ℕ) (place : PlaceOf) (budget : ℕ) (first w : WorldOf) (so_far : Going t place budget first w) (n : ℕ) (why : Stopped) (new : WorldOf)
     (repeats : RepeatsWithin (plain t) 1 w.end (n, why) w new) where
   abbrev r : HasRepeated (plain t) 1 n why w new
   r = subst (λ o. RepeatsWithin (plain t) 1 o (n, why) w new) so_far.on repeats
@@ -76,8 +77,8 @@ module _ (t : ℕ) (place : PlaceOf) (first w : WorldOf) (so_far : Going t place
       ∙ ap (λ l. first.events ++ l) (replicate-append-replicate so_far.count n (plain t))
 
   -- no event was done
-  pub stops : (budget : ℕ) → length w.events ≤ w.budget → n ≡ 0 → (told : Stopped) → told ≡ why → (WantsMemory why → ⊥) → GoesOn (Some told) t place budget first new
-  stops budget inside none told is no_want =
+  pub stops : length w.events ≤ w.budget → n ≡ 0 → (told : Stopped) → told ≡ why → (WantsMemory why → ⊥) → GoesOn (Some told) t place budget first new
+  stops inside none told is no_want =
       let zeros : so_far.count + n ≡ so_far.count = omega (arith, none) in
       let stopped : IsStoppedBy (length new.events ≡ new.budget) why new (plain t) = stopped_by (plain t) 1 n why w new r inside (omega (arith, none)) no_want in
       record {
@@ -85,21 +86,29 @@ module _ (t : ℕ) (place : PlaceOf) (first w : WorldOf) (so_far : Going t place
         on = r.on ∙ so_far.on;
         count = so_far.count;
         done = longer ∙ ap (λ k. first.events ++ replicate k (plain t)) zeros;
-        comes = (so_far.not_yet, subst (λ x. IsStoppedBy (AreUsedUp new.budget budget (Until t place) (length new.events)) x new (plain t)) (sym is) (of_most budget why stopped));
+        within = still so_far.within_budget;
+        comes = (so_far.not_yet, subst (λ x. IsStoppedBy (AreUsedUp new.budget budget (Until t place) (length new.events)) x new (plain t)) (sym is) (of_most why stopped));
       }
     where
-      of_most : (budget : ℕ) (x : Stopped) → IsStoppedBy (length new.events ≡ new.budget) x new (plain t)
-          → IsStoppedBy (AreUsedUp new.budget budget (Until t place) (length new.events)) x new (plain t)
-      of_most budget stopped.Most h = inr h
-      of_most budget stopped.NotEnabled h = h
-      of_most budget (stopped.Refused told) h = h
+      still : (so_far.count ≡ 0) ⊎ (length w.events ≤ budget) → (so_far.count ≡ 0) ⊎ (length new.events ≤ budget)
+      still (inl no_event) = inl no_event
+      still (inr few) = inr (omega (arith, few, none, many (plain t) 1 n why w new r))
 
-  module _ (some : n ≡ 0 → ⊥) (points : List Point) (are : points ≡ all_points first.trees place) (b : Bool) (shown : IsShownAt new.machine t points b) where
+      of_most : (x : Stopped) → IsStoppedBy (length new.events ≡ new.budget) x new (plain t)
+          → IsStoppedBy (AreUsedUp new.budget budget (Until t place) (length new.events)) x new (plain t)
+      of_most stopped.Most h = inr h
+      of_most stopped.NotEnabled h = h
+      of_most (stopped.Refused told) h = h
+
+  module _ (left : length w.events < budget) (some : n ≡ 0 → ⊥) (points : List Point) (are : points ≡ all_points first.trees place) (b : Bool) (shown : IsShownAt new.machine t points b) where
     once : n ≡ 1
     once = omega (arith, some, at_most (plain t) 1 n why w new r)
 
     events_are : new.events ≡ first.events ++ replicate (so_far.count + 1) (plain t)
     events_are = longer ∙ ap (λ k. first.events ++ replicate (so_far.count + k) (plain t)) once
+
+    few : length new.events ≤ budget
+    few = omega (arith, left, once, many (plain t) 1 n why w new r)
 
     state : State
     state = r.gone.done.run.lead.state
@@ -117,13 +126,14 @@ module _ (t : ℕ) (place : PlaceOf) (first w : WorldOf) (so_far : Going t place
         ∙ reached (plain t) 1 n why w new r
 
     -- the place is not reached yet
-    pub goes_on : b ≡ false → Going t place first new
+    pub goes_on : b ≡ false → Going t place budget first new
     goes_on not_there =
         record {
           same = same;
           on = r.on ∙ so_far.on;
           count = so_far.count + 1;
           done = events_are;
+          within_budget = inr few;
           not_yet = λ k least few. by k least few (cases_eq k (so_far.count + 1));
         }
       where
@@ -136,13 +146,14 @@ module _ (t : ℕ) (place : PlaceOf) (first w : WorldOf) (so_far : Going t place
         by k least few (inr other) = so_far.not_yet k least (omega (arith, few, other))
 
     -- it is
-    pub arrives : (budget : ℕ) → b ≡ true → GoesOn None t place budget first new
-    arrives budget there =
+    pub arrives : b ≡ true → GoesOn None t place budget first new
+    arrives there =
         record {
           same = same;
           on = r.on ∙ so_far.on;
           count = so_far.count + 1;
           done = events_are;
+          within = inr few;
           comes = record {
             some = omega arith;
             reached = (r.gone.done.run.lead.state, led, sym is ∙ there);

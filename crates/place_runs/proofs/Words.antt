@@ -14,14 +14,11 @@ use Rattle.program_runs.specs.worlds.Worlds.{WorldOf, IsNew, IsOfSame, HasRepeat
 use Rattle.place_runs.proofs.Kept.{joined}
 use Rattle.place_texts.specs.declared.place.PlacedDeed.{PlacedDeed}
 use Rattle.place_texts.specs.Places.{PlaceOf, DeedOf, Entry, Until, deed_of, deeds_of}
-use Rattle.place_texts.specs.Texts.{SpellDeeds}
-use Rattle.schedule.specs.schedule_text.Text.{text_words}
-use Rattle.place_runs.specs.Placing.{IsPlacedText}
 use Rattle.place_runs.specs.declared.following.Stop.{Stop}
 use Rattle.place_runs.specs.declared.following.Stop.TheVariants as stops
 use Rattle.place_runs.specs.declared.run.Followed.{Followed}
-use Rattle.place_runs.specs.Meaning.{MeansOne, Means}
-use Rattle.place_runs.specs.Following.{AreUsedUp, CannotBeDone, HasRoomFor, IsFollowed, IsStopped, StopsIn, StopsShort, with_stop}
+use Rattle.place_runs.specs.Meaning.{InTurn, MeansOne, Means}
+use Rattle.place_runs.specs.Following.{AreDone, AreUsedUp, CannotBeDone, HasRoomFor, IsDone, IsFollowed, IsStopped, IsWithin, StopsIn, StopsShort, with_stop}
 use Rattle.place_runs.specs.Worlds.{DeedComesTo, DoesDeed, FollowsDeeds, GoesOn, IsStoppedBy, stop_by}
 use Rattle.place_runs.specs.Followed.{AreEventsOf}
 use Rattle.place_runs.proofs.Repeated.{at_most, stopped_by}
@@ -54,7 +51,7 @@ module _ (entry : ScheduleEntry) (w : WorldOf) (on : w.end ≡ None) (n : ℕ) (
   r = subst (λ o. RepeatsWithin entry.event entry.repeat o (n, why) w new) on repeats
 
   pub entry_done : (budget : ℕ) → n ≡ entry.repeat → DoesDeed None (Entry entry) budget w new
-  entry_done budget all = record { same = r.same; on = r.on ∙ on; comes = (replicate n entry.event, r.events, ap (λ k. replicate k entry.event) all) }
+  entry_done budget all = record { same = r.same; on = r.on ∙ on; comes = (replicate n entry.event, r.events, (ap (λ k. replicate k entry.event) all, tt)) }
 
   of_most : (budget : ℕ) (x : Stopped) → IsStoppedBy (length new.events ≡ new.budget) x new entry.event
       → IsStoppedBy (AreUsedUp new.budget budget (Entry entry) (length new.events)) x new entry.event
@@ -78,14 +75,21 @@ module _ (entry : ScheduleEntry) (w : WorldOf) (on : w.end ≡ None) (n : ℕ) (
           next = entry.event;
           events_are = r.events;
           is_part = (n, less, refl, refl);
+          within = tt;
           stops = stops_in budget w new r.same (replicate n entry.event) r.events (Entry entry) entry.event told by_told;
         };
       }
 
 -- ---- a place
 
+-- the events of a thread that goes on are within the budget
+within : (t : ℕ) (place : PlaceOf) (budget count : ℕ) (done events : List Event) → events ≡ done ++ replicate count (plain t)
+    → (count ≡ 0) ⊎ (length events ≤ budget) → IsWithin budget done (Until t place) (replicate count (plain t))
+within t place budget count done events are (inl no_event) = inl (ap (λ k. replicate k (plain t)) no_event)
+within t place budget count done events are (inr few) = inr (subst (λ l. length l ≤ budget) are few)
+
 pub place_done : (t : ℕ) (place : PlaceOf) (budget : ℕ) (w new : WorldOf) → GoesOn None t place budget w new → DoesDeed None (Until t place) budget w new
-place_done t place budget w new g = record { same = g.same; on = g.on; comes = (replicate g.count (plain t), g.done, (g.count, refl, g.comes)) }
+place_done t place budget w new g = record { same = g.same; on = g.on; comes = (replicate g.count (plain t), g.done, ((g.count, refl, g.comes), within t place budget g.count w.events new.events g.done g.within)) }
 
 pub place_stops : (t : ℕ) (place : PlaceOf) (budget : ℕ) (w new : WorldOf) (why : Stopped) → GoesOn (Some why) t place budget w new
     → DoesDeed (Some (stop_by why (plain t))) (Until t place) budget w new
@@ -98,55 +102,64 @@ place_stops t place budget w new why g =
         next = plain t;
         events_are = g.done;
         is_part = (g.count, refl, g.comes.0, refl);
+        within = within t place budget g.count w.events new.events g.done g.within;
         stops = stops_in budget w new g.same (replicate g.count (plain t)) g.done (Until t place) (plain t) why g.comes.1;
       };
     }
 
 -- ---- words
 
-means_more : (trees : Program) (frames : ℕ) (done : List Event) (deeds : List DeedOf) (events : List Event) (deed : DeedOf) (own : List Event)
-    → Means trees frames done deeds events → MeansOne trees frames (done ++ events) deed own → Means trees frames done (deeds ++ deed ∷ []) (events ++ own)
-means_more trees frames done [] events deed own none one =
-    let at : done ++ events ≡ done = ap (λ l. done ++ l) none ∙ append-nil done in
-    (own, [], ap (λ l. l ++ own) none ∙ sym (append-nil own), subst (λ l. MeansOne trees frames l deed own) at one, refl)
-means_more trees frames done (first ∷ deeds) events deed own means one =
-    let at : done ++ events ≡ (done ++ means.0) ++ means.1 = ap (λ l. done ++ l) means.2 ∙ sym (append_assoc done means.0 means.1) in (
-      means.0,
-      means.1 ++ own,
-      ap (λ l. l ++ own) means.2 ∙ append_assoc means.0 means.1 own,
-      means.3,
-      means_more trees frames (done ++ means.0) deeds means.1 deed own means.4 (subst (λ l. MeansOne trees frames l deed own) at one),
-    )
+module _ (IsOfOne : List Event → DeedOf → List Event → Type 0) where
+  one_behind : (done : List Event) (deeds : List DeedOf) (events : List Event) (deed : DeedOf) (own : List Event)
+      → InTurn IsOfOne done deeds events → IsOfOne (done ++ events) deed own → InTurn IsOfOne done (deeds ++ deed ∷ []) (events ++ own)
+  one_behind done [] events deed own none one =
+      let at : done ++ events ≡ done = ap (λ l. done ++ l) none ∙ append-nil done in
+      (own, [], ap (λ l. l ++ own) none ∙ sym (append-nil own), subst (λ l. IsOfOne l deed own) at one, refl)
+  one_behind done (first ∷ deeds) events deed own turn one =
+      let at : done ++ events ≡ (done ++ turn.0) ++ turn.1 = ap (λ l. done ++ l) turn.2 ∙ sym (append_assoc done turn.0 turn.1) in (
+        turn.0,
+        turn.1 ++ own,
+        ap (λ l. l ++ own) turn.2 ∙ append_assoc turn.0 turn.1 own,
+        turn.3,
+        one_behind (done ++ turn.0) deeds turn.1 deed own turn.4 (subst (λ l. IsOfOne l deed own) at one),
+      )
+
+-- what is done within a budget is what the words mean
+means : (trees : Program) (frames budget : ℕ) (done : List Event) (deeds : List DeedOf) (events : List Event) → AreDone trees frames budget done deeds events
+    → Means trees frames done deeds events
+means trees frames budget done [] events are = are
+means trees frames budget done (deed ∷ deeds) events are =
+    (are.0, are.1, are.2, are.3.0, means trees frames budget (done ++ are.0) deeds are.1 are.4)
 
 -- the words so far were done whole
-pub record Passed (deeds : List DeedOf) (first w : WorldOf) : Type 0 where
+pub record Passed (deeds : List DeedOf) (budget : ℕ) (first w : WorldOf) : Type 0 where
   pub same : IsOfSame first w
   pub on : w.end ≡ None
-  pub means : Means first.trees first.machine.limits.frames [] deeds w.events
+  pub whole : AreDone first.trees first.machine.limits.frames budget [] deeds w.events
 
-pub begins : (w : WorldOf) → w.end ≡ None → w.events ≡ [] → Passed [] w w
-begins w on none = record { same = record { trees = refl; budget = refl; limits = refl }; on = on; means = none }
+pub begins : (budget : ℕ) (w : WorldOf) → w.end ≡ None → w.events ≡ [] → Passed [] budget w w
+begins budget w on none = record { same = record { trees = refl; budget = refl; limits = refl }; on = on; whole = none }
 
 module _ (words : List PlacedDeed) (first w : WorldOf) (i : ℕ) (word : PlacedDeed) (less : i < length words) (at : word ≡ get_or words i word)
-    (passed : Passed (deeds_of (take i words)) first w) (budget : ℕ) (new : WorldOf) where
-  pub one_more : DoesDeed None (deed_of word.deed) budget w new → Passed (deeds_of (take (i + 1) words)) first new
+    (budget : ℕ) (passed : Passed (deeds_of (take i words)) budget first w) (new : WorldOf) where
+  pub one_more : DoesDeed None (deed_of word.deed) budget w new → Passed (deeds_of (take (i + 1) words)) budget first new
   one_more does =
       let comes = does.comes in
       let all : deeds_of (take (i + 1) words) ≡ deeds_of (take i words) ++ deed_of word.deed ∷ [] =
       ap deeds_of (take_more words i word less ∙ ap (λ (x : PlacedDeed). take i words ++ x ∷ []) (sym at)) ∙ map-append (λ (x : PlacedDeed). deed_of x.deed) (take i words) (word ∷ [])
       in
-      let one : MeansOne first.trees first.machine.limits.frames w.events (deed_of word.deed) comes.0 =
-      subst (λ (l : Limits). MeansOne first.trees l.frames w.events (deed_of word.deed) comes.0) passed.same.limits
-      (subst (λ (t : Program). MeansOne t w.machine.limits.frames w.events (deed_of word.deed) comes.0) passed.same.trees comes.2)
+      let one : IsDone first.trees first.machine.limits.frames budget w.events (deed_of word.deed) comes.0 =
+      subst (λ (l : Limits). IsDone first.trees l.frames budget w.events (deed_of word.deed) comes.0) passed.same.limits
+      (subst (λ (t : Program). IsDone t w.machine.limits.frames budget w.events (deed_of word.deed) comes.0) passed.same.trees comes.2)
       in
-      let longer : Means first.trees first.machine.limits.frames [] (deeds_of (take i words) ++ deed_of word.deed ∷ []) (w.events ++ comes.0) =
-      means_more first.trees first.machine.limits.frames [] (deeds_of (take i words)) w.events (deed_of word.deed) comes.0 passed.means one
+      let longer : AreDone first.trees first.machine.limits.frames budget [] (deeds_of (take i words) ++ deed_of word.deed ∷ []) (w.events ++ comes.0) =
+      one_behind (IsDone first.trees first.machine.limits.frames budget) [] (deeds_of (take i words)) w.events (deed_of word.deed) comes.0 passed.whole one
       in
       record {
         same = joined first w new passed.same does.same;
         on = does.on;
-        means = subst (λ l. Means first.trees first.machine.limits.frames [] l new.events) (sym all)
-            (subst (λ l. Means first.trees first.machine.limits.frames [] (deeds_of (take i words) ++ deed_of word.deed ∷ []) l) (sym comes.1) longer);
+        whole = subst (λ l. AreDone first.trees first.machine.limits.frames budget [] l new.events) (sym all)
+            (subst (λ l. AreDone first.trees first.machine.limits.frames budget [] (deeds_of (take i words) ++ deed_of word.deed ∷ []) l) (sym comes.1) longer);
       }
 
   pub stops_there : (stop : Stop) → DoesDeed (Some stop) (deed_of word.deed) budget w new → FollowsDeeds stop (deeds_of words) budget first new
@@ -169,18 +182,18 @@ module _ (words : List PlacedDeed) (first w : WorldOf) (i : ℕ) (word : PlacedD
           behind = deeds_of (drop (i + 1) words);
           deeds_are = ap deeds_of parted ∙ map-append (λ (x : PlacedDeed). deed_of x.deed) (take i words) (word ∷ drop (i + 1) words);
           done = w.events;
-          means = passed.means;
+          whole = passed.whole;
           stopped = subst (λ b. IsStopped first.trees first.machine.limits b budget w.events (deed_of word.deed) new.events stop) passed.same.budget by_limits;
         });
       }
 
-pub all_done : (words : List PlacedDeed) (budget : ℕ) (first w : WorldOf) (so_far : List PlacedDeed) → so_far ≡ words → Passed (deeds_of so_far) first w
+pub all_done : (words : List PlacedDeed) (budget : ℕ) (first w : WorldOf) (so_far : List PlacedDeed) → so_far ≡ words → Passed (deeds_of so_far) budget first w
     → FollowsDeeds stops.Whole (deeds_of words) budget first w
 all_done words budget first w so_far all passed =
-    let means : Means first.trees first.machine.limits.frames [] (deeds_of words) w.events =
-    subst (λ (l : List PlacedDeed). Means first.trees first.machine.limits.frames [] (deeds_of l) w.events) all passed.means
+    let done : AreDone first.trees first.machine.limits.frames budget [] (deeds_of words) w.events =
+    subst (λ (l : List PlacedDeed). AreDone first.trees first.machine.limits.frames budget [] (deeds_of l) w.events) all passed.whole
     in
-    record { same = passed.same; on = passed.on; followed = inl (refl, means) }
+    record { same = passed.same; on = passed.on; followed = inl (refl, done) }
 
 -- ---- the events
 
@@ -217,19 +230,18 @@ events_are trees limits budget deeds events stop followed f is are =
       are = are ∙ ap (with_stop events) (sym is);
     }
 
--- ---- a text with places
+-- ---- the events of a schedule
 
 pub whole : (trees : Program) (limits : Limits) (most budget : ℕ) (deeds : List DeedOf) (events : List Event) (stop : Stop) → stop ≡ stops.Whole
     → IsFollowed trees limits most budget deeds events stop → Means trees limits.frames [] deeds events
-whole trees limits most budget deeds events stops.Whole is (inl w) = w.1
+whole trees limits most budget deeds events stops.Whole is (inl w) = means trees limits.frames budget [] deeds events w.1
 whole trees limits most budget deeds events stops.Whole is (inr short) = absurd short.stopped.stops
 whole trees limits most budget deeds events (stops.Event event) is followed = absurd cc
 whole trees limits most budget deeds events stops.UsedUp is followed = absurd cc
 
-pub placed : (trees : Program) (limits : Limits) (budget : ℕ) (deeds : List DeedOf) (f : Followed) (schedule joined : List ScheduleEntry) (text : List ℕ)
-    → AreEventsOf trees limits budget deeds f → f.stop ≡ stops.Whole → f.schedule ≡ joined → events_of joined ≡ events_of schedule
-    → SpellDeeds (text_words text) deeds → IsPlacedText trees limits (events_of schedule) text
-placed trees limits budget deeds f schedule joined text are is same joins spelled =
-    let means : Means trees limits.frames [] deeds are.events = whole trees limits 4294967295 budget deeds are.events f.stop is are.followed in
-    let events : are.events ≡ events_of schedule = ap (with_stop are.events) (sym is) ∙ sym are.are ∙ ap events_of same ∙ joins in
-    record { deeds = deeds; spelled = spelled; means = subst (λ l. Means trees limits.frames [] deeds l) events means }
+pub stand : (trees : Program) (limits : Limits) (budget : ℕ) (deeds : List DeedOf) (f : Followed) (schedule : List ScheduleEntry)
+    → AreEventsOf trees limits budget deeds f → f.stop ≡ stops.Whole → f.schedule ≡ schedule → Means trees limits.frames [] deeds (events_of schedule)
+stand trees limits budget deeds f schedule are is same =
+    let by_words : Means trees limits.frames [] deeds are.events = whole trees limits 4294967295 budget deeds are.events f.stop is are.followed in
+    let events : are.events ≡ events_of schedule = ap (with_stop are.events) (sym is) ∙ sym are.are ∙ ap events_of same in
+    subst (λ l. Means trees limits.frames [] deeds l) events by_words

@@ -13,7 +13,7 @@ use Rattle.program_runs.specs.continued_runs.Continuing.{IsCut}
 use Rattle.place_runs.specs.declared.following.Stop.{Stop}
 use Rattle.place_runs.specs.declared.following.Stop.TheVariants as stops
 use Rattle.place_texts.specs.Places.{PlaceOf, DeedOf, Entry, Until}
-use Rattle.place_runs.specs.Meaning.{IsNotReached, Means}
+use Rattle.place_runs.specs.Meaning.{InTurn, IsNotReached, MeansOne}
 
 -- an event can't be done after some others: it is not enabled, or a limit refuses it
 pub record CannotBeDone (trees : Program) (limits : Limits) (done : List Event) (event : Event) : Type 0 where
@@ -22,6 +22,19 @@ pub record CannotBeDone (trees : Program) (limits : Limits) (done : List Event) 
   pub end : End
   pub cut : IsCut end
   pub fits : EndFits trees (bounds_of limits) state done (event ∷ []) end
+
+-- After some events, these ones of a word are within the budget: a place has none where that is used up.
+abbrev pub IsWithin : (budget : ℕ) → (done : List Event) → DeedOf → List Event → Type 0
+IsWithin budget done (Entry entry) own = Unit {0}
+IsWithin budget done (Until t place) own = (own ≡ []) ⊎ (length (done ++ own) ≤ budget)
+
+-- after some events, a word stands for these, which are within the budget
+abbrev pub IsDone : Program → (frames budget : ℕ) → (done : List Event) → DeedOf → List Event → Type 0
+IsDone trees frames budget done deed own = MeansOne trees frames done deed own × IsWithin budget done deed own
+
+-- so do words, one after the other
+abbrev pub AreDone : Program → (frames budget : ℕ) → (done : List Event) → List DeedOf → List Event → Type 0
+AreDone trees frames budget done deeds events = InTurn (IsDone trees frames budget) done deeds events
 
 -- These events are a part of those of a word, less than all: what stands behind them would be this one.
 abbrev pub IsPartOf : Program → (frames : ℕ) → (done : List Event) → DeedOf → List Event → Event → Type 0
@@ -47,6 +60,7 @@ pub record IsStopped (trees : Program) (limits : Limits) (most budget : ℕ) (do
   pub next : Event
   pub events_are : events ≡ done ++ part
   pub is_part : IsPartOf trees limits.frames done deed part next
+  pub within : IsWithin budget done deed part
   pub stops : StopsIn trees limits most budget done part deed next stop
 
 -- the words before a word were done whole, and that word in part
@@ -56,13 +70,13 @@ pub record StopsShort (trees : Program) (limits : Limits) (most budget : ℕ) (d
   pub behind : List DeedOf
   pub deeds_are : deeds ≡ before ++ deed ∷ behind
   pub done : List Event
-  pub means : Means trees limits.frames [] before done
+  pub whole : AreDone trees limits.frames budget [] before done
   pub stopped : IsStopped trees limits most budget done deed events stop
 
 -- All words were done, or some were: these are the events that were done, at most so many, and this is why there are no more.
 abbrev pub IsFollowed : Program → Limits → (most budget : ℕ) → List DeedOf → List Event → Stop → Type 0
 IsFollowed trees limits most budget deeds events stop =
-    ((stop ≡ stops.Whole) × Means trees limits.frames [] deeds events) ⊎ StopsShort trees limits most budget deeds events stop
+    ((stop ≡ stops.Whole) × AreDone trees limits.frames budget [] deeds events) ⊎ StopsShort trees limits most budget deeds events stop
 
 -- there may be one event more, if one is to be added: there are no more than a schedule may have
 abbrev pub HasRoomFor : Stop → List Event → Type 0

@@ -35,8 +35,12 @@ abbrev pub MeansOne : Program → (frames : ℕ) → (done : List Event) → Dee
 MeansOne trees frames done (Entry entry) events = events ≡ replicate entry.repeat entry.event
 MeansOne trees frames done (Until t place) events = (count : ℕ) × (events ≡ replicate count (plain t)) × IsReachedBy trees frames done t place count
 
--- so do words, one after the other
+-- These are the events of words, one after the other: of each word and its own events this holds, after the events before them.
+abbrev pub InTurn : (IsOfOne : (done : List Event) → DeedOf → List Event → Type 0) → (done : List Event) → List DeedOf → List Event → Type 0
+InTurn IsOfOne done [] events = events ≡ []
+InTurn IsOfOne done (deed ∷ deeds) events =
+    (own : List Event) × (rest : List Event) × (events ≡ own ++ rest) × IsOfOne done deed own × InTurn IsOfOne (done ++ own) deeds rest
+
+-- after some events, words stand for these
 abbrev pub Means : Program → (frames : ℕ) → (done : List Event) → List DeedOf → List Event → Type 0
-Means trees frames done [] events = events ≡ []
-Means trees frames done (deed ∷ deeds) events =
-    (own : List Event) × (rest : List Event) × (events ≡ own ++ rest) × MeansOne trees frames done deed own × Means trees frames (done ++ own) deeds rest
+Means trees frames done deeds events = InTurn (MeansOne trees frames) done deeds events

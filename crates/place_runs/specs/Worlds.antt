@@ -1,5 +1,5 @@
 -- What the words of a schedule with places do in a world (own; JVMS 2.6; JLS 17).
-use Rattle.std.specs.Prelude.{◌≡◌, ◌<◌, ◌≤◌, ℕ, List, [], ◌∷◌, ◌++◌, Option, Some, None, length, replicate}
+use Rattle.std.specs.Prelude.{◌≡◌, ◌⊎◌, ◌<◌, ◌≤◌, ℕ, List, [], ◌∷◌, ◌++◌, Option, Some, None, length, replicate}
 use Rattle.model.specs.declared.event.Event.{Event}
 use Rattle.model.specs.declared.limits.Limits.{Limits}
 use Rattle.model.specs.Classes.{Program}
@@ -10,8 +10,8 @@ use Rattle.program_runs.specs.worlds.Worlds.{WorldOf, IsOfSame}
 use Rattle.place_runs.specs.declared.following.Stop.{Stop}
 use Rattle.place_runs.specs.declared.following.Stop.TheVariants as stops
 use Rattle.place_texts.specs.Places.{PlaceOf, DeedOf, Entry, Until}
-use Rattle.place_runs.specs.Meaning.{IsNotReached, IsReachedBy, MeansOne, Means}
-use Rattle.place_runs.specs.Following.{AreUsedUp, CannotBeDone, IsStopped, IsFollowed}
+use Rattle.place_runs.specs.Meaning.{IsNotReached, IsReachedBy}
+use Rattle.place_runs.specs.Following.{AreUsedUp, CannotBeDone, IsDone, IsStopped, IsFollowed}
 
 -- ---- a thread that goes on
 
@@ -33,6 +33,7 @@ pub record GoesOn (why : Option Stopped) (t : ℕ) (place : PlaceOf) (budget : �
   pub on : new.end ≡ None
   pub count : ℕ
   pub done : new.events ≡ old.events ++ replicate count (plain t)
+  pub within : (count ≡ 0) ⊎ (length new.events ≤ budget)
   pub comes : ComesTo why t place budget count old new
 
 -- ---- words
@@ -45,7 +46,7 @@ stop_by (stopped.Refused told) event = stops.Event event
 -- a word was done whole, or in part
 abbrev pub DeedComesTo : Option Stop → DeedOf → (budget : ℕ) → (old new : WorldOf) → Type 0
 DeedComesTo None deed budget old new =
-    (own : List Event) × (new.events ≡ old.events ++ own) × MeansOne old.trees old.machine.limits.frames old.events deed own
+    (own : List Event) × (new.events ≡ old.events ++ own) × IsDone old.trees old.machine.limits.frames budget old.events deed own
 DeedComesTo (Some stop) deed budget old new = IsStopped old.trees old.machine.limits old.budget budget old.events deed new.events stop
 
 pub record DoesDeed (stop : Option Stop) (deed : DeedOf) (budget : ℕ) (old new : WorldOf) : Type 0 where

@@ -20,7 +20,7 @@ use std::alloc::{AllocError, Global};
 pub enum Stop {
     /// All of its words were.
     Whole,
-    /// This event, the next one, is not enabled, or a limit refuses it.
+    /// The next event, which is told, is not enabled, or a limit refuses it.
     Event(Event),
     /// The budget was used up before the next bytecode of a thread was at a place; or there were as many events as a
     /// schedule may have.

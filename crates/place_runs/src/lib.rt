@@ -8,14 +8,12 @@
 //!   runs with no exception pending, and the frame on top of its stack is at one of the offsets of the place
 //!   (`is_at`). Where there are no more events, the next one is not enabled, or a limit refuses it (`CannotBeDone`),
 //!   and it stands behind them; or within a place the budget is used up, or as many are done as a schedule may have
-//!   (`IsFollowed`).
+//!   (`IsFollowed`). No event of a place is done past the budget, be the place reached or not (`IsWithin`).
 //! - `placed_text` (`IsPlacedText`): where it answers a text, its words are places and entries, and they stand for the
 //!   events of the schedule over the class files.
 //!
 //! # Not proved
 //!
-//! - That a place gives up as soon as the budget is used up is shown by cases alone: no clause bounds the events of a
-//!   place that is reached.
 //! - Which of its words `placed_text` makes places, and when it answers nothing, is shown by cases alone.
 #![tactic(auto)]
 

@@ -38,8 +38,8 @@ fn with_last(mut events: RecordedEvents, stop: Stop) -> Result<RecordedEvents, A
     Ok(events)
 }
 
-/// The events of a schedule with places, over class files that are accepted, under limits. A place gives up once so many
-/// events are done. The only error is a want of memory.
+/// The events of a schedule with places, over class files that are accepted, under limits. A place gives up once so
+/// many events are done. The only error is a want of memory.
 pub fn follow_deeds(
     alloc: Global,
     verified: Arc<Verified>,

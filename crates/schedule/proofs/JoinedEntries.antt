@@ -52,7 +52,7 @@ each_set [] k y h fits = tt
 each_set (x ∷ xs) zero y h fits = (fits, h.1)
 each_set (x ∷ xs) (suc k) y h fits = (h.0, each_set xs k y h.1 fits)
 
-each_at : (xs : List ScheduleEntry) (k : ℕ) (e : ScheduleEntry) → AllByRecursion EntryFits xs → slice_get xs k ≡ Some e → EntryFits e
+pub each_at : (xs : List ScheduleEntry) (k : ℕ) (e : ScheduleEntry) → AllByRecursion EntryFits xs → slice_get xs k ≡ Some e → EntryFits e
 each_at [] k e h is = absurd cc
 each_at (x ∷ xs) zero e h is = subst EntryFits (same_Some x e is) h.0
 each_at (x ∷ xs) (suc k) e h is = each_at xs k e h.1 is

@@ -1,6 +1,7 @@
 pub mod ChecksumLaws
 pub mod CommandLaws
 pub mod EntryLaws
+pub mod GrowingLaws
 pub mod HexLaws
 pub mod LengthLaws
 pub mod LimitLaws

@@ -1,5 +1,6 @@
 pub mod FileExamples
 pub mod Files
+pub mod growing_text
 pub mod Joined
 pub mod Names
 pub mod Outcomes

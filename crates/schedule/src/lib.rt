@@ -33,6 +33,7 @@
 
 mod fault;
 mod file_checksums;
+pub mod growing_text;
 mod joining;
 mod read;
 mod reader;

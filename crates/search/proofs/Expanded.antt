@@ -1,6 +1,5 @@
 -- The states to which events lead from a state, as far as a loop has come.
-use Rattle.std.proofs.Common.{◌≡◌, ℕ, ◌+◌, ◌<◌, ◌≤◌, List, [], ◌∷◌, ◌++◌, length, get_or, Bool, true, false, ◌⊎◌, inl, inr, nat_le, None, Result, Ok, Err, refl, sym, ap, subst, ◌∙◌, below_none, below_more, arith}
-use Rattle.std.specs.Prelude.{IfOk}
+use Rattle.std.proofs.Common.{◌≡◌, ℕ, ◌+◌, ◌<◌, ◌≤◌, List, [], ◌∷◌, ◌++◌, length, get_or, Bool, true, false, ◌⊎◌, inl, inr, nat_le, None, Ok, refl, sym, ap, subst, ◌∙◌, below_none, below_more, arith}
 use Rattle.std.proofs.lemmas.Bool.Decides.{leb_tells}
 use Rattle.std.proofs.lemmas.Option.{slice_get-get_or}
 use Rattle.model.specs.declared.event.Event.{Event}
@@ -14,8 +13,10 @@ use Rattle.machine.specs.schedule_runs.Done.{HasDone}
 use Rattle.search.specs.met_states.Met.{IsNextMet, AreHigherPicksLeft, AreOtherThreadsLeft, AreMetStatesKept}
 use Rattle.search.specs.GivingUp.{IsLimited}
 use Rattle.search.specs.Machines.{GoesBy, GoesOrStops}
+use Rattle.search.specs.declared.states.Walk.{Walk}
+use Rattle.search.specs.Walks.{IsThere}
 use Rattle.search.specs.States.{StatesOf, IsInState, IsMetFrom, AreMetByThread, AreMetByThreads, AreAllMet, CantGoOn, Grows, GrowsTo, HasGoneFrom, LeadsOnFrom}
-use Rattle.search.proofs.Growth.{IsFew, IsWhy, stays, further, earlier, still_leads, still_met, still_there, gave_up, went_on}
+use Rattle.search.proofs.Growth.{IsFew, IsWhy, stays, further, earlier, still_leads, still_met, gave_up, went_on}
 use Rattle.search.proofs.Shown.{gone_on, run_of}
 
 -- so it is of each below a number
@@ -38,10 +39,10 @@ module _ (P : StatesOf → ℕ → Type 0) (most : ℕ) where
       }
 
   -- a machine is in the state of a number again
-  pub goes_again : (number : ℕ) (old mid new : StatesOf) (i : ℕ) (m : MachineOf) → ((k : ℕ) → Grows mid new → P mid k → P new k) → HasGrown P most old mid i
-      → (went : Bool) → GrowsTo (λ s. P s i × IsInState s number m) most mid new went → went ≡ true
-      → HasGrown P most old new (i + 1) × IsInState new number m
-  goes_again number old mid new i m keeps so_far went more e =
+  pub goes_again : (number : ℕ) (old mid new : StatesOf) (i : ℕ) (w : Walk) → ((k : ℕ) → Grows mid new → P mid k → P new k) → HasGrown P most old mid i
+      → (went : Bool) → GrowsTo (λ s. P s i × IsThere s number w) most mid new went → went ≡ true
+      → HasGrown P most old new (i + 1) × IsThere new number w
+  goes_again number old mid new i w keeps so_far went more e =
       let both = more.then e in
       (goes_further old mid new i keeps so_far (went_on (λ s. P s i) most mid new more.grows more.few both.0), both.1)
 
@@ -68,11 +69,11 @@ done_there s number event m gone events is files trees accepted program =
     let on = run_of s.program s.limits (events ++ event ∷ []) m (gone_on s.program s.limits events event gone.0 m (gone.1 events is) gone.2) files trees accepted program in
     (on.lead.state, on.lead.reached)
 
-pub pick_met : (most number thread i : ℕ) (mid new : StatesOf) (gone m : MachineOf) → number < length mid.schedules
+pub pick_met : (most number thread i : ℕ) (mid new : StatesOf) (gone : MachineOf) (w : Walk) → number < length mid.schedules
     → HasGoneFrom mid number (event_at thread i) gone
-    → (went : Bool) → GrowsTo (λ s. IsMetFrom s number (event_at thread i) × IsInState s number m) most mid new went
-    → GrowsTo (λ s. IsPickMet number thread s i × IsInState s number m) most mid new went
-pick_met most number thread i mid new gone m lt has_gone went more = record {
+    → (went : Bool) → GrowsTo (λ s. IsMetFrom s number (event_at thread i) × IsThere s number w) most mid new went
+    → GrowsTo (λ s. IsPickMet number thread s i × IsThere s number w) most mid new went
+pick_met most number thread i mid new gone w lt has_gone went more = record {
   grows = more.grows;
   few = more.few;
   then = λ e.
@@ -137,20 +138,34 @@ same_state s number event m then there goes events is =
           subst (λ x. HasDone x files trees events) (sym goes.0) still;
     }
 
-pub thread_met : AreHigherPicksLeft → (most number thread i : ℕ) (old new : StatesOf) (m then : MachineOf) → HasGrown (IsPickMet number thread) most old new i → IsInState new number m
-    → GoesBy (Ok answer.NotEnabled) (event_at thread i) m then → GrowsTo (λ s. AreMetByThread s number thread × IsInState s number then) most old new true
-thread_met higher most number thread i old new m then so_far there goes =
-    let grown = all_picks higher most number thread i old new m then so_far there goes in
-    went_on (λ s. AreMetByThread s number thread × IsInState s number then) most old new grown.grows grown.few (grown.then refl, same_state new number (event_at thread i) m then there goes)
+-- nor was anything done to the others
+pub there_still : (s : StatesOf) (number : ℕ) (event : Event) (w then : Walk) → IsThere s number w → then.moved ≡ w.moved → GoesBy (Ok answer.NotEnabled) event w.machine then.machine
+    → IsThere s number then
+there_still s number event w then there moved goes = record {
+  is_in = same_state s number event w.machine then.machine there.is_in goes;
+  moved = λ e. there.moved (sym moved ∙ e);
+}
+
+pub thread_met : AreHigherPicksLeft → (most number thread i : ℕ) (old new : StatesOf) (w then : Walk) → HasGrown (IsPickMet number thread) most old new i → IsThere new number w
+    → then.moved ≡ w.moved → GoesBy (Ok answer.NotEnabled) (event_at thread i) w.machine then.machine
+    → GrowsTo (λ s. AreMetByThread s number thread × IsThere s number then) most old new true
+thread_met higher most number thread i old new w then so_far there moved goes =
+    let grown = all_picks higher most number thread i old new w.machine then.machine so_far there.is_in goes in
+    went_on (λ s. AreMetByThread s number thread × IsThere s number then) most old new grown.grows grown.few
+    (grown.then refl, there_still new number (event_at thread i) w then there moved goes)
 
 -- a machine that did an event, and the local ones behind it; and one that is in the state from which the event led
-pub met_again : (most number : ℕ) (event : Event) (entry : ScheduleEntry) (old new : StatesOf) (m : MachineOf) → entry.event ≡ event → IsInState old number m → number < length old.schedules
+pub met_again : (most number : ℕ) (event : Event) (entry : ScheduleEntry) (old new : StatesOf) (gone : MachineOf) (w : Walk) → entry.event ≡ event → number < length old.schedules
+    → HasGoneFrom old number event gone → IsInState new number w.machine
     → (went : Bool) → GrowsTo (λ s. IsMetFrom s number entry.event) most old new went
-    → GrowsTo (λ s. IsMetFrom s number event × IsInState s number m) most old new went
-met_again most number event entry old new m is there lt went more = record {
+    → GrowsTo (λ s. IsMetFrom s number event × IsThere s number w) most old new went
+met_again most number event entry old new gone w is lt has_gone again went more = record {
   grows = more.grows;
   few = more.few;
-  then = λ e. (subst (λ x. IsMetFrom new number x) is (more.then e), still_there old new more.grows number lt m there);
+  then = λ e. (
+    subst (λ x. IsMetFrom new number x) is (more.then e),
+    record { is_in = again; moved = λ _. (event, still_leads old new more.grows number lt event (done_there old number event gone has_gone)) },
+  );
   gave_up = more.gave_up;
 }
 
@@ -163,9 +178,10 @@ pub thread_kept : AreMetStatesKept → (number : ℕ) (mid new : StatesOf) → n
     → IsThreadMet number mid k → IsThreadMet number new k
 thread_kept kept number mid new lt k grows met pick = still_met mid new grows number lt kept (event_at k pick) (met pick)
 
-pub all_threads : (most number threads at : ℕ) (old new : StatesOf) → at ≡ threads → HasGrown (IsThreadMet number) most old new at
-    → GrowsTo (λ s. AreMetByThreads s number threads) most old new true
-all_threads most number threads at old new e so_far = went_on (λ s. AreMetByThreads s number threads) most old new so_far.grows so_far.few (subst (λ n. AreMetByThreads new number n) e so_far.each)
+pub all_threads : (most number threads at : ℕ) (old new : StatesOf) (w : Walk) → at ≡ threads → HasGrown (IsThreadMet number) most old new at → IsThere new number w
+    → GrowsTo (λ s. AreMetByThreads s number threads × IsThere s number w) most old new true
+all_threads most number threads at old new w e so_far there =
+    went_on (λ s. AreMetByThreads s number threads × IsThere s number w) most old new so_far.grows so_far.few (subst (λ n. AreMetByThreads new number n) e so_far.each, there)
 
 -- ---- all
 
@@ -179,10 +195,15 @@ module _ (left : AreOtherThreadsLeft) (most number threads : ℕ) (old new : Sta
       subst (λ (l : Limits). IsNextMet trees l.frames new.schedules events event) (sym grows.limits_are)
       (left trees old.program (bounds_of old.limits) new.schedules events event m.shared run past)
 
-  pub all_events : (went : Bool) → GrowsTo (λ s. AreMetByThreads s number threads) most old new went
-      → GrowsTo (λ s. AreAllMet s number) most old new went
-  all_events went grown =
-      record { grows = grown.grows; few = grown.few; then = λ e event. by event (grown.then e) (leb_tells threads event.thread); gave_up = grown.gave_up }
+  pub all_events : (w : Walk) (went : Bool) → GrowsTo (λ s. AreMetByThreads s number threads × IsThere s number w) most old new went
+      → GrowsTo (λ s. AreAllMet s number × IsThere s number w) most old new went
+  all_events w went grown =
+      record {
+        grows = grown.grows;
+        few = grown.few;
+        then = λ e. let both = grown.then e in (λ event. by event both.0 (leb_tells threads event.thread), both.1);
+        gave_up = grown.gave_up;
+      }
     where
       by : (event : Event) → AreMetByThreads new number threads
           → ((nat_le threads event.thread ≡ true) × (threads ≤ event.thread))
@@ -190,8 +211,3 @@ module _ (left : AreOtherThreadsLeft) (most number threads : ℕ) (old new : Sta
           → IsMetFrom new number event
       by event each (inl h) = others grown.grows event h.1
       by event each (inr h) = each event.thread h.1 event.pick
-
-  pub all_if : {E : Type 0} (result : Result Bool E) → IfOk result (GrowsTo (λ s. AreMetByThreads s number threads) most old new)
-      → IfOk result (GrowsTo (λ s. AreAllMet s number) most old new)
-  all_if (Ok went) grown = all_events went grown
-  all_if (Err e) grown = tt

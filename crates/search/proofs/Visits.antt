@@ -1,5 +1,5 @@
 -- A state that is visited.
-use Rattle.std.proofs.Common.{◌≡◌, ℕ, suc, ◌<◌, ◌≤◌, List, [], length, get_or, Bool, true, false, ◌⊎◌, inl, inr, nat_le, Option, Some, None, refl, sym, subst, ◌∙◌, arith}
+use Rattle.std.proofs.Common.{◌≡◌, ℕ, suc, ◌<◌, ◌≤◌, List, [], length, get_or, true, false, ◌⊎◌, inl, inr, nat_le, Option, Some, None, refl, sym, subst, ◌∙◌, arith}
 use Rattle.std.specs.Prelude.{IsTrue}
 use Rattle.std.proofs.lemmas.Bool.{true≢false}
 use Rattle.std.proofs.lemmas.Bool.Decides.{leb_tells}
@@ -13,16 +13,19 @@ use Rattle.model.specs.State.{State}
 use Rattle.run_laws.specs.interleavings.Ends.{Outcome, outcome_of, EndsWith, Has}
 use Rattle.machine.specs.Machines.{MachineOf, IsProgramOf}
 use Rattle.machine.specs.schedule_runs.Done.{HasDone}
-use Rattle.search.specs.met_states.Met.{AreMetStatesKept}
+use Rattle.search.specs.met_states.Met.{AreMovingStatesNotQuiet, AreMetStatesKept}
 use Rattle.search.specs.declared.run_outcomes.outcomes.Outcome.{Outcome as TheOutcome}
 use Rattle.search.specs.declared.run_outcomes.wanted.Wanted.{Wanted}
 use Rattle.search.specs.run_outcomes.Outcomes.{told_by, IsWanted, IsAdded}
 use Rattle.search.specs.GivingUp.{GivesUp, IsStopped}
 use Rattle.search.specs.Machines.{IsAt, TellsOutcome}
-use Rattle.search.specs.States.{StatesOf, IsSchedule, IsInState, AreAllMet, GrowsTo}
+use Rattle.search.specs.States.{StatesOf, IsSchedule, IsInState, AreAllMet, Grows, GrowsTo}
 use Rattle.search.specs.Verdicts.{IsFound}
-use Rattle.search.specs.Visits.{AreListed, HasVisited, ListsAt, ListsOr}
-use Rattle.search.proofs.Growth.{earlier, still_met}
+use Rattle.search.specs.declared.states.Walk.{Walk}
+use Rattle.search.specs.Walks.{IsThere}
+use Rattle.search.specs.Visits.{AreListed, HasVisited, ListsOr}
+use Rattle.search.proofs.Growth.{earlier, still_met, within}
+use Rattle.search.proofs.Shown.{run_of}
 
 -- ---- a machine that has done the events of a run
 
@@ -146,57 +149,100 @@ module _ (trees : Program) (limits : Limits) (want : Wanted) (s : StatesOf) (out
     now_listed None tells lists = none_listed tells lists.1
     now_listed (Some o) tells lists = one_listed o tells lists.0 lists.1
 
-    -- ---- and the states to which events lead from it are met
+-- ---- once its events were tried
 
-    visited_too : AreMetStatesKept → (most : ℕ) (o : Option TheOutcome) → TellsOutcome trees m o → ListsOr want o false outcomes new
-        → (s_new : StatesOf) → GrowsTo (λ x. AreAllMet x number) most s s_new true → HasVisited trees limits want s_new new (suc number)
-    visited_too kept most o tells lists s_new grown =
-        record {
-          program = subst (IsProgramOf trees) (sym grown.grows.program) visited.program;
-          limits_are = grown.grows.limits_are ∙ visited.limits_are;
-          opened = grown.grows.kept 0 [] visited.opened;
-          met = λ k before. met k before (leb_tells number k);
-          outcomes_are = record { listed = λ k events state before is r quiet. listed_now k events state before is r quiet; only = now.only; none = now.none };
-        }
-      where
-        now : AreListed trees limits.frames want s.schedules new (suc number)
-        now = now_listed o tells lists
-
-        met : (k : ℕ) → k < suc number → ((nat_le number k ≡ true) × (number ≤ k)) ⊎ ((nat_le number k ≡ false) × (k < number))
-            → AreAllMet s_new k
-        met k before (inl h) = let here : number ≡ k = omega (arith, before, h.1) in subst (AreAllMet s_new) here (grown.then refl)
-        met k before (inr h) =
-            let inside : k < length s.schedules = omega (arith, h.1, lt) in
-            λ event. still_met s s_new grown.grows k inside kept event (visited.met k h.1 event)
-
-        listed_now : (k : ℕ) (events : List Event) (state : State) → k < suc number → IsSchedule s_new k events
-            → run trees limits.frames events ≡ Some state → IsTrue (is_quiet trees limits.frames state)
-            → Has new (outcome_of trees limits.frames state)
-        listed_now k events state before is r quiet =
-            let inside : k < length s.schedules = omega (arith, before, lt) in
-            now.listed k events state before (earlier s s_new grown.grows k inside events is) r quiet
-
-module _ (trees : Program) (limits : Limits) (want : Wanted) (s : StatesOf) (outcomes new : List Outcome) (number : ℕ)
+module _ (trees : Program) (limits : Limits) (want : Wanted) (s s_new : StatesOf) (outcomes : List Outcome) (number : ℕ)
     (visited : HasVisited trees limits want s outcomes number) (lt : number < length s.schedules) where
-  pub found_if : (answer : Option MachineOf) → ListsAt trees want s number answer outcomes new → answer ≡ None
-      → (events : List Event) → IsSchedule s number events → IsFound trees limits want events
-  found_if answer lists e =
-      let at = subst (λ a. ListsAt trees want s number a outcomes new) e lists in
-      found trees limits want s outcomes number visited lt at.0 at.2 at.1 new at.3 at.4
+  -- as many have been visited when there are more
+  module _ (kept : AreMetStatesKept) (grows : Grows s s_new) where
+    pub still_visited : HasVisited trees limits want s_new outcomes number
+    still_visited = record {
+      program = subst (IsProgramOf trees) (sym grows.program) visited.program;
+      limits_are = grows.limits_are ∙ visited.limits_are;
+      opened = grows.kept 0 [] visited.opened;
+      met = λ k before event. still_met s s_new grows k (omega (arith, before, lt)) kept event (visited.met k before event);
+      outcomes_are = record {
+        listed = λ k events state before is r quiet.
+            visited.outcomes_are.listed k events state before (earlier s s_new grows k (omega (arith, before, lt)) events is) r quiet;
+        only = visited.outcomes_are.only;
+        none = visited.outcomes_are.none;
+      };
+    }
 
-  pub visited_if : AreMetStatesKept → (most : ℕ) (answer : Option MachineOf) (m : MachineOf) → ListsAt trees want s number answer outcomes new → answer ≡ Some m
-      → (s_new : StatesOf) (went_on : Bool) → GrowsTo (λ x. AreAllMet x number) most s s_new went_on → went_on ≡ true
-      → HasVisited trees limits want s_new new (suc number)
-  visited_if kept most answer m lists e s_new went_on grown went =
-      let at = subst (λ a. ListsAt trees want s number a outcomes new) e lists in
-      visited_too trees limits want s outcomes number visited lt m at.1 new kept most at.0 at.2 at.3 s_new (subst (GrowsTo (λ x. AreAllMet x number) most s s_new) went grown)
+-- it has been visited, once its outcome is listed, too
+next_visited : (trees : Program) (limits : Limits) (want : Wanted) (s : StatesOf) (outcomes new : List Outcome) (number : ℕ) → HasVisited trees limits want s outcomes number
+    → AreAllMet s number → AreListed trees limits.frames want s.schedules new (suc number) → HasVisited trees limits want s new (suc number)
+next_visited trees limits want s outcomes new number visited met listed = record {
+  program = visited.program;
+  limits_are = visited.limits_are;
+  opened = visited.opened;
+  met = λ k before. by k before (leb_tells number k);
+  outcomes_are = listed;
+}
+  where
+    by : (k : ℕ) → k < suc number → ((nat_le number k ≡ true) × (number ≤ k)) ⊎ ((nat_le number k ≡ false) × (k < number)) → AreAllMet s k
+    by k before (inl h) = let here : number ≡ k = omega (arith, before, h.1) in subst (AreAllMet s) here met
+    by k before (inr h) = visited.met k h.1
 
-  -- it gave up
-  pub gave_up_if : (most : ℕ) (s_new : StatesOf) (went_on : Bool) → GrowsTo (λ x. AreAllMet x number) most s s_new went_on → went_on ≡ false
-      → GivesUp trees limits most (length s_new.schedules)
-  gave_up_if most s_new went_on grown stopped = elim (grown.gave_up stopped) [
-    | inl full ↦ inl full
-    | inr cant ↦
-        let program : IsProgramOf trees s_new.program = subst (IsProgramOf trees) (sym grown.grows.program) visited.program in
-        inr (subst (IsStopped trees) (grown.grows.limits_are ∙ visited.limits_are) (cant program.files trees program.accepted program.program))
-  ]
+module _ (trees : Program) (limits : Limits) (want : Wanted) (s s_new : StatesOf) (outcomes : List Outcome) (number : ℕ)
+    (visited : HasVisited trees limits want s outcomes number) (lt : number < length s.schedules) (kept : AreMetStatesKept) (most : ℕ) (walk : Walk) where
+  -- some thread may step there
+  pub visited_moved : AreMovingStatesNotQuiet → GrowsTo (λ x. AreAllMet x number × IsThere x number walk) most s s_new true → IsTrue walk.moved
+      → HasVisited trees limits want s_new outcomes (suc number)
+  visited_moved not_quiet grown moved =
+      let both = grown.then refl in
+      let now = still_visited trees limits want s s_new outcomes number visited lt kept grown.grows in
+      next_visited trees limits want s_new outcomes outcomes number now both.0
+      (record { listed = λ k events state before is r quiet. by k events state before is r quiet (leb_tells number k); only = now.outcomes_are.only; none = now.outcomes_are.none })
+    where
+      -- it is not quiet
+      moves : (events : List Event) (state : State) → IsSchedule s_new number events → run trees limits.frames events ≡ Some state
+          → IsTrue (is_quiet trees limits.frames state) → ⊥
+      moves events state is r quiet =
+          let both = grown.then refl in
+          let there : IsThere s_new number walk = both.1 in
+          let now = still_visited trees limits want s s_new outcomes number visited lt kept grown.grows in
+          let led = there.moved moved in
+          let at = there.is_in events is in
+          let leads = led.1 events is now.program.files trees now.program.accepted now.program.program in
+          let has = run_of s_new.program s_new.limits events walk.machine at now.program.files trees now.program.accepted now.program.program in
+          let reached : run trees s_new.limits.frames events ≡ Some state = subst (λ (l : Limits). run trees l.frames events ≡ Some state) (sym now.limits_are) r in
+          let off = not_quiet trees s_new.program (bounds_of s_new.limits) events led.0 walk.machine.shared state leads.0 has reached leads.1 in
+          true≢false (sym quiet ∙ subst (λ (l : Limits). is_quiet trees l.frames state ≡ false) now.limits_are off)
+
+      by : (k : ℕ) (events : List Event) (state : State) → k < suc number → IsSchedule s_new k events
+          → run trees limits.frames events ≡ Some state → IsTrue (is_quiet trees limits.frames state)
+          → ((nat_le number k ≡ true) × (number ≤ k)) ⊎ ((nat_le number k ≡ false) × (k < number))
+          → Has outcomes (outcome_of trees limits.frames state)
+      by k events state before is r quiet (inr h) =
+          let now = still_visited trees limits want s s_new outcomes number visited lt kept grown.grows in
+          now.outcomes_are.listed k events state h.1 is r quiet
+      by k events state before is r quiet (inl h) =
+          let here : k ≡ number = omega (arith, before, h.1) in
+          absurd (moves events state (subst (λ n. IsSchedule s_new n events) here is) r quiet)
+
+  -- its outcome, if there is one, is wanted, or is listed
+  module _ (o : Option TheOutcome) (tells : TellsOutcome trees walk.machine o) (new : List Outcome)
+      (grown : GrowsTo (λ x. AreAllMet x number × IsThere x number walk) most s s_new true) where
+    pub found_there : ListsOr want o true outcomes new → (events : List Event) → IsSchedule s_new number events → IsFound trees limits want events
+    found_there lists events is =
+        let both = grown.then refl in
+        let now = still_visited trees limits want s s_new outcomes number visited lt kept grown.grows in
+        found trees limits want s_new outcomes number now (within s s_new grown.grows number lt) walk.machine (both.1).is_in o new tells lists events is
+
+    pub visited_there : ListsOr want o false outcomes new → HasVisited trees limits want s_new new (suc number)
+    visited_there lists =
+        let both = grown.then refl in
+        let now = still_visited trees limits want s s_new outcomes number visited lt kept grown.grows in
+        next_visited trees limits want s_new outcomes new number now both.0
+        (now_listed trees limits want s_new outcomes number now (within s s_new grown.grows number lt) walk.machine (both.1).is_in new o tells lists)
+
+-- it gave up
+pub gave_up_there : (trees : Program) (limits : Limits) (want : Wanted) (s s_new : StatesOf) (outcomes : List Outcome) (number : ℕ)
+    → HasVisited trees limits want s outcomes number → (P : StatesOf → Type 0) (most : ℕ) → GrowsTo P most s s_new false → GivesUp trees limits most (length s_new.schedules)
+gave_up_there trees limits want s s_new outcomes number visited P most grown = elim (grown.gave_up refl) [
+  | inl full ↦ inl full
+  | inr cant ↦
+      let program : IsProgramOf trees s_new.program = subst (IsProgramOf trees) (sym grown.grows.program) visited.program in
+      inr (subst (IsStopped trees) (grown.grows.limits_are ∙ visited.limits_are) (cant program.files trees program.accepted program.program))
+]

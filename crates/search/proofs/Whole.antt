@@ -5,7 +5,7 @@ use Rattle.model.specs.declared.event.ScheduleEntry.{ScheduleEntry}
 use Rattle.model.specs.declared.limits.Limits.{Limits}
 use Rattle.model.specs.Classes.{Program}
 use Rattle.run_laws.specs.interleavings.Ends.{Outcome}
-use Rattle.run_laws.specs.searches.Searches.{AreSearchesComplete}
+use Rattle.search_laws.specs.Schedules.{AreSchedulesComplete}
 use Rattle.linked_code.specs.declared.program.LinkedProgram.{LinkedProgram}
 use Rattle.machine.specs.Machines.{IsOfAccepted, IsProgramOf}
 use Rattle.search.specs.met_states.Met.{IsNextMet, HasMetAll, AreSearchesWhole}
@@ -19,9 +19,9 @@ use Rattle.search.specs.declared.searching.Visit.TheVariants as visit
 use Rattle.search.specs.Visits.{HasVisited, Visits}
 
 -- no state has been visited
-pub none_visited : (trees : Program) (limits : Limits) (want : Wanted) (p : LinkedProgram) → IsProgramOf trees p
-    → HasVisited trees limits want (one_state p limits) [] 0
-none_visited trees limits want p program =
+pub none_visited : (trees : Program) (limits : Limits) (want : Wanted) (p : LinkedProgram) (parts : List (List ℕ)) → IsProgramOf trees p
+    → HasVisited trees limits want (one_state p limits parts) [] 0
+none_visited trees limits want p parts program =
     record {
       program = program;
       limits_are = refl;
@@ -45,7 +45,7 @@ module _ (trees : Program) (limits : Limits) (want : Wanted) (s : StatesOf) (out
     only = visited.outcomes_are.only;
   }
 
-  pub complete : AreSearchesWhole → AreSearchesComplete → IsComplete trees limits want (length s.schedules) outcomes
+  pub complete : AreSearchesWhole → AreSchedulesComplete → IsComplete trees limits want (length s.schedules) outcomes
   complete is_whole are_complete =
       record {
         all = are_complete visited.program.files trees visited.program.accepted limits.frames s.schedules outcomes (is_whole trees limits.frames s.schedules outcomes met_all);
@@ -87,10 +87,10 @@ module _ (trees : Program) (limits : Limits) (want : Wanted) (s : StatesOf) (out
 pub accepted_of : (trees : Program) (p : LinkedProgram) → IsProgramOf trees p → IsOfAccepted p
 accepted_of trees p program = record { files = program.files; trees = trees; accepted = program.accepted; program = program.program }
 
-module _ (trees : Program) (limits : Limits) (want : Wanted) (p : LinkedProgram) (s : StatesOf) (s_is : s ≡ one_state p limits) where
+module _ (trees : Program) (limits : Limits) (want : Wanted) (p : LinkedProgram) (s : StatesOf) (s_is : s ≡ one_state p limits s.parts) where
   pub none_visited_in : IsProgramOf trees p → HasVisited trees s.limits want s [] 0
   none_visited_in program =
-      subst (λ (x : StatesOf). HasVisited trees x.limits want x [] 0) (sym s_is) (none_visited trees limits want p program)
+      subst (λ (x : StatesOf). HasVisited trees x.limits want x [] 0) (sym s_is) (none_visited trees limits want p s.parts program)
 
   pub says_in : (may_stop : Bool) (most states told : ℕ) → told ≡ states → (v : Verdict) → Says trees s.limits want may_stop most states v → Says trees limits want may_stop most told v
   says_in may_stop most states told is v says =

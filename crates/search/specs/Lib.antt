@@ -3,6 +3,7 @@ pub mod Machines
 pub mod States
 pub mod Verdicts
 pub mod Visits
+pub mod Walks
 pub mod local_runs
 pub mod met_states
 pub mod run_outcomes

@@ -6,15 +6,14 @@ use Rattle.model.specs.Classes.{Program}
 use Rattle.model.specs.Run.{run, is_quiet}
 use Rattle.model.specs.State.{State}
 use Rattle.run_laws.specs.interleavings.Ends.{Outcome, outcome_of, EndsWith, Has}
-use Rattle.machine.specs.Machines.{MachineOf, IsProgramOf}
+use Rattle.machine.specs.Machines.{IsProgramOf}
 use Rattle.search.specs.declared.run_outcomes.wanted.Wanted.{Wanted}
 use Rattle.search.specs.declared.run_outcomes.outcomes.Outcome.{Outcome as TheOutcome}
 use Rattle.search.specs.run_outcomes.Outcomes.{told_by, IsWanted, IsAdded}
 use Rattle.search.specs.declared.searching.Visit.{Visit}
 use Rattle.search.specs.declared.searching.Visit.TheVariants as visit
 use Rattle.search.specs.GivingUp.{GivesUp}
-use Rattle.search.specs.Machines.{TellsOutcome}
-use Rattle.search.specs.States.{StatesOf, IsSchedule, IsInState, AreAllMet}
+use Rattle.search.specs.States.{StatesOf, IsSchedule, AreAllMet}
 use Rattle.search.specs.Verdicts.{IsFoundBy}
 
 -- the outcomes of the states below a number that are quiet are listed, and only such as a run has, none of them wanted
@@ -48,10 +47,3 @@ abbrev pub ListsOr : Wanted → Option TheOutcome → (found : Bool) → (old ne
 ListsOr want None found old new = IsFalse found × (new ≡ old)
 ListsOr want (Some o) Bool.true old new = IsWanted want (told_by o)
 ListsOr want (Some o) false old new = (IsWanted want (told_by o) → ⊥) × IsAdded (told_by o) old new
-
--- so it is of the outcome of the state of a number, with a machine that is in that state, and that is the answer unless the outcome is wanted
-abbrev pub ListsAt : Program → Wanted → StatesOf → (number : ℕ) → (answer : Option MachineOf) → (old new : List Outcome) → Type 0
-ListsAt trees want s number None old new =
-    (m : MachineOf) × (o : Option TheOutcome) × IsInState s number m × TellsOutcome trees m o × ListsOr want o Bool.true old new
-ListsAt trees want s number (Some m) old new =
-    (o : Option TheOutcome) × IsInState s number m × TellsOutcome trees m o × ListsOr want o false old new

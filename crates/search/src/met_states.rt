@@ -1,15 +1,15 @@
-//! What a machine that rebuilds states from schedules tells a search: where an event leads on from a schedule, the
-//! state has been met. Each function here is a theorem, and does nothing.
+//! What the states of a machine tell a search: where an event leads on from a schedule, the state has been met. Each
+//! function here is a theorem, and does nothing.
 //!
 //! # Proved
 //!
-//! - Theorems of a search that keeps schedules (`IsNextMet`): where the state to which an event leads, with local
-//!   events behind it, is alike to that of a schedule that is kept, or its schedule is kept, it is met; where a pick is
-//!   not enabled, no higher one leads anywhere; nor does an event of a thread that isn't there; and what is met stays
-//!   so. Where the events of all schedules are met, and the outcomes of those that end are listed, the search is whole
-//!   (`searches_are_whole`, with `IsWhole` of `searches`).
+//! - Theorems of a search that keeps schedules (`IsNextMet`): where the state to which an event leads, with events
+//!   behind it that are alone, is alike to that of a schedule that is kept, or its schedule is kept, it is met; where a pick is
+//!   not enabled, no higher one leads anywhere; nor does an event of a thread that isn't there. A state from which an
+//!   event leads on is not quiet. What is met stays so. Where the events of all schedules are met, and the outcomes of
+//!   those that end are listed, the search is whole (`searches_are_whole`, with `IsWhole` of `searches`).
 
-ghost use Rattle.search.specs.met_states.Met.{AreAlikeStatesMet, AreNewStatesMet, AreHigherPicksLeft, AreOtherThreadsLeft, AreMetStatesKept, AreSearchesWhole};
+ghost use Rattle.search.specs.met_states.Met.{AreAlikeStatesMet, AreNewStatesMet, AreHigherPicksLeft, AreOtherThreadsLeft, AreMovingStatesNotQuiet, AreMetStatesKept, AreSearchesWhole};
 
 use machine_state::same_states::words_are_told;
 use run_laws::searches::picks_are_in_order;
@@ -37,6 +37,13 @@ pub fn higher_picks_are_left()
 pub fn other_threads_are_left()
     ensures holds { AreOtherThreadsLeft }
 {}
+
+/// Where an event leads on from a state, some thread may step there.
+pub fn moving_states_are_not_quiet()
+    ensures holds { AreMovingStatesNotQuiet }
+{
+    picks_are_in_order();
+}
 
 /// What has been met stays met where more schedules are listed.
 pub fn met_states_are_kept()

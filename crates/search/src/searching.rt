@@ -5,20 +5,20 @@ ghost use Rattle.std.specs.Arc.{arc_value};
 ghost use Rattle.machine.specs.Machines.{IsProgramOf};
 ghost use Rattle.search.specs.Machines.{TellsOutcome};
 ghost use Rattle.search.specs.Verdicts.{Says};
-ghost use Rattle.search.specs.Visits.{HasVisited, Visits, ListsAt, ListsOr};
+ghost use Rattle.search.specs.Visits.{HasVisited, Visits, ListsOr};
 
 use crate::expanding::expand;
-use crate::machines::outcome_of;
-use crate::met_states::{met_states_are_kept, searches_are_whole};
+use crate::machines::{opened, outcome_of};
+use crate::met_states::{met_states_are_kept, moving_states_are_not_quiet, searches_are_whole};
 use crate::progress::Progress;
 use crate::run_outcomes::{Outcome, Outcomes, Wanted};
-use crate::states::States;
+use crate::states::{States, Walk};
 use hierarchy::ClassSet;
 use linked_code::LinkedProgram;
 use machine::Machine;
 use model::Limits;
-use run_laws::searches::searches_are_complete;
 use schedule::Schedule;
+use search_laws::kept_states::schedules_are_complete;
 use std::alloc::{AllocError, Global};
 use std::sync::Arc;
 
@@ -85,52 +85,36 @@ fn is_found_at(
     is_found(alloc, wanted, outcomes, outcome)
 }
 
-/// Lists the outcome of a state, if there is one. Answers a machine in that state, or none where the outcome is wanted.
-fn listed_at(
-    alloc: Global,
-    classes: &ClassSet,
-    wanted: &Wanted,
-    states: &States,
-    outcomes: &mut Outcomes,
-    number: u32,
-) -> Result<Option<Machine>, AllocError>
-    requires { number < length states.now.schedules }
-    ensures { IfOk result (λ found. ListsAt classes.now wanted.now states.now number found outcomes.old outcomes.new) }
-{
-    let machine = states.machine(number)?;
-    if is_found_at(alloc, classes, wanted, outcomes, &machine)? {
-        Ok(None)
-    } else {
-        Ok(Some(machine))
-    }
-}
-
 /// Visits the state of a number, all below which have been visited. The classes are those of the files.
 fn visit_state(
     alloc: Global,
     classes: &ClassSet,
     wanted: &Wanted,
-    states: &mut States,
+    walk: Walk,
     outcomes: &mut Outcomes,
     number: u32,
     most: u32,
-) -> Result<Visit, AllocError>
-    requires visited { HasVisited classes.now states.old.limits wanted.now states.old outcomes.old number }
-    requires number { number < length states.old.schedules }
-    ensures visits { IfOk result (λ v.
-        Visits classes.now states.old.limits wanted.now most number v states.new outcomes.new) }
-    ensures few { IfOk result (λ _. length states.old.schedules ≤ most → length states.new.schedules ≤ most) }
+) -> Result<(Visit, Walk), AllocError>
+    requires visited { HasVisited classes.now walk.states.limits wanted.now walk.states outcomes.old number }
+    requires number { number < length walk.states.schedules }
+    ensures visits { IfOk result (λ r.
+        Visits classes.now walk.states.limits wanted.now most number r.0 r.1.states outcomes.new) }
+    ensures few { IfOk result (λ r. length walk.states.schedules ≤ most → length r.1.states.schedules ≤ most) }
 {
     met_states_are_kept();
-    let Some(machine) = listed_at(alloc, classes, wanted, states, outcomes, number)? else {
-        let schedule = states.schedule(number)?;
-        return Ok(Visit::Found(schedule.joined(alloc)?));
-    };
-    if expand(alloc, states, number, machine, most)? {
-        Ok(Visit::Visited)
-    } else {
-        Ok(Visit::GaveUp)
+    moving_states_are_not_quiet();
+    let (went_on, walk) = expand(alloc, walk, number, most)?;
+    if !went_on {
+        return Ok((Visit::GaveUp, walk));
     }
+    if walk.moved {
+        return Ok((Visit::Visited, walk));
+    }
+    if is_found_at(alloc, classes, wanted, outcomes, &walk.machine)? {
+        let schedule = walk.states.schedule(number)?;
+        return Ok((Visit::Found(schedule.joined(alloc)?), walk));
+    }
+    Ok((Visit::Visited, walk))
 }
 
 /// Visits states from the opening state on, up to so many, and tells how far it has come.
@@ -139,36 +123,47 @@ fn visit_all<P: Progress>(
     progress: &P,
     classes: &ClassSet,
     wanted: &Wanted,
-    states: &mut States,
+    walk: Walk,
     most: u32,
-) -> Result<Verdict, AllocError>
-    requires visited { HasVisited classes.now states.old.limits wanted.now states.old [] 0 }
-    requires few { 1 ≤ most → length states.old.schedules ≤ most }
-    ensures says { IfOk result (Says classes.now states.old.limits wanted.now (P.may_stop progress.now) most
-        (length states.new.schedules)) }
-    ensures few { IfOk result (λ _. 1 ≤ most → length states.new.schedules ≤ most) }
+) -> Result<(Verdict, Walk), AllocError>
+    requires visited { HasVisited classes.now walk.states.limits wanted.now walk.states [] 0 }
+    requires few { 1 ≤ most → length walk.states.schedules ≤ most }
+    ensures says { IfOk result (λ r. Says classes.now walk.states.limits wanted.now (P.may_stop progress.now) most
+        (length r.1.states.schedules) r.0) }
+    ensures few { IfOk result (λ r. 1 ≤ most → length r.1.states.schedules ≤ most) }
 {
     searches_are_whole();
-    searches_are_complete();
+    schedules_are_complete();
+    let mut walk = walk;
     let mut outcomes = Outcomes::new(alloc);
     'states: for number in 0..most {
-        if number >= states.len() {
-            return Ok(Verdict::Complete(outcomes));
+        if number >= walk.states.len() {
+            return Ok((Verdict::Complete(outcomes), walk));
         }
-        progress.states_met(states.len());
+        progress.states_met(walk.states.len());
         if progress.is_over() {
-            return Ok(Verdict::GaveUp);
+            return Ok((Verdict::GaveUp, walk));
         }
-        match visit_state(alloc, classes, wanted, states, &mut outcomes, number, most)? {
+        let (visit, further) = visit_state(
+            alloc,
+            classes,
+            wanted,
+            walk,
+            &mut outcomes,
+            number,
+            most,
+        )?;
+        walk = further;
+        match visit {
             Visit::Visited => {}
-            Visit::Found(schedule) => return Ok(Verdict::Found(schedule)),
-            Visit::GaveUp => return Ok(Verdict::GaveUp),
+            Visit::Found(schedule) => return Ok((Verdict::Found(schedule), walk)),
+            Visit::GaveUp => return Ok((Verdict::GaveUp, walk)),
         }
     }
-    if states.len() <= most {
-        Ok(Verdict::Complete(outcomes))
+    if walk.states.len() <= most {
+        Ok((Verdict::Complete(outcomes), walk))
     } else {
-        Ok(Verdict::GaveUp)
+        Ok((Verdict::GaveUp, walk))
     }
 }
 
@@ -189,10 +184,16 @@ pub fn search<P: Progress>(
         s.verdict) }
     ensures few { IfOk result (λ s. 1 ≤ most → s.states ≤ most) }
 {
-    let mut states = States::new(alloc, program, limits)?;
-    let verdict = visit_all(alloc, progress, classes, wanted, &mut states, most)?;
+    let machine = opened(alloc, Arc::try_clone(&program)?, limits)?;
+    let states = States::new(alloc, program, limits, &machine)?;
+    let walk = Walk {
+        states,
+        machine,
+        moved: false,
+    };
+    let (verdict, walk) = visit_all(alloc, progress, classes, wanted, walk, most)?;
     Ok(Searched {
         verdict,
-        states: states.len(),
+        states: walk.states.len(),
     })
 }

@@ -1,17 +1,18 @@
-//! The states that a search has met, each by a schedule that leads there.
+//! The states that a search has met: how each is reached, and what it is.
 
-ghost use Rattle.std.specs.Prelude.{◌≡◌, ◌<◌, ◌+◌, ◌/◌, ◌^◌, length, IfOk, OnOk, IsTrue};
+ghost use Rattle.std.specs.Prelude.{◌≡◌, ◌<◌, ◌/◌, [], length, IfOk, OnOk};
 ghost use Rattle.std.specs.Arc.{arc_value};
-ghost use Rattle.model.specs.Schedule.{EntryFits, events_of};
+ghost use Rattle.model.specs.Schedule.{events_of};
 ghost use Rattle.machine.specs.Machines.{IsOfAccepted};
-ghost use Rattle.search.specs.States.{one_state, IsSchedule, IsInState, IsMetFrom, GrowsTo, IsLocalFrom, IsAfter, IsPushed};
+ghost use Rattle.kept_states.specs.States.{IsStateRow};
+ghost use Rattle.kept_states.specs.Kept.{IsStateAdded};
+ghost use Rattle.search.specs.Machines.{IsAt};
+ghost use Rattle.search.specs.States.{one_state, IsSchedule, IsInState, IsStateOf, IsMetFrom, GrowsTo, IsAloneFrom, IsAfter};
 
-use crate::machines::{at_schedule, do_more, opened};
 use crate::met_states::{alike_states_are_met, new_states_are_met};
-use crate::state_index::{StateIndex, hash_of};
+use kept_states::{KeptStates, Numbered, copied};
 use linked_code::LinkedProgram;
 use machine::Machine;
-use machine_state::same_states::are_alike;
 use model::{Limits, ScheduleEntry};
 use schedule::Schedule;
 use schedule::schedule_tree::ScheduleTree;
@@ -19,9 +20,8 @@ use std::alloc::{AllocError, Global};
 use std::marker::Model;
 use std::sync::Arc;
 
-/// How many bytes a state takes at most: its event and its place in the tree of schedules, its hash and its place in
-/// the index, each in a list that may have as much room again, and stands twice while it is moved to one with more
-/// room.
+/// How many bytes are counted for a state: its row and its place in the table of rows, its event and its place in the
+/// tree of schedules, each in a list that may have as much room again, and parts of its own.
 const STATE_BYTES: u32 = 128;
 
 /// How many states there may be, so that they don't take more than so many bytes.
@@ -39,7 +39,7 @@ pub(crate) struct States {
     program: Arc<LinkedProgram>,
     limits: Limits,
     tree: ScheduleTree,
-    index: StateIndex,
+    kept: KeptStates,
 }
 
 impl Model for States {
@@ -47,59 +47,66 @@ impl Model for States {
     ghost use Rattle.std.specs.Arc.{arc_value};
     ghost use Rattle.model.specs.Schedule.{events_of};
     ghost use Rattle.machine.specs.Machines.{IsOfAccepted};
-    ghost use Rattle.search.specs.States.{StatesOf};
+    ghost use Rattle.search.specs.States.{StatesOf, AreKept};
 
     ghost Value = { StatesOf };
 
-    ghost view = { λ s. record { program = arc_value s.program; limits = s.limits; schedules = map events_of s.tree } };
+    ghost view = { λ s. record {
+      program = arc_value s.program;
+      limits = s.limits;
+      schedules = map events_of s.tree;
+      parts = s.kept.parts;
+    } };
 
-    ghost invariant = { λ s. IsOfAccepted (arc_value s.program) × (s.index ≤ length s.tree) };
+    ghost invariant = { λ s. IsOfAccepted (arc_value s.program) × AreKept s.kept (record {
+      program = arc_value s.program;
+      limits = s.limits;
+      schedules = map events_of s.tree;
+      parts = s.kept.parts;
+    }) };
 }
 
-/// The hash of the opening state.
-fn opening_hash(
-    alloc: Global,
-    program: &Arc<LinkedProgram>,
-    limits: Limits,
-) -> Result<u64, AllocError>
-    requires { IsOfAccepted (arc_value program.now) }
-{
-    let machine = opened(alloc, Arc::try_clone(program)?, limits)?;
-    Ok(hash_of(machine.shared()))
+/// The states that were met, and a machine that does events in them.
+#[derive(Drop)]
+pub(crate) struct Walk {
+    pub(crate) states: States,
+    pub(crate) machine: Machine,
+    /// Whether an event is known to lead on from the state in which the machine is.
+    pub(crate) moved: bool,
 }
 
-/// The opening state alone, by its hash.
-fn first_index(
-    alloc: Global,
-    program: &Arc<LinkedProgram>,
-    limits: Limits,
-) -> Result<StateIndex, AllocError>
-    requires { IsOfAccepted (arc_value program.now) }
-    ensures { IfOk result (λ index. index ≡ 1) }
+/// Keeps the state of a machine, whose row was made.
+fn keep(kept: &mut KeptStates, machine: &Machine) -> Result<(), AllocError>
+    requires { IsStateRow kept.old.parts kept.old.state.items machine.now.shared }
+    ensures { OnOk result (IsStateAdded (length kept.old.states) machine.now.shared kept.old kept.new) }
 {
-    let hash = opening_hash(alloc, program, limits)?;
-    let mut index = StateIndex::new(alloc)?;
-    index.push(hash)?;
-    Ok(index)
+    let shared = machine.shared();
+    let _objects = shared.heap.len();
+    kept.push(shared)?;
+    Ok(())
 }
 
 impl States {
-    /// The opening state alone. The only error is a want of memory.
+    /// The opening state alone, in which this machine is. The only error is a want of memory.
     pub(crate) fn new(
         alloc: Global,
         program: Arc<LinkedProgram>,
         limits: Limits,
+        machine: &Machine,
     ) -> Result<States, AllocError>
-        requires { IsOfAccepted (arc_value program) }
-        ensures { IfOk result (λ s. s ≡ one_state (arc_value program) limits) }
+        requires program { IsOfAccepted (arc_value program) }
+        requires opened { IsAt (arc_value program) limits [] machine.now }
+        ensures { IfOk result (λ s. s ≡ one_state (arc_value program) limits s.parts) }
     {
-        let index = first_index(alloc, &program, limits)?;
+        let mut kept = KeptStates::new(alloc)?;
+        kept.write(machine.shared(), None)?;
+        keep(&mut kept, machine)?;
         Ok(States {
             alloc,
             program,
             limits,
             tree: ScheduleTree::new(alloc),
-            index,
+            kept,
         })
     }
 
@@ -118,117 +125,59 @@ impl States {
         self.tree.schedule(number)
     }
 
-    /// A machine in a state. The only error is a want of memory.
-    pub(crate) fn machine(&self, number: u32) -> Result<Machine, AllocError>
+    /// The state of a number. The only error is a want of memory.
+    pub(crate) fn state(&self, number: u32) -> Result<Numbered, AllocError>
         requires { number < length self.now.schedules }
+        ensures { IfOk result (IsStateOf self.now number) }
+    {
+        let state = self.kept.read(number)?;
+        Ok(state)
+    }
+
+    /// A machine in the state of a number, in the room of another one. The only error is a want of memory.
+    pub(crate) fn again(
+        &self,
+        number: u32,
+        machine: Machine,
+        state: &Numbered,
+    ) -> Result<Machine, AllocError>
+        requires number { number < length self.now.schedules }
+        requires state { IsStateOf self.now number state.now }
         ensures { IfOk result (IsInState self.now number) }
     {
-        let schedule = self.schedule(number)?;
-        at_schedule(
-            self.alloc,
-            Arc::try_clone(&self.program)?,
-            self.limits,
-            &schedule,
-        )
-    }
-
-    /// A machine in the state to which an entry leads from a state, whose events were done there before, so that the
-    /// only error is a want of memory.
-    fn machine_after(&self, number: u32, entry: ScheduleEntry) -> Result<Machine, AllocError>
-        requires { number < length self.now.schedules }
-        ensures { IfOk result (IsAfter self.now number entry) }
-    {
-        let mut machine = self.machine(number)?;
-        do_more(&mut machine, entry.event, entry.repeat)?;
-        Ok(machine)
-    }
-
-    /// Whether an entry leads from a state to one that was met. This machine is in the state to which it leads.
-    fn leads_to(
-        &self,
-        number: u32,
-        entry: ScheduleEntry,
-        machine: Machine,
-        met: u32,
-    ) -> Result<bool, AllocError>
-        requires local { IsLocalFrom self.now number entry }
-        requires is_after { IsAfter self.now number entry machine }
-        requires met { met < length self.now.schedules }
-        ensures { IfOk result (λ b. IsTrue b → IsMetFrom self.now number entry.event) }
-    {
-        alike_states_are_met();
-        let other = self.machine(met)?;
-        Ok(are_alike(machine.into_shared(), other.into_shared()))
-    }
-
-    /// Whether the state to which an entry leads from a state was met. This machine is in that state, which has this
-    /// hash.
-    fn is_met(
-        &self,
-        number: u32,
-        entry: ScheduleEntry,
-        machine: Machine,
-        hash: u64,
-    ) -> Result<bool, AllocError>
-        requires number { number < length self.now.schedules }
-        requires local { IsLocalFrom self.now number entry }
-        requires is_after { IsAfter self.now number entry machine }
-        ensures { IfOk result (λ b. IsTrue b → IsMetFrom self.now number entry.event) }
-    {
-        let Some(last) = self.index.last(hash) else {
-            return Ok(false);
-        };
-        if self.leads_to(number, entry, machine, last)? {
-            return Ok(true);
-        }
-        let mut candidate = self.index.before(last, hash);
-        'candidates: for _ in 0..self.len() {
-            let Some(met) = candidate else {
-                return Ok(false);
-            };
-            let machine = self.machine_after(number, entry)?;
-            if self.leads_to(number, entry, machine, met)? {
-                return Ok(true);
-            }
-            candidate = self.index.before(met, hash);
-        }
-        Ok(false)
-    }
-
-    /// Adds the schedule that goes on from that of a state by an entry.
-    fn push(&mut self, number: u32, entry: ScheduleEntry, hash: u64) -> Result<(), AllocError>
-        requires number { number < length self.old.schedules }
-        requires room { length self.old.schedules + 1 < 2 ^ 32 }
-        requires fits { EntryFits entry }
-        ensures { OnOk result (IsPushed number entry self.old self.new) }
-    {
-        self.tree.push(number, entry)?;
-        self.index.push(hash)
+        let program = Arc::try_clone(&self.program)?;
+        let shared = copied(self.alloc, machine.into_shared(), &state.shared)?;
+        Ok(Machine::resume(self.alloc, program, self.limits, shared))
     }
 
     /// Adds the state to which an entry leads from a state, and in which this machine is, unless it was met. Answers
     /// false, and adds nothing, where there would be more states than so many. The only error is a want of memory.
     pub(crate) fn add(
-        &mut self,
+        self,
         number: u32,
+        state: &Numbered,
         entry: ScheduleEntry,
-        machine: Machine,
+        machine: &Machine,
         most: u32,
-    ) -> Result<bool, AllocError>
-        requires number { number < length self.old.schedules }
-        requires local { IsLocalFrom self.old number entry }
-        requires is_after { IsAfter self.old number entry machine }
-        ensures { IfOk result (GrowsTo (λ s. IsMetFrom s number entry.event) most self.old self.new) }
+    ) -> Result<(bool, States), AllocError>
+        requires number { number < length self.schedules }
+        requires state { IsStateOf self number state.now }
+        requires alone { IsAloneFrom self number entry }
+        requires is_after { IsAfter self number entry machine.now }
+        ensures { IfOk result (λ r. GrowsTo (λ s. IsMetFrom s number entry.event) most self r.1 r.0) }
     {
+        alike_states_are_met();
         new_states_are_met();
-        let hash = hash_of(machine.shared());
-        if self.is_met(number, entry, machine, hash)? {
-            return Ok(true);
+        let mut states = self;
+        states.kept.write(machine.shared(), Some(state))?;
+        if let Some(_met) = states.kept.find() {
+            return Ok((true, states));
         }
-        if self.len() >= most {
-            return Ok(false);
+        if states.tree.len() >= most {
+            return Ok((false, states));
         }
-        self.push(number, entry, hash)?;
-        Ok(true)
+        states.tree.push(number, entry)?;
+        keep(&mut states.kept, machine)?;
+        Ok((true, states))
     }
 }

@@ -57,7 +57,8 @@ Lacks for events = (c : Continued) × GoesOn for.trees events for.limits for.bud
 abbrev pub IsKept : (has : List Event → Type 0) → (old new : List Event) → Type 0
 IsKept has old new = has new × (switches new ≤ switches old)
 
--- A schedule that has what is wanted, and goes from a thread to another one no more often than the given events; none, where these have it not.
+-- A schedule that has what is wanted, and goes from a thread to another one no more often than the given events; none,
+-- where these have it not.
 abbrev pub IsShrunk : (has lacks : List Event → Type 0) → (given : List Event) → Option (List ScheduleEntry) → Type 0
 IsShrunk has lacks given (Some shrunk) = IsKept has given (events_of shrunk)
 IsShrunk has lacks given None = lacks given

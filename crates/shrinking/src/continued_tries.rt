@@ -35,13 +35,18 @@ impl<'a> Model for ContinuedTries<'a> {
 
     ghost Value = { TriesFor };
 
-    ghost view = { λ t. record { trees = arc_value t.verified.now; limits = t.limits; budget = t.budget; want = t.wanted.now } };
+    ghost view = { λ t. record {
+      trees = arc_value t.verified.now;
+      limits = t.limits;
+      budget = t.budget;
+      want = t.wanted.now;
+    } };
 
     ghost invariant = { λ t. IsProgramOf (arc_value t.verified.now) (arc_value t.program.now) };
 }
 
 impl<'a> ContinuedTries<'a> {
-    /// Those of class files of which there is all that a run needs.
+    /// The tries over class files of which there is all that a run needs.
     pub fn new(
         verified: &'a Arc<Verified>,
         program: &'a Arc<LinkedProgram>,
@@ -81,7 +86,8 @@ fn ends_wanted(alloc: Global, wanted: &Wanted, report: Report, end: End) -> Resu
     }
 }
 
-/// The same of a run that was to go on behind a schedule.
+/// Whether a run that was to go on behind a schedule has a wanted outcome. The only error is a want of memory, in the
+/// run, too.
 fn comes_to(alloc: Global, wanted: &Wanted, run: Continued) -> Result<bool, AllocError>
     ensures { IfOk result (λ b. IsTrue b ↔ ComesTo wanted.now run) }
 {

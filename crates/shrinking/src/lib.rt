@@ -11,7 +11,8 @@
 //!   `jvm replay --then-run`, too.
 //! - `switch_count` is the number of events that are of another thread than the one before them (`switches`).
 //! - Of what is tried: `without` leaves out the entries from one place up to another, and `gathered` has an entry
-//!   behind one of those before it (`IsGathered`); each is joined, so that it has as few entries as its events can have.
+//!   behind one of those before it (`IsGathered`). Each schedule is joined, so that it has as few entries as its events
+//!   can have.
 //!
 //! # Not proved
 //!

@@ -34,7 +34,8 @@ abbrev pub last_end : Bool → SweepEnd
 last_end true = ends.Found
 last_end false = ends.Done
 
--- Done: there is a run for each seed up to the last, and none shows what is wanted. Found: the last run shows it, and none before it.
+-- Done: there is a run for each seed up to the last, and none shows what is wanted. Found: the last run shows it, and
+-- none before it.
 -- A sweep gives up only where it may be stopped, behind a run, and no run shows it.
 abbrev pub EndsSo : SweepEnd → (may_stop : Bool) → Wanted → (first last : ℕ) → List Recorded → Type 0
 EndsSo ends.Done may_stop want first last runs = (first + length runs ≡ suc last) × NoneShows want runs

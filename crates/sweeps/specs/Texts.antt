@@ -65,7 +65,8 @@ cut_texts same = flat_map (λ s. cut_part s.shown s) same
 abbrev pub seeds_line : (runs first : ℕ) → List ℕ
 seeds_line runs first = line (codes "runs " ++ (number runs ++ (codes ", seeds " ++ (number first ++ (codes ".." ++ number (first + runs - 1))))))
 
--- how many of further runs by the policy may show an outcome that none has shown, at most: so many more than those that one run has shown
+-- how many of further runs by the policy may show an outcome that none has shown, at most: so many more than those that
+-- one run has shown
 abbrev pub unseen_line : SeededPolicy → (runs once : ℕ) → List ℕ
 unseen_line policy runs once =
     line (codes "unseen at most " ++ (number (min (once + 3) runs) ++ (codes " in " ++ (number runs ++ (codes " runs of " ++ name_of policy)))))

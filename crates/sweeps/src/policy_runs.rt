@@ -33,7 +33,7 @@ impl SeededPolicy {
         }
     }
 
-    /// Its name, as options have it.
+    /// The name of the policy, as options have it.
     pub fn name(self) -> &'static str
         ensures { result.now ≡ name_of self }
     {
@@ -80,13 +80,18 @@ impl<'a> Model for PolicyRuns<'a> {
 
     ghost Value = { RunsBy };
 
-    ghost view = { λ s. record { policy = s.policy; trees = arc_value s.verified.now; limits = s.limits; budget = s.budget } };
+    ghost view = { λ s. record {
+      policy = s.policy;
+      trees = arc_value s.verified.now;
+      limits = s.limits;
+      budget = s.budget;
+    } };
 
     ghost invariant = { λ s. IsProgramOf (arc_value s.verified.now) (arc_value s.program.now) };
 }
 
 impl<'a> PolicyRuns<'a> {
-    /// Those of class files of which there is all that a run needs.
+    /// The runs of class files of which there is all that a run needs.
     pub fn new(
         verified: &'a Arc<Verified>,
         program: &'a Arc<LinkedProgram>,
@@ -95,7 +100,8 @@ impl<'a> PolicyRuns<'a> {
         policy: SeededPolicy,
     ) -> PolicyRuns<'a>
         requires { IsProgramOf (arc_value verified.now) (arc_value program.now) }
-        ensures { result ≡ record { policy = policy; trees = arc_value verified.now; limits = limits; budget = budget } }
+        ensures { result
+            ≡ record { policy = policy; trees = arc_value verified.now; limits = limits; budget = budget } }
     {
         PolicyRuns {
             verified,

@@ -16,7 +16,7 @@ pub struct SameRuns {
     pub count: u128,
     /// The seed of the first one.
     pub first: u64,
-    /// Its schedule.
+    /// The schedule of the first one.
     pub schedule: Schedule,
 }
 

@@ -69,7 +69,7 @@ pub struct Ran {
 }
 
 impl Ran {
-    /// That which is recorded so.
+    /// The run that is recorded so.
     pub fn of(recorded: Recorded) -> Ran
         ensures shown { shown_in result.shown ≡ shown_by recorded }
         ensures events { events_of result.schedule ≡ events_of recorded.schedule }

@@ -1,6 +1,7 @@
 //! The text of what comes of a sweep.
 
-ghost use Rattle.std.specs.Prelude.{◌≡◌, ◌++◌, ◌+◌, ◌-◌, ◌==◌, ◌&&◌, ◌≤◌, ◌<◌, ◌^◌, IfOk, OnOk, codes, count_by, map, min};
+ghost use Rattle.std.specs.Prelude.{◌≡◌, ◌++◌, ◌+◌, ◌-◌, ◌==◌, ◌&&◌, ◌≤◌, ◌<◌, ◌^◌};
+ghost use Rattle.std.specs.Prelude.{IfOk, OnOk, codes, count_by, map, min};
 ghost use Rattle.model.specs.Report.{line, number};
 ghost use Rattle.search.specs.search_reports.Reports.{outcome_text};
 ghost use Rattle.search.specs.run_outcomes.Outcomes.{told_by};
@@ -8,7 +9,8 @@ ghost use Rattle.sweeps.specs.Policies.{name_of};
 ghost use Rattle.sweeps.specs.Shown.{shown_in};
 ghost use Rattle.sweeps.specs.Tallies.{same_in};
 ghost use Rattle.sweeps.specs.Texts as spec;
-ghost use Rattle.sweeps.specs.Texts.{cut_line, cut_part, cut_texts, end_text, is_outcome, outcome_part, outcome_texts, seeds_line, share_line, unseen_line};
+ghost use Rattle.sweeps.specs.Texts.{cut_line, cut_part, cut_texts, end_text, is_outcome};
+ghost use Rattle.sweeps.specs.Texts.{outcome_part, outcome_texts, seeds_line, share_line, unseen_line};
 
 use crate::policy_runs::SeededPolicy;
 use crate::same_runs::SameRuns;

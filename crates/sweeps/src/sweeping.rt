@@ -20,7 +20,7 @@ pub enum SweepEnd {
     Done,
     /// The last run shows what is wanted, and none before it does.
     Found,
-    /// It was stopped behind a run.
+    /// The sweep was stopped behind a run.
     GaveUp,
 }
 

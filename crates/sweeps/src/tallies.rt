@@ -28,7 +28,11 @@ impl Model for Tally {
 
     ghost view = { λ t. record { same = map spec.same_in t.same.items; runs = t.count; events = t.sum } };
 
-    ghost invariant = { λ t. HasRoom (record { same = map spec.same_in t.same.items; runs = t.count; events = t.sum }) };
+    ghost invariant = { λ t. HasRoom (record {
+      same = map spec.same_in t.same.items;
+      runs = t.count;
+      events = t.sum;
+    }) };
 }
 
 impl Tally {

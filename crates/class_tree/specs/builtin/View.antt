@@ -1,45 +1,69 @@
 -- The members of the model that the values of this crate stand for.
-use Rattle.std.specs.Prelude.{ℕ, List, [], ◌∷◌, ◌++◌, Bool, ◌+◌, ◌*◌, ◌^◌, nat_lt, length, map, codes}
+use Rattle.std.specs.Prelude.{List, Bool, ◌+◌, ◌*◌, ◌^◌, nat_lt, length, map}
 use Rattle.std.specs.List.{list_all}
-use Rattle.model.specs.Names.{Name, java_lang_object, java_lang_string, java_lang_class}
-use Rattle.model.specs.Tree.{Entry, Utf8, Field, InterfaceMethod, NameAndType, FileTree}
-use Rattle.model.specs.BuiltIn as model
-use Rattle.class_tree.specs.declared.builtin.outline.Declared as declared_member
-use Rattle.class_tree.specs.declared.builtin.outline.Outline as declared_class
+use Rattle.std.specs.Option.{option_map}
+use Rattle.model.specs.BuiltInForm as model
+use Rattle.model.specs.Tree.{Entry, Utf8, Integer, Class, String, Field, Method, InterfaceMethod, NameAndType, FieldTree, FileTree}
+use Rattle.class_tree.specs.declared.builtin.form.Operand.{Operand}
+use Rattle.class_tree.specs.declared.builtin.form.Operand.TheVariants as operands
+use Rattle.class_tree.specs.declared.builtin.form.Declared as declared_member
+use Rattle.class_tree.specs.declared.builtin.form.Stored as declared_field
+use Rattle.class_tree.specs.declared.builtin.form.Coded as declared_code
+use Rattle.class_tree.specs.declared.builtin.form.BuiltInClass as declared_class
 
 abbrev pub declared_of : declared_member.Declared → model.Declared
-declared_of m = model.declared m.flags m.name.now m.descriptor.now
+declared_of m = model.declared m.0 m.1.now m.2.now
 
 abbrev pub members_of : List declared_member.Declared → List model.Declared
 members_of members = map declared_of members
 
-abbrev pub class_of : declared_class.Outline → FileTree
-class_of c = model.built_in c.flags c.name.now c.superclass.now (members_of c.methods.now)
+abbrev pub operand_of : Operand → Entry
+operand_of (operands.Utf8 text) = Utf8 text.now
+operand_of (operands.Integer bits) = Integer bits
+operand_of (operands.Class name) = Class name
+operand_of (operands.String text) = String text
+operand_of (operands.Field class name_and_type) = Field class name_and_type
+operand_of (operands.Method class name_and_type) = Method class name_and_type
+operand_of (operands.InterfaceMethod class name_and_type) = InterfaceMethod class name_and_type
+operand_of (operands.NameAndType name descriptor) = NameAndType name descriptor
 
--- its methods have a place each in the constant pool
-abbrev pub fits : declared_class.Outline → Bool
-fits c = nat_lt (5 + 2 * length c.methods.now) (2 ^ 16)
+abbrev pub operands_of : List Operand → List Entry
+operands_of entries = map operand_of entries
 
-abbrev pub all_fit : List declared_class.Outline → Bool
-all_fit outlines = list_all fits outlines
+abbrev pub field_in : declared_field.Stored → FieldTree
+field_in f = model.field f.0 f.1 f.2
 
--- a name and a descriptor, and the NameAndType of both, from an index of the constant pool on
-abbrev pub named_at : Name → Name → ℕ → List Entry
-named_at name descriptor at = Utf8 name ∷ Utf8 descriptor ∷ NameAndType at (at + 1) ∷ []
+abbrev pub fields_in : List declared_field.Stored → List FieldTree
+fields_in fields = map field_in fields
 
--- what the code of Thread.run names, in the constant pool of Thread from the index 7 on
-abbrev pub thread_operands : List Entry
-thread_operands =
-    named_at (codes "target") (codes "Ljava/lang/Runnable;") 7 ++ Field 2 9 ∷ named_at (codes "run") (codes "()V") 11 ++ InterfaceMethod 6 13 ∷ []
+abbrev pub coded_in : declared_code.Coded → model.Coded
+coded_in m = model.coded m.0 m.1 m.2 m.3 m.4 m.5.now
 
--- those of the built-in classes that are not thrown
-abbrev pub plain_classes : List FileTree
-plain_classes =
-    model.object_class
-    ∷ model.runnable_class
-    ∷ model.thread_class
-    ∷ model.built_in model.final_class java_lang_string java_lang_object []
-    ∷ model.built_in model.final_class java_lang_class java_lang_object []
-    ∷ model.system_class
-    ∷ model.print_stream_class
-    ∷ []
+abbrev pub codes_in : List declared_code.Coded → List model.Coded
+codes_in methods = map coded_in methods
+
+abbrev pub class_of : declared_class.BuiltInClass → model.BuiltInClass
+class_of c =
+    record {
+      flags = c.flags;
+      name = c.name.now;
+      superclass = option_map (λ name. name.now) c.superclass;
+      interfaces = map (λ name. name.now) c.interfaces.now;
+      operands = operands_of c.operands.now;
+      fields = fields_in c.fields.now;
+      coded = codes_in c.coded.now;
+      natives = members_of c.natives.now;
+    }
+
+abbrev pub tree_in : declared_class.BuiltInClass → FileTree
+tree_in c = model.tree_of (class_of c)
+
+abbrev pub trees_of : List declared_class.BuiltInClass → List FileTree
+trees_of classes = map tree_in classes
+
+-- all of its entries have an index each
+abbrev pub fits : declared_class.BuiltInClass → Bool
+fits c = nat_lt (6 + 2 * length c.interfaces.now + length c.operands.now + 2 * length c.natives.now) (2 ^ 16)
+
+abbrev pub all_fit : List declared_class.BuiltInClass → Bool
+all_fit classes = list_all fits classes

@@ -10,7 +10,7 @@
 //! - Shown by each case that links alone: that they are answered where memory is there.
 
 mod classes;
-mod outline;
+mod form;
 mod tables;
 
 pub use classes::built_in_classes;

@@ -47,7 +47,7 @@ pub fn write_comparison<R: Threads + Wait + Sync, F: Folder, W: Write>(
     writeln!(to, "equal")
 }
 
-/// These words, and the options and the files behind them.
+/// The first words, with the options and the files behind them.
 fn words_of(
     alloc: Global,
     first: &[&str],

@@ -5,8 +5,8 @@
 //! # Not proved
 //!
 //! In memory the engines are handed files that they may not be ready for. These are class files and schedule files in
-//! other forms than they have, and sets of class files that are made by chance. Behind each front of a schedule an event
-//! of each thread is tried. The program is proved safe, and nothing is promised of what it does.
+//! other forms than they have, and sets of class files that are made by chance. Behind each front of a schedule an
+//! event of each thread is tried. The program is proved safe, and nothing is promised of what it does.
 //!
 //! The stored run tries each front of the class file that prints 7 and of its schedule file, and one in 97 of the
 //! changes of a byte of both. It tries the events behind the fronts of three schedules, and 150 sets. What it must

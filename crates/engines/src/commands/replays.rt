@@ -15,6 +15,7 @@ use crate::commands::storing::{recorded, try_record};
 use crate::continuing::continue_engine;
 use crate::explanation::Explanation;
 use crate::fault::Fault;
+use crate::growth::Growth;
 use crate::named_file::{schedule_source, sources};
 use crate::recording::Conditions;
 use crate::replaying::replay_engine;
@@ -23,11 +24,13 @@ use crate::telling::{told_record, told_schedule};
 use command_line::{Replay, ThenRun};
 use model::Sink;
 use program_files::Folder;
+use program_runs::workers::Gate;
 use std::alloc::Global;
 
 /// `replay`.
-pub(crate) fn replay<F: Folder, W: Sink>(
+pub(crate) fn replay<G: Gate + Growth, F: Folder, W: Sink>(
     alloc: Global,
+    gate: &G,
     folder: &mut F,
     files: &[Vec<u8>],
     given: usize,
@@ -45,9 +48,13 @@ pub(crate) fn replay<F: Folder, W: Sink>(
         (W.contents output.old) (W.contents output.new)) (F.held folder.old) (F.held folder.new)) }
     ensures told { TellsFailures (FolderMayFail F.may_fail) result (W.failures output.old) (W.failures output.new) }
 {
+    if options.follow {
+        gate.follow();
+    }
     if let Some(then_run) = &options.then_run {
         return replay_on(
             alloc,
+            gate,
             folder,
             files,
             given,
@@ -57,7 +64,7 @@ pub(crate) fn replay<F: Folder, W: Sink>(
             explanation,
         );
     }
-    let status = replayed(alloc, folder, files, given, options, output)?;
+    let status = replayed(alloc, gate, folder, files, given, options, output)?;
     if let Some(most) = explanation.most_events(status, options.explain, options.quiet) {
         let lines = told_schedule(
             alloc,
@@ -73,8 +80,9 @@ pub(crate) fn replay<F: Folder, W: Sink>(
 }
 
 /// Replays a schedule of a folder over its class files, and writes the report.
-fn replayed<'a, F: Folder, W: Sink>(
+fn replayed<'a, G: Gate, F: Folder, W: Sink>(
     alloc: Global,
+    gate: &G,
     folder: &'a F,
     files: &'a [Vec<u8>],
     given: usize,
@@ -97,6 +105,7 @@ fn replayed<'a, F: Folder, W: Sink>(
     let mut sources = sources(alloc, folder, files)?;
     replay_engine(
         alloc,
+        gate,
         &mut schedule,
         sources.as_mut_slice(),
         &conditions_of(options, given),
@@ -117,8 +126,9 @@ fn conditions_of(options: &Replay, given: usize) -> Conditions
 }
 
 /// `replay --then-run`.
-fn replay_on<F: Folder, W: Sink>(
+fn replay_on<G: Gate, F: Folder, W: Sink>(
     alloc: Global,
+    gate: &G,
     folder: &mut F,
     files: &[Vec<u8>],
     given: usize,
@@ -140,7 +150,7 @@ fn replay_on<F: Folder, W: Sink>(
     try_record(alloc, folder, &then_run.record, explanation)?;
     let mut file = None;
     let outcome = continued(
-        alloc, folder, files, given, options, then_run, output, &mut file,
+        alloc, gate, folder, files, given, options, then_run, output, &mut file,
     );
     let status = recorded(alloc, folder, &then_run.record, &file, outcome, explanation)?;
     if let Some(most) = explanation.most_events(status, options.explain, options.quiet) {
@@ -151,8 +161,9 @@ fn replay_on<F: Folder, W: Sink>(
 }
 
 /// Replays a schedule of a folder over its class files and goes on, writes the report, and makes the schedule file.
-fn continued<'a, F: Folder, W: Sink>(
+fn continued<'a, G: Gate, F: Folder, W: Sink>(
     alloc: Global,
+    gate: &G,
     folder: &'a F,
     files: &'a [Vec<u8>],
     given: usize,
@@ -181,6 +192,7 @@ fn continued<'a, F: Folder, W: Sink>(
     let mut sources = sources(alloc, folder, files)?;
     continue_engine(
         alloc,
+        gate,
         &mut schedule,
         sources.as_mut_slice(),
         &conditions_of(options, given),

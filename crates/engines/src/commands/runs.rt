@@ -10,11 +10,12 @@ ghost use Rattle.engines.specs.RecordForms.{record_form};
 ghost use Rattle.engines.specs.Runs.{IsUnrun, Runs};
 
 use crate::commands::seed_sweeps::sweep_files;
-use crate::commands::storing::{recorded, try_record};
+use crate::commands::storing::{recorded, try_growth, try_record};
 use crate::deadline::Deadline;
 use crate::explanation::Explanation;
 use crate::fault::Fault;
 use crate::going_on::how_to_go_on;
+use crate::growth::Growth;
 use crate::named_file::sources;
 use crate::recording::Conditions;
 use crate::running::run_engine;
@@ -33,7 +34,7 @@ use sweeps::Watch;
 /// `run`: once, or for each of the seeds that are asked for.
 pub(crate) fn run<
     R: Threads + Wait + Sync,
-    G: Gate + Seeds + Deadline + Watch + Sync,
+    G: Gate + Seeds + Deadline + Growth + Watch + Sync,
     F: Folder,
     W: Sink,
 >(
@@ -85,7 +86,12 @@ pub(crate) fn run<
 }
 
 /// `run`, once.
-fn run_files<R: Threads + Wait + Sync, G: Gate + Seeds + Deadline + Sync, F: Folder, W: Sink>(
+fn run_files<
+    R: Threads + Wait + Sync,
+    G: Gate + Seeds + Deadline + Growth + Sync,
+    F: Folder,
+    W: Sink,
+>(
     rt: &R,
     alloc: Global,
     gate: &G,
@@ -105,11 +111,16 @@ fn run_files<R: Threads + Wait + Sync, G: Gate + Seeds + Deadline + Sync, F: Fol
     ensures told { TellsFailures (FolderMayFail F.may_fail) result (W.failures output.old) (W.failures output.new) }
 {
     try_record(alloc, folder, &options.record, explanation)?;
+    try_growth(alloc, gate, folder, &options.record, explanation)?;
     let mut file = None;
     let outcome = ran(
         rt, alloc, gate, folder, files, given, options, output, &mut file,
     );
-    let status = recorded(alloc, folder, &options.record, &file, outcome, explanation)?;
+    let told = recorded(alloc, folder, &options.record, &file, outcome, explanation);
+    if file.is_some() && !explanation.is_file_lost() {
+        gate.record_is_made();
+    }
+    let status = told?;
     tell(alloc, files, given, options, status, &file, explanation);
     Ok(status)
 }
@@ -145,7 +156,7 @@ fn conditions_of(options: &Run, given: usize) -> Conditions {
 }
 
 /// Runs the class files of a folder, writes the report, and makes the schedule file.
-fn ran<R: Threads + Wait + Sync, G: Gate + Seeds + Deadline + Sync, F: Folder, W: Sink>(
+fn ran<R: Threads + Wait + Sync, G: Gate + Seeds + Deadline + Growth + Sync, F: Folder, W: Sink>(
     rt: &R,
     alloc: Global,
     gate: &G,

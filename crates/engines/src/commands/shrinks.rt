@@ -5,14 +5,15 @@
 //! - `shrink_engine`, over any readers and writers: with a status, a text was appended and nothing else. It is that of
 //!   a schedule behind which a run has the outcome, as `shrink` of `shrinking` says it (`IsShrunk`); or nothing, and
 //!   the status 1, where the given schedule hasn't got it. The file, where one is asked for, spells its events, the
-//!   limits and the lengths and checksums of the class files, as far as its version tells them (`shrunk`, `IsShrunkOf`). Before the tries, and with a
-//!   fault, it is as `continue_engine` is (`faulty`, `counted`).
+//!   limits and the lengths and checksums of the class files, as far as its version tells them (`shrunk`,
+//!   `IsShrunkOf`). Before the tries, and with a fault, it is as `continue_engine` is (`faulty`, `counted`).
 //!
 //! # Not proved
 //!
 //! - What is told of the words: how many there were and are.
 
-ghost use Rattle.std.specs.Prelude.{◌≡◌, ◌+◌, ◌<◌, ◌^◌, ◌⊎◌, IfErr, IfOk, None, Some, is_some, length, map, string_bytes, sum_by, unwrap_or, vec_items};
+ghost use Rattle.std.specs.Prelude.{◌≡◌, ◌+◌, ◌<◌, ◌^◌, ◌⊎◌, IfErr, IfOk, None, Some};
+ghost use Rattle.std.specs.Prelude.{is_some, length, map, string_bytes, sum_by, unwrap_or, vec_items};
 ghost use Rattle.std.specs.Arc.{arc_value};
 ghost use Rattle.std.specs.Option.{option_map};
 ghost use Rattle.std.specs.Io.KnownBytes.{Appends};
@@ -28,7 +29,8 @@ ghost use Rattle.engines.specs.Files.{OfSchedule, known};
 ghost use Rattle.engines.specs.Goals.{IsAskedFor};
 ghost use Rattle.engines.specs.Opening.{IsOpened};
 ghost use Rattle.engines.specs.Recordings.{conditions_of};
-ghost use Rattle.engines.specs.Shrinks.{IsShrinkDone, IsShrinkUndone, IsShrunkBy, IsShrunkOf, IsUnshrunk, Shrinks, shrunk_text, tries_of};
+ghost use Rattle.engines.specs.Shrinks.{IsShrinkDone, IsShrinkUndone, IsShrunkBy, IsShrunkOf, IsUnshrunk};
+ghost use Rattle.engines.specs.Shrinks.{Shrinks, shrunk_text, tries_of};
 
 use crate::commands::searches::wanted_for;
 use crate::commands::storing::{recorded, try_record};
@@ -226,7 +228,8 @@ pub(crate) fn shrink_engine<S: Source, W: Sink>(
 
 /// Under what the schedule is to run.
 fn conditions_of(options: &Shrink, given: usize) -> Conditions
-    ensures { result ≡ conditions_of options.now.limits options.now.any_files given (unwrap_or options.now.budget 10000000) }
+    ensures { result
+        ≡ conditions_of options.now.limits options.now.any_files given (unwrap_or options.now.budget 10000000) }
 {
     Conditions {
         limits: options.limits,
@@ -255,8 +258,8 @@ fn found_of(
     requires { IsAccepted (map vec_items opened.files.items) (arc_value opened.verified) }
     ensures { IfOk result (λ found. (bytes : _)
         → IsOpened bytes (map vec_items opened.files.items)
-        (conditions_of options.now.limits options.now.any_files given (unwrap_or options.now.budget 10000000)) (arc_value opened.verified)
-        (events_of opened.schedule) opened.limits opened.gives_up
+        (conditions_of options.now.limits options.now.any_files given (unwrap_or options.now.budget 10000000))
+        (arc_value opened.verified) (events_of opened.schedule) opened.limits opened.gives_up
         → IsShrunkOf bytes given (map vec_items opened.files.items) options.now wanted.now found.text.items
         (option_map vec_items found.made.file) found.status) }
 {
@@ -303,7 +306,7 @@ fn shrunk_over(
     )
 }
 
-/// The same, where there is all that a run needs of the class files.
+/// What `shrunk_over` answers, where there is all that a run needs of the class files.
 fn shrunk_by(
     alloc: Global,
     verified: &Arc<Verified>,

@@ -9,6 +9,7 @@ ghost use Rattle.engines.specs.Files.{IsWith, written_at};
 
 use crate::explanation::Explanation;
 use crate::fault::{Fault, device_fault};
+use crate::growth::Growth;
 use crate::status::Status;
 use model::DeviceFault;
 use program_files::Folder;
@@ -25,9 +26,34 @@ pub(crate) fn try_record<F: Folder>(
     ensures failed { IfErr result (λ fault. fault ≡ Device → FolderMayFail F.may_fail) }
 {
     match path {
-        Some(path) => kept(alloc, folder.try_write(alloc, path.as_str()), explanation),
+        Some(path) => {
+            let tried = folder.try_write(alloc, path.as_str());
+            kept(alloc, path.as_str(), tried, explanation)
+        }
         None => Ok(()),
     }
+}
+
+/// Tries whether a record can grow beside the file that is asked for, while the run goes on. The system's reason why it
+/// can't is kept for the explanation.
+pub(crate) fn try_growth<G: Growth, F: Folder>(
+    alloc: Global,
+    gate: &G,
+    folder: &F,
+    path: &Option<String>,
+    explanation: &mut Explanation,
+) -> Result<(), DeviceFault>
+    ensures failed { IfErr result (λ fault. fault ≡ Device → FolderMayFail F.may_fail) }
+{
+    let Some(path) = path else {
+        return Ok(());
+    };
+    if gate.can_grow(path.as_str()) {
+        return Ok(());
+    }
+    let part = format!(in alloc; "{path}.part")?;
+    let tried = folder.try_write(alloc, part.as_str());
+    kept(alloc, part.as_str(), tried, explanation)
 }
 
 /// Writes the file that was made, where one is asked for, whatever came of the command, and answers that.
@@ -86,12 +112,13 @@ pub(crate) fn store<F: Folder>(
     ensures failed { IfErr result (λ fault. fault ≡ Device → IsTrue (F.may_fail folder.old path.now)) }
 {
     let written = folder.write(alloc, path, bytes);
-    kept(alloc, written, explanation)
+    kept(alloc, path, written, explanation)
 }
 
-/// The answer of a folder, of which the system's reason is kept.
+/// The answer of a folder at a path, of which the system's reason is kept.
 fn kept(
     alloc: Global,
+    path: &str,
     answer: io::Result<()>,
     explanation: &mut Explanation,
 ) -> Result<(), DeviceFault>
@@ -100,7 +127,7 @@ fn kept(
     match answer {
         Ok(()) => Ok(()),
         Err(error) => {
-            explanation.keep_reason(alloc, &error);
+            explanation.keep_unwritten(alloc, path, &error);
             Err(device_fault(&error))
         }
     }

@@ -3,7 +3,7 @@
 //! # Proved
 //!
 //! - `run_on` (`GoesOn`), for all accepted files, schedules, limits and budgets, memory aside: it answers one of two.
-//!   So does `run_linked_on`, which is handed the linked program of the files (`IsProgramOf`).
+//!   So does `run_linked_on`, which is handed the linked program of the files (`IsProgramOf`), and tells no gate of it.
 //!   - `Whole`: the record of a run of these files, under these limits and with this budget, as `worlds` says it. Its
 //!     events begin with those of the schedule: with all of them, or with as many as the budget (`Continues`). Behind
 //!     them each is of the first thread in rotation that has an enabled event, and picks the first waiter; the rotation
@@ -19,5 +19,6 @@
 mod following;
 mod rotation;
 mod run;
+mod untold;
 
 pub use run::{Continued, run_linked_on, run_on};

@@ -9,7 +9,9 @@ ghost use Rattle.program_runs.specs.continued_runs.Continuing.{GoesOn};
 
 use crate::continued_runs::following::follow;
 use crate::continued_runs::rotation::take_turns;
+use crate::continued_runs::untold::Untold;
 use crate::verified_programs::verified_program;
+use crate::workers::Gate;
 use crate::worlds::{Recorded, World};
 use linked_code::LinkedProgram;
 use machine::Stopped;
@@ -48,22 +50,23 @@ fn report_on(alloc: Global, world: &World, why: Stopped) -> Result<(Report, End)
 
 /// Does the events of a schedule over verified class files, and then goes on until there is an end (JVMS 2.5, 2.6,
 /// 5.5, chapter 6; JLS 17): each further event is that of the next thread in turn which has an enabled one, from
-/// thread 0 on, and picks the first waiter. All together are at most as many as the budget. The only error is a want
-/// of memory.
-pub fn run_on(
+/// thread 0 on, and picks the first waiter. All together are at most as many as the budget. The gate is told of them,
+/// and can't stop the run. The only error is a want of memory.
+pub fn run_on<G: Gate>(
     alloc: Global,
     verified: Arc<Verified>,
     schedule: &Schedule,
     limits: Limits,
     budget: u32,
+    gate: &G,
 ) -> Result<Continued, AllocError>
     ensures { IfOk result (GoesOn (arc_value verified) (events_of schedule.now) limits budget) }
 {
     let program = verified_program(alloc, &verified)?;
-    run_linked_on(alloc, verified, program, schedule, limits, budget)
+    run_told_on(alloc, verified, program, schedule, limits, budget, gate)
 }
 
-/// The same, where what a run needs of the class files is there already.
+/// The same, where what a run needs of the class files is there already, and no gate is told of it.
 pub fn run_linked_on(
     alloc: Global,
     verified: Arc<Verified>,
@@ -75,12 +78,28 @@ pub fn run_linked_on(
     requires { IsProgramOf (arc_value verified) (arc_value program) }
     ensures { IfOk result (GoesOn (arc_value verified) (events_of schedule.now) limits budget) }
 {
+    run_told_on(alloc, verified, program, schedule, limits, budget, &Untold)
+}
+
+/// What both do.
+fn run_told_on<G: Gate>(
+    alloc: Global,
+    verified: Arc<Verified>,
+    program: Arc<LinkedProgram>,
+    schedule: &Schedule,
+    limits: Limits,
+    budget: u32,
+    gate: &G,
+) -> Result<Continued, AllocError>
+    requires { IsProgramOf (arc_value verified) (arc_value program) }
+    ensures { IfOk result (GoesOn (arc_value verified) (events_of schedule.now) limits budget) }
+{
     reports_of_words();
     no_event_is_wrong();
     let mut world = World::open_linked(alloc, verified, program, limits, budget)?;
-    let why = follow(&mut world, schedule)?;
+    let why = follow(&mut world, schedule, gate)?;
     if let Stopped::Most = why {
-        take_turns(&mut world);
+        take_turns(&mut world, gate);
         return Ok(Continued::Whole(world.into_recorded(alloc)?));
     }
     let (report, end) = report_on(alloc, &world, why)?;

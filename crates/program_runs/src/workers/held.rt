@@ -7,6 +7,7 @@ ghost use Rattle.program_runs.specs.worlds.Commits.{ChecksOut};
 ghost use Rattle.program_runs.specs.worlds.Worlds.{TakesTurn};
 ghost use Rattle.program_runs.specs.workers.Runs.{IsWorldOf, TakesOver, some_limits};
 
+use crate::workers::gate::Gate;
 use crate::worlds::{Commit, ThreadBurst, World};
 use std::alloc::{AllocError, Global};
 use std::marker::{Brand, Model, PhantomData};
@@ -104,6 +105,11 @@ impl<J: Given> Held<J> {
         ensures { TakesTurn from most self.old.end result self.old self.new }
     {
         self.world.shared_steps(from, most)
+    }
+
+    /// Shows a gate what it has done.
+    pub fn show<G: Gate>(&self, gate: &G) {
+        self.world.show(gate);
     }
 
     /// How many events it has done.

@@ -93,6 +93,9 @@ fn work<J: Given, R: Wait, G: Gate>(
         }
         let (turn, events) = take_turn(rt, held, out, next_events, quantum);
         gate.turn_ends(events);
+        if gate.is_watching() {
+            held.lock(rt).show(gate);
+        }
         if gate.is_over() {
             held.lock(rt).stop();
         }

@@ -6,6 +6,7 @@ ghost use Rattle.machine.specs.Machines.{IsProgramOf};
 ghost use Rattle.program_runs.specs.worlds.Worlds.{Holds, IsNew};
 
 use crate::verified_programs::{open_linked_machine, verified_program};
+use crate::workers::Gate;
 use linked_code::LinkedProgram;
 use machine::Machine;
 use model::{End, Limits};
@@ -114,6 +115,20 @@ impl World {
         ensures { result.now ≡ self.now.machine }
     {
         &self.machine
+    }
+
+    /// Tells a gate how many events it has done, and shows it these where it wants to see them.
+    pub(crate) fn tell<G: Gate>(&self, gate: &G) {
+        gate.turn_ends(self.count());
+        if gate.is_watching() {
+            self.show(gate);
+        }
+    }
+
+    /// Shows a gate what it has done so far.
+    pub(crate) fn show<G: Gate>(&self, gate: &G) {
+        gate.watch_record(&self.recorded);
+        gate.watch_output(self.machine.shared().printed.as_slice());
     }
 
     /// The events that it has done.

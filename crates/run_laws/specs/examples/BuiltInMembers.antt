@@ -1,15 +1,21 @@
 -- The members of the built-in classes, as a listing shows them, and the conditions that they meet.
-use Rattle.std.specs.Prelude.{◌≡◌, List, [], ◌∷◌, ◌++◌, map, codes}
+use Rattle.std.specs.Prelude.{◌≡◌, ◌+◌, List, [], ◌∷◌, ◌++◌, drop, map, codes}
 use Rattle.std.specs.List.{flat_map}
 use Rattle.model.specs.Names.{Name}
 use Rattle.model.specs.Tree.{MethodTree, FileTree}
-use Rattle.model.specs.BuiltIn.{object_class, runnable_class, thread_class, system_class, print_stream_class, throwables, built_in_classes}
+use Rattle.model.specs.BuiltIn.{object_class, runnable_class, system_class, print_stream_class, built_in_classes}
+use Rattle.model.specs.built_in.Thread.{thread_class}
+use Rattle.model.specs.BuiltInNumbers.{print_stream_number}
 use Rattle.model.specs.Listing.{listing}
 use Rattle.run_laws.specs.examples.Conditions.{malformed_as, names_of, of_operands, of_code, of_hierarchy, of_resolution}
 
 -- the conditions of linking that stand in a built-in class; that its methods are native, and its names built in, is no matter
 abbrev pub standing_in : FileTree → List Name
 standing_in file = names_of (of_operands file ++ (of_code [] file ++ (of_hierarchy [] file ++ of_resolution [] file)))
+
+-- Throwable, and the classes below it
+abbrev pub throwables : List FileTree
+throwables = drop (print_stream_number + 1) built_in_classes
 
 pub record BuiltInMembers : Type 0 where
   pub object : listing object_class

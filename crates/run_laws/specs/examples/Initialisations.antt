@@ -3,7 +3,7 @@ use Rattle.std.specs.Prelude.{◌≡◌, ℕ, List, [], ◌∷◌, Option, Some,
 use Rattle.std.specs.Option.{option_map, option_and_then}
 use Rattle.model.specs.Names.{Name, java_lang_object}
 use Rattle.model.specs.Tree.{Utf8, Class}
-use Rattle.model.specs.BuiltIn.{public_class, built_in}
+use Rattle.model.specs.BuiltInForm.{public_class, built_in}
 use Rattle.model.specs.Classes.{Program}
 use Rattle.model.specs.ReferenceTypes.{ReferenceType, ClassType}
 use Rattle.model.specs.Operands.{values}

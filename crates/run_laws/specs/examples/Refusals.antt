@@ -3,7 +3,7 @@ use Rattle.std.specs.Prelude.{◌≡◌, ℕ, [], ◌∷◌, ◌++◌, true, fal
 use Rattle.model.specs.Names.{Name, java_lang_object}
 use Rattle.model.specs.Tree.{ConstantOf, FileTree}
 use Rattle.model.specs.Classes.{Program}
-use Rattle.model.specs.BuiltIn.{public_class, built_in}
+use Rattle.model.specs.BuiltInForm.{public_class, built_in}
 use Rattle.model.specs.Linkable.{too_many_files}
 use Rattle.run_laws.specs.examples.Conditions.{standing, refused_as, answered_as}
 use Rattle.run_laws.specs.examples.Made.{class, field, method, code_with, code, returns, exception, a_with, a_alone, with_method, doing, with_field, catching, beside, b_below, b_interface}

@@ -1,7 +1,7 @@
 -- Typings of small methods, each by its list of frame types; and codes that have none.
 use Rattle.std.specs.Prelude.{◌≡◌, ℕ, List, [], ◌∷◌, Some, None, true, ◌==◌, if◌then◌else◌, codes}
 use Rattle.model.specs.Names.{main_of, thread_run, java_io_print_stream, java_lang_object, java_lang_string, java_lang_thread}
-use Rattle.model.specs.BuiltIn.{thread_class}
+use Rattle.model.specs.built_in.Thread.{thread_class}
 use Rattle.model.specs.Tree.{Entry}
 use Rattle.model.specs.Classes.{Program, Body, body_of}
 use Rattle.model.specs.ReferenceTypes.{ClassType, ReferenceArray}

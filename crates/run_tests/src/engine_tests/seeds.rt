@@ -1,7 +1,9 @@
 //! Which seeds are drawn, and when they are told: no clause says so.
 
 use crate::engine_tests::devices::{FailingFolder, File};
-use engines::{Complaint, Counted, Deadline, Explanation, Gate, Progress, Seeds, Status, run};
+use engines::{
+    Complaint, Counted, Deadline, Explanation, Gate, Growth, Progress, Seeds, Status, run,
+};
 use made_files::class_builder::PRINTS_SEVEN;
 use std::alloc::{AllocError, Global};
 use std::sync::Wait;
@@ -81,6 +83,8 @@ impl Deadline for Watch {
         false
     }
 }
+
+impl Growth for Watch {}
 
 impl Seeds for Watch {
     fn draw(&self) -> u32 {

@@ -2,7 +2,7 @@
 
 use crate::engine_tests::devices::{FailingFolder, File};
 use engines::{
-    Complaint, Counted, Deadline, Explanation, Gate, Progress, Seeds, Status, Watch, run,
+    Complaint, Counted, Deadline, Explanation, Gate, Growth, Progress, Seeds, Status, Watch, run,
 };
 use made_files::class_builder::PRINTS_SEVEN;
 use std::alloc::{AllocError, Global};
@@ -64,6 +64,8 @@ impl Deadline for Late {
         true
     }
 }
+
+impl Growth for Late {}
 
 impl Seeds for Late {
     fn draw(&self) -> u32 {

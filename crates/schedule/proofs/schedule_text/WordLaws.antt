@@ -38,7 +38,7 @@ last_word word = refl
 
 -- ---- whether a word ends
 
-both_false : (p q : Bool) → (p || q) ≡ false → (p ≡ false) × (q ≡ false)
+pub both_false : (p q : Bool) → (p || q) ≡ false → (p ≡ false) × (q ≡ false)
 both_false true q e = (e, elim (q) as (λ t. t ≡ false) [ true ↦ e | false ↦ refl ])
 both_false false q e = (refl, e)
 

@@ -5,6 +5,8 @@ use Rattle.std.specs.List.{AllByRecursion}
 use Rattle.std.proofs.Math.Seq.{drop-length}
 use Rattle.std.proofs.lemmas.Bool.{eqb-true, lt-ltb, ltb-true}
 use Rattle.std.proofs.lemmas.Fmt.{decimal_nonempty}
+use Rattle.std.proofs.lemmas.Slice.Eq.{bytes_eq-Decides}
+use Rattle.std.specs.Str.{bytes_eq}
 use Rattle.std.proofs.lemmas.List.{append-nil, drop_more, get_or_append_left, length-drop, length-map}
 use Rattle.byteorder.specs.Endian.{big_bytes}
 use Rattle.hex.specs.Hex.{IsBytes, encode_with, lower_digits}
@@ -13,41 +15,42 @@ use Rattle.model.specs.declared.event.ScheduleEntry.{ScheduleEntry}
 use Rattle.model.specs.declared.limits.Limits.{Limits}
 use Rattle.schedule.specs.Files.{Checksums, RecordedFits, Recording}
 use Rattle.schedule.specs.schedule_text.Printing.{gap_after, in_lines, laid_out, printed_checksums, printed_library, printed_recording, printed_schedule}
-use Rattle.schedule.specs.schedule_text.Text.{SpellsSchedule, begins_comment, begins_slashes, behind_comments, checked_words, entry_tail, entry_word, hex_word, is_blank, last_words, library_words, limit_words, recording_words, with_word, words_from, words_of}
+use Rattle.schedule.specs.schedule_text.Text.{SpellsSchedule, begins_comment, begins_growing, begins_slashes, behind_comments, checked_words, entry_tail, entry_word, hex_word, is_blank, last_words, library_words, limit_words, recording_words, with_word, words_from, words_of}
 use Rattle.schedule.proofs.schedule_text.EntryLaws.{AreDigits, decimal_digits, form_of}
+use Rattle.schedule.proofs.schedule_text.GrowingLaws.{plain_text}
 use Rattle.schedule.proofs.schedule_text.HexLaws.{are_bytes, digit_behind, length_of_word}
 use Rattle.schedule.proofs.schedule_text.WordLaws.{begun, blank_ends, front_ends, no_byte, stays_there}
 
 -- ---- plain words
 
 -- whether no byte is white space or `#`, nor one that stands before `$` in ASCII
-abbrev is_plain : List ℕ → Bool
+abbrev pub is_plain : List ℕ → Bool
 is_plain [] = true
 is_plain (b ∷ bs) = nat_lt 35 b && is_plain bs
 
-abbrev IsPlainWord : List ℕ → Type 0
+abbrev pub IsPlainWord : List ℕ → Type 0
 IsPlainWord word = (is_plain word ≡ true) × (0 < length word)
 
-both_true : (p q : Bool) → (p && q) ≡ true → (p ≡ true) × (q ≡ true)
+pub both_true : (p q : Bool) → (p && q) ≡ true → (p ≡ true) × (q ≡ true)
 both_true true q e = (refl, e)
 both_true false q e = absurd cc
 
 not_equal : (b k : ℕ) → (b ≡ k → ⊥) → (b == k) ≡ false
 not_equal b k d = elim (b == k) as (λ t. (b == k) ≡ t → t ≡ false) [ true ↦ λ h. absurd (d (eqb-true b k h)) | false ↦ λ _. refl ] refl
 
-plain_byte : (b : ℕ) (bs : List ℕ) → nat_lt 35 b ≡ true → (is_blank b || begins_comment (b ∷ bs)) ≡ false
+pub plain_byte : (b : ℕ) (bs : List ℕ) → nat_lt 35 b ≡ true → (is_blank b || begins_comment (b ∷ bs)) ≡ false
 plain_byte b bs e =
     let lt : 35 < b = ltb-true 35 b e in
     rw (not_equal b 9 (λ h. omega (arith, lt, h)), not_equal b 10 (λ h. omega (arith, lt, h)), not_equal b 13 (λ h. omega (arith, lt, h)), not_equal b 32 (λ h. omega (arith, lt, h)), not_equal b 35 (λ h. omega (arith, lt, h))) refl
 
-plain_word : (w begun : List ℕ) (gap : ℕ) (more : List ℕ) → is_plain w ≡ true → is_blank gap ≡ true
+pub plain_word : (w begun : List ℕ) (gap : ℕ) (more : List ℕ) → is_plain w ≡ true → is_blank gap ≡ true
     → words_from false begun (w ++ gap ∷ more) ≡ with_word (begun ++ w) (words_of more)
 plain_word [] begun gap more p blank = blank_ends gap begun more blank ∙ ap (λ x. with_word x (words_of more)) (sym (append-nil begun))
 plain_word (b ∷ bs) begun gap more p blank =
     let q = both_true (nat_lt 35 b) (is_plain bs) p in
     stays_there b begun (bs ++ gap ∷ more) (plain_byte b (bs ++ gap ∷ more) q.0) ∙ plain_word bs (begun ++ b ∷ []) gap more q.1 blank ∙ ap (λ x. with_word x (words_of more)) (append_assoc begun (b ∷ []) bs)
 
-gap_is_blank : (place left : ℕ) → is_blank (gap_after place left) ≡ true
+pub gap_is_blank : (place left : ℕ) → is_blank (gap_after place left) ≡ true
 gap_is_blank place left = elim (place % 16 == 15 || left == 0) as (λ t. is_blank (if t then 10 else 32) ≡ true) [ true ↦ refl | false ↦ refl ]
 
 plain_append : (xs ys : List ℕ) → is_plain xs ≡ true → is_plain ys ≡ true → is_plain (xs ++ ys) ≡ true
@@ -97,7 +100,7 @@ named_is_plain : (name : List ℕ) (n : ℕ) → is_plain name ≡ true → n < 
 named_is_plain name n p small =
     (plain_append name (decimal n) p (plain_decimal n small), omega (arith, decimal_nonempty n small, length-append name (decimal n)))
 
-entries_are_plain : (es : List ScheduleEntry) → AllByRecursion EntryFits es → AllByRecursion IsPlainWord (map entry_word es)
+pub entries_are_plain : (es : List ScheduleEntry) → AllByRecursion EntryFits es → AllByRecursion IsPlainWord (map entry_word es)
 entries_are_plain [] all = tt
 entries_are_plain (e ∷ es) all = (entry_is_plain e all.0, entries_are_plain es all.1)
 
@@ -180,7 +183,7 @@ checksums_are_printed (Some c) more =
     ∙ ap (λ x. map hex_word c.files ++ x) (library_is_printed c.library more) ∙ sym (append_assoc (map hex_word c.files) (library_words c.library) (words_of more)) in
     checksums_stand ((files ++ library) ++ more) ∙ ap (λ x. codes "#checksums" ∷ x) behind
 
-recording_stands : (recorded : Option Recording) (more : List ℕ) → RecordedFits recorded
+pub recording_stands : (recorded : Option Recording) (more : List ℕ) → RecordedFits recorded
     → words_of (printed_recording recorded ++ more) ≡ recording_words recorded ++ words_of more
 recording_stands None more fits = refl
 recording_stands (Some r) more fits =
@@ -238,6 +241,22 @@ front_of None [] fits = refl
 front_of None (e ∷ entries) fits =
     front_stays (in_lines (map entry_word (e ∷ entries))) (entry_first e (gap_after 0 (length (map entry_word entries)) ∷ laid_out 1 (map entry_word entries)) fits.0)
 
+-- nor does it grow
+not_growing : (recorded : Option Recording) (entries : List ScheduleEntry) → AllByRecursion EntryFits entries
+    → begins_growing (recording_words recorded ++ map entry_word entries) ≡ false
+not_growing (Some r) entries fits = refl
+not_growing None [] fits = refl
+not_growing None (e ∷ entries) fits =
+    elim (bytes_eq (entry_word e) (codes "#growing")) as (λ t. bytes_eq (entry_word e) (codes "#growing") ≡ t → t ≡ false) [
+      | true ↦ λ is. absurd (no_word ((bytes_eq-Decides (entry_word e) (codes "#growing")).0 is))
+      | false ↦ λ is. refl
+    ] refl
+  where
+    no_word : entry_word e ≡ codes "#growing" → ⊥
+    no_word same =
+        let first : get_or (entry_word e ++ []) 0 0 ≡ 35 = ap (λ w. get_or w 0 0) (append-nil (entry_word e) ∙ same) in
+        omega (arith, entry_first e [] fits.0, first)
+
 -- what is printed spells the schedule
 pub printed_spells : (recorded : Option Recording) (entries : List ScheduleEntry) → RecordedFits recorded → AreEntries entries
     → SpellsSchedule (printed_schedule recorded entries) recorded entries
@@ -248,7 +267,9 @@ printed_spells recorded entries recording_fits fits =
     record {
       fits = fits;
       recording_fits = recording_fits;
-      spelled = ap words_of (front_of recorded entries fits.each) ∙ recording_stands recorded (in_lines words) recording_fits ∙ ap (λ x. recording_words recorded ++ x) ends;
+      spelled = plain_text (printed_schedule recorded entries) (recording_words recorded ++ words)
+          (ap words_of (front_of recorded entries fits.each) ∙ recording_stands recorded (in_lines words) recording_fits ∙ ap (λ x. recording_words recorded ++ x) ends)
+          (not_growing recorded entries fits.each);
     }
 
 -- ---- one more word

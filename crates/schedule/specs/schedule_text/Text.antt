@@ -1,5 +1,6 @@
 -- Schedules as text (own).
-use Rattle.std.specs.Prelude.{◌≡◌, ℕ, List, [], ◌∷◌, ◌++◌, map, codes, Option, Some, None, Bool, true, false, nat_lt, ◌==◌, ◌&&◌, ◌||◌, if◌then◌else◌, not, decimal, refl}
+use Rattle.std.specs.Prelude.{◌≡◌, ℕ, List, [], ◌∷◌, ◌++◌, map, drop, codes, Option, Some, None, Bool, true, false, nat_lt, ◌==◌, ◌&&◌, ◌||◌, if◌then◌else◌, not, decimal, refl}
+use Rattle.std.specs.Str.{bytes_eq}
 use Rattle.byteorder.specs.Endian.{big_bytes}
 use Rattle.hex.specs.Hex.{encode_lower, encode_with}
 use Rattle.model.specs.declared.event.ScheduleEntry.{ScheduleEntry}
@@ -61,6 +62,28 @@ behind_comments false (b ∷ bs) =
 abbrev pub text_words : List ℕ → List (List ℕ)
 text_words text = words_of (behind_comments false text)
 
+-- ---- a text that grows
+
+-- whether white space stands anywhere
+abbrev pub has_blank : List ℕ → Bool
+has_blank [] = false
+has_blank (b ∷ bs) = is_blank b || has_blank bs
+
+-- the bytes up to the last white space
+abbrev pub up_to_blank : List ℕ → List ℕ
+up_to_blank [] = []
+up_to_blank (b ∷ bs) = if has_blank (b ∷ bs) then b ∷ up_to_blank bs else []
+
+-- whether the first word is `#growing`
+abbrev pub begins_growing : List (List ℕ) → Bool
+begins_growing [] = false
+begins_growing (word ∷ _) = bytes_eq word (codes "#growing")
+
+-- The words that spell a schedule: those of the text. Where the first is `#growing`, they are the others, unless no white
+-- space stands behind the last one: that is left out.
+abbrev pub schedule_words : List ℕ → List (List ℕ)
+schedule_words text = if begins_growing (text_words text) then drop 1 (text_words (up_to_blank text)) else text_words text
+
 -- ---- what they spell
 
 -- a number behind a mark, left out where it is the usual one
@@ -102,11 +125,12 @@ abbrev pub recording_words : Option Recording → List (List ℕ)
 recording_words None = []
 recording_words (Some r) = codes "#limits" ∷ (limit_words r.limits ++ codes "#lengths" ∷ (map decimal r.lengths ++ last_words r.checksums))
 
--- The words of a text are those of these entries, and in front of them those of what they were recorded with.
+-- The words of a text are those of these entries, and in front of them those of what they were recorded with. The word
+-- `#growing` in front of all is none of them.
 pub record SpellsSchedule (text : List ℕ) (recorded : Option Recording) (entries : List ScheduleEntry) : Type 0 where
   pub fits : AreEntries entries
   pub recording_fits : RecordedFits recorded
-  pub spelled : text_words text ≡ recording_words recorded ++ map entry_word entries
+  pub spelled : schedule_words text ≡ recording_words recorded ++ map entry_word entries
 
 -- ---- examples
 
@@ -127,6 +151,15 @@ commented = refl
 two_slashes : text_words (codes "0*22 // 1") ≡ codes "0*22" ∷ codes "//" ∷ codes "1" ∷ []
 unfolding words_from behind_comments
 two_slashes = refl
+
+-- the last word may be part of a greater one, unless white space stands behind it
+growing : schedule_words (codes "#growing\n0*22 1*4 0*1") ≡ codes "0*22" ∷ codes "1*4" ∷ []
+unfolding words_from behind_comments
+growing = refl
+
+grown : schedule_words (codes "#growing\n0*22 1*4\n") ≡ codes "0*22" ∷ codes "1*4" ∷ []
+unfolding words_from behind_comments
+grown = refl
 
 a_checksum : hex_word 0x0123456789abcdef ≡ codes "0123456789abcdef"
 unfolding encode_with

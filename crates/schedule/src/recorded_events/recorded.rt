@@ -13,8 +13,8 @@ use std::marker::Model;
 /// A list of at most 4,294,967,295 events that grows at its end. It is kept as entries for runs of equal events.
 #[derive(Drop)]
 pub struct RecordedEvents {
-    entries: Vec<ScheduleEntry>,
-    total: u32,
+    pub(crate) entries: Vec<ScheduleEntry>,
+    pub(crate) total: u32,
 }
 
 impl Model for RecordedEvents {

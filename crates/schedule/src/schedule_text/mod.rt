@@ -1,7 +1,8 @@
 //! Schedules as text, for people to read and to write.
 //!
 //! A text has words, parted by white space. Each stands for an entry: `0*22` for 22 events of thread 0, `2` for one of
-//! thread 2, and `2.1` for one of thread 2 with pick 1. In front may stand with what the schedule was recorded.
+//! thread 2, and `2.1` for one of thread 2 with pick 1. In front may stand with what the schedule was recorded. A text
+//! whose first word is `#growing` may be cut off within its last word.
 //!
 //! # Proved
 //!
@@ -12,6 +13,8 @@
 //! - `parse`: what is answered is spelled so by the text (`found`); where the text spells entries, they and no others
 //!   are answered, with what they were recorded, memory aside (`only`). So what was printed is read back to the same
 //!   entries and the same recording, and a fault other than `OutOfMemory` comes only where the text spells nothing.
+//! - Where the first word of a text is `#growing`, those that spell the schedule are the others, without the last one
+//!   where no white space stands behind it (`schedule_words`).
 //! - The words of a text begin behind the comments in front, of both kinds (`text_words`), which `Words::new` passes;
 //!   and `is_schedule_word` is true exactly of a word that has entries alone, and a mark (`IsScheduleWord`).
 //! - `read_either`: bytes that begin with a digit, `/`, `#` or white space are read as a text, and all others as a
@@ -47,3 +50,4 @@ pub use fault::TextFault;
 pub use read::parse;
 pub use spelling::text_spells_one_schedule;
 pub use write::print;
+pub(crate) use write::{push_entries, push_recorded};

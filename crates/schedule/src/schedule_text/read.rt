@@ -9,11 +9,12 @@ ghost use Rattle.schedule.specs.schedule_text.Text.{SpellsSchedule};
 use crate::schedule_text::entries::entries;
 use crate::schedule_text::fault::TextFault;
 use crate::schedule_text::recordings::recorded;
-use crate::schedule_text::words::Words;
+use crate::schedule_text::words::schedule_words;
 use crate::{Recording, Schedule};
 use std::alloc::Global;
 
-/// The schedule that a text spells, and with what it was recorded, where the text tells that.
+/// The schedule that a text spells, and with what it was recorded, where the text tells that. Where its first word is
+/// `#growing`, a last word with no white space behind it is left out.
 ///
 /// # Errors
 ///
@@ -27,7 +28,7 @@ pub fn parse(alloc: Global, text: &[u8]) -> Result<(Schedule, Option<Recording>)
         → SpellsSchedule text.now recorded entries
         → Answers result recorded entries }
 {
-    let mut words = Words::new(text);
+    let mut words = schedule_words(text);
     let recorded = recorded(alloc, &mut words)?;
     let entries = entries(alloc, &mut words)?;
     Ok((Schedule::of_entries(entries), recorded))

@@ -1,7 +1,7 @@
 //! The words of a text, from left to right.
 
 ghost use Rattle.std.specs.Prelude.{◌≡◌, ◌∷◌, ◌≤◌, ◌<◌, ◌||◌, ℕ, List, [], length, drop, take, get_or, true, false, None, IsTrue, IfSome};
-ghost use Rattle.schedule.specs.schedule_text.Text.{begins_comment as comment_begins, begins_slashes as slashes_begin, behind_comments, is_blank as blank, text_words, words_from, words_of};
+ghost use Rattle.schedule.specs.schedule_text.Text.{begins_comment as comment_begins, begins_slashes as slashes_begin, behind_comments, is_blank as blank, schedule_words as words_of_schedule, text_words, up_to_blank as whole, words_from, words_of};
 
 use std::marker::Model;
 
@@ -119,6 +119,32 @@ fn word_length(bytes: &[u8]) -> usize
         }
     }
     bytes.len()
+}
+
+/// The bytes up to the last white space.
+fn up_to_blank(bytes: &[u8]) -> &[u8]
+    ensures { result.now ≡ whole bytes.now }
+{
+    'bytes: for at in (0..bytes.len()).rev() {
+        if is_blank(bytes[at]) {
+            return &bytes[..=at];
+        }
+    }
+    &[]
+}
+
+/// The words of a text that spell a schedule. A text whose first word is `#growing` may end in a part of a word: the
+/// last one is none of them, unless white space stands behind it.
+pub(crate) fn schedule_words(text: &[u8]) -> Words<'_>
+    ensures { result ≡ words_of_schedule text.now }
+{
+    let words = Words::new(text);
+    if !words.begins_with(b"#growing") {
+        return words;
+    }
+    let mut words = Words::new(up_to_blank(text));
+    let _ = words.next();
+    words
 }
 
 /// A text, and how many bytes of it are read. What is seen of it is the words that are left.

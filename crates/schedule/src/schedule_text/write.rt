@@ -54,7 +54,7 @@ fn push_entry(text: &mut Vec<u8>, entry: ScheduleEntry, gap: u8) -> Result<(), A
     Ok(())
 }
 
-fn push_entries(text: &mut Vec<u8>, entries: &[ScheduleEntry]) -> Result<(), AllocError>
+pub(crate) fn push_entries(text: &mut Vec<u8>, entries: &[ScheduleEntry]) -> Result<(), AllocError>
     ensures { OnOk result (text.new.items ≡ text.old.items ++ in_lines (map entry_word entries.now)) }
 {
     'entries: for place in 0..entries.len() {
@@ -152,7 +152,10 @@ fn push_recording(text: &mut Vec<u8>, recording: &Recording) -> Result<(), Alloc
     Ok(())
 }
 
-fn push_recorded(text: &mut Vec<u8>, recording: Option<&Recording>) -> Result<(), AllocError>
+pub(crate) fn push_recorded(
+    text: &mut Vec<u8>,
+    recording: Option<&Recording>,
+) -> Result<(), AllocError>
     ensures fits { OnOk result (RecordedFits (option_map (λ r. r.now) recording.entry)) }
     ensures added { OnOk result (text.new.items
         ≡ text.old.items ++ printed_recording (option_map (λ r. r.now) recording.entry)) }

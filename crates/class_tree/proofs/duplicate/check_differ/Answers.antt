@@ -1,7 +1,7 @@
-use Rattle.std.proofs.Common.{◌≡◌, ◌∙◌, sym, ap, subst, refl, true, false, map, take, get_or, Bool}
+use Rattle.std.proofs.Common.{◌≡◌, ◌∙◌, sym, ap, subst, refl, true, false, take, get_or}
 use Rattle.std.specs.List.{list_any}
 use Rattle.std.proofs.lemmas.Bool.{not-false, not-true}
-use Rattle.model.specs.Conditions.{is_same, name_and_descriptor_at}
+use Rattle.model.specs.Conditions.{name_and_descriptor_at}
 use Rattle.class_tree.specs.declared.duplicate.Firsts.{Firsts}
 use Rattle.class_tree.proofs.Differ.{is_key, key_at, key_of, key_is, any_same, more_keys, more_differ, found_again}
 use Rattle.class_tree.proofs.duplicate.check_differ.Goals as goal

@@ -1,4 +1,4 @@
-use Rattle.std.proofs.Common.{◌≡◌, ◌∙◌, ap, subst, sym, true, false, arith, length, map}
+use Rattle.std.proofs.Common.{◌≡◌, ◌∙◌, subst, sym, true, false, arith, length, map}
 use Rattle.model.specs.Conditions.{is_code_part}
 use Rattle.model.specs.Spelling.{method_part}
 use Rattle.constant_pool.specs.Checking.{saturated}

@@ -1,4 +1,4 @@
-use Rattle.std.proofs.Common.{◌≡◌, ◌∙◌, ap, subst, sym, length, take, map}
+use Rattle.std.proofs.Common.{◌≡◌, ◌∙◌, ap, subst, length, take, map}
 use Rattle.std.specs.List.{flat_map}
 use Rattle.std.proofs.lemmas.List.{take_all}
 use Rattle.constant_pool.specs.Checking.{saturated}

@@ -43,4 +43,5 @@ returns-clause-values c = record {
   quiet = c.is_set-2.ensures;
   any_files = c.is_set-3.ensures;
   files_alone = c.is_set-4.ensures;
+  follow = c.is_set-5.ensures;
 }

@@ -12,6 +12,12 @@ returns-in_err-check_files-clause-none c =
     (λ none run are. files_others (rows_of (found_of c.args.matches.now)) c.in_ok-files.files.items _ c.deref.ensures.value c.in_ok-files.ensures.files none run.files.items are.files are.other_files)
     c.in_err-check_files.ensures.none)
 
+pub returns-in_err-follow-clause-none : goal.returns-in_err-follow-clause-none
+returns-in_err-follow-clause-none c =
+    let p = err_from_is_err_and c.from_residual-in_err-follow.result c.from_residual-in_err-follow.ensures.1 in
+    rw (p.1, p.2)
+    (refuses_more c.in_err-follow.field-0.0 _ _ (λ none run are. none run.follow are.follow) c.in_err-follow.ensures.none)
+
 pub returns-clause-values : goal.returns-clause-values
 returns-clause-values c = record {
   options = c.in_ok-options.ensures.numbers;
@@ -26,4 +32,5 @@ returns-clause-values c = record {
   explain = c.is_set.ensures;
   quiet = c.is_set-2.ensures;
   files_alone = c.is_set-3.ensures;
+  follow = c.in_ok-follow.ensures.follow;
 }

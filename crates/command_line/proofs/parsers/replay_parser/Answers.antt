@@ -1,7 +1,7 @@
 use Rattle.std.proofs.Common.{◌∙◌, ap, ap₂, codes}
 use Rattle.std.proofs.lemmas.Result.{IfOk-weaker}
 use Rattle.clap.specs.Words.{new_app}
-use Rattle.command_line.specs.CommandLine.{with_files, with_program, with_record}
+use Rattle.command_line.specs.CommandLine.{with_files, with_follow, with_record}
 use Rattle.command_line.proofs.ParserLemmas.{IsParser, with_argument}
 use Rattle.command_line.proofs.parsers.replay_parser.Goals as goal
 
@@ -14,6 +14,6 @@ returns c =
     let budget = with_argument _ c.argument.result _ _ _ then_run c.argument.ensures.rule c.argument.ensures.local c.in_ok-replay.ensures in
     let recorded = c.in_ok-replay-2.ensures.app ∙ ap with_record budget.0 in
     let recorded_local = c.in_ok-replay-2.ensures.local budget.1 in
-    let limited = c.in_ok-with_program.ensures.app ∙ ap with_program recorded in
-    IfOk-weaker c.with_files.result _ _ (λ whole is. (is.0 ∙ ap₂ with_files limited c.files_argument.ensures.rule, is.1))
-    (c.with_files.ensures (c.in_ok-with_program.ensures.local recorded_local) c.files_argument.ensures.local)
+    let following = c.in_ok-with_follow.ensures.app ∙ ap with_follow recorded in
+    IfOk-weaker c.with_files.result _ _ (λ whole is. (is.0 ∙ ap₂ with_files following c.files_argument.ensures.rule, is.1))
+    (c.with_files.ensures (c.in_ok-with_follow.ensures.local recorded_local) c.files_argument.ensures.local)

@@ -1,7 +1,7 @@
 use Rattle.std.proofs.Common.{◌∙◌, ap, ap₂, codes}
 use Rattle.std.proofs.lemmas.Result.{IfOk-weaker}
 use Rattle.clap.specs.Words.{new_app}
-use Rattle.command_line.specs.CommandLine.{with_files, with_program, with_record}
+use Rattle.command_line.specs.CommandLine.{with_files, with_follow, with_record}
 use Rattle.command_line.proofs.ParserLemmas.{IsParser, with_argument}
 use Rattle.command_line.proofs.parsers.run_parser.Goals as goal
 
@@ -18,6 +18,6 @@ returns c =
     let wanted = with_argument _ c.goal_argument.result _ _ _ seeds c.goal_argument.ensures.rule c.goal_argument.ensures.local c.in_ok-run.ensures in
     let recorded = c.in_ok-run-2.ensures.app ∙ ap with_record wanted.0 in
     let recorded_local = c.in_ok-run-2.ensures.local wanted.1 in
-    let limited = c.in_ok-with_program.ensures.app ∙ ap with_program recorded in
-    IfOk-weaker c.with_files.result _ _ (λ whole is. (is.0 ∙ ap₂ with_files limited c.files_argument.ensures.rule, is.1))
-    (c.with_files.ensures (c.in_ok-with_program.ensures.local recorded_local) c.files_argument.ensures.local)
+    let following = c.in_ok-with_follow.ensures.app ∙ ap with_follow recorded in
+    IfOk-weaker c.with_files.result _ _ (λ whole is. (is.0 ∙ ap₂ with_files following c.files_argument.ensures.rule, is.1))
+    (c.with_files.ensures (c.in_ok-with_follow.ensures.local recorded_local) c.files_argument.ensures.local)

@@ -16,7 +16,7 @@ returns-clause-values c = record {
   no_files_alone = c.in_ok-check_places_flag-2.ensures.ok;
   file = c.in_ok-file.ensures.file;
   write = c.is_set.ensures;
-  as_version = c.in_ok-as_version.ensures.number;
+  version = c.in_ok-as_version.ensures.version;
   explain = c.is_set-2.ensures;
   quiet = c.is_set-3.ensures;
 }

@@ -17,10 +17,10 @@ returns-in-Some-clause-version c =
 
 pub returns-in-None-clause-version : goal.returns-in-None-clause-version
 returns-in-None-clause-version c =
-    IfOk-weaker c.unrecorded.result _ _
-    (λ same none. a_version (rows_of (found_of c.args.matches.now)) _ same c.in_ok-version.ensures.number none.0 none.1) c.unrecorded.ensures.none
+    IfOk-weaker c.no_version.result _ _
+    (λ same none. a_version (rows_of (found_of c.args.matches.now)) _ same c.in_ok-version.ensures.number none.0 none.1) c.no_version.ensures.none
 
 pub returns-in-None-clause-none : goal.returns-in-None-clause-none
 returns-in-None-clause-none c =
     let none = first_is c.args.matches.now (codes "record") None c.in-None.ensures in
-    refused_more c.unrecorded.result _ _ (no_version (rows_of (found_of c.args.matches.now)) _ c.in_ok-version.ensures.number none) c.unrecorded.ensures.refused
+    refused_more c.no_version.result _ _ (no_version (rows_of (found_of c.args.matches.now)) _ c.in_ok-version.ensures.number none) c.no_version.ensures.refused

@@ -10,7 +10,7 @@ use Rattle.engines.proofs.PlaceLemmas.{gives_up_few, gives_up_past}
 use Rattle.engines.proofs.continuing.ran_by.Goals as goal
 
 pub returns-then-gives_up_within-clause-run : goal.returns-then-gives_up_within-clause-run
-returns-then-gives_up_within-clause-run c =
+returns-then-gives_up_within-clause-run g c =
     let given = c.args.opened in
     let files = map vec_items given.files.items in
     let events = events_of given.schedule in
@@ -21,7 +21,7 @@ returns-then-gives_up_within-clause-run c =
     inr (run bytes options same (subst (λ up. IsOpened bytes files options (arc_value given.verified) events given.limits up) few.0 opened) few.1)) c.ran_up_to.ensures.run
 
 pub returns-clause-run : goal.returns-clause-run
-returns-clause-run c =
+returns-clause-run g c =
     let given = c.args.opened in
     let events = events_of given.schedule in
     let trees = arc_value given.verified in

@@ -13,13 +13,13 @@ use Rattle.engines.proofs.RunLemmas.{by_three, few_files}
 use Rattle.engines.proofs.continuing.ran_on.Goals as goal
 
 pub outcome_of-requires : goal.outcome_of-requires
-outcome_of-requires c = omega (arith, few_files (map vec_items c.args.files.now) (arc_value c.args.verified) c.requires, length-map c.args.files.now vec_items)
+outcome_of-requires g c = omega (arith, few_files (map vec_items c.args.files.now) (arc_value c.args.verified) c.requires, length-map c.args.files.now vec_items)
 
 pub outcome_of-requires-in-Part : goal.outcome_of-requires-in-Part
-outcome_of-requires-in-Part c = omega (arith, few_files (map vec_items c.args.files.now) (arc_value c.args.verified) c.requires, length-map c.args.files.now vec_items)
+outcome_of-requires-in-Part g c = omega (arith, few_files (map vec_items c.args.files.now) (arc_value c.args.verified) c.requires, length-map c.args.files.now vec_items)
 
 pub returns-in-Whole-clause-run : goal.returns-in-Whole-clause-run
-returns-in-Whole-clause-run c =
+returns-in-Whole-clause-run g c =
     let events = events_of c.args.schedule.now in
     let goes = subst (λ budget. GoesOn (arc_value c.args.verified) events c.args.limits budget c.in_ok-run.field-0) c.budget.ensures c.in_ok-run.ensures in
     let run = c.in-Whole.run' in
@@ -44,7 +44,7 @@ returns-in-Whole-clause-run c =
     }) c.outcome_of.ensures.told c.outcome_of.ensures.ended c.outcome_of.ensures.spelled
 
 pub returns-in-Part-clause-run : goal.returns-in-Part-clause-run
-returns-in-Part-clause-run c =
+returns-in-Part-clause-run g c =
     let events = events_of c.args.schedule.now in
     let goes = subst (λ budget. GoesOn (arc_value c.args.verified) events c.args.limits budget c.in_ok-run.field-0) c.budget.ensures c.in_ok-run.ensures in
     by_three c.outcome_of-in-Part.result _ _ _ _ (λ outcome told ended spelled bytes options gives_up same opened past. record {
@@ -68,9 +68,9 @@ returns-in-Part-clause-run c =
     }) c.outcome_of-in-Part.ensures.told c.outcome_of-in-Part.ensures.ended c.outcome_of-in-Part.ensures.spelled
 
 pub returns-in-Whole-clause-asked : goal.returns-in-Whole-clause-asked
-returns-in-Whole-clause-asked c =
+returns-in-Whole-clause-asked g c =
     subst (λ recorded. IfOk c.outcome_of.result (λ outcome. IsTrue recorded → IsTrue (is_some outcome.file))) c.is_some-is_recorded.ensures c.outcome_of.ensures.asked
 
 pub returns-in-Part-clause-asked : goal.returns-in-Part-clause-asked
-returns-in-Part-clause-asked c =
+returns-in-Part-clause-asked g c =
     subst (λ recorded. IfOk c.outcome_of-in-Part.result (λ outcome. IsTrue recorded → IsTrue (is_some outcome.file))) c.is_some-is_recorded.ensures c.outcome_of-in-Part.ensures.asked

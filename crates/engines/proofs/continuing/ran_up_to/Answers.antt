@@ -12,13 +12,13 @@ use Rattle.engines.proofs.RunLemmas.{few_files}
 use Rattle.engines.proofs.continuing.ran_up_to.Goals as goal
 
 pub recorded_file-requires : goal.recorded_file-requires
-recorded_file-requires c =
+recorded_file-requires g c =
     let given = c.args.opened.now in
     subst (λ all. length all < 2 ^ 32) (sym c.as_slice.ensures.value)
     (omega (arith, few_files (map vec_items given.files.items) (arc_value given.verified) c.requires, length-map given.files.items vec_items))
 
 pub returns-clause-run : goal.returns-clause-run
-returns-clause-run c = λ bytes options same opened few.
+returns-clause-run g c = λ bytes options same opened few.
     let given = c.args.opened.now in
     let events = events_of given.schedule in
     let ran = c.in_ok-report in

@@ -6,7 +6,7 @@ use Rattle.model.specs.Schedule.{events_of}
 use Rattle.engines.proofs.replaying.replay_of.Goals as goal
 
 pub returns : goal.returns
-returns c = λ bytes options opened.
+returns g c = λ bytes options opened.
     let given = c.args.opened.now in
     let ran = c.in_ok-report in
     record {

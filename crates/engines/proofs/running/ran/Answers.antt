@@ -9,6 +9,9 @@ use Rattle.engines.specs.Stopped.{run_text}
 use Rattle.engines.proofs.RunLemmas.{by_one, by_two, few_files}
 use Rattle.engines.proofs.running.ran.Goals as goal
 
+pub tell_growth-requires : goal.tell_growth-requires
+tell_growth-requires g c = omega (arith, few_files (map vec_items c.args.files.now) c.args.verified c.requires, length-map c.args.files.now vec_items)
+
 pub outcome_of-requires : goal.outcome_of-requires
 outcome_of-requires g c = omega (arith, few_files (map vec_items c.args.files.now) c.args.verified c.requires, length-map c.args.files.now vec_items)
 

@@ -10,10 +10,10 @@ abbrev no_entry : ScheduleEntry
 no_entry = record { event = record { thread = 0; pick = 0 }; repeat = 0 }
 
 pub entries-init : goal.entries-init
-entries-init c = begins c.args.world.now c.requires
+entries-init g c = begins c.args.world.now c.requires
 
 pub returns-then-done-entry : goal.returns-then-done-entry
-returns-then-done-entry c =
+returns-then-done-entry g c =
     let items = c.entries-entry-items.result.now in
     let i = c.entries.entry-index in
     let entry : ScheduleEntry = get_or items i no_entry in
@@ -22,7 +22,7 @@ returns-then-done-entry c =
     (ap events_of (sym c.entries-entry-items.ensures.are) ∙ around items i no_entry c.entries-test.true) c.unless_memory.result c.unless_memory.ensures.same
 
 pub entries-preserved : goal.entries-preserved
-entries-preserved c =
+entries-preserved g c =
     let items = c.entries-entry-items.result.now in
     let i = c.entries.entry-index in
     let entry : ScheduleEntry = get_or items i no_entry in
@@ -31,7 +31,7 @@ entries-preserved c =
     (λ less. omega (arith, less, c.if-done-entry.false)))
 
 pub returns : goal.returns
-returns c =
+returns g c =
     let items = c.entries-entry-items.result.now in
     let i = c.entries.entry-index in
     let le : length items ≤ i = omega (arith, c.entries-test.false) in

@@ -5,4 +5,4 @@ use Rattle.program_runs.proofs.continued_runs.following.follow.Given as goal
 
 -- the entries so far are passed
 abbrev pub invariant-entries : goal.invariant-entries
-invariant-entries l = HasPassed (events_of (take l.entry-index l.entry-items)) l.fn.world l.world
+invariant-entries g l = HasPassed (events_of (take l.entry-index l.entry-items)) l.fn.world l.world

@@ -4,7 +4,7 @@ use Rattle.program_runs.proofs.continued_runs.rotation.take_turns.Given as goal
 
 -- by the turns so far
 abbrev pub invariant-turns : goal.invariant-turns
-invariant-turns l = InTurn l.fn.world l.world l.from
+invariant-turns g l = InTurn l.fn.world l.world l.from
 
 abbrev pub decreases-turns : goal.decreases-turns
-decreases-turns l = left l.world
+decreases-turns g l = left l.world
