@@ -1,0 +1,7 @@
+//! The synchronization actions of an event (JLS 17.4.2, 17.4.4; 12.4.2) that whole states tell, before the event and
+//! after it: whom the end of a thread wakes, which class is done, and which monitor a new invocation entered.
+#![tactic(auto)]
+
+pub mod changed_monitors;
+pub mod class_ends;
+pub mod wait_ends;
