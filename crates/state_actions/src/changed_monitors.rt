@@ -2,15 +2,20 @@
 //!
 //! # Proved
 //!
-//! - `monitor_changed`: by the monitor that was meant before an event, and by the stack of its thread after it, which
-//!   monitor the event may have locked or unlocked, and whether the thread owned that before (`ChangesMonitor`). No other
-//!   monitor's owner has changed; so `locked` and `unlocked` of `changes` tell the locks and unlocks of the
-//!   definitions.
+//! - `monitor_changed`: by the monitor that an event may mean, told before it, and by the stack of its thread after it,
+//!   which monitor the event may have locked or unlocked, and whether the thread owned that before (`ChangesMonitor`).
+//!   What is told before may be any monitor where the definitions mean none. No other monitor's owner has changed; so
+//!   `locked` and `unlocked` of `changes` tell the locks and unlocks of the definitions.
 //!
 //! # Not proved
 //!
-//! - That an event changes no other owner is a theorem of `owners`, and what the count of a monitor tells one of
-//!   `entered_monitors`.
+//! - That an event changes no other owner is a theorem of `owners`, what the count of a monitor tells one of
+//!   `entered_monitors`, and that an invocation which enters a monitor means no other one of `meant_monitors`.
+//!
+//! # Wrong bodies
+//!
+//! - `changed_monitors-entered-once-is-owned`: who has entered a monitor once owned it before; refused by
+//!   `is_entered_again`.
 
 ghost use Rattle.std.specs.Prelude.{◌≡◌, Some};
 ghost use Rattle.state_actions.specs.changed_monitors.Changed.{ChangesMonitor, entered_above, tells_owner};
@@ -58,8 +63,8 @@ fn was_owner(heap: &Heap, object: Option<u32>) -> bool
     }
 }
 
-/// The monitor that an event may have locked or unlocked, by the one that was meant before it, and by how many entries
-/// the stack of its thread had before it.
+/// The monitor that an event may have locked or unlocked: the one that a new invocation entered, and else the one that
+/// was said to be meant before the event, by how many entries the stack of its thread had before it.
 pub fn monitor_changed(
     heap: &Heap,
     stack: &ThreadStack,
@@ -68,14 +73,12 @@ pub fn monitor_changed(
 ) -> MonitorBefore
     ensures { ChangesMonitor heap.now.locks.monitors stack.now depth meant result }
 {
-    match meant.object {
-        Some(_) => meant,
-        None => {
-            let object = entered_since(stack, depth);
-            MonitorBefore {
-                object,
-                was_owner: was_owner(heap, object),
-            }
-        }
+    let object = entered_since(stack, depth);
+    match object {
+        Some(_) => MonitorBefore {
+            object,
+            was_owner: was_owner(heap, object),
+        },
+        None => meant,
     }
 }

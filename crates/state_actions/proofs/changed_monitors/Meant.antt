@@ -15,7 +15,7 @@ use Rattle.monitor_laws.specs.owners.Owners.{KeepsOwners, entered_in, meant}
 use Rattle.event_laws.specs.entered_monitors.Entries.{TellsOwner}
 use Rattle.table_actions.specs.tables.Owners.{OwnsTheRest, WasOwner, is_meant}
 use Rattle.state_actions.specs.declared.changed_monitors.MonitorBefore.{MonitorBefore}
-use Rattle.state_actions.specs.changed_monitors.Changed.{entered_on, entered_above, tells_owner, IsMeant, OfEvent, IsChanged, ChangesMonitor}
+use Rattle.state_actions.specs.changed_monitors.Changed.{entered_on, entered_above, tells_owner, OfEvent, IsChanged, ChangesMonitor}
 
 -- ---- the frame on top
 
@@ -65,70 +65,54 @@ owned_as t object old new h other e = ap (owns t) (h other (by object e))
 any_keeps : (object : Option ℕ) (old new : List Monitor) → KeepsOwners None old new → KeepsOwners object old new
 any_keeps object old new h other e = h other refl
 
--- by what is said before the event, if that is any
+-- what an invocation entered that is new on top
+module _ (trees : Program) (p : LinkedProgram) (shown : List ShownEntry) (own stack : StackOf ℕ) (shows : ShowsStack trees p shown stack) (depth : ℕ) (deep : depth ≡ length own) where
+  entered_is : meant None own stack ≡ entered_above depth shown
+  entered_is =
+      ap (λ n. if nat_lt n (length stack) then entered_in stack else None) (sym deep)
+      ∙ ap (λ n. if nat_lt depth n then entered_in stack else None) (sym (shown_depth trees p shown stack shows))
+      ∙ ap (λ (o : Option ℕ). if nat_lt depth (length shown) then o else None) (sym (shown_entered trees p shown stack shows))
+
 module _ (t : ℕ) (own stack : StackOf ℕ) (old new : WorldOf ℕ) where
-  said_changes : (object : ℕ) (before : Option ℕ) → IsMeant (Some object) before own stack → KeepsOwners (meant before own stack) old.monitors new.monitors
-      → KeepsOwners (Some object) old.monitors new.monitors
-  said_changes object before is h =
+  -- by what is said before the event
+  said_keeps : (said before : Option ℕ) → (said ≡ before) ⊎ (before ≡ None) → meant None own stack ≡ None
+      → KeepsOwners (meant before own stack) old.monitors new.monitors → KeepsOwners said old.monitors new.monitors
+  said_keeps said None is none h =
+      any_keeps said old.monitors new.monitors (subst (λ (o : Option ℕ). KeepsOwners o old.monitors new.monitors) none h)
+  said_keeps said (Some object) is none h =
       elim is [
-        | inl e ↦ subst (λ (o : Option ℕ). KeepsOwners (meant o own stack) old.monitors new.monitors) (sym e) h
-        | inr e ↦ any_keeps (Some object) old.monitors new.monitors (subst (λ (o : Option ℕ). KeepsOwners o old.monitors new.monitors) e h)
+        | inl e ↦ subst (λ (o : Option ℕ). KeepsOwners o old.monitors new.monitors) (sym e) h
+        | inr e ↦ absurd (let f : Some object ≡ None = e in cc)
       ]
 
-  no_meaning : (before : Option ℕ) → meant before own stack ≡ None → before ≡ None
-  no_meaning None e = refl
-  no_meaning (Some object) e = absurd cc
-
-  none_meant : (before : Option ℕ) → IsMeant None before own stack → before ≡ None
-  none_meant before is = elim is [ inl e ↦ sym e | inr e ↦ no_meaning before e ]
-
   -- or by the invocation that is new
-  entered_was : (b : Bool) → nat_lt (length own) (length stack) ≡ b → (o : Option ℕ) → entered_in stack ≡ o → TellsOwner t own stack old new
-      → WasOwner t (if b then o else None) old.monitors (tells_owner (if b then o else None) new.monitors)
-  entered_was true e None f h = refl
-  entered_was true e (Some object) f h = sym (h e object f)
-  entered_was false e o f h = refl
-
-pub some_changed : (monitors : List Monitor) (shown : List ShownEntry) (depth object : ℕ) (was : Bool)
-    → ChangesMonitor monitors shown depth (record { object = Some object; was_owner = was }) (record { object = Some object; was_owner = was })
-some_changed monitors shown depth object was trees p t before own stack old new same shows deep event was_so =
-    record {
-      rest = owned_as t (Some object) old.monitors new.monitors (said_changes t own stack old new object before event.is_meant event.owners);
-      was = was_so;
-    }
-
-pub none_changed : (monitors : List Monitor) (shown : List ShownEntry) (depth : ℕ) (was : Bool)
-    → ChangesMonitor monitors shown depth (record { object = None; was_owner = was })
-    (record { object = entered_above depth shown; was_owner = tells_owner (entered_above depth shown) monitors })
-none_changed monitors shown depth was trees p t before own stack old new same shows deep event was_so =
-    let none : before ≡ None = none_meant t own stack old new before event.is_meant in
-    let on = if nat_lt (length own) (length stack) then entered_in stack else None in
-    let is : on ≡ entered_above depth shown =
-    ap (λ n. if nat_lt n (length stack) then entered_in stack else None) (sym deep)
-    ∙ ap (λ n. if nat_lt depth n then entered_in stack else None) (sym (shown_depth trees p shown stack shows))
-    ∙ ap (λ (o : Option ℕ). if nat_lt depth (length shown) then o else None) (sym (shown_entered trees p shown stack shows)) in
-    let kept : KeepsOwners on old.monitors new.monitors = subst (λ (o : Option ℕ). KeepsOwners (meant o own stack) old.monitors new.monitors) none event.owners in
-    let was_on : WasOwner t on old.monitors (tells_owner on new.monitors) =
-    entered_was t own stack old new (nat_lt (length own) (length stack)) refl (entered_in stack) refl event.entries in
-    record {
-      rest = owned_as t (entered_above depth shown) old.monitors new.monitors (subst (λ (o : Option ℕ). KeepsOwners o old.monitors new.monitors) is kept);
-      was = subst (λ (ms : List Monitor). WasOwner t (entered_above depth shown) old.monitors (tells_owner (entered_above depth shown) ms)) (sym same)
-          (subst (λ (o : Option ℕ). WasOwner t o old.monitors (tells_owner o new.monitors)) is was_on);
-    }
+  entered_was : (b : Bool) → nat_lt (length own) (length stack) ≡ b → (object : ℕ) → (if b then entered_in stack else None) ≡ Some object → TellsOwner t own stack old new
+      → WasOwner t (Some object) old.monitors (tells_owner (Some object) new.monitors)
+  entered_was true e object f h = sym (h e object f)
+  entered_was false e object f h = absurd cc
 
 -- ---- what is told
 
-pub changed_some : (monitors : List Monitor) (shown : List ShownEntry) (depth : ℕ) (said told : MonitorBefore) (object : ℕ) → said.object ≡ Some object → told ≡ said
-    → ChangesMonitor monitors shown depth said told
-changed_some monitors shown depth said told object e same =
-    subst (λ (m : MonitorBefore). ChangesMonitor monitors shown depth said m) (sym same)
-    (subst (λ (o : Option ℕ). ChangesMonitor monitors shown depth (record { object = o; was_owner = said.was_owner }) (record { object = o; was_owner = said.was_owner })) (sym e)
-    (some_changed monitors shown depth object said.was_owner))
+pub changed_entered : (monitors : List Monitor) (shown : List ShownEntry) (depth : ℕ) (said told : MonitorBefore) (object : ℕ) → Some object ≡ entered_above depth shown
+    → told.object ≡ Some object → told.was_owner ≡ tells_owner (Some object) monitors → ChangesMonitor monitors shown depth said told
+changed_entered monitors shown depth said told object e o w trees p t before own stack old new same shows deep event was_so =
+    let is : meant None own stack ≡ Some object = entered_is trees p shown own stack shows depth deep ∙ sym e in
+    let none : before ≡ None = event.alone object is in
+    let kept : KeepsOwners (Some object) old.monitors new.monitors =
+    subst (λ (x : Option ℕ). KeepsOwners x old.monitors new.monitors) is (subst (λ (x : Option ℕ). KeepsOwners (meant x own stack) old.monitors new.monitors) none event.owners) in
+    let was : WasOwner t (Some object) old.monitors (tells_owner (Some object) new.monitors) =
+    entered_was t own stack old new (nat_lt (length own) (length stack)) refl object is event.entries in
+    record {
+      rest = subst (λ (x : Option ℕ). OwnsTheRest t x old.monitors new.monitors) (sym o) (owned_as t (Some object) old.monitors new.monitors kept);
+      was = subst (λ (x : Option ℕ). WasOwner t x old.monitors told.was_owner) (sym o)
+          (subst (λ (b : Bool). WasOwner t (Some object) old.monitors b) (sym (w ∙ ap (tells_owner (Some object)) same)) was);
+    }
 
-pub changed_none : (monitors : List Monitor) (shown : List ShownEntry) (depth : ℕ) (said told : MonitorBefore) → said.object ≡ None
-    → told.object ≡ entered_above depth shown → told.was_owner ≡ tells_owner told.object monitors → ChangesMonitor monitors shown depth said told
-changed_none monitors shown depth said told e o w =
-    subst (λ (x : Option ℕ). ChangesMonitor monitors shown depth (record { object = x; was_owner = said.was_owner }) told) (sym e)
-    (subst (λ (b : Bool). ChangesMonitor monitors shown depth (record { object = None; was_owner = said.was_owner }) (record { object = told.object; was_owner = b })) (sym w)
-    (subst (λ (x : Option ℕ). ChangesMonitor monitors shown depth (record { object = None; was_owner = said.was_owner }) (record { object = x; was_owner = tells_owner x monitors })) (sym o)
-    (none_changed monitors shown depth said.was_owner)))
+pub changed_said : (monitors : List Monitor) (shown : List ShownEntry) (depth : ℕ) (said : MonitorBefore) → None ≡ entered_above depth shown
+    → ChangesMonitor monitors shown depth said said
+changed_said monitors shown depth said e trees p t before own stack old new same shows deep event was_so =
+    let none : meant None own stack ≡ None = entered_is trees p shown own stack shows depth deep ∙ sym e in
+    record {
+      rest = owned_as t said.object old.monitors new.monitors (said_keeps t own stack old new said.object before event.is_meant none event.owners);
+      was = was_so;
+    }

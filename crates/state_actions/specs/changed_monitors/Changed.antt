@@ -26,13 +26,12 @@ abbrev pub tells_owner : Option ℕ → List Monitor → Bool
 tells_owner None monitors = false
 tells_owner (Some object) monitors = nat_lt object (length monitors) && not ((monitor_at monitors object).count == 1)
 
--- what is said to be meant before an event is what the definitions mean, or these mean none after it either
-abbrev pub IsMeant : {A : Type 0} → (said before : Option ℕ) → (own stack : StackOf A) → Type 0
-IsMeant said before own stack = (said ≡ before) ⊎ (meant before own stack ≡ None)
-
 -- of an event of a thread: by its stacks, what is meant before it, and the worlds before it and after it
 pub record OfEvent {A : Type 0} (t : ℕ) (said before : Option ℕ) (own stack : StackOf A) (old new : WorldOf A) : Type 0 where
-  pub is_meant : IsMeant said before own stack
+  -- what is said to be meant before the event is that, where anything is
+  pub is_meant : (said ≡ before) ⊎ (before ≡ None)
+  -- where an invocation is new that entered a monitor, nothing is
+  pub alone : (object : ℕ) → meant None own stack ≡ Some object → before ≡ None
   pub owners : KeepsOwners (meant before own stack) old.monitors new.monitors
   pub entries : TellsOwner t own stack old new
 

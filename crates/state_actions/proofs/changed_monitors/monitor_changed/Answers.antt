@@ -1,10 +1,12 @@
-use Rattle.state_actions.proofs.changed_monitors.Meant.{changed_some, changed_none}
+use Rattle.std.proofs.Common.{sym, refl, ap, ◌∙◌}
+use Rattle.state_actions.specs.changed_monitors.Changed.{tells_owner}
+use Rattle.state_actions.proofs.changed_monitors.Meant.{changed_entered, changed_said}
 use Rattle.state_actions.proofs.changed_monitors.monitor_changed.Goals as goal
-use Rattle.std.proofs.Common.{refl}
 
 pub returns-in-Some : goal.returns-in-Some
-returns-in-Some c = changed_some c.args.heap.now.locks.monitors c.args.stack.now c.args.depth c.args.meant c.args.meant _ c.in-Some.is refl
+returns-in-Some c =
+    changed_entered c.args.heap.now.locks.monitors c.args.stack.now c.args.depth c.args.meant _ _ c.in-Some.ensures (sym c.in-Some.is)
+    (c.was_owner.ensures ∙ ap (λ o. tells_owner o c.args.heap.now.locks.monitors) (sym c.in-Some.is))
 
 pub returns-in-None : goal.returns-in-None
-returns-in-None c =
-    changed_none c.args.heap.now.locks.monitors c.args.stack.now c.args.depth c.args.meant _ c.in-None.is c.entered_since.ensures c.was_owner.ensures
+returns-in-None c = changed_said c.args.heap.now.locks.monitors c.args.stack.now c.args.depth c.args.meant c.in-None.ensures

@@ -1,0 +1,13 @@
+//! What the instructions of a run find where they call methods: the function here is a theorem, and does nothing.
+//!
+//! # Proved
+//!
+//! - An instruction that finds its operands, as it means them, has the receiver of the method that it names, null or an
+//!   object that is there; a static method that it names is not abstract (`calls_are_right`, JVMS 4.6, 6.5).
+
+ghost use Rattle.invoked_methods.specs.right_calls.Right.{AreCallsRight};
+
+/// An instruction that finds its operands has the receiver of the method that it names.
+pub fn calls_are_right()
+    ensures holds { AreCallsRight }
+{}
