@@ -1,3 +1,4 @@
 pub mod changed_monitors
 pub mod class_ends
+pub mod meant_before
 pub mod wait_ends

@@ -1,11 +1,10 @@
 -- The class that is needed first, by the rule that is told.
-use Rattle.std.proofs.Common.{◌≡◌, refl, sym, ◌∙◌, ap, subst, ℕ, zero, suc}
+use Rattle.std.proofs.Common.{◌≡◌, refl, sym, ◌∙◌, subst, ℕ, zero, suc}
 use Rattle.std.specs.Prelude.{Option, Some, None, slice_get}
 use Rattle.std.proofs.lemmas.Option.{same_Some}
-use Rattle.model.specs.Names.{Name, main_of}
+use Rattle.model.specs.Names.{main_of}
 use Rattle.model.specs.Classes.{Program}
-use Rattle.model.specs.State as model
-use Rattle.model.specs.Step.{initial_class, before}
+use Rattle.model.specs.Step.{initial_class}
 use Rattle.linked_code.specs.declared.method.LinkedMethod.{LinkedMethod}
 use Rattle.linked_code.specs.declared.program.LinkedProgram.{LinkedProgram}
 use Rattle.linked_code.specs.Numbers.{IsClassAt, IsClassIf}
@@ -13,13 +12,12 @@ use Rattle.thread_stacks.specs.declared.entry.Phase.{Phase}
 use Rattle.thread_stacks.specs.declared.entry.Phase.TheVariants as phase
 use Rattle.heap.specs.declared.java_threads.status.WakeCause.{WakeCause}
 use Rattle.machine_state.specs.shown_stacks.Shown.{phase_of}
-use Rattle.machine_state.specs.Shown.{IsProgram}
 use Rattle.machine_state.specs.method_selection.Rows.{AreMethodsRead}
 use Rattle.machine_state.specs.class_initialisation.Steps.{IsBefore}
-use Rattle.data_races.specs.EventActions.{Instruction, Rule, Begins, Does, Initialises, Relocks, Other, needed_at_begin, needed_before, needed_class}
+use Rattle.data_races.specs.EventActions.{Rule, Begins, Does, Initialises, Relocks, Other, needed_at_begin, needed_before, needed_class}
 use Rattle.thread_rules.specs.declared.next_rules.NextRule.{NextRule}
 use Rattle.thread_rules.specs.declared.next_rules.NextRule.TheVariants as rule
-use Rattle.thread_rules.specs.needed_classes.Needed.{IsFirstClass, NeedsAtBegin, NeedsInPhase, IsToldOf, NeedsBy}
+use Rattle.thread_rules.specs.needed_classes.Needed.{IsFirstClass, NeedsAtBegin, NeedsInPhase, NeedsBy}
 
 -- ---- the class of the first file
 

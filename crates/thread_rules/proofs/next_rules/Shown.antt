@@ -4,37 +4,30 @@ use Rattle.std.specs.Prelude.{Option, Some, None, slice_get, slice_index_or}
 use Rattle.std.specs.Option.{option_and_then, option_map, option_map_or}
 use Rattle.std.proofs.lemmas.Option.{same_Some}
 use Rattle.model.specs.declared.value.Value.{Value}
-use Rattle.model.specs.Names.{Name}
-use Rattle.model.specs.Classes.{Program, body_of}
+use Rattle.model.specs.Classes.{Program}
 use Rattle.model.specs.LimitStands.{Bounds}
-use Rattle.model.specs.Operands.{Slots, values, words, word_of}
+use Rattle.model.specs.Operands.{values, word_of}
 use Rattle.model.specs.State as model
 use Rattle.model.specs.ReferenceTypes.{ReferenceType}
 use Rattle.model.specs.State.{types_of, WakeCause, ThreadStatus, Running, Waiting, Relock, Ended, Thread, Frame, FrameOf, StackOf, State, StateOf}
 use Rattle.model.specs.Worlds as worlds
-use Rattle.model.specs.WellTyped.{AreThreadsTyped, IsWellTyped}
-use Rattle.model.specs.Sites.{MeaningOf, Site, site_at}
+use Rattle.model.specs.WellTyped.{AreThreadsTyped}
+use Rattle.model.specs.Sites.{MeaningOf, Site}
 use Rattle.model.specs.Meanings.{meaning_of}
 use Rattle.model.specs.Words.{map_frame, map_stack, words_of}
-use Rattle.run_laws.proofs.word_runs.WordMeanings.{Same}
 use Rattle.run_laws.proofs.word_runs.WordTable.{SameIf, meaning_same}
 use Rattle.run_laws.specs.word_operands.Operands.{IsOnTop}
 use Rattle.heap.specs.java_threads.Table.{thread_at}
-use Rattle.heap.specs.java_threads.Statuses.{cause_of}
 use Rattle.linked_code.specs.declared.program.LinkedProgram.{LinkedProgram}
-use Rattle.linked_code.specs.Numbers.{IsClassAt}
 use Rattle.thread_stacks.specs.Stacks.{ShownEntry, Invocation, Initialisation}
 use Rattle.machine_state.specs.declared.state.Shared.{Shared}
 use Rattle.machine_state.specs.Shown.{IsProgram, IsLent}
-use Rattle.machine_state.specs.shown_stacks.Shown.{ShowsStack, phase_of}
-use Rattle.machine_state.specs.linked_frames.Frames.{IsRunning, StandsSomewhere, AreFramesStanding}
+use Rattle.machine_state.specs.linked_frames.Frames.{StandsSomewhere, AreFramesStanding}
 use Rattle.machine_state.specs.state_events.Whole.{IsShown, HasOwn, AreStacksLent}
 use Rattle.machine_state.proofs.state_events.Places.{set_same}
-use Rattle.data_races.specs.EventActions.{Instruction, Rule, Begins, Does, Initialises, Relocks, Other, instruction_in, running_rule, rule_by, rule_of}
-use Rattle.event_laws.specs.access_outcomes.Accesses.{StandsAt}
+use Rattle.data_races.specs.EventActions.{Instruction, Rule, Does, Initialises, Relocks, Other, instruction_in, running_rule, rule_by, rule_of}
 use Rattle.thread_rules.specs.declared.next_rules.NextRule.{NextRule}
-use Rattle.thread_rules.specs.declared.next_rules.NextRule.TheVariants as rule
-use Rattle.thread_rules.specs.next_rules.Rules.{IsGoing, IsRunningRule, IsRuleBy, IsRule}
+use Rattle.thread_rules.specs.next_rules.Rules.{IsGoing, IsRuleBy, IsRule}
 use Rattle.thread_rules.specs.next_rules.Meant.{IsAtInstruction, MeansRule, AreRulesMeant}
 
 -- ---- lists

@@ -5,7 +5,7 @@ use Rattle.model.specs.Classes.{Program}
 use Rattle.model.specs.LimitStands.{Bounds}
 use Rattle.model.specs.Operands.{word_of}
 use Rattle.model.specs.Sites.{MeaningOf}
-use Rattle.model.specs.State.{FrameOf, StackOf, State}
+use Rattle.model.specs.State.{StackOf, State}
 use Rattle.model.specs.Words.{map_frame, words_of}
 use Rattle.heap.specs.java_threads.Statuses.{cause_of}
 use Rattle.heap.specs.java_threads.Table.{thread_at}

@@ -1,4 +1,4 @@
-use Rattle.thread_rules.proofs.needed_classes.Needed.{no_event, relock, pending, begins, initialises, instruction}
+use Rattle.thread_rules.proofs.needed_classes.Needed.{no_event}
 use Rattle.thread_rules.proofs.needed_classes.class_needed_by.Goals as goal
 
 pub returns-in-NoEvent : goal.returns-in-NoEvent
