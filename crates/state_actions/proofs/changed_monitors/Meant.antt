@@ -37,7 +37,7 @@ no_top (Invocation shown ∷ stack) None h e = absurd cc
 no_top (Invocation shown ∷ stack) (Some frame) h e = absurd cc
 no_top (Initialisation class phase ∷ stack) found h e = refl
 
-shown_entered : (trees : Program) (p : LinkedProgram) (shown : List ShownEntry) (stack : StackOf ℕ) → ShowsStack trees p shown stack → entered_on shown ≡ entered_in stack
+pub shown_entered : (trees : Program) (p : LinkedProgram) (shown : List ShownEntry) (stack : StackOf ℕ) → ShowsStack trees p shown stack → entered_on shown ≡ entered_in stack
 shown_entered trees p [] [] h = refl
 shown_entered trees p [] (entry ∷ stack) h = absurd h
 shown_entered trees p (Invocation frame ∷ others) [] h = absurd h
