@@ -1,1 +1,2 @@
+pub mod OnTop
 pub mod Receiving

@@ -50,14 +50,14 @@ or_found P None p f g m e = g m e
 or_found P (Some x) p f g m e = f m e
 
 module _ (files : Program) (named : Member) where
-  abbrev Alike : Member → Type 0
+  abbrev pub Alike : Member → Type 0
   Alike m = parameter_count m ≡ parameter_count named
 
   where_alike : (b : Bool) (class : Name) (m : Member) → where_so b (in_class class named) ≡ Some m → Alike m
   where_alike true class m e = ap parameter_count (sym (same_Some (in_class class named) m e))
   where_alike false class m e = absurd cc
 
-  first_alike : (wanted : MethodTree → Bool) (classes : List Name) (m : Member) → first_found (method_in_class files wanted named) classes ≡ Some m → Alike m
+  pub first_alike : (wanted : MethodTree → Bool) (classes : List Name) (m : Member) → first_found (method_in_class files wanted named) classes ≡ Some m → Alike m
   first_alike wanted [] m e = absurd cc
   first_alike wanted (class ∷ classes) m e =
       or_found Alike (method_in_class files wanted named class) (first_found (method_in_class files wanted named) classes)
@@ -163,9 +163,12 @@ module _ (files : Program) (world : World) (max_stack : ℕ) (slots : Slots Valu
         let callee = some_from (if_method is_static_method files (static_call values files s)) (option_and_then (find_method files) (method_at code.pool index)) m means in
         let same : callee.0 ≡ found = same_Some callee.0 found (sym callee.1 ∙ ap (option_and_then (find_method files)) n ∙ f) in
         let is = of_if (is_one is_static_method files callee.0) (static_call values files s callee.0) m callee.2 in
-        let one = one_of is_static_method (method_of files found) (subst (λ (x : Member). is_one is_static_method files x ≡ true) same is.0) in
-        ap (λ o. option_map_or is_abstract_method o false) one.is
-        ∙ (linked_of bytes files linkable.spelled linkable.no_refusal).static_is_concrete found one.tree one.is one.passes
+        let static : is_one is_static_method files found ≡ true = subst (λ (x : Member). is_one is_static_method files x ≡ true) same is.0 in
+        let one = one_of is_static_method (method_of files found) static in (
+          static,
+          ap (λ o. option_map_or is_abstract_method o false) one.is
+              ∙ (linked_of bytes files linkable.spelled linkable.no_refusal).static_is_concrete found one.tree one.is one.passes,
+        )
 
     virtual_right : (index : ℕ) → Right (instr.Invoke invocation.Virtual index)
     virtual_right index m means finds named found n f =

@@ -198,7 +198,7 @@ module _ (files : Program) (named : Member) (current : Name) where
 module _ (files : Program) (p : LinkedProgram) (objects : List Object) (operands : List ℕ) (current : Name) where
   module _ (named : Member) (told : Option ℕ) where
     pub by_static : RunsStatic files named told → RunsInvocation files p objects operands current invocation.Static named told
-    by_static h site world ops shows code right = h right
+    by_static h site world ops shows code right = h (λ method f. (right method f).1)
 
     pub by_virtual : RunsVirtual files p objects operands named told → RunsInvocation files p objects operands current invocation.Virtual named told
     by_virtual h site world ops shows code right = h world ops shows right

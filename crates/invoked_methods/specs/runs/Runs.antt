@@ -1,5 +1,5 @@
 -- Which method an invoking instruction runs (JVMS 5.4.3, 5.4.6, 6.5), by its number.
-use Rattle.std.specs.Prelude.{◌≡◌, ℕ, List, Option, Some, false, slice_get, slice_index_or}
+use Rattle.std.specs.Prelude.{◌≡◌, ℕ, List, Option, Some, true, false, slice_get, slice_index_or}
 use Rattle.model.specs.declared.value.Value.{Value}
 use Rattle.model.specs.declared.instr.Instr.{Instr}
 use Rattle.model.specs.declared.instr.Instr.TheVariants as instr
@@ -9,7 +9,7 @@ use Rattle.model.specs.Names.{Name, Member}
 use Rattle.model.specs.Tree.{Entry, FileTree}
 use Rattle.model.specs.Pool.{method_at, interface_method_at}
 use Rattle.model.specs.Classes.{Program, name_of}
-use Rattle.model.specs.Lookup.{find_method, find_interface_method, is_abstract_method}
+use Rattle.model.specs.Lookup.{find_method, find_interface_method, is_static_method, is_abstract_method}
 use Rattle.model.specs.Operands.{values, word_of, word_reference}
 use Rattle.model.specs.State.{ObjectOf, World}
 use Rattle.model.specs.Sites.{Site, referent}
@@ -83,9 +83,10 @@ RunsSpecial files p operands current named told =
 
 -- ---- by the instruction
 
--- what a call asks of its operands and of the method that it names: a static one has code or is native (JVMS 4.6)
+-- what a call asks of its operands and of the method that it names: a static one is not abstract (JVMS 4.6)
 abbrev pub IsRightCall : Program → World → List Value → (operands : List ℕ) → Invocation → Member → Type 0
-IsRightCall files world ops operands invocation.Static method = is_one is_abstract_method files method ≡ false
+IsRightCall files world ops operands invocation.Static method =
+    (is_one is_static_method files method ≡ true) × (is_one is_abstract_method files method ≡ false)
 IsRightCall files world ops operands invocation.Virtual method = HasReceiver world ops operands method
 IsRightCall files world ops operands invocation.Special method = HasReceiver world ops operands method
 

@@ -1,7 +1,7 @@
 use Rattle.std.proofs.Common.{subst}
 use Rattle.model.specs.Classes.{Program}
 use Rattle.method_tables.specs.selection_tables.Chosen.{IsChosenBy}
-use Rattle.invoked_methods.proofs.receivers.Kinds.{chosen_told, missing}
+use Rattle.invoked_methods.proofs.receivers.Choosing.{chosen_told, missing}
 use Rattle.invoked_methods.proofs.receivers.chosen_by.Goals as goal
 
 pub returns-in-Some : goal.returns-in-Some

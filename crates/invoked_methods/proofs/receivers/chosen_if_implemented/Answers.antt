@@ -1,5 +1,5 @@
 use Rattle.std.proofs.Common.{sym, ◌∙◌}
-use Rattle.invoked_methods.proofs.receivers.Kinds.{implemented_told, unimplemented_told, missing}
+use Rattle.invoked_methods.proofs.receivers.Choosing.{implemented_told, unimplemented_told, missing}
 use Rattle.invoked_methods.proofs.receivers.chosen_if_implemented.Goals as goal
 
 pub returns-in_default : goal.returns-in_default

@@ -3,7 +3,7 @@ use Rattle.model.specs.Classes.{Program}
 use Rattle.model.specs.ReferenceTypes.{is_subclass_or_implements}
 use Rattle.heap.specs.declared.kind.ObjectKind.{ObjectKind}
 use Rattle.hierarchy.specs.Places.{name_at}
-use Rattle.invoked_methods.proofs.receivers.Kinds.{Implements, instance_implements, ints_implement, narrow_implement, references_implement}
+use Rattle.invoked_methods.proofs.receivers.Choosing.{Implements, instance_implements, ints_implement, narrow_implement, references_implement}
 use Rattle.invoked_methods.proofs.receivers.implements.Goals as goal
 
 pub returns-in-Instance : goal.returns-in-Instance
