@@ -1,0 +1,2 @@
+pub mod accesses
+pub mod read_operands
