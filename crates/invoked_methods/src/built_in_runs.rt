@@ -5,6 +5,10 @@
 //! - `built_in_run`: by the frame on top of a thread and the offset at which it stands, the built-in method that its
 //!   instruction runs, if it runs one (`RunsBuiltIn`): that of the definitions (`built_in_at`), where the frame has the
 //!   operands, and what may be a receiver is there.
+//!
+//! # Not proved
+//!
+//! - That a frame of a run has what is asked is a theorem of `right_calls`, where its operands are found.
 
 ghost use Rattle.std.specs.Prelude.{◌≡◌, Some, Option, option_map};
 ghost use Rattle.model.specs.Classes.{Program};
@@ -22,7 +26,7 @@ use crate::runs::method_run;
 use crate::sources::{MethodSources, row_at};
 use heap::Heap;
 use linked_code::{BuiltInMethod, LinkedProgram, MethodBody};
-use machine_state::method_selection::methods_are_run;
+use machine_state::method_selection::{methods_are_read, methods_are_run};
 use opcodes::decode_at;
 use thread_stacks::Frame;
 use types::method_code::MethodCode;
@@ -97,6 +101,7 @@ pub fn built_in_run(
     ensures { RunsBuiltIn sources.now.hierarchy.now program.now heap.now.objects (shown_frame frame.now) offset
         result }
 {
+    methods_are_read();
     match code_of(sources, frame.method as usize) {
         Some(method) => built_in_of_method(sources, program, heap, frame, &method, offset),
         None => None,

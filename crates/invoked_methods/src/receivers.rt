@@ -4,7 +4,13 @@
 //!
 //! - `receiver_at`: the object of the operand under so many others, if that is not null.
 //! - `chosen_by`, `chosen_if_implemented`: by the class of an object that is there, the number of the method that
-//!   `invokevirtual` and `invokeinterface` choose for it (`IsChosenIf`), and none where it throws.
+//!   `invokevirtual` and `invokeinterface` choose for it (`IsRunIf`), and none where it throws.
+//!
+//! # Wrong bodies
+//!
+//! - `receivers-null-is-the-first-object`: null is taken for the object of number 0; refused by `receiver_at`.
+//! - `receivers-interface-is-not-asked-for`: a method is chosen for an object that doesn't implement the interface;
+//!   refused by `chosen_if_implemented`.
 
 ghost use Rattle.std.specs.Prelude.{◌≡◌, ℕ, List, Some, slice_index_or};
 ghost use Rattle.model.specs.Classes.{Program};

@@ -1,2 +1,3 @@
 pub mod accesses
+pub mod finds
 pub mod read_operands

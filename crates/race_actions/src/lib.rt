@@ -2,4 +2,5 @@
 #![tactic(auto)]
 
 pub mod accesses;
+pub mod finds;
 pub mod read_operands;

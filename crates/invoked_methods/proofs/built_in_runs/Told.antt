@@ -24,7 +24,7 @@ use Rattle.linked_code.specs.Methods.{built_in_of}
 use Rattle.linked_code.specs.Numbers.{IsMethodAt}
 use Rattle.linked_code.specs.Programs.{IsLinkedProgram}
 use Rattle.machine_state.specs.method_selection.Run.{IsRun, RunsBody, AreMethodsRun}
-use Rattle.machine_state.proofs.method_selection.Reading.{methods_read}
+use Rattle.machine_state.specs.method_selection.Rows.{AreMethodsRead}
 use Rattle.code_places.specs.Methods.{with_body}
 use Rattle.data_races.specs.EventActions.{built_in_run, method_chosen, without_code}
 use Rattle.invoked_methods.specs.receivers.Receivers.{IsRunIf}
@@ -98,19 +98,19 @@ not_run files run is = sym (ap (built_in_of_run files) is)
 -- ---- the class whose code it is
 
 module _ (files : Program) (p : LinkedProgram) (objects : List Object) (operands : List ℕ) (number offset : ℕ) (told : Option BuiltInMethod) where
-  of_code : (method : Member) → IsLinkedProgram files p → IsMethodAt files number method → (site : Site) → site.method ≡ method → IsCodeOf files method.class site
-  of_code method linked at site e =
-      let row = methods_read files p linked number method at in
+  of_code : AreMethodsRead → (method : Member) → IsLinkedProgram files p → IsMethodAt files number method → (site : Site) → site.method ≡ method → IsCodeOf files method.class site
+  of_code read method linked at site e =
+      let row = read files p linked number method at in
       record { class = row.row.class; file = row.linked.class.0; at = row.linked.class.1; named = row.linked.class.2; method = ap (λ (m : Member). m.class) e }
 
-  pub told_in : (its : Member × Body) (method : Member) (code : Body) → Some its ≡ option_map (with_body method) (body_of files method) → body_of files method ≡ Some code
+  pub told_in : AreMethodsRead → (its : Member × Body) (method : Member) (code : Body) → Some its ≡ option_map (with_body method) (body_of files method) → body_of files method ≡ Some code
       → IsMethodAt files number method → RunsIn files p objects operands its.0 its.1 offset told
       → (site : Site) (world : World) (ops : List Value) → ShowsHeap files p objects world → site_at method code offset ≡ Some site
       → IsRightAt files code.pool world ops operands site.instr → option_map built_in_of told ≡ built_in_run files site world ops
-  told_in its method code e has at runs site world ops shows sat right =
+  told_in read its method code e has at runs site world ops shows sat right =
       let same : its ≡ with_body method code = same_Some its (with_body method code) (e ∙ ap (option_map (with_body method)) has) in
       subst (λ (x : Member × Body). RunsIn files p objects operands x.0 x.1 offset told) same runs site world ops shows
-      (of_code method shows.linked at site (site_is method code offset site sat).2) sat right
+      (of_code read method shows.linked at site (site_is method code offset site sat).2) sat right
 
 pub not_in : (files : Program) (method : Member) (code : Body) → None ≡ option_map (with_body method) (body_of files method) → body_of files method ≡ Some code → ⊥
 not_in files method code e has = let f : None ≡ Some (with_body method code) = e ∙ ap (option_map (with_body method)) has in absurd cc

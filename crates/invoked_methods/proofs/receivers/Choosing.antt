@@ -90,14 +90,14 @@ pub implemented_told : (files : Program) (objects : List Object) (object : ℕ) 
     → Some kind ≡ option_map kind_of (slice_get objects object)
     → ((components : List LinkedType) (receiver : ObjectOf ℕ) → IsKindOf files components kind receiver → true ≡ is_subtype files (type_of receiver) (ClassType interface))
     → ChoosesByClass files objects object number told → ChoosesIfImplemented files objects object interface number told
-implemented_told files objects object interface number told kind is yes by components heap shows receiver there method at =
+implemented_told files objects object interface number told kind is does by components heap shows receiver there method at =
     subst (λ (b : Bool). IsRunIf files told (method_chosen (if_implements b (selected files (class_of_object receiver) method))))
-    (yes components receiver (kind_is files objects object components heap shows receiver there kind is)) (by components heap shows receiver there method at)
+    (does components receiver (kind_is files objects object components heap shows receiver there kind is)) (by components heap shows receiver there method at)
 
 pub unimplemented_told : (files : Program) (objects : List Object) (object : ℕ) (interface : Name) (number : ℕ) (kind : ObjectKind)
     → Some kind ≡ option_map kind_of (slice_get objects object)
     → ((components : List LinkedType) (receiver : ObjectOf ℕ) → IsKindOf files components kind receiver → false ≡ is_subtype files (type_of receiver) (ClassType interface))
     → ChoosesIfImplemented files objects object interface number None
-unimplemented_told files objects object interface number kind is no components heap shows receiver there method at =
+unimplemented_told files objects object interface number kind is doesnt components heap shows receiver there method at =
     ap (λ (b : Bool). method_chosen (if_implements b (selected files (class_of_object receiver) method)))
-    (sym (no components receiver (kind_is files objects object components heap shows receiver there kind is)))
+    (sym (doesnt components receiver (kind_is files objects object components heap shows receiver there kind is)))

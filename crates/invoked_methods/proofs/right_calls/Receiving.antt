@@ -20,7 +20,7 @@ use Rattle.model.specs.Lookup.{find_method, find_interface_method, first_found, 
 use Rattle.model.specs.Linkable.{IsLinkable}
 use Rattle.model.specs.ReferenceTypes.{ReferenceType, ClassType}
 use Rattle.model.specs.DescribedTypes.{parameters_declared, declared_want}
-use Rattle.model.specs.Types.{Want, AnyWord, AnInt, AnyReference, AReference, AReceiver, AnOwner, AnArray, AByteArray, value_meets}
+use Rattle.model.specs.Types.{Want, AnyWord, AnInt, AnyReference, AReference, AReceiver, AnOwner, AnArray, AByteArray, is_object_below, is_array_type, is_byte_array_type, value_meets}
 use Rattle.model.specs.Operands.{Slots, Wants, values, operands, over_values, word_of, word_reference, reference_of}
 use Rattle.model.specs.State.{ObjectOf, type_of, types_of, World}
 use Rattle.model.specs.Sites.{MeaningOf, Site, site_at, site_with, operand, referent}
@@ -33,8 +33,8 @@ use Rattle.run_laws.proofs.laws.Classes.{members_same}
 use Rattle.run_laws.proofs.laws.LinkedOf.{linked_of}
 use Rattle.run_laws.proofs.laws.WordLists.{is_object_want, wanted_referent, map_index}
 use Rattle.run_laws.proofs.typed_runs.Calls.{one_of}
-use Rattle.run_laws.proofs.word_runs.Carried.{kinded}
-use Rattle.run_laws.proofs.word_runs.WordMeanings.{Kinded, wanted_at}
+use Rattle.run_laws.proofs.laws.Rows.{ready_popped}
+use Rattle.run_laws.proofs.word_runs.WordMeanings.{wanted_at}
 use Rattle.invoked_methods.specs.runs.Runs.{IsReceiver, HasReceiver, IsRightCall, IsRightAt}
 use Rattle.invoked_methods.specs.right_calls.Right.{AreCallsRight}
 
@@ -79,29 +79,39 @@ receiver_wanted files method w =
     let wants = map (declared_want files) (parameters_declared method.descriptor) in
     subst (λ n. slice_get (reverse wants ++ w ∷ []) n ≡ Some w) (length-reverse wants ∙ length-map (parameters_declared method.descriptor) (declared_want files)) (after_front (reverse wants) w)
 
-got_type : (heap : List (ObjectOf Value)) (r : ℕ) (test : ReferenceType → Bool) → option_map_or test (slice_get (types_of heap) r) false ≡ true
-    → (o : ObjectOf Value) × (slice_get heap r ≡ Some o)
-got_type [] zero test e = absurd (false≢true e)
-got_type [] (suc r) test e = absurd (false≢true e)
-got_type (o ∷ heap) zero test e = (o, refl)
-got_type (o ∷ heap) (suc r) test e = got_type heap r test e
+type_there : (heap : List (ObjectOf Value)) (r : ℕ) (t : ReferenceType) → slice_get (types_of heap) r ≡ Some t → (o : ObjectOf Value) × (slice_get heap r ≡ Some o)
+type_there [] r t e = absurd cc
+type_there (o ∷ heap) zero t e = (o, refl)
+type_there (o ∷ heap) (suc r) t e = type_there heap r t e
+
+below_there : (files : Program) (type : ReferenceType) (heap : List (ObjectOf Value)) (r : ℕ) (o : Option ReferenceType) → slice_get (types_of heap) r ≡ o
+    → is_object_below files type o ≡ true → (x : ObjectOf Value) × (slice_get heap r ≡ Some x)
+below_there files type heap r None e h = absurd (false≢true h)
+below_there files type heap r (Some t) e h = type_there heap r t e
+
+with_there : (test : ReferenceType → Bool) (heap : List (ObjectOf Value)) (r : ℕ) (o : Option ReferenceType) → slice_get (types_of heap) r ≡ o
+    → option_map_or test o false ≡ true → (x : ObjectOf Value) × (slice_get heap r ≡ Some x)
+with_there test heap r None e h = absurd (false≢true h)
+with_there test heap r (Some t) e h = type_there heap r t e
+
+met_there : (files : Program) (heap : List (ObjectOf Value)) (r : ℕ) (w : Want) → is_object_want w ≡ true → value_meets files (types_of heap) w (value.Reference r) ≡ true
+    → (x : ObjectOf Value) × (slice_get heap r ≡ Some x)
+met_there files heap r AnyWord o m = absurd (false≢true o)
+met_there files heap r AnInt o m = absurd (false≢true o)
+met_there files heap r AnyReference o m = absurd (false≢true o)
+met_there files heap r (AReference type) o m = below_there files type heap r (slice_get (types_of heap) r) refl m
+met_there files heap r (AReceiver class) o m = below_there files (ClassType class) heap r (slice_get (types_of heap) r) refl m
+met_there files heap r (AnOwner class) o m = below_there files (ClassType class) heap r (slice_get (types_of heap) r) refl m
+met_there files heap r AnArray o m = with_there is_array_type heap r (slice_get (types_of heap) r) refl m
+met_there files heap r AByteArray o m = with_there is_byte_array_type heap r (slice_get (types_of heap) r) refl m
 
 wanted_there : (files : Program) (heap : List (ObjectOf Value)) (w : Want) (v : Value) → is_object_want w ≡ true → value_meets files (types_of heap) w v ≡ true
     → (r : ℕ) → reference_of v ≡ Some r → (o : ObjectOf Value) × (slice_get heap r ≡ Some o)
 wanted_there files heap w value.Unset o m r e = absurd cc
 wanted_there files heap w (value.Int bits) o m r e = absurd cc
 wanted_there files heap w value.Null o m r e = absurd cc
-wanted_there files heap w (value.Reference s) o m r e = let same : s ≡ r = cc in subst (λ n. (x : ObjectOf Value) × (slice_get heap n ≡ Some x)) same (by w o m)
-  where
-    by : (w : Want) → is_object_want w ≡ true → value_meets files (types_of heap) w (value.Reference s) ≡ true → (x : ObjectOf Value) × (slice_get heap s ≡ Some x)
-    by AnyWord o m = absurd (false≢true o)
-    by AnInt o m = absurd (false≢true o)
-    by AnyReference o m = absurd (false≢true o)
-    by (AReference type) o m = got_type heap s _ m
-    by (AReceiver class) o m = got_type heap s _ m
-    by (AnOwner class) o m = got_type heap s _ m
-    by AnArray o m = got_type heap s _ m
-    by AByteArray o m = got_type heap s _ m
+wanted_there files heap w (value.Reference s) o m r e =
+    subst (λ n. (x : ObjectOf Value) × (slice_get heap n ≡ Some x)) (same_Some s r e) (met_there files heap s w o m)
 
 -- an operand that is popped is the word of the stack
 module _ (files : Program) (world : World) (max_stack : ℕ) (slots : Slots Value) where
@@ -126,9 +136,8 @@ module _ (files : Program) (world : World) (max_stack : ℕ) (slots : Slots Valu
       let ops = ops_of values m slots in
       let are : ops ≡ take (length m.wants.pops) slots.stack =
       ap (λ rs. map (λ r. slice_index_or slots.locals r.0 value.Unset) rs ++ take (length m.wants.pops) slots.stack) none in
-      let kinds : Kinded files (types_of world.heap) m.wants ops = kinded files (types_of world.heap) m.wants max_stack slots finds in
       let pairs : Pairwise (value_meets files (types_of world.heap)) m.wants.pops ops =
-      subst (λ rs. Pairwise (value_meets files (types_of world.heap)) m.wants.pops (drop (length rs) ops)) none kinds in
+      subst (λ (l : List Value). Pairwise (value_meets files (types_of world.heap)) m.wants.pops l) (sym are) (ready_popped (value_meets files (types_of world.heap)) over_values m.wants max_stack slots finds) in
       let v = operand values ops k in
       let meets : value_meets files (types_of world.heap) w v ≡ true = wanted_at (value_meets files (types_of world.heap)) m.wants.pops ops k w value.Unset pairs at in
       let word : slice_index_or (map word_of slots.stack) k 0 ≡ word_of v =

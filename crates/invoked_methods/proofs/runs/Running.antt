@@ -128,7 +128,7 @@ module _ (files : Program) (p : LinkedProgram) (objects : List Object) (operands
           let on = on_object choose world ops operands f.method (receivers f.method f.is) count (counted f.method f.at) r e in
           subst (λ (o : Option Member). IsRunIf files told o) (sym (virtual_is world ops ∙ on))
           (subst (λ (name : Name). IsRunIf files told (method_chosen (selected files name f.method))) (its_class_is world r at.0 at.1)
-          (chooses p.components.items (map_world word_of world).heap shows.objects (map_object word_of at.0) (in_words world r at.0 at.1) f.method f.at))
+          (chooses p.components.items (map_world word_of world).heap shows.are_shown (map_object word_of at.0) (in_words world r at.0 at.1) f.method f.at))
 
     module _ (f : Found files (find_interface_method files named) number) where
       interface_is : (world : World) (ops : List Value) → run_interface files world ops named ≡ chosen_on (interface_choice files named.class f.method) world ops f.method
@@ -148,7 +148,7 @@ module _ (files : Program) (p : LinkedProgram) (objects : List Object) (operands
           subst (λ (o : Option Member). IsRunIf files told o) (sym (interface_is world ops ∙ on))
           (subst (λ (name : Name). IsRunIf files told (method_chosen (if_implements (is_subtype files (type_of (object_at world r)) (ClassType named.class)) (selected files name f.method)))) (its_class_is world r at.0 at.1)
           (subst (λ type. IsRunIf files told (method_chosen (if_implements (is_subtype files type (ClassType named.class)) (selected files (class_of_object (map_object word_of at.0)) f.method)))) (its_type_is world r at.0 at.1)
-          (chooses p.components.items (map_world word_of world).heap shows.objects (map_object word_of at.0) (in_words world r at.0 at.1) f.method f.at)))
+          (chooses p.components.items (map_world word_of world).heap shows.are_shown (map_object word_of at.0) (in_words world r at.0 at.1) f.method f.at)))
 
   -- ---- invokespecial
 

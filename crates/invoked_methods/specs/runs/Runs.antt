@@ -29,7 +29,7 @@ use Rattle.invoked_methods.specs.receivers.Receivers.{IsRunIf}
 -- the objects of a world are shown
 pub record ShowsHeap (files : Program) (p : LinkedProgram) (objects : List Object) (world : World) : Type 0 where
   pub linked : IsLinkedProgram files p
-  pub objects : ShowsObjects files p.components.items objects (map_world word_of world).heap
+  pub are_shown : ShowsObjects files p.components.items objects (map_world word_of world).heap
 
 -- a receiver is read as it stands among the operands; it is null, or it is there
 pub record IsReceiver (world : World) (ops : List Value) (place : ℕ) (read : Option ℕ) : Type 0 where

@@ -18,7 +18,7 @@ use Rattle.model.specs.Classes.{Program, Body}
 use Rattle.model.specs.Lookup.{find_field, field_of, is_instance_field}
 use Rattle.model.specs.ReferenceTypes.{ReferenceType, PrimitiveArray, ReferenceArray, Char, Short, Int}
 use Rattle.model.specs.Types.{Want, AnInt, AReference, AnOwner, AByteArray, value_meets}
-use Rattle.model.specs.Operands.{Slots, values, word_of, word_reference, reference_of}
+use Rattle.model.specs.Operands.{Slots, values, over_values, word_of, word_reference, reference_of}
 use Rattle.model.specs.State.{types_of, World}
 use Rattle.model.specs.Sites.{MeaningOf, Site, site_at, site_with, operand}
 use Rattle.model.specs.Objects.{any_object}
@@ -29,8 +29,8 @@ use Rattle.model.specs.Step.{ops_of}
 use Rattle.run_laws.proofs.laws.Found.{some_from}
 use Rattle.run_laws.proofs.laws.Lists.{Pairwise}
 use Rattle.run_laws.proofs.laws.WordLists.{is_object_want, wanted_referent, map_index}
-use Rattle.run_laws.proofs.word_runs.Carried.{kinded}
-use Rattle.run_laws.proofs.word_runs.WordMeanings.{Kinded, wanted_at}
+use Rattle.run_laws.proofs.laws.Rows.{ready_popped}
+use Rattle.run_laws.proofs.word_runs.WordMeanings.{wanted_at}
 use Rattle.race_actions.specs.read_operands.Reads.{IsReference, IsInt, ReadsAt, AreOperandsRead}
 
 of_if : {A : Type 0} (b : Bool) (x m : A) → (if b then Some x else None) ≡ Some m → (b ≡ true) × (x ≡ m)
@@ -76,9 +76,8 @@ module _ (files : Program) (world : World) (max_stack : ℕ) (slots : Slots Valu
     reference_is : Finds m → is_object_want w ≡ true → IsReference (ops_of values m slots) stack_words k
     reference_is finds object =
         let ops = ops_of values m slots in
-        let kinds : Kinded files (types_of world.heap) m.wants ops = kinded files (types_of world.heap) m.wants max_stack slots finds in
         let pairs : Pairwise (value_meets files (types_of world.heap)) m.wants.pops ops =
-        subst (λ rs. Pairwise (value_meets files (types_of world.heap)) m.wants.pops (drop (length rs) ops)) none kinds in
+        subst (λ (l : List Value). Pairwise (value_meets files (types_of world.heap)) m.wants.pops l) (sym ops_are) (ready_popped (value_meets files (types_of world.heap)) over_values m.wants max_stack slots finds) in
         let v = operand values ops k in
         let meets : value_meets files (types_of world.heap) w v ≡ true = wanted_at (value_meets files (types_of world.heap)) m.wants.pops ops k w value.Unset pairs at in
         sym (ap word_reference word_is ∙ wanted_referent files (types_of world.heap) w v object meets)

@@ -11,5 +11,5 @@ returns-in-Instance c = λ components object k.
     let files = c.args.hierarchy.now in
     subst (λ (x : ObjectKind). Implements files components c.args.interface.now c.is_subclass_or_implements.result x) (sym c.in-Instance.is)
     (instance_implements files components c.args.interface.now c.is_subclass_or_implements.result c.in-Instance.class
-    (c.is_subclass_or_implements.ensures ∙ ap (λ n. is_subclass_or_implements files n c.args.interface.now) (c.name_at.ensures ∙ ap (λ (f : Program). name_at f c.in-Instance.class) c.set.ensures)))
+    (c.is_subclass_or_implements.ensures ∙ ap (λ n. is_subclass_or_implements files n c.args.interface.now) (c.name_at-name.ensures ∙ ap (λ (f : Program). name_at f c.in-Instance.class) c.set.ensures)))
     object k

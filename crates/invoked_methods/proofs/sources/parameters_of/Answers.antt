@@ -9,7 +9,7 @@ returns-in-Some c = λ files linked m at.
     let has = c.methods_are_read.ensures.holds files c.args.program.now linked c.args.method m at in
     let same : has.row ≡ c.in-Some.row.now = same_Some has.row c.in-Some.row.now (sym has.is ∙ sym c.in-Some.ensures) in
     c.parameter_count.ensures (parameter_count m)
-    (subst (λ (r : LinkedMethod). r.operands ≡ parameter_count m + (if r.is_static then 0 else 1)) same
+    (c.from.ensures ∙ subst (λ (r : LinkedMethod). r.operands ≡ parameter_count m + (if r.is_static then 0 else 1)) same
     (has.linked.operands ∙ ap (λ (b : Bool). parameter_count m + (if b then 0 else 1)) (sym has.linked.static)))
 
 pub returns-in-None : goal.returns-in-None

@@ -1,0 +1,173 @@
+-- What is told of threads is what the event finds.
+use Rattle.std.proofs.Common.{◌≡◌, ℕ, List, [], ◌∷◌, ◌++◌, Bool, true, false, Option, Some, None, map, refl, sym, ap, subst, ◌∙◌}
+use Rattle.std.specs.Prelude.{option_map}
+use Rattle.std.specs.Option.{option_map_or}
+use Rattle.std.proofs.lemmas.Bool.{true≢false}
+use Rattle.model.specs.declared.event.Event.{Event}
+use Rattle.model.specs.Names.{Name}
+use Rattle.model.specs.Classes.{Program}
+use Rattle.model.specs.LimitStands.{Bounds}
+use Rattle.model.specs.Operands.{word_of}
+use Rattle.model.specs.State.{World, WakeCause, Notified, Interrupted}
+use Rattle.model.specs.ClassInitialisation as model
+use Rattle.model.specs.ClassInitialisation.{look_at, look_by, status_of}
+use Rattle.model.specs.BuiltInMethods.{BuiltInMethod, Construct, ConstructWithTarget, ObjectWait, ObjectNotify, ObjectNotifyAll, ThreadStart, ThreadInterrupt, ThreadIsInterrupted, ThreadInterrupted, ThreadYield, ThreadCurrentThread, ThreadJoin, ThreadIsAlive, PrintStreamPrintln}
+use Rattle.model.specs.Words.{map_world}
+use Rattle.heap.specs.declared.java_threads.status.WakeCause.{WakeCause as LinkedCause}
+use Rattle.heap.specs.declared.java_threads.status.WakeCause.TheVariants as cause
+use Rattle.heap.specs.java_threads.Statuses.{cause_of}
+use Rattle.linked_code.specs.declared.program.LinkedProgram.{LinkedProgram}
+use Rattle.linked_code.specs.declared.method.BuiltInMethod.{BuiltInMethod as LinkedMethod}
+use Rattle.linked_code.specs.Methods.{built_in_of}
+use Rattle.linked_code.specs.Numbers.{IsClassAt, IsClassIf}
+use Rattle.machine_state.specs.declared.state.Shared.{Shared}
+use Rattle.machine_state.specs.declared.class_initialisation.statuses.ClassLook.{ClassLook}
+use Rattle.machine_state.specs.class_initialisation.Statuses.{IsLook, shown_look}
+use Rattle.thread_stacks.specs.declared.entry.Phase.{Phase}
+use Rattle.machine_state.specs.shown_stacks.Shown.{phase_of}
+use Rattle.race_places.specs.declared.run_actions.Action.{Action}
+use Rattle.race_places.specs.declared.run_actions.Action.TheVariants as action
+use Rattle.race_places.specs.named_actions.Names.{Names, named_action}
+use Rattle.data_races.specs.Actions as named
+use Rattle.data_races.specs.Actions.{Action as NamedAction}
+use Rattle.data_races.specs.EventActions.{Instruction, Rule, Begins, Does, Initialises, Relocks, Other, only_if, is_ready, is_done, built_in_at, receiver_of, found_on, interrupts_on, finds_of, interrupts_of}
+use Rattle.table_actions.specs.tables.Told.{AreOf, Tells, listed, all_found}
+use Rattle.table_actions.specs.declared.findings.Findings.{Findings}
+use Rattle.state_actions.specs.class_ends.Classes.{Shows}
+use Rattle.thread_rules.specs.declared.next_rules.NextRule.{NextRule}
+use Rattle.thread_rules.specs.declared.next_rules.NextRule.TheVariants as rule
+use Rattle.invoked_methods.specs.right_calls.Right.{is_on_receiver}
+use Rattle.race_actions.specs.declared.finds.Called.{Called}
+use Rattle.race_actions.specs.finds.Finds.{IsReadyFor, IsCalled, IsRuleOf, FindsByRule, FindsByCall, TellsFinds, TellsInterrupt}
+
+-- ---- classes
+
+pub class_ready : (shared : Shared) (t number : ℕ) (found : ClassLook) → IsLook shared t number found → (told : Bool) → told ≡ is_ready (shown_look found)
+    → IsReadyFor shared t (Some number) told
+class_ready shared t number found looks told is trees p bounds world None shows of = absurd of
+class_ready shared t number found looks told is trees p bounds world (Some class) shows of =
+    is ∙ ap is_ready (looks trees p bounds (map_world word_of world) shows.program shows.represents class of)
+
+pub none_ready : (shared : Shared) (t : ℕ) → IsReadyFor shared t None true
+none_ready shared t trees p bounds world None shows of = refl
+none_ready shared t trees p bounds world (Some class) shows of = absurd of
+
+-- ---- what is found of an object on which a method is called
+
+other_found : (world : World) (t a b : ℕ) (m : BuiltInMethod) → is_on_receiver m ≡ false → found_on world t a m ≡ found_on world t b m
+other_found world t a b Construct e = refl
+other_found world t a b ConstructWithTarget e = refl
+other_found world t a b ObjectWait e = absurd (true≢false e)
+other_found world t a b ObjectNotify e = refl
+other_found world t a b ObjectNotifyAll e = refl
+other_found world t a b ThreadStart e = absurd (true≢false e)
+other_found world t a b ThreadInterrupt e = absurd (true≢false e)
+other_found world t a b ThreadIsInterrupted e = absurd (true≢false e)
+other_found world t a b ThreadInterrupted e = refl
+other_found world t a b ThreadYield e = refl
+other_found world t a b ThreadCurrentThread e = refl
+other_found world t a b ThreadJoin e = absurd (true≢false e)
+other_found world t a b ThreadIsAlive e = absurd (true≢false e)
+other_found world t a b PrintStreamPrintln e = refl
+
+other_interrupts : (world : World) (a b : ℕ) (m : BuiltInMethod) → is_on_receiver m ≡ false → interrupts_on world a m ≡ interrupts_on world b m
+other_interrupts world a b ThreadInterrupt e = absurd (true≢false e)
+other_interrupts world a b _ e = refl
+
+by_object : {A : Type 0} (f : ℕ → BuiltInMethod → A) (a b : ℕ) (m : BuiltInMethod) → (is_on_receiver m ≡ false → f a m ≡ f b m) → (is_on_receiver m ≡ true → b ≡ a) → f a m ≡ f b m
+by_object f a b m other same = by (is_on_receiver m) refl
+  where
+    by : (x : Bool) → is_on_receiver m ≡ x → f a m ≡ f b m
+    by true e = ap (λ n. f n m) (sym (same e))
+    by false e = other e
+
+module _ (files : Program) (t : ℕ) (world : World) (instruction : Instruction) (called : Called) (is : IsCalled files t world instruction called) where
+  module _ (method : LinkedMethod) (runs : called.built_in ≡ Some method) where
+    runs_so : built_in_at files world instruction ≡ Some (built_in_of method)
+    runs_so = sym is.built_in ∙ ap (option_map built_in_of) runs
+
+    finds_on : found_on world t called.object (built_in_of method) ≡ option_map_or (found_on world t (receiver_of instruction)) (built_in_at files world instruction) []
+    finds_on =
+        by_object (found_on world t) called.object (receiver_of instruction) (built_in_of method) (other_found world t called.object (receiver_of instruction) (built_in_of method))
+        (λ on. is.object (built_in_of method) runs_so on)
+        ∙ sym (ap (λ o. option_map_or (found_on world t (receiver_of instruction)) o []) runs_so)
+
+    interrupts_so : interrupts_on world called.object (built_in_of method) ≡ option_map_or (interrupts_on world (receiver_of instruction)) (built_in_at files world instruction) []
+    interrupts_so =
+        by_object (interrupts_on world) called.object (receiver_of instruction) (built_in_of method) (other_interrupts world called.object (receiver_of instruction) (built_in_of method))
+        (λ on. is.object (built_in_of method) runs_so on)
+        ∙ sym (ap (λ o. option_map_or (interrupts_on world (receiver_of instruction)) o []) runs_so)
+
+  runs_none : called.built_in ≡ None → built_in_at files world instruction ≡ None
+  runs_none none = sym is.built_in ∙ ap (option_map built_in_of) none
+
+  done_is : (b : Bool) → called.is_ready ≡ b → is_done t world instruction ≡ b
+  done_is b e = sym is.ready ∙ e
+
+-- ---- by a call
+
+pub call_unready : (shared : Shared) (t : ℕ) (called : Called) → called.is_ready ≡ false → FindsByCall shared t called (record { own = None; other = None })
+call_unready shared t called e names files event world instruction at of is =
+    sym (ap (λ n. only_if (is_done n world instruction) (option_map_or (found_on world n (receiver_of instruction)) (built_in_at files world instruction) [])) at
+    ∙ ap (λ b. only_if b (option_map_or (found_on world t (receiver_of instruction)) (built_in_at files world instruction) [])) (done_is files t world instruction called is false e))
+
+pub call_none : (shared : Shared) (t : ℕ) (called : Called) → called.is_ready ≡ true → called.built_in ≡ None → FindsByCall shared t called (record { own = None; other = None })
+call_none shared t called e none names files event world instruction at of is =
+    sym (ap (λ n. only_if (is_done n world instruction) (option_map_or (found_on world n (receiver_of instruction)) (built_in_at files world instruction) [])) at
+    ∙ ap (λ b. only_if b (option_map_or (found_on world t (receiver_of instruction)) (built_in_at files world instruction) [])) (done_is files t world instruction called is true e)
+    ∙ ap (λ o. option_map_or (found_on world t (receiver_of instruction)) o []) (runs_none files t world instruction called is none))
+
+pub call_told : (shared : Shared) (t : ℕ) (called : Called) → called.is_ready ≡ true → (method : LinkedMethod) → called.built_in ≡ Some method → (told : Findings)
+    → Tells shared.heap shared.threads (all_found told) (λ world. found_on world t called.object (built_in_of method)) → FindsByCall shared t called told
+call_told shared t called e method runs told tells names files event world instruction at of is =
+    tells names world of
+    ∙ finds_on files t world instruction called is method runs
+    ∙ sym (ap (λ n. only_if (is_done n world instruction) (option_map_or (found_on world n (receiver_of instruction)) (built_in_at files world instruction) [])) at
+    ∙ ap (λ b. only_if b (option_map_or (found_on world t (receiver_of instruction)) (built_in_at files world instruction) [])) (done_is files t world instruction called is true e))
+
+-- ---- whom it interrupts
+
+pub interrupt_unready : (shared : Shared) (called : Called) → called.is_ready ≡ false → TellsInterrupt shared called None
+interrupt_unready shared called e names files event world instruction of is =
+    sym (ap (λ b. only_if b (option_map_or (interrupts_on world (receiver_of instruction)) (built_in_at files world instruction) [])) (done_is files event.thread world instruction called is false e))
+
+pub interrupt_none : (shared : Shared) (called : Called) → called.is_ready ≡ true → called.built_in ≡ None → TellsInterrupt shared called None
+interrupt_none shared called e none names files event world instruction of is =
+    sym (ap (λ b. only_if b (option_map_or (interrupts_on world (receiver_of instruction)) (built_in_at files world instruction) [])) (done_is files event.thread world instruction called is true e)
+    ∙ ap (λ o. option_map_or (interrupts_on world (receiver_of instruction)) o []) (runs_none files event.thread world instruction called is none))
+
+pub interrupt_told : (shared : Shared) (called : Called) → called.is_ready ≡ true → (method : LinkedMethod) → called.built_in ≡ Some method → (told : Option Action)
+    → Tells shared.heap shared.threads (listed told) (λ world. interrupts_on world called.object (built_in_of method)) → TellsInterrupt shared called told
+interrupt_told shared called e method runs told tells names files event world instruction of is =
+    tells names world of
+    ∙ interrupts_so files event.thread world instruction called is method runs
+    ∙ sym (ap (λ b. only_if b (option_map_or (interrupts_on world (receiver_of instruction)) (built_in_at files world instruction) [])) (done_is files event.thread world instruction called is true e))
+
+-- ---- by the rule
+
+append_none : {A : Type 0} (xs : List A) → xs ++ [] ≡ xs
+append_none [] = refl
+append_none (x ∷ xs) = ap (λ l. x ∷ l) (append_none xs)
+
+module _ (names : Names) (files : Program) (event : Event) (world : World) (t : ℕ) (at : event.thread ≡ t) where
+  as_meant : (meant is : Rule) (told : List NamedAction) → meant ≡ is → told ≡ finds_of files event world is → told ≡ finds_of files event world meant
+  as_meant meant is told e h = h ∙ ap (finds_of files event world) (sym e)
+
+pub begin_finds : (t : ℕ) → FindsByRule rule.Begin t (Some (action.Begin t))
+begin_finds t names files event world meant at is = as_meant names files event world t at meant Begins _ is (ap (λ n. named.Begin n ∷ []) (sym at))
+
+pub notified_finds : (object count t : ℕ) → FindsByRule (rule.Relock object count cause.Notified) t (Some (action.FindWoken t))
+notified_finds object count t names files event world meant at is = as_meant names files event world t at meant (Relocks Notified) _ is (ap (λ n. named.FindWoken n ∷ []) (sym at))
+
+pub interrupted_finds : (object count t : ℕ) → FindsByRule (rule.Relock object count cause.Interrupted) t (Some (action.FindInterrupted t))
+interrupted_finds object count t names files event world meant at is = as_meant names files event world t at meant (Relocks Interrupted) _ is (ap (λ n. named.FindInterrupted n ∷ []) (sym at))
+
+pub no_event_finds : (t : ℕ) → FindsByRule rule.NoEvent t None
+no_event_finds t names files event world meant at is = as_meant names files event world t at meant Other _ is refl
+
+pub pending_finds : (exception t : ℕ) → FindsByRule (rule.Pending exception) t None
+pending_finds exception t names files event world meant at is = as_meant names files event world t at meant Other _ is refl
+
+pub initialisation_finds : (r : NextRule) (number t : ℕ) (phase : Phase) → r ≡ rule.Initialisation number phase → FindsByRule r t None
+initialisation_finds r number t phase e =
+    subst (λ (x : NextRule). FindsByRule x t None) (sym e) (λ names files event world meant at is. as_meant names files event world t at meant (Initialises is.0 (phase_of phase)) _ is.1 refl)
