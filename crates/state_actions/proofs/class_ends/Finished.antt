@@ -34,15 +34,15 @@ use Rattle.state_actions.specs.class_ends.Classes.{IsFinished, Shows, NamesClass
 
 module _ (shared : Shared) (number : ℕ) (finished : Bool) (is : IsFinished shared number finished) where
   pub found_told : finished ≡ true → FindsClass shared (Some number) (Some (action.FindInitialised number))
-  found_told yes trees p bounds world names None shows right at = absurd at
-  found_told yes trees p bounds world names (Some class) shows right at =
-      let done : is_finished (status_of world class) ≡ true = sym (is trees p bounds (map_world word_of world) shows.program shows.represents class at) ∙ yes in
+  found_told is_so trees p bounds world names None shows right at = absurd at
+  found_told is_so trees p bounds world names (Some class) shows right at =
+      let done : is_finished (status_of world class) ≡ true = sym (is trees p bounds (map_world word_of world) shows.program shows.represents class at) ∙ is_so in
       ap (λ (n : Name). named.FindInitialised n ∷ []) (right number class at) ∙ ap (λ b. only_if b (named.FindInitialised class ∷ [])) (sym done)
 
   pub not_found_told : finished ≡ false → FindsClass shared (Some number) None
-  not_found_told no trees p bounds world names None shows right at = absurd at
-  not_found_told no trees p bounds world names (Some class) shows right at =
-      let open_still : is_finished (status_of world class) ≡ false = sym (is trees p bounds (map_world word_of world) shows.program shows.represents class at) ∙ no in
+  not_found_told not_so trees p bounds world names None shows right at = absurd at
+  not_found_told not_so trees p bounds world names (Some class) shows right at =
+      let open_still : is_finished (status_of world class) ≡ false = sym (is trees p bounds (map_world word_of world) shows.program shows.represents class at) ∙ not_so in
       ap (λ b. only_if b (named.FindInitialised class ∷ [])) (sym open_still)
 
 pub none_found : (shared : Shared) → FindsClass shared None None
@@ -147,9 +147,9 @@ module _ (shared : Shared) (number : ℕ) (was : Bool) where
   and_not false b e = refl
 
   pub was_finished_told : was ≡ true → FinishesClass shared (Some number) was None
-  was_finished_told yes trees p bounds old new names None shows right at keeps before = absurd at
-  was_finished_told yes trees p bounds old new names (Some class) shows right at keeps before =
-      nothing_since trees p bounds old new class shows at keeps (and_not (is_finished (status_of new class)) (is_finished (status_of old class)) (sym before ∙ yes))
+  was_finished_told is_so trees p bounds old new names None shows right at keeps before = absurd at
+  was_finished_told is_so trees p bounds old new names (Some class) shows right at keeps before =
+      nothing_since trees p bounds old new class shows at keeps (and_not (is_finished (status_of new class)) (is_finished (status_of old class)) (sym before ∙ is_so))
 
   module _ (finished : Bool) (is : IsFinished shared number finished) where
     now_is : (trees : Program) (p : LinkedProgram) (bounds : Bounds) (new : World) (class : Name) → Shows trees p bounds shared new → IsClassAt trees number class
@@ -157,15 +157,15 @@ module _ (shared : Shared) (number : ℕ) (was : Bool) where
     now_is trees p bounds new class shows at = is trees p bounds (map_world word_of new) shows.program shows.represents class at
 
     pub unfinished_told : finished ≡ false → FinishesClass shared (Some number) was None
-    unfinished_told no trees p bounds old new names None shows right at keeps before = absurd at
-    unfinished_told no trees p bounds old new names (Some class) shows right at keeps before =
+    unfinished_told not_so trees p bounds old new names None shows right at keeps before = absurd at
+    unfinished_told not_so trees p bounds old new names (Some class) shows right at keeps before =
         nothing_since trees p bounds old new class shows at keeps
-        (ap (λ b. b && not (is_finished (status_of old class))) (sym (now_is trees p bounds new class shows at) ∙ no))
+        (ap (λ b. b && not (is_finished (status_of old class))) (sym (now_is trees p bounds new class shows at) ∙ not_so))
 
     pub finished_told : was ≡ false → finished ≡ true → FinishesClass shared (Some number) was (Some (action.FinishInitialisation number))
-    finished_told before_no yes trees p bounds old new names None shows right at keeps before = absurd at
-    finished_told before_no yes trees p bounds old new names (Some class) shows right at keeps before =
+    finished_told before_no is_so trees p bounds old new names None shows right at keeps before = absurd at
+    finished_told before_no is_so trees p bounds old new names (Some class) shows right at keeps before =
         let since : (is_finished (status_of new class) && not (is_finished (status_of old class))) ≡ true =
-        ap (λ b. b && not (is_finished (status_of old class))) (sym (now_is trees p bounds new class shows at) ∙ yes) ∙ ap not (sym before ∙ before_no) in
+        ap (λ b. b && not (is_finished (status_of old class))) (sym (now_is trees p bounds new class shows at) ∙ is_so) ∙ ap not (sym before ∙ before_no) in
         ap (λ (n : Name). named.FinishInitialisation n ∷ []) (right number class at)
         ∙ sym (ap (map (λ n. named.FinishInitialisation n)) (one_done trees p bounds shared old new shows number class at keeps ∙ ap (λ b. only_if b (class ∷ [])) since))

@@ -203,24 +203,24 @@ over new threads t b same e = ap (λ (ts : List Thread). has_ended (slice_index_
 
 pub nothing_ends : (t : ℕ) (waiting_on : List ℕ) (threads : List Thread) (before : List Action) (ended : Bool)
     → ended ≡ has_ended (slice_index_or threads t no_thread).status → ended ≡ false → TellsEnd t waiting_on threads before before
-nothing_ends t waiting_on threads before ended is no =
+nothing_ends t waiting_on threads before ended is not_so =
     record {
       told = [];
       behind = append_nothing before;
-      are = λ names old new same h. ap (λ b. only_if b (map (λ u. named.Wake u) (besides (waiting old) (waiting new)) ++ named.Finish t ∷ [])) (sym (over new threads t ended same is ∙ no));
+      are = λ names old new same h. ap (λ b. only_if b (map (λ u. named.Wake u) (besides (waiting old) (waiting new)) ++ named.Finish t ∷ [])) (sym (over new threads t ended same is ∙ not_so));
     }
 
 pub end_told : (t : ℕ) (waiting_on : List ℕ) (threads : List Thread) (before mid after : List Action) (ended : Bool)
     → ended ≡ has_ended (slice_index_or threads t no_thread).status → ended ≡ true
     → mid ≡ before ++ map (λ u. action.Wake u) (listed_below waiting_on (length threads)) → after ≡ mid ++ action.Finish t ∷ []
     → TellsEnd t waiting_on threads before after
-end_told t waiting_on threads before mid after ended is yes m a =
+end_told t waiting_on threads before mid after ended is is_so m a =
     let wakes = map (λ u. action.Wake u) (listed_below waiting_on (length threads)) in
     record {
       told = wakes ++ action.Finish t ∷ [];
       behind = a ∙ ap (λ (l : List Action). l ++ action.Finish t ∷ []) m ∙ append_assoc before wakes (action.Finish t ∷ []);
       are = λ names old new same h.
-          let so : is_over new t ≡ true = over new threads t ended same is ∙ yes in
+          let so : is_over new t ≡ true = over new threads t ended same is ∙ is_so in
           map_append (named_action names) wakes (action.Finish t ∷ [])
           ∙ ap (λ l. l ++ named.Finish t ∷ [])
           (map_map names (listed_below waiting_on (length threads))
