@@ -20,7 +20,7 @@ use Rattle.race_places.specs.named_actions.Names.{IsRight, named_action}
 use Rattle.data_races.specs.Variables as named
 use Rattle.data_races.specs.Variables.{declares_volatile}
 use Rattle.data_races.specs.Actions as actions
-use Rattle.data_races.specs.EventActions.{at_reference, field_access, access_by}
+use Rattle.data_races.specs.EventActions.{field_access, access_by}
 use Rattle.table_actions.specs.tables.Told.{listed}
 use Rattle.field_names.specs.declared.named_fields.NamedField.{NamedField}
 use Rattle.field_names.specs.named_fields.Fields.{IsField, IsFieldIf, member_at, names_of, no_member}
@@ -134,18 +134,34 @@ module _ (files : Program) (site : Site) (ops : List Value) (operands : List ℕ
 
 -- ---- what is told
 
-pub field_told : (operands : List ℕ) (how : FieldAccess) (index : ℕ) (field : NamedField) → TellsAccess operands (instr.Field how index) (Some field) (field_action operands how field)
-field_told operands how index field files site ops is r = by_found files site ops operands how index (option_and_then (find_field files) (field_at site.body.pool index)) field refl is r
+module _ (operands : List ℕ) (i : Instr) where
+  abbrev Tells : Option NamedField → Option Action → Type 0
+  Tells field told = TellsAccess operands i field told
 
-pub no_field : (operands : List ℕ) (how : FieldAccess) (index : ℕ) → TellsAccess operands (instr.Field how index) None None
-no_field operands how index files site ops is r = unfound files site ops operands how index (option_and_then (find_field files) (field_at site.body.pool index)) refl is
+  pub field_told : (how : FieldAccess) (index : ℕ) → i ≡ instr.Field how index → (f : Option NamedField) (field : NamedField) → f ≡ Some field
+      → (told : Option Action) → told ≡ field_action operands how field → Tells f told
+  field_told how index e f field g told is =
+      subst (λ (x : Instr). TellsAccess operands x f told) (sym e)
+      (subst (λ (x : Option NamedField). TellsAccess operands (instr.Field how index) x told) (sym g)
+      (subst (λ (x : Option Action). TellsAccess operands (instr.Field how index) (Some field) x) (sym is)
+      (λ files site ops of r. by_found files site ops operands how index (option_and_then (find_field files) (field_at site.body.pool index)) field refl of r)))
 
-pub load_told : (operands : List ℕ) (kind : ArrayKind) (field : Option NamedField) → TellsAccess operands (instr.LoadElement kind) field (read_of false (element_of operands 0))
-load_told operands kind field files site ops is r = loaded files site ops operands kind r
+  pub no_field : (how : FieldAccess) (index : ℕ) → i ≡ instr.Field how index → (f : Option NamedField) → f ≡ None → Tells f None
+  no_field how index e f g =
+      subst (λ (x : Instr). TellsAccess operands x f None) (sym e)
+      (subst (λ (x : Option NamedField). TellsAccess operands (instr.Field how index) x None) (sym g)
+      (λ files site ops of r. unfound files site ops operands how index (option_and_then (find_field files) (field_at site.body.pool index)) refl of))
 
-pub store_told : (operands : List ℕ) (kind : ArrayKind) (field : Option NamedField) → TellsAccess operands (instr.StoreElement kind) field (write_of false (element_of operands 1))
-store_told operands kind field files site ops is r = stored files site ops operands kind r
+  pub load_told : (kind : ArrayKind) → i ≡ instr.LoadElement kind → (f : Option NamedField) (told : Option Action) → told ≡ read_of false (element_of operands 0) → Tells f told
+  load_told kind e f told is =
+      subst (λ (x : Instr). TellsAccess operands x f told) (sym e)
+      (subst (λ (x : Option Action). TellsAccess operands (instr.LoadElement kind) f x) (sym is) (λ files site ops of r. loaded files site ops operands kind r))
 
-pub none_told : (operands : List ℕ) (i : Instr) (field : Option NamedField) → ((how : FieldAccess) (index : ℕ) → i ≡ instr.Field how index → ⊥) → ((kind : ArrayKind) → i ≡ instr.LoadElement kind → ⊥)
-    → ((kind : ArrayKind) → i ≡ instr.StoreElement kind → ⊥) → TellsAccess operands i field None
-none_told operands i field f l s files site ops is r = no_access files site ops operands i f l s
+  pub store_told : (kind : ArrayKind) → i ≡ instr.StoreElement kind → (f : Option NamedField) (told : Option Action) → told ≡ write_of false (element_of operands 1) → Tells f told
+  store_told kind e f told is =
+      subst (λ (x : Instr). TellsAccess operands x f told) (sym e)
+      (subst (λ (x : Option Action). TellsAccess operands (instr.StoreElement kind) f x) (sym is) (λ files site ops of r. stored files site ops operands kind r))
+
+  pub none_told : (f : Option NamedField) → ((how : FieldAccess) (index : ℕ) → i ≡ instr.Field how index → ⊥) → ((kind : ArrayKind) → i ≡ instr.LoadElement kind → ⊥)
+      → ((kind : ArrayKind) → i ≡ instr.StoreElement kind → ⊥) → Tells f None
+  none_told f n l s files site ops of r = no_access files site ops operands i n l s

@@ -153,21 +153,49 @@ module _ (names : Names) (files : Program) (event : Event) (world : World) (t : 
   as_meant : (meant is : Rule) (told : List NamedAction) → meant ≡ is → told ≡ finds_of files event world is → told ≡ finds_of files event world meant
   as_meant meant is told e h = h ∙ ap (finds_of files event world) (sym e)
 
-pub begin_finds : (t : ℕ) → FindsByRule rule.Begin t (Some (action.Begin t))
-begin_finds t names files event world meant at is = as_meant names files event world t at meant Begins _ is (ap (λ n. named.Begin n ∷ []) (sym at))
+module _ (r : NextRule) (t : ℕ) where
+  pub begin_finds : r ≡ rule.Begin → FindsByRule r t (Some (action.Begin t))
+  begin_finds e =
+      subst (λ (x : NextRule). FindsByRule x t (Some (action.Begin t))) (sym e)
+      (λ names files event world meant at is. as_meant names files event world t at meant Begins _ is (ap (λ n. named.Begin n ∷ []) (sym at)))
 
-pub notified_finds : (object count t : ℕ) → FindsByRule (rule.Relock object count cause.Notified) t (Some (action.FindWoken t))
-notified_finds object count t names files event world meant at is = as_meant names files event world t at meant (Relocks Notified) _ is (ap (λ n. named.FindWoken n ∷ []) (sym at))
+  pub notified_finds : (object count : ℕ) (why : LinkedCause) → r ≡ rule.Relock object count why → why ≡ cause.Notified → FindsByRule r t (Some (action.FindWoken t))
+  notified_finds object count why e w =
+      subst (λ (x : NextRule). FindsByRule x t (Some (action.FindWoken t))) (sym (e ∙ ap (rule.Relock object count) w))
+      (λ names files event world meant at is. as_meant names files event world t at meant (Relocks Notified) _ is (ap (λ n. named.FindWoken n ∷ []) (sym at)))
 
-pub interrupted_finds : (object count t : ℕ) → FindsByRule (rule.Relock object count cause.Interrupted) t (Some (action.FindInterrupted t))
-interrupted_finds object count t names files event world meant at is = as_meant names files event world t at meant (Relocks Interrupted) _ is (ap (λ n. named.FindInterrupted n ∷ []) (sym at))
+  pub interrupted_finds : (object count : ℕ) (why : LinkedCause) → r ≡ rule.Relock object count why → why ≡ cause.Interrupted → FindsByRule r t (Some (action.FindInterrupted t))
+  interrupted_finds object count why e w =
+      subst (λ (x : NextRule). FindsByRule x t (Some (action.FindInterrupted t))) (sym (e ∙ ap (rule.Relock object count) w))
+      (λ names files event world meant at is. as_meant names files event world t at meant (Relocks Interrupted) _ is (ap (λ n. named.FindInterrupted n ∷ []) (sym at)))
 
-pub no_event_finds : (t : ℕ) → FindsByRule rule.NoEvent t None
-no_event_finds t names files event world meant at is = as_meant names files event world t at meant Other _ is refl
+  pub no_event_finds : r ≡ rule.NoEvent → FindsByRule r t None
+  no_event_finds e =
+      subst (λ (x : NextRule). FindsByRule x t None) (sym e) (λ names files event world meant at is. as_meant names files event world t at meant Other _ is refl)
 
-pub pending_finds : (exception t : ℕ) → FindsByRule (rule.Pending exception) t None
-pending_finds exception t names files event world meant at is = as_meant names files event world t at meant Other _ is refl
+  pub pending_finds : (exception : ℕ) → r ≡ rule.Pending exception → FindsByRule r t None
+  pending_finds exception e =
+      subst (λ (x : NextRule). FindsByRule x t None) (sym e) (λ names files event world meant at is. as_meant names files event world t at meant Other _ is refl)
 
-pub initialisation_finds : (r : NextRule) (number t : ℕ) (phase : Phase) → r ≡ rule.Initialisation number phase → FindsByRule r t None
-initialisation_finds r number t phase e =
-    subst (λ (x : NextRule). FindsByRule x t None) (sym e) (λ names files event world meant at is. as_meant names files event world t at meant (Initialises is.0 (phase_of phase)) _ is.1 refl)
+  pub initialisation_finds : (number : ℕ) (phase : Phase) → r ≡ rule.Initialisation number phase → FindsByRule r t None
+  initialisation_finds number phase e =
+      subst (λ (x : NextRule). FindsByRule x t None) (sym e)
+      (λ names files event world meant at is. as_meant names files event world t at meant (Initialises is.0 (phase_of phase)) _ is.1 refl)
+
+  pub instruction_finds : r ≡ rule.Bytecode → FindsByRule r t None
+  instruction_finds e = subst (λ (x : NextRule). FindsByRule x t None) (sym e) refl
+
+-- ---- the whole
+
+pub told_by_call : (shared : Shared) (t : ℕ) (r : NextRule) (called : Called) (told : Findings) → r ≡ rule.Bytecode → FindsByCall shared t called told
+    → TellsFinds shared t r called told
+told_by_call shared t r called told e h = subst (λ (x : NextRule). TellsFinds shared t x called told) (sym e) h
+
+pub told_by_rule : (shared : Shared) (t : ℕ) (r : NextRule) (called : Called) (own : Option Action) → (r ≡ rule.Bytecode → ⊥) → FindsByRule r t own
+    → TellsFinds shared t r called (record { own = own; other = None })
+told_by_rule shared t rule.Bytecode called own n h = absurd (n refl)
+told_by_rule shared t rule.NoEvent called own n h = λ names files event world meant at is. ap (map (named_action names)) (append_none (listed own)) ∙ h names files event world meant at is
+told_by_rule shared t rule.Begin called own n h = λ names files event world meant at is. ap (map (named_action names)) (append_none (listed own)) ∙ h names files event world meant at is
+told_by_rule shared t (rule.Pending exception) called own n h = λ names files event world meant at is. ap (map (named_action names)) (append_none (listed own)) ∙ h names files event world meant at is
+told_by_rule shared t (rule.Relock object count why) called own n h = λ names files event world meant at is. ap (map (named_action names)) (append_none (listed own)) ∙ h names files event world meant at is
+told_by_rule shared t (rule.Initialisation number phase) called own n h = λ names files event world meant at is. ap (map (named_action names)) (append_none (listed own)) ∙ h names files event world meant at is

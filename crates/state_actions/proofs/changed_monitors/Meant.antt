@@ -37,6 +37,19 @@ no_top (Invocation shown ∷ stack) None h e = absurd cc
 no_top (Invocation shown ∷ stack) (Some frame) h e = absurd cc
 no_top (Initialisation class phase ∷ stack) found h e = refl
 
+-- of a frame above so many entries
+not_above : (depth n : ℕ) → n ≤ depth → nat_lt depth n ≡ false
+not_above depth n h = grind (arith, nat_tests)
+
+is_above : (depth n : ℕ) → (n ≤ depth → ⊥) → nat_lt depth n ≡ true
+is_above depth n h = grind (arith, nat_tests)
+
+pub none_above : (depth : ℕ) (stack : List ShownEntry) → length stack ≤ depth → None ≡ entered_above depth stack
+none_above depth stack h = sym (ap (λ b. if b then entered_on stack else None) (not_above depth (length stack) h))
+
+pub top_above : (depth : ℕ) (stack : List ShownEntry) → (length stack ≤ depth → ⊥) → entered_on stack ≡ entered_above depth stack
+top_above depth stack h = sym (ap (λ b. if b then entered_on stack else None) (is_above depth (length stack) h))
+
 pub shown_entered : (trees : Program) (p : LinkedProgram) (shown : List ShownEntry) (stack : StackOf ℕ) → ShowsStack trees p shown stack → entered_on shown ≡ entered_in stack
 shown_entered trees p [] [] h = refl
 shown_entered trees p [] (entry ∷ stack) h = absurd h

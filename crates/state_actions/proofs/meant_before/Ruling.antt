@@ -1,9 +1,12 @@
 -- What is told of monitors before an event, by its rule.
 use Rattle.std.proofs.Common.{◌≡◌, ◌⊎◌, ℕ, List, [], ◌∷◌, inl, inr, Option, Some, None, refl, sym, ap, subst, ◌∙◌}
+use Rattle.std.specs.Prelude.{◌-◌, slice_index_or}
 use Rattle.std.specs.Option.{option_map_or}
 use Rattle.std.proofs.lemmas.Option.{same_Some}
 use Rattle.model.specs.declared.event.Event.{Event}
 use Rattle.model.specs.declared.instr.Instr.{Instr}
+use Rattle.model.specs.declared.instr.Instr.TheVariants as instr
+use Rattle.model.specs.declared.instr.Returned.{Returned}
 use Rattle.model.specs.Classes.{Program, Body, body_of}
 use Rattle.model.specs.Operands.{words}
 use Rattle.model.specs.State as model
@@ -13,7 +16,7 @@ use Rattle.model.specs.Sites.{MeaningOf, Site, site_at}
 use Rattle.model.specs.Meanings.{meaning_of}
 use Rattle.heap.specs.java_threads.Statuses.{cause_of}
 use Rattle.linked_code.specs.declared.program.LinkedProgram.{LinkedProgram}
-use Rattle.thread_stacks.specs.Stacks.{ShownEntry, ShownFrame, Invocation, Initialisation}
+use Rattle.thread_stacks.specs.Stacks.{ShownEntry, ShownFrame, Invocation, Initialisation, IsTopFrame}
 use Rattle.machine_state.specs.shown_stacks.Shown.{ShowsStack}
 use Rattle.monitor_laws.specs.owners.Owners.{entered_in, meant_with, meant_at, meant_in, meant_running, meant_before}
 use Rattle.thread_rules.specs.declared.next_rules.NextRule.{NextRule}
@@ -116,3 +119,26 @@ module _ (instruction : Option Instr) (told : Option ℕ) (files : Program) (p :
 pub before_told : (shown : List ShownEntry) (instruction : Option Instr) (told : Option ℕ) (r : NextRule) → IsToldBy shown instruction told r → MeansBefore r shown instruction told
 before_told shown instruction told r t files p event world own shows is next =
     ruled instruction told files p event world shown own shows next r (thread_at world event.thread).status is t
+
+-- ---- of the frame on top
+
+pub return_said : (i : Instr) (kind : Returned) → i ≡ instr.Return kind → (sf : ShownFrame) → sf.entered ≡ said_of i sf
+return_said i kind e sf = sym (ap (λ (x : Instr). said_of x sf) e)
+
+pub other_said : (i : Instr) → ((kind : Returned) → i ≡ instr.Return kind → ⊥) → (sf : ShownFrame) → Some (slice_index_or sf.operands 0 0 - 1) ≡ said_of i sf
+other_said (instr.Return kind) n sf = absurd (n kind refl)
+other_said _ n sf = refl
+
+pub top_next : AreInstructionsMeant → (shown : List ShownEntry) (sf : ShownFrame) → IsTopFrame shown (Some sf) → (i : Instr) (told : Option ℕ) → told ≡ said_of i sf
+    → MeansNext shown (Some i) told
+top_next are [] sf top i told e = absurd cc
+top_next are (Initialisation class phase ∷ others) sf top i told e = absurd cc
+top_next are (Invocation frame ∷ others) sf top i told e =
+    let same : sf ≡ frame = same_Some sf frame top in
+    subst (λ (o : Option ℕ). MeansNext (Invocation frame ∷ others) (Some i) o) (sym (e ∙ ap (said_of i) same))
+    (next_told are (Invocation frame ∷ others) i frame others refl)
+
+pub no_top_next : (shown : List ShownEntry) → IsTopFrame shown None → (instruction : Option Instr) (told : Option ℕ) → MeansNext shown instruction told
+no_top_next [] top instruction told = next_of_none [] instruction told (λ sf others e. absurd cc)
+no_top_next (Initialisation class phase ∷ others) top instruction told = next_of_none (Initialisation class phase ∷ others) instruction told (λ sf others e. absurd cc)
+no_top_next (Invocation frame ∷ others) top instruction told = absurd cc
