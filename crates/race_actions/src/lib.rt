@@ -2,5 +2,6 @@
 #![tactic(auto)]
 
 pub mod accesses;
+pub mod calls;
 pub mod finds;
 pub mod read_operands;
