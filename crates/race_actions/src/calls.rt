@@ -3,8 +3,8 @@
 //!
 //! # Proved
 //!
-//! - `call_of`: of the frame on top of a thread, in whatever state is shown in which its instruction finds its operands,
-//!   what `finds_of` and `interrupt_of` ask for (`KnowsCall`, `IsCalled`).
+//! - `call_of`: of the frame on top of a thread, in whatever state is shown in which its instruction finds its
+//!   operands, what `finds_of` and `interrupt_of` ask for (`KnowsCall`, `IsCalled`).
 
 ghost use Rattle.thread_stacks.specs.Stacks.{shown_frame};
 ghost use Rattle.invoked_methods.specs.sources.Sources.{AreMethodsOf};

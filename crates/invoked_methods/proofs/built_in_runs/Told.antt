@@ -61,7 +61,7 @@ no_number are files p linked number run is none =
 -- ---- at an offset
 
 sited : (method : Member) (code : Body) (offset : ℕ) (o : Option Sized) → sized_at code.code.code offset ≡ o → (site : Site) → site_at method code offset ≡ Some site
-    → instr_at code.code.code offset ≡ Some site.instr × (site.body ≡ code) × (site.method ≡ method)
+    → (instr_at code.code.code offset ≡ Some site.instr) × (site.body ≡ code) × (site.method ≡ method)
 sited method code offset None e site at = let f : None ≡ Some site = sym (ap (mapped (site_with method code offset)) e) ∙ at in absurd cc
 sited method code offset (Some sized) e site at =
     let same : site_with method code offset sized ≡ site = same_Some _ site (sym (ap (mapped (site_with method code offset)) e) ∙ at) in (
@@ -71,7 +71,7 @@ sited method code offset (Some sized) e site at =
     )
 
 pub site_is : (method : Member) (code : Body) (offset : ℕ) (site : Site) → site_at method code offset ≡ Some site
-    → instr_at code.code.code offset ≡ Some site.instr × (site.body ≡ code) × (site.method ≡ method)
+    → (instr_at code.code.code offset ≡ Some site.instr) × (site.body ≡ code) × (site.method ≡ method)
 site_is method code offset = sited method code offset (sized_at code.code.code offset) refl
 
 module _ (files : Program) (p : LinkedProgram) (objects : List Object) (operands : List ℕ) (method : Member) (code : Body) (offset : ℕ) (bytes : List ℕ) (same : bytes ≡ code.code.code) where
