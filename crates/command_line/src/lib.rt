@@ -35,6 +35,7 @@ mod options;
 mod parse;
 mod parsers;
 mod paths;
+mod program_options;
 mod run_arguments;
 mod run_options;
 mod schedule_arguments;

@@ -10,8 +10,8 @@ returns-in_err-file-clause-none c =
 pub returns-clause-values : goal.returns-clause-values
 returns-clause-values c = record {
   no_places = c.requires;
-  no_schedule = c.in_ok-check_places.ensures.ok;
-  no_main = c.in_ok-check_places-2.ensures.ok;
+  no_schedule = c.in_ok-check_beside.ensures.ok;
+  no_main = c.in_ok-check_beside-2.ensures.ok;
   no_any_files = c.in_ok-check_places_flag.ensures.ok;
   no_files_alone = c.in_ok-check_places_flag-2.ensures.ok;
   file = c.in_ok-file.ensures.file;
