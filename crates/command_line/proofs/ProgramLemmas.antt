@@ -26,14 +26,18 @@ module _ (rows : List Row) where
   pub no_run : ((program : ProgramOptions) → AreApartValues rows program → ⊥) → (run : Run) → AreRunValues rows run → ⊥
   no_run none run are =
       none (record { limits = run.limits; main = run.main; files = run.files; explain = run.explain; quiet = run.quiet; files_alone = run.files_alone })
-      (record { values = record { limits = are.limits; main = are.main; files = are.files; explain = are.explain; quiet = are.quiet; files_alone = are.files_alone };
-      other_files = are.other_files })
+      (record {
+        values = record { limits = are.limits; main = are.main; files = are.files; explain = are.explain; quiet = are.quiet; files_alone = are.files_alone };
+        other_files = are.other_files;
+      })
 
   pub no_replay : ((program : ProgramOptions) → AreApartValues rows program → ⊥) → (replay : Replay) → AreValues rows replay → ⊥
   no_replay none replay are =
       none (record { limits = replay.limits; main = replay.main; files = replay.files; explain = replay.explain; quiet = replay.quiet; files_alone = replay.files_alone })
-      (record { values = record { limits = are.limits; main = are.main; files = are.files; explain = are.explain; quiet = are.quiet; files_alone = are.files_alone };
-      other_files = are.other_files })
+      (record {
+        values = record { limits = are.limits; main = are.main; files = are.files; explain = are.explain; quiet = are.quiet; files_alone = are.files_alone };
+        other_files = are.other_files;
+      })
 
   pub no_trace : ((program : ProgramOptions) → AreProgramValues rows program → ⊥) → (trace : Trace) → AreTraceValues rows trace → ⊥
   no_trace none trace are =
@@ -43,11 +47,15 @@ module _ (rows : List Row) where
   pub no_search : ((program : ProgramOptions) → AreApartValues rows program → ⊥) → (search : Search) → AreSearchValues rows search → ⊥
   no_search none search are =
       none (record { limits = search.limits; main = search.main; files = search.files; explain = search.explain; quiet = search.quiet; files_alone = search.files_alone })
-      (record { values = record { limits = are.limits; main = are.main; files = are.files; explain = are.explain; quiet = are.quiet; files_alone = are.files_alone };
-      other_files = are.other_files })
+      (record {
+        values = record { limits = are.limits; main = are.main; files = are.files; explain = are.explain; quiet = are.quiet; files_alone = are.files_alone };
+        other_files = are.other_files;
+      })
 
   pub no_shrink : ((program : ProgramOptions) → AreApartValues rows program → ⊥) → (shrink : Shrink) → AreShrinkValues rows shrink → ⊥
   no_shrink none shrink are =
       none (record { limits = shrink.limits; main = shrink.main; files = shrink.files; explain = shrink.explain; quiet = shrink.quiet; files_alone = shrink.files_alone })
-      (record { values = record { limits = are.limits; main = are.main; files = are.files; explain = are.explain; quiet = are.quiet; files_alone = are.files_alone };
-      other_files = are.other_files })
+      (record {
+        values = record { limits = are.limits; main = are.main; files = are.files; explain = are.explain; quiet = are.quiet; files_alone = are.files_alone };
+        other_files = are.other_files;
+      })
