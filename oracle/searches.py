@@ -4,8 +4,9 @@
     oracle/searches.py [--for OUTCOME] [--states N] FILE..
     oracle/searches.py --write
 
-States are searched breadth first, the events of each in the order of threads and picks, and behind an event with pick 0
-the local instructions of its thread, at most 1,024, are done, too. A state is told apart from others by its objects in
+States are searched breadth first, the events of each in the order of threads and picks. Behind an event with pick 0
+those of its thread are done, too, that are alone: local instructions, at most 1,024 in a row, calls and returns by which
+no monitor is entered or left, and what leaves a monitor for good. They are told by what they did. A state is told apart from others by its objects in
 the order in which they were made, its classes, threads and stacks, and what was printed. A state is kept as the events
 that lead to it. With --write the searches of the lessons below become cases of `crates/conformance`, with what they
 have to print. The schedule of a run that was found is recorded and replayed.
@@ -24,7 +25,7 @@ from oracle.frames import Frame
 from oracle.lessons import LESSONS, class_files
 from oracle.machine import Machine, status_of, text_of
 from oracle.schedules import Event
-from oracle.state import Initialisation, JavaThread, NotEnabled, Object, Value
+from oracle.state import Initialisation, JavaThread, NotEnabled, Object, Refused, Value
 from tools.cases import store, stored
 from tools.repository import CONFORMANCE
 
@@ -87,10 +88,13 @@ class Numbered(Machine):
         flags = thread.is_interrupted, thread.has_ended
         return self.word(thread.object), self.word(thread.pending), flags, waits, relock, entries
 
+    def things(self) -> List[Object]:
+        return [*self.numbers, *(one.object for one in self.classes.values()), *self.strings.values()]
+
     def key(self) -> Tuple[Any, ...]:
         """What tells the state apart from others."""
         things = []
-        for thing in [*self.numbers, *(one.object for one in self.classes.values()), *self.strings.values()]:
+        for thing in self.things():
             parts = thing.elements if thing.elements is not None else thing.fields.values()
             things.append((thing.kind, tuple(map(self.word, parts)), self.monitor(thing)))
         classes = []
@@ -114,8 +118,49 @@ def at(files: Sequence[bytes], events: Tuple[Event, ...]) -> Numbered:
     return machine
 
 
-# How many local instructions are done at most.
-MOST = 1024
+# How many local instructions are done at most, and how often these and another event that is alone.
+MOST, ROUNDS = 1024, 1024
+
+
+def seen(thread: JavaThread) -> Optional[Tuple[int, Optional[Object]]]:
+    """How many entries a thread has that runs in a frame, with no exception pending, and what the frame has entered."""
+    top = thread.top()
+    if thread.has_ended or thread.waits or thread.relock or thread.pending or not isinstance(top, Frame):
+        return None
+    return len(thread.entries), top.entered
+
+
+def is_alone(machine: Numbered, number: int) -> bool:
+    """Does the next event of a thread, if it is enabled, and tells whether it was alone."""
+    thread = machine.threads[number]
+    owned = [thing for thing in machine.things() if thing.owner is thread]
+    before = seen(thread)
+    try:
+        machine.step(number)
+    except (NotEnabled, Refused):
+        return False
+    after = seen(thread)
+    if not before or not after:
+        return False
+    called = after[0] == before[0] + 1 and not after[1]
+    returned = after[0] + 1 == before[0] and not before[1]
+    left = after[0] <= before[0] and any(thing.owner is not thread for thing in owned)
+    return called or returned or left
+
+
+def past(files: Sequence[bytes], events: Tuple[Event, ...], number: int) -> Tuple[Tuple[Event, ...], Numbered]:
+    """These events, and those of a thread behind them that are alone, and where they lead."""
+    machine = at(files, events)
+    for _ in range(ROUNDS):
+        local = 0
+        while local < MOST and machine.threads[number].next_is_local():
+            machine.step(number)
+            local += 1
+        events = (*events, *[(number, 0)] * local)
+        if not is_alone(machine, number):
+            return events, at(files, events)
+        events = (*events, (number, 0))
+    return events, machine
 
 
 def following(files: Sequence[bytes], events: Tuple[Event, ...]) -> Iterator[Tuple[Tuple[Event, ...], Numbered]]:
@@ -127,11 +172,8 @@ def following(files: Sequence[bytes], events: Tuple[Event, ...]) -> Iterator[Tup
                 machine.step(thread, pick)
             except NotEnabled:
                 break
-            more = 0
-            while pick == 0 and more < MOST and machine.threads[thread].next_is_local():
-                machine.step(thread)
-                more += 1
-            yield (*events, *[(thread, pick)] * (1 + more)), machine
+            after = (*events, (thread, pick))
+            yield (after, machine) if pick else past(files, after, thread)
 
 
 def is_wanted(goal: Optional[str], outcome: Outcome) -> bool:

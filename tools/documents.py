@@ -12,7 +12,10 @@ COLUMNS = 120
 WORDS = 30
 
 # The folders at the top whose files are named in documents.
-FOLDERS = ("bench", "builtin", "compare", "constructs", "crates", "docs", "lessons", "oracle", "programs", "tests", "tools")
+FOLDERS = (
+    ("bench", "builtin", "cluster", "compare", "constructs", "crates")
+    + ("docs", "lessons", "oracle", "programs", "tests", "tools")
+)
 
 PARTS_OF_A_CRATE = ("src", "specs", "proofs", "data", "must-fail", "wrong-bodies", "stdout")
 
@@ -28,7 +31,7 @@ QUOTED = re.compile(r"`([^`]+)`")
 HEADING = re.compile(r"^#+ +(.*)$")
 ANCHOR = re.compile(r"<a (?:id|name)=\"([^\"]+)\"")
 SNAKE = re.compile(r"[a-z][a-z0-9]*(?:_[a-z0-9]+)+")
-SCRIPT = re.compile(r"(?<![\w./-])((?:\.\./)?(?:bench|compare|oracle|tools)/[\w-]+(?:\.py|\.sh)?)")
+SCRIPT = re.compile(r"(?<![\w./-])((?:\.\./)?(?:bench|cluster|compare|oracle|tools)/[\w-]+(?:\.py|\.sh)?)")
 PLACEHOLDER = re.compile(r"\b[A-Z]{2,}\b|\.\.(?!/)|[<>{}]|\bM\b")
 
 
@@ -82,7 +85,8 @@ def anchor_of(heading: str) -> str:
 def documents() -> Dict[str, Document]:
     """The documents of the repository, by their paths."""
     paths = [ROOT / "README.md", ROOT / "CONTRIBUTING.md", *sorted(ROOT.glob("docs/*.md"))]
-    paths += [ROOT / "builtin/README.md", ROOT / "programs/README.md", *sorted(ROOT.glob("lessons/**/README.md"))]
+    paths += [ROOT / f"{folder}/README.md" for folder in ("builtin", "cluster", "programs")]
+    paths += sorted(ROOT.glob("lessons/**/README.md"))
     names = [str(path.relative_to(ROOT)) for path in paths]
     return {name: Document(name, (ROOT / name).read_text(encoding="utf-8")) for name in names}
 

@@ -15,7 +15,7 @@ JVM = ROOT / "crates/jvm/out/jvm"
 BENCH = ROOT / "crates/bench/out/bench"
 TRIALS = ROOT / "crates/conformance/out/conformance"
 
-FOLDERS_OF_SCRIPTS = ("bench", "compare", "oracle", "tests", "tools")
+FOLDERS_OF_SCRIPTS = ("bench", "cluster", "compare", "oracle", "tests", "tools")
 
 PathLike = Union[str, pathlib.Path]
 

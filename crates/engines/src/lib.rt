@@ -89,9 +89,8 @@
 //!     the options; events, report and end are those of a record of their program with these limits and this budget
 //!     (`IsRecorded` of `worlds`), or, with `--seconds`, with what was spent of it (`IsSpent`); the text says `end seconds`
 //!     where less was (`run_text`). Without workers they are those of the policy that is asked for, by the seed or the
-//!     quantum of the options (`as_asked`, `IsRunFor`, with `IsRunBy` of `policies`): of `mixed` and `rotation` all that
-//!     `events_by` says, or a front of them where the end says that memory was wanted, or with `--seconds` where it was
-//!     stopped;
+//!     quantum of the options (`as_asked`, `IsRunFor`, with `IsRunBy` of `policies`): all that `events_by` says, or a
+//!     front of them where the end says that memory was wanted, or with `--seconds` where it was stopped;
 //!   - the text is the report's, the status is its own; and the file spells the events, the limits and what is recorded
 //!     of the class files: the lengths and checksums of those that are given, and the checksum of those that the library
 //!     adds (`recording_over`), as far as a file of the version that is asked for tells them (`recorded_as`);
@@ -144,7 +143,7 @@
 //! - Shown by cases alone: that a text with places is read, which fault of it is answered, and its line; which entries
 //!   become places; the places of refusals that `linker` doesn't promise; the texts of usage faults; that what
 //!   threads are about is told of the schedule of the very run; that runs and replays come to an end; that workers and
-//!   their quantum are heeded, and the seed of `random`, which no clause of a run says.
+//!   their quantum are heeded.
 //! - Shown by `tools/try-files` alone: what stands in a file of the system after a failure, and what its links and
 //!   pipes get; what is seen of a run while it goes on, by `Growth`: the lines that it has printed, and the text of
 //!   `growing_text` beside the file of its record.

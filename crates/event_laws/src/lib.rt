@@ -5,3 +5,4 @@
 pub mod access_outcomes;
 pub mod entered_monitors;
 pub mod event_changes;
+pub mod meant_monitors;

@@ -1,5 +1,7 @@
 //! What is seen of a run while it goes on: the lines that it has printed, and its record.
 
+ghost use Rattle.std.specs.Prelude.{◌≤◌};
+
 use schedule::recorded_events::RecordedEvents;
 use schedule::report::push_printed;
 use std::fs::OpenOptions;
@@ -142,7 +144,9 @@ impl<'a, R: Clock + Print + Files + AllocGlobal> Growing<'a, R> {
     }
 
     /// How many of so many bytes of the report are shown already. They are told once.
-    pub fn take_shown(&self, most: usize) -> usize {
+    pub fn take_shown(&self, most: usize) -> usize
+        ensures { result ≤ most }
+    {
         let shown = self.bytes.load(Ordering::SeqCst).min(most as u64);
         self.bytes.fetch_sub(shown, Ordering::SeqCst);
         shown as usize

@@ -25,8 +25,7 @@ use progress::{Cleared, Progress};
 use std::alloc::AllocError;
 use std::io::{ErrorKind, IsTerminal, Write};
 use std::process::ExitCode;
-use std::random::RandomSource;
-use std::rt::{Clock, Files};
+use std::rt::Files;
 use std::sync::Wait;
 use std::thread::Threads;
 use std::{env, io};
@@ -43,13 +42,7 @@ fn main(rt: HostRuntime) -> ExitCode {
         Ok(library) => library,
         Err(AllocError) => return ExitCode::from(without_memory(&rt).code()),
     };
-    let ending = done(
-        &rt,
-        library.as_slice(),
-        words.as_slice(),
-        rt.stderr().is_terminal(),
-        rt.stdout().is_terminal(),
-    );
+    let ending = done(&rt, &rt, library.as_slice(), words.as_slice());
     if ending.is_closed {
         return ExitCode::from(CLOSED_PIPE);
     }
@@ -79,20 +72,18 @@ fn is_closed(failure: Option<&io::Error>) -> bool {
     }
 }
 
-/// Does what the words say over the files of the system, with the library, the standard input and the standard output.
-/// The standard error shows how far a run or a search is, if it is a terminal; and the standard output shows the lines
-/// of a run as they are printed, if it is one.
-fn done<
-    'a,
-    R: Files + Input + Print + Eprint + Clock + RandomSource + AllocGlobal + Threads + Wait + Sync,
->(
+/// Does what the words say over the files of the system, with the library, the standard input and the standard output,
+/// all by the first handle. By the other, the same, the standard error shows how far a run or a search is, if it is a
+/// terminal, and the standard output the lines of a run as they are printed, if it is one.
+fn done<'a, R: Files + Input + Print + AllocGlobal + Threads + Wait + Sync>(
     rt: &R,
+    host: &HostRuntime,
     library: &[LibraryClass<'a>],
     words: &[String],
-    is_terminal: bool,
-    follows: bool,
 ) -> Ending<'a> {
-    let progress = Progress::new(rt, is_terminal, follows);
+    let is_wanted = host.stderr().is_terminal();
+    let follows = host.stdout().is_terminal();
+    let progress = Progress::new(host, is_wanted, follows);
     let mut output = Counted::new(rt.alloc(), Cleared::new(&progress, io::writer(rt)));
     let mut input = Counted::new(rt.alloc(), rt.reader());
     let mut folder = SystemFolder::new(rt);

@@ -14,9 +14,6 @@ use Rattle.program_runs.specs.worlds.Worlds.{WorldOf, IsNew, IsOfSame, HasRepeat
 use Rattle.place_runs.proofs.Kept.{joined}
 use Rattle.place_texts.specs.declared.place.PlacedDeed.{PlacedDeed}
 use Rattle.place_texts.specs.Places.{PlaceOf, DeedOf, Entry, Until, deed_of, deeds_of}
-use Rattle.place_texts.specs.Texts.{SpellDeeds}
-use Rattle.schedule.specs.schedule_text.Text.{text_words}
-use Rattle.place_runs.specs.Placing.{IsPlacedText}
 use Rattle.place_runs.specs.declared.following.Stop.{Stop}
 use Rattle.place_runs.specs.declared.following.Stop.TheVariants as stops
 use Rattle.place_runs.specs.declared.run.Followed.{Followed}
@@ -233,7 +230,7 @@ events_are trees limits budget deeds events stop followed f is are =
       are = are ∙ ap (with_stop events) (sym is);
     }
 
--- ---- a text with places
+-- ---- the events of a schedule
 
 pub whole : (trees : Program) (limits : Limits) (most budget : ℕ) (deeds : List DeedOf) (events : List Event) (stop : Stop) → stop ≡ stops.Whole
     → IsFollowed trees limits most budget deeds events stop → Means trees limits.frames [] deeds events
@@ -242,10 +239,9 @@ whole trees limits most budget deeds events stops.Whole is (inr short) = absurd 
 whole trees limits most budget deeds events (stops.Event event) is followed = absurd cc
 whole trees limits most budget deeds events stops.UsedUp is followed = absurd cc
 
-pub placed : (trees : Program) (limits : Limits) (budget : ℕ) (deeds : List DeedOf) (f : Followed) (schedule joined : List ScheduleEntry) (text : List ℕ)
-    → AreEventsOf trees limits budget deeds f → f.stop ≡ stops.Whole → f.schedule ≡ joined → events_of joined ≡ events_of schedule
-    → SpellDeeds (text_words text) deeds → IsPlacedText trees limits (events_of schedule) text
-placed trees limits budget deeds f schedule joined text are is same joins spelled =
-    let stand : Means trees limits.frames [] deeds are.events = whole trees limits 4294967295 budget deeds are.events f.stop is are.followed in
-    let events : are.events ≡ events_of schedule = ap (with_stop are.events) (sym is) ∙ sym are.are ∙ ap events_of same ∙ joins in
-    record { deeds = deeds; spelled = spelled; means = subst (λ l. Means trees limits.frames [] deeds l) events stand }
+pub stand : (trees : Program) (limits : Limits) (budget : ℕ) (deeds : List DeedOf) (f : Followed) (schedule : List ScheduleEntry)
+    → AreEventsOf trees limits budget deeds f → f.stop ≡ stops.Whole → f.schedule ≡ schedule → Means trees limits.frames [] deeds (events_of schedule)
+stand trees limits budget deeds f schedule are is same =
+    let by_words : Means trees limits.frames [] deeds are.events = whole trees limits 4294967295 budget deeds are.events f.stop is are.followed in
+    let events : are.events ≡ events_of schedule = ap (with_stop are.events) (sym is) ∙ sym are.are ∙ ap events_of same in
+    subst (λ l. Means trees limits.frames [] deeds l) events by_words

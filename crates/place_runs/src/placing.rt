@@ -1,12 +1,13 @@
 //! Schedules that are written with places.
 
-ghost use Rattle.std.specs.Prelude.{◌≡◌, IfOk, IfSome, IsTrue};
+ghost use Rattle.std.specs.Prelude.{◌≡◌, [], IfOk, IfSome, IsTrue};
 ghost use Rattle.std.specs.Arc.{arc_value};
 ghost use Rattle.model.specs.Schedule.{events_of};
 ghost use Rattle.schedule.specs.schedule_text.Text.{text_words};
 ghost use Rattle.machine.specs.Machines.{IsProgramOf};
 ghost use Rattle.place_texts.specs.Places.{deeds_of};
 ghost use Rattle.place_texts.specs.Texts.{SpellDeeds};
+ghost use Rattle.place_runs.specs.Meaning.{Means};
 ghost use Rattle.place_runs.specs.Placing.{IsPlacedText};
 
 use crate::following::Stop;
@@ -92,17 +93,23 @@ fn word_of(
     }
 }
 
-/// The words of the entries of a schedule: places as far as its events can be done, where there are such.
+/// The words of the entries of a schedule over class files that are accepted, under limits: places as far as its
+/// events can be done, where there are such.
 fn words_of(
     alloc: Global,
-    world: &mut World,
+    verified: Arc<Verified>,
+    program: Arc<LinkedProgram>,
     schedule: &Schedule,
-) -> Result<Vec<Deed>, AllocError> {
+    limits: Limits,
+) -> Result<Vec<Deed>, AllocError>
+    requires { IsProgramOf (arc_value verified) (arc_value program) }
+{
+    let mut world = World::open_linked(alloc, verified, program, limits, u32::MAX)?;
     let mut words = Vec::new(alloc);
     let mut is_whole = true;
     'entries: for entry in schedule.entries() {
         if is_whole {
-            let (word, whole) = word_of(alloc, world, *entry)?;
+            let (word, whole) = word_of(alloc, &mut world, *entry)?;
             words.push(word)?;
             is_whole = whole;
         } else {
@@ -149,6 +156,27 @@ fn read_back(alloc: Global, text: &[u8]) -> Result<Option<Vec<PlacedDeed>>, Allo
     }
 }
 
+/// Whether all of these words are done, over class files that are accepted, and what is done has the entries of a
+/// schedule.
+fn stand_for(
+    alloc: Global,
+    verified: Arc<Verified>,
+    program: Arc<LinkedProgram>,
+    deeds: &[PlacedDeed],
+    schedule: &Schedule,
+    limits: Limits,
+) -> Result<bool, AllocError>
+    requires { IsProgramOf (arc_value verified) (arc_value program) }
+    ensures { IfOk result (λ all. IsTrue all
+        → Means (arc_value verified) limits.frames [] (deeds_of deeds.now) (events_of schedule.now)) }
+{
+    let run = follow_deeds(alloc, verified, program, deeds, limits, u32::MAX)?;
+    match run.stop {
+        Stop::Whole => Ok(are_same(&run.schedule, schedule)),
+        Stop::Event(_) | Stop::UsedUp => Ok(false),
+    }
+}
+
 /// A text with places that stands for the events of a schedule over these class files, under these limits. None where
 /// no word has a place, or the events can't all be done. The only error is a want of memory.
 pub fn placed_text(
@@ -163,31 +191,18 @@ pub fn placed_text(
         IsPlacedText (arc_value verified.now) limits (events_of schedule.now) t.items)) }
 {
     let joined = schedule.joined(alloc)?;
-    let mut world = World::open_linked(
-        alloc,
-        verified.clone()?,
-        program.clone()?,
-        limits,
-        u32::MAX,
-    )?;
-    let words = words_of(alloc, &mut world, &joined)?;
+    let words = words_of(alloc, verified.clone()?, program.clone()?, &joined, limits)?;
     let text = print_deeds(alloc, words.as_slice())?;
     let Some(deeds) = read_back(alloc, text.as_slice())? else {
         return Ok(None);
     };
-    let run = follow_deeds(
+    let is_whole = stand_for(
         alloc,
         verified.clone()?,
         program.clone()?,
         deeds.as_slice(),
+        &joined,
         limits,
-        u32::MAX,
     )?;
-    let is_whole = matches!(run.stop, Stop::Whole);
-    let is_same = are_same(&run.schedule, &joined);
-    if is_whole && is_same {
-        Ok(Some(text))
-    } else {
-        Ok(None)
-    }
+    if is_whole { Ok(Some(text)) } else { Ok(None) }
 }

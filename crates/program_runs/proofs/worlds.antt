@@ -1,5 +1,6 @@
 mod Finding
 mod FindingDownwards
+mod Counting
 pub mod Repeating
 mod Shared
 mod Copying

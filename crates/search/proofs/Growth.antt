@@ -11,10 +11,10 @@ use Rattle.kept_states.specs.declared.numbered.Numbered.{Numbered}
 use Rattle.kept_states.proofs.Written.{grows_not, grows_on, numbered_stays}
 use Rattle.machine_state.specs.Shown.{IsProgram}
 use Rattle.machine.specs.Machines.{MachineOf}
-use Rattle.search.specs.local_runs.Local.{AreLocalAfter}
+use Rattle.alone_events.specs.Alone.{AreAloneAfter}
 use Rattle.search.specs.met_states.Met.{IsNextMet, AreListed, AreNewStatesMet, AreMetStatesKept}
 use Rattle.search.specs.Machines.{IsAt}
-use Rattle.search.specs.States.{StatesOf, IsSchedule, IsInState, IsMetFrom, LeadsOnFrom, CantGoOn, Grows, GrowsTo, IsStateOf, machine_of, IsLocalFrom, IsPushed}
+use Rattle.search.specs.States.{StatesOf, IsSchedule, IsInState, IsMetFrom, LeadsOnFrom, CantGoOn, Grows, GrowsTo, IsStateOf, machine_of, IsAloneFrom, IsPushed}
 
 pub stays : (s : StatesOf) → Grows s s
 stays s = record { program = refl; limits_are = refl; parts = grows_not s.parts; kept = λ number events is. is }
@@ -83,17 +83,17 @@ pub went_on : (P : StatesOf → Type 0) (most : ℕ) (old new : StatesOf) → Gr
 went_on P most old new grows few holds = record { grows = grows; few = few; then = λ e. holds; gave_up = λ e. absurd (true≢false e) }
 
 pub new_met : AreNewStatesMet → (most number : ℕ) (entry : ScheduleEntry) (old new : StatesOf) → length old.schedules < most → number < length old.schedules
-    → IsLocalFrom old number entry → IsPushed number entry old new → GrowsTo (λ s. IsMetFrom s number entry.event) most old new true
-new_met holds most number entry old new room lt local pushed =
+    → IsAloneFrom old number entry → IsPushed number entry old new → GrowsTo (λ s. IsMetFrom s number entry.event) most old new true
+new_met holds most number entry old new room lt alone pushed =
     went_on (λ s. IsMetFrom s number entry.event) most old new pushed.grows (λ le. omega (arith, room, pushed.count)) met
   where
     met : IsMetFrom new number entry.event
     met events is files trees accepted program =
-        let before = local.are events (earlier old new pushed.grows number lt events is) files trees accepted (subst (IsProgram trees) pushed.grows.program program) in
-        let past : AreLocalAfter trees new.limits.frames (events ++ entry.event ∷ []) (replicate local.local entry.event) =
-        subst (λ (l : Limits). AreLocalAfter trees l.frames (events ++ entry.event ∷ []) (replicate local.local entry.event)) (sym pushed.grows.limits_are) before
+        let before = alone.are events (earlier old new pushed.grows number lt events is) files trees accepted (subst (IsProgram trees) pushed.grows.program program) in
+        let past : AreAloneAfter trees new.limits.frames (events ++ entry.event ∷ []) (replicate alone.behind entry.event) =
+        subst (λ (l : Limits). AreAloneAfter trees l.frames (events ++ entry.event ∷ []) (replicate alone.behind entry.event)) (sym pushed.grows.limits_are) before
         in
-        let has : Has new.schedules (events ++ entry.event ∷ replicate local.local entry.event) =
-        subst (λ n. Has new.schedules (events ++ replicate n entry.event)) local.repeat (pushed.has events is)
+        let has : Has new.schedules (events ++ entry.event ∷ replicate alone.behind entry.event) =
+        subst (λ n. Has new.schedules (events ++ replicate n entry.event)) alone.repeat (pushed.has events is)
         in
-        holds trees new.limits.frames new.schedules events (replicate local.local entry.event) entry.event past has
+        holds trees new.limits.frames new.schedules events (replicate alone.behind entry.event) entry.event past has

@@ -25,7 +25,7 @@ use Rattle.machine.specs.Machines.{MachineOf, IsMachine, IsOfAccepted}
 use Rattle.schedule.specs.schedule_tree.Trees.{with_way}
 use Rattle.search.specs.met_states.Met.{AreAlikeStatesMet, AreNewStatesMet}
 use Rattle.search.specs.Machines.{IsAt}
-use Rattle.search.specs.States.{StatesOf, one_state, machine_of, IsSchedule, IsInState, IsKeptAt, AreKept, IsStateOf, IsMetFrom, Grows, GrowsTo, with_entry, IsLocalFrom, IsAfter}
+use Rattle.search.specs.States.{StatesOf, one_state, machine_of, IsSchedule, IsInState, IsKeptAt, AreKept, IsStateOf, IsMetFrom, Grows, GrowsTo, with_entry, IsAloneFrom, IsAfter}
 use Rattle.search.proofs.Growth.{gave_up, went_on, new_met}
 use Rattle.search.proofs.Shown.{run_of}
 use Rattle.search.proofs.Schedules.{in_state, alike_met, longer_schedules, pushed, get_front, get_last}
@@ -119,7 +119,7 @@ module _ (k mid : KeptStates) (s : StatesOf) (m : Shared) (kept : AreKept k s) (
 
   -- a state with the same row was met
   pub row_met : AreAlikeStatesMet → (number met : ℕ) (entry : ScheduleEntry) (one : MachineOf) → m ≡ one.shared → slice_get mid.states met ≡ Some mid.state.items
-      → IsLocalFrom s number entry → IsAfter s number entry one → IsMetFrom s number entry.event
+      → IsAloneFrom s number entry → IsAfter s number entry one → IsMetFrom s number entry.event
   row_met holds number met entry one is has local is_after =
       let lt : met < length s.schedules = omega (arith, slice_get_within mid.states met mid.state.items has, ap length made.keeps.states, kept.count) in
       let events : List Event = get_or s.schedules met [] in
@@ -204,10 +204,10 @@ module _ (p : LinkedProgram) (limits : Limits) (ways : List (List ScheduleEntry)
     (kept : AreKept k (states_of p limits ways k)) (made : IsRowMade m k mid) (most number : ℕ) (entry : ScheduleEntry) (self : StatesOf)
     (self_is : states_of p limits ways k ≡ self) where
   -- a state with the same row was met
-  pub met_before : AreAlikeStatesMet → (met : ℕ) → slice_get mid.states met ≡ Some mid.state.items → IsLocalFrom self number entry → IsAfter self number entry one
+  pub met_before : AreAlikeStatesMet → (met : ℕ) → slice_get mid.states met ≡ Some mid.state.items → IsAloneFrom self number entry → IsAfter self number entry one
       → GrowsTo (λ s. IsMetFrom s number entry.event) most self (states_of p limits ways mid) true
   met_before holds met has =
-      subst (λ (s : StatesOf). IsLocalFrom s number entry → IsAfter s number entry one → GrowsTo (λ z. IsMetFrom z number entry.event) most s (states_of p limits ways mid) true) self_is
+      subst (λ (s : StatesOf). IsAloneFrom s number entry → IsAfter s number entry one → GrowsTo (λ z. IsMetFrom z number entry.event) most s (states_of p limits ways mid) true) self_is
       (λ local is_after.
       went_on (λ z. IsMetFrom z number entry.event) most (states_of p limits ways k) (states_of p limits ways mid)
       (written_grows k mid (states_of p limits ways k) m kept made) (λ le. le)
@@ -232,10 +232,10 @@ module _ (p : LinkedProgram) (limits : Limits) (ways : List (List ScheduleEntry)
     longer : map events_of ways_new ≡ map events_of ways ++ with_entry (get_or (map events_of ways) number []) entry ∷ []
     longer = ap (map events_of) ways_are ∙ longer_schedules ways number (omega (arith, own_lt, length-map ways events_of)) entry
 
-    pub added_grows : AreNewStatesMet → length ways < most → IsLocalFrom self number entry
+    pub added_grows : AreNewStatesMet → length ways < most → IsAloneFrom self number entry
         → GrowsTo (λ s. IsMetFrom s number entry.event) most self (states_of p limits ways_new new) true
     added_grows holds room local =
-        let own_local : IsLocalFrom (states_of p limits ways k) number entry = subst (λ (s : StatesOf). IsLocalFrom s number entry) (sym self_is) local in
+        let own_local : IsAloneFrom (states_of p limits ways k) number entry = subst (λ (s : StatesOf). IsAloneFrom s number entry) (sym self_is) local in
         let parts : TableGrows k.parts new.parts = grows_on k.parts mid.parts new.parts made.keeps.parts step.parts in
         subst (λ (s : StatesOf). GrowsTo (λ z. IsMetFrom z number entry.event) most s (states_of p limits ways_new new) true) self_is
         (new_met holds most number entry (states_of p limits ways k) (states_of p limits ways_new new) (omega (arith, room, length-map ways events_of)) own_lt own_local

@@ -1,4 +1,5 @@
 mod Shown
+mod Behind
 mod Schedules
 mod Growth
 mod Kept

@@ -1,5 +1,5 @@
 -- The schedules of the states that were met.
-use Rattle.std.proofs.Common.{◌≡◌, ℕ, zero, suc, ◌<◌, List, [], ◌∷◌, ◌++◌, length, map, get_or, replicate, Some, Result, Ok, Err, refl, sym, ap, subst, ◌∙◌}
+use Rattle.std.proofs.Common.{◌≡◌, ℕ, zero, suc, ◌<◌, List, [], ◌∷◌, ◌++◌, length, map, get_or, replicate, Bool, false, Some, Result, Ok, Err, refl, sym, ap, subst, ◌∙◌}
 use Rattle.std.specs.Prelude.{slice_get, IfOk}
 use Rattle.std.specs.Option.{option_map}
 use Rattle.std.proofs.lemmas.List.{append-nil, append_assoc, map_push, length-append}
@@ -16,11 +16,11 @@ use Rattle.machine_state.specs.declared.answers.Answer.TheVariants as answer
 use Rattle.machine.specs.Machines.{MachineOf}
 use Rattle.machine_state.specs.same_states.Same.{AreAlike}
 use Rattle.machine_state.specs.shown_runs.Runs.{HasRun}
-use Rattle.search.specs.local_runs.Local.{AreLocalAfter}
+use Rattle.alone_events.specs.Alone.{AreAloneAfter}
 use Rattle.schedule.specs.schedule_tree.Trees.{with_way}
 use Rattle.search.specs.met_states.Met.{AreAlikeStatesMet}
-use Rattle.search.specs.Machines.{IsAt, GoesBy, GoesPast}
-use Rattle.search.specs.States.{StatesOf, IsSchedule, IsInState, IsMetFrom, with_entry, IsLocalFrom, IsAfter, IsPushed}
+use Rattle.search.specs.Machines.{IsAt, GoesBy, HasDoneMore, GoesPast}
+use Rattle.search.specs.States.{StatesOf, IsSchedule, IsInState, IsMetFrom, with_entry, IsAloneFrom, IsAfter, IsPushed}
 use Rattle.search.proofs.Shown.{gone_on, gone_more, run_of}
 
 -- ---- a schedule by its number
@@ -41,45 +41,50 @@ module _ (s : StatesOf) (number : ℕ) where
   pub in_state : (events : List Event) (m : MachineOf) → IsSchedule s number events → IsAt s.program s.limits events m → IsInState s number m
   in_state events m is at others are = subst (λ l. IsAt s.program s.limits l m) (same_Some events others (sym is ∙ are)) at
 
-  -- an event that was done, and the local ones behind it
-  module _ (event : Event) (entry : ScheduleEntry) (old then new : MachineOf) (in_old : IsInState s number old) (goes : GoesBy (Ok answer.Done) event old then) (past : GoesPast event then new entry) where
+  -- an event that was done, and those behind it that are alone
+  module _ (event : Event) (entry : ScheduleEntry) (old then new : MachineOf) (in_old : IsInState s number old) (goes : GoesBy (Ok answer.Done) event old then) (is_past : Bool) (past : GoesPast event then new entry is_past) where
     done : (events : List Event) → IsSchedule s number events → IsAt s.program s.limits (events ++ event ∷ []) then
     done events is = gone_on s.program s.limits events event old then (in_old events is) goes
 
-    entry_is : (events : List Event) → (events ++ event ∷ []) ++ replicate past.local event ≡ with_entry events entry
+    entry_is : (events : List Event) → (events ++ event ∷ []) ++ replicate past.behind event ≡ with_entry events entry
     entry_is events =
-        append_assoc events (event ∷ []) (replicate past.local event)
-        ∙ ap (λ e. events ++ replicate (suc past.local) e) (sym past.event_is)
+        append_assoc events (event ∷ []) (replicate past.behind event)
+        ∙ ap (λ e. events ++ replicate (suc past.behind) e) (sym past.event_is)
         ∙ ap (λ n. events ++ replicate n entry.event) (sym past.repeat)
 
-    pub past_after : IsAfter s number entry new
-    past_after events is =
-        subst (λ l. IsAt s.program s.limits l new) (entry_is events) (gone_more s.program s.limits (events ++ event ∷ []) event past.local then new (done events is) past.more)
+    -- where no other was done
+    pub past_after : is_past ≡ false → IsAfter s number entry new
+    past_after no_more events is =
+        subst (λ l. IsAt s.program s.limits l new) (entry_is events) (gone_more s.program s.limits (events ++ event ∷ []) event past.behind then new (done events is) (past.more no_more))
 
-    pub past_local : IsLocalFrom s number entry
-    past_local =
+    pub past_alone : IsAloneFrom s number entry
+    past_alone =
         record {
-          local = past.local;
+          behind = past.behind;
           repeat = past.repeat;
-          alone = λ more. ap (λ (e : Event). e.pick) past.event_is ∙ past.alone more;
+          unpicked = λ more. ap (λ (e : Event). e.pick) past.event_is ∙ past.unpicked more;
           are = λ events is files trees accepted program.
               let at = done events is in
-              let local = past.are_local files trees (events ++ event ∷ []) (at.done files trees accepted program) in
-              subst (λ e. AreLocalAfter trees s.limits.frames (events ++ e ∷ []) (replicate past.local e)) (sym past.event_is)
-              (subst (λ (l : Limits). AreLocalAfter trees l.frames (events ++ event ∷ []) (replicate past.local event)) at.limits_are local);
+              let alone = past.are_alone files trees (events ++ event ∷ []) (at.done files trees accepted program) in
+              subst (λ e. AreAloneAfter trees s.limits.frames (events ++ e ∷ []) (replicate past.behind e)) (sym past.event_is)
+              (subst (λ (l : Limits). AreAloneAfter trees l.frames (events ++ event ∷ []) (replicate past.behind event)) at.limits_are alone);
         }
 
-  pub alike_met : AreAlikeStatesMet → (met : ℕ) (entry : ScheduleEntry) (one other : MachineOf) → met < length s.schedules → IsLocalFrom s number entry → IsAfter s number entry one → IsInState s met other
+  -- a machine that is in the state, and does the events of an entry
+  pub done_from : (entry : ScheduleEntry) (old new : MachineOf) → IsInState s number old → HasDoneMore entry.event entry.repeat old new → IsAfter s number entry new
+  done_from entry old new there more events is = gone_more s.program s.limits events entry.event entry.repeat old new (there events is) more
+
+  pub alike_met : AreAlikeStatesMet → (met : ℕ) (entry : ScheduleEntry) (one other : MachineOf) → met < length s.schedules → IsAloneFrom s number entry → IsAfter s number entry one → IsInState s met other
       → AreAlike one.shared other.shared → IsMetFrom s number entry.event
-  alike_met holds met entry one other lt local is_after is_there alike events is files trees accepted program =
+  alike_met holds met entry one other lt alone is_after is_there alike events is files trees accepted program =
       let schedule = get_or s.schedules met [] in
       let has : slice_get s.schedules met ≡ Some schedule = slice_get-get_or s.schedules met [] lt in
-      let more = replicate local.local entry.event in
+      let more = replicate alone.behind entry.event in
       let longer : HasRun trees s.program (bounds_of s.limits) one.shared (events ++ entry.event ∷ more) =
-      subst (λ n. HasRun trees s.program (bounds_of s.limits) one.shared (events ++ replicate n entry.event)) local.repeat
+      subst (λ n. HasRun trees s.program (bounds_of s.limits) one.shared (events ++ replicate n entry.event)) alone.repeat
       (run_of s.program s.limits (with_entry events entry) one (is_after events is) files trees accepted program)
       in
-      holds trees s.program (bounds_of s.limits) s.schedules events more schedule entry.event one.shared other.shared (local.are events is files trees accepted program) (met, has) longer
+      holds trees s.program (bounds_of s.limits) s.schedules events more schedule entry.event one.shared other.shared (alone.are events is files trees accepted program) (met, has) longer
       (run_of s.program s.limits schedule other (is_there schedule has) files trees accepted program) alike
 
 -- ---- one more

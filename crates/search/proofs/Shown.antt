@@ -1,5 +1,5 @@
 -- Machines that show where schedules led.
-use Rattle.std.proofs.Common.{◌≡◌, ◌<◌, ◌+◌, ℕ, List, [], ◌∷◌, ◌++◌, map, replicate, Some, None, Result, Ok, Err, Bool, true, false, refl, sym, ap, subst, ◌∙◌, arith}
+use Rattle.std.proofs.Common.{◌≡◌, ℕ, List, [], ◌∷◌, ◌++◌, map, replicate, Some, None, Result, Ok, Err, Bool, true, false, refl, sym, ap, subst, ◌∙◌}
 use Rattle.std.specs.Prelude.{IfOk}
 use Rattle.std.proofs.lemmas.List.{append-nil}
 use Rattle.std.proofs.lemmas.Option.{same_Some}
@@ -30,9 +30,7 @@ use Rattle.machine.specs.Machines.{MachineOf, Opens, Steps, Repeats}
 use Rattle.machine.specs.schedule_runs.Done.{HasDone, EndsBy, GoesThrough}
 use Rattle.machine.specs.machine_reports.Told.{AreQuietAt, Reports}
 use Rattle.machine.proofs.schedule_runs.Repeated.{entry_gone}
-use Rattle.machine_state.specs.thread_bursts.Threads.{event_of}
-use Rattle.search.specs.local_runs.Local.{AreLocalAfter, AreNextLocal}
-use Rattle.search.specs.Machines.{IsAt, GoesBy, GoesOrStops, HasDoneMore, AreLocalBehind, GoesPast, TellsOutcome}
+use Rattle.search.specs.Machines.{IsAt, GoesBy, GoesOrStops, HasDoneMore, TellsOutcome}
 
 -- ---- before any event
 
@@ -121,28 +119,6 @@ stops refusal.Monitors event old new no_want goes files trees events has = let h
 stops refusal.Threads event old new no_want goes files trees events has = let h = goes.1 files trees events has in (h.0, (cause.Threads, h.1))
 stops refusal.LockCount event old new no_want goes files trees events has = let h = goes.1 files trees events has in (h.0, (cause.LockCount, h.1))
 stops refusal.Memory event old new no_want goes files trees events has = absurd (no_want refl)
-
--- ---- local events
-
--- what is lent is of the machine
-behind : (m : MachineOf) (p : LinkedProgram) (shared : Shared) (event : Event) (n : ℕ) → p ≡ m.program → shared ≡ m.shared → event.pick ≡ 0 → AreNextLocal p shared event.thread n → AreLocalBehind m event n
-behind m p shared event n program_is shared_is plain next files trees events has =
-    let is : event_of event.thread ≡ event = ap (λ k. let e : Event = record { thread = event.thread; pick = k } in e) (sym plain) in
-    let here : AreNextLocal m.program m.shared event.thread n = subst (λ q. AreNextLocal q m.shared event.thread n) program_is (subst (λ s. AreNextLocal p s event.thread n) shared_is next) in
-    subst (λ e. AreLocalAfter trees m.limits.frames events (replicate n e)) is (here files trees has.accepted has.program (bounds_of m.limits) events has.run)
-
-pub behind_if : (m : MachineOf) (p : LinkedProgram) (shared : Shared) (event : Event) → p ≡ m.program → shared ≡ m.shared → event.pick ≡ 0 → {E : Type 0} (result : Result ℕ E)
-    → IfOk result (AreNextLocal p shared event.thread) → IfOk result (AreLocalBehind m event)
-behind_if m p shared event program_is shared_is plain (Ok n) next = behind m p shared event n program_is shared_is plain next
-behind_if m p shared event program_is shared_is plain (Err e) next = tt
-
-pub none_behind : (m : MachineOf) (event : Event) → AreLocalBehind m event 0
-none_behind m event files trees events has state reached =
-    record { threads = []; last = state; are_local = refl; reached = ap (run trees m.limits.frames) (append-nil events) ∙ reached }
-
-pub past : (event : Event) (n : ℕ) (old new : MachineOf) → (0 < n → event.pick ≡ 0) → AreLocalBehind old event n → HasDoneMore event n old new
-    → GoesPast event old new (record { event = event; repeat = 1 + n })
-past event n old new plain local more = record { event_is = refl; local = n; repeat = omega arith; alone = plain; are_local = local; more = more }
 
 -- ---- an outcome
 

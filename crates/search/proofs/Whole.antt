@@ -5,7 +5,7 @@ use Rattle.model.specs.declared.event.ScheduleEntry.{ScheduleEntry}
 use Rattle.model.specs.declared.limits.Limits.{Limits}
 use Rattle.model.specs.Classes.{Program}
 use Rattle.run_laws.specs.interleavings.Ends.{Outcome}
-use Rattle.run_laws.specs.searches.Searches.{AreSearchesComplete}
+use Rattle.search_laws.specs.Schedules.{AreSchedulesComplete}
 use Rattle.linked_code.specs.declared.program.LinkedProgram.{LinkedProgram}
 use Rattle.machine.specs.Machines.{IsOfAccepted, IsProgramOf}
 use Rattle.search.specs.met_states.Met.{IsNextMet, HasMetAll, AreSearchesWhole}
@@ -45,7 +45,7 @@ module _ (trees : Program) (limits : Limits) (want : Wanted) (s : StatesOf) (out
     only = visited.outcomes_are.only;
   }
 
-  pub complete : AreSearchesWhole → AreSearchesComplete → IsComplete trees limits want (length s.schedules) outcomes
+  pub complete : AreSearchesWhole → AreSchedulesComplete → IsComplete trees limits want (length s.schedules) outcomes
   complete is_whole are_complete =
       record {
         all = are_complete visited.program.files trees visited.program.accepted limits.frames s.schedules outcomes (is_whole trees limits.frames s.schedules outcomes met_all);

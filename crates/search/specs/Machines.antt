@@ -1,5 +1,5 @@
 -- Machines that show where a schedule led (own).
-use Rattle.std.specs.Prelude.{◌≡◌, ◌<◌, ℕ, suc, List, ◌++◌, Option, Some, None, Result, Ok, IsTrue, IsFalse, replicate}
+use Rattle.std.specs.Prelude.{◌≡◌, ◌<◌, ℕ, suc, List, ◌++◌, Bool, Option, Some, None, Result, Ok, IsTrue, IsFalse, replicate}
 use Rattle.model.specs.declared.end.RunCause.{RunCause}
 use Rattle.model.specs.declared.event.Event.{Event}
 use Rattle.model.specs.declared.event.ScheduleEntry.{ScheduleEntry}
@@ -18,7 +18,8 @@ use Rattle.machine_state.specs.Shown.{IsProgram}
 use Rattle.machine_state.specs.shown_runs.Runs.{GoesOn}
 use Rattle.machine.specs.Machines.{MachineOf}
 use Rattle.machine.specs.schedule_runs.Done.{HasDone}
-use Rattle.search.specs.local_runs.Local.{AreLocalAfter}
+use Rattle.alone_events.specs.Alone.{AreAloneAfter}
+use Rattle.search.specs.declared.machines.Behind.{Behind}
 use Rattle.search.specs.declared.run_outcomes.outcomes.Outcome.{Outcome as TheOutcome}
 use Rattle.search.specs.run_outcomes.Outcomes.{told_by}
 
@@ -50,19 +51,31 @@ pub record HasDoneMore (event : Event) (n : ℕ) (old new : MachineOf) : Type 0 
   pub limits_are : new.limits ≡ old.limits
   pub done : (files : List (List ℕ)) (trees : Program) (events : List Event) → HasDone old files trees events → HasDone new files trees (events ++ replicate n event)
 
--- so many like it are next, and each is local
-abbrev pub AreLocalBehind : MachineOf → Event → ℕ → Type 0
-AreLocalBehind m event n =
-    (files : List (List ℕ)) (trees : Program) (events : List Event) → HasDone m files trees events → AreLocalAfter trees m.limits.frames events (replicate n event)
+-- so many like it are next, and each is alone
+abbrev pub AreAloneBehind : MachineOf → Event → ℕ → Type 0
+AreAloneBehind m event n =
+    (files : List (List ℕ)) (trees : Program) (events : List Event) → HasDone m files trees events → AreAloneAfter trees m.limits.frames events (replicate n event)
 
--- behind an event that was done, those that the entry has more of it have been done, too, and each is local
-pub record GoesPast (event : Event) (old new : MachineOf) (entry : ScheduleEntry) : Type 0 where
+-- and they have been done
+pub record GoesAlone (event : Event) (n : ℕ) (old new : MachineOf) : Type 0 where
+  pub are_alone : AreAloneBehind old event n
+  pub more : HasDoneMore event n old new
+
+-- so many are next, each alone; they have been done, and no other, unless it is said that one more was
+pub record GoesBehind (event : Event) (b : Behind) (old new : MachineOf) : Type 0 where
+  pub are_alone : AreAloneBehind old event b.count
+  pub more : IsFalse b.is_past → HasDoneMore event b.count old new
+  pub unpicked : 0 < b.count → event.pick ≡ 0
+
+-- behind an event that was done come those that the entry has more of it, each alone; they have been done, and no other, unless it is
+-- said that one more was
+pub record GoesPast (event : Event) (old new : MachineOf) (entry : ScheduleEntry) (is_past : Bool) : Type 0 where
   pub event_is : entry.event ≡ event
-  pub local : ℕ
-  pub repeat : entry.repeat ≡ suc local
-  pub alone : 0 < local → event.pick ≡ 0
-  pub are_local : AreLocalBehind old event local
-  pub more : HasDoneMore event local old new
+  pub behind : ℕ
+  pub repeat : entry.repeat ≡ suc behind
+  pub unpicked : 0 < behind → event.pick ≡ 0
+  pub are_alone : AreAloneBehind old event behind
+  pub more : IsFalse is_past → HasDoneMore event behind old new
 
 -- the outcome of a state in which no thread may step; none, where one may
 abbrev pub IsOutcomeOf : Program → (frames : ℕ) → State → Option TheOutcome → Type 0

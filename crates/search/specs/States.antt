@@ -17,7 +17,7 @@ use Rattle.kept_states.specs.declared.states.KeptStates.{KeptStates}
 use Rattle.kept_states.specs.Kept.{IsNumbered, IsState, AreWhole}
 use Rattle.machine_state.specs.Shown.{IsProgram}
 use Rattle.machine.specs.Machines.{MachineOf}
-use Rattle.search.specs.local_runs.Local.{AreLocalAfter}
+use Rattle.alone_events.specs.Alone.{AreAloneAfter}
 use Rattle.search.specs.met_states.Met.{IsNextMet}
 use Rattle.search.specs.GivingUp.{IsStopped}
 use Rattle.search.specs.Machines.{IsAt, GoesBy}
@@ -114,13 +114,13 @@ HasGoneFrom s number event m = (before : MachineOf) × IsInState s number before
 abbrev pub with_entry : List Event → ScheduleEntry → List Event
 with_entry events entry = events ++ replicate entry.repeat entry.event
 
--- from the state of this number, those behind the first event of the entry are local
-pub record IsLocalFrom (s : StatesOf) (number : ℕ) (entry : ScheduleEntry) : Type 0 where
-  pub local : ℕ
-  pub repeat : entry.repeat ≡ suc local
-  pub alone : 0 < local → entry.event.pick ≡ 0
+-- from the state of this number, those behind the first event of the entry are alone
+pub record IsAloneFrom (s : StatesOf) (number : ℕ) (entry : ScheduleEntry) : Type 0 where
+  pub behind : ℕ
+  pub repeat : entry.repeat ≡ suc behind
+  pub unpicked : 0 < behind → entry.event.pick ≡ 0
   pub are : (events : List Event) → IsSchedule s number events → (files : List (List ℕ)) (trees : Program) → IsAccepted files trees → IsProgram trees s.program
-      → AreLocalAfter trees s.limits.frames (events ++ entry.event ∷ []) (replicate local entry.event)
+      → AreAloneAfter trees s.limits.frames (events ++ entry.event ∷ []) (replicate behind entry.event)
 
 -- the machine is in the state to which the entry leads from the one of this number
 abbrev pub IsAfter : StatesOf → (number : ℕ) → ScheduleEntry → MachineOf → Type 0

@@ -1,16 +1,40 @@
 //! The states to which events lead from a state.
 
-ghost use Rattle.std.specs.Prelude.{◌<◌, length, IfOk};
-ghost use Rattle.search.specs.States.{IsStateOf, HasGoneFrom, IsMetFrom, AreMetByThread, AreMetByThreads, AreAllMet, GrowsTo};
+ghost use Rattle.std.specs.Prelude.{◌<◌, length, IfOk, IsFalse};
+ghost use Rattle.search.specs.States.{IsAfter, IsStateOf, HasGoneFrom, IsMetFrom, AreMetByThread, AreMetByThreads, AreAllMet, GrowsTo};
 ghost use Rattle.search.specs.Walks.{IsThere};
 
-use crate::machines::{go_on, go_past};
+use crate::machines::{do_more, go_on, go_past};
 use crate::met_states::{higher_picks_are_left, met_states_are_kept, other_threads_are_left};
-use crate::states::Walk;
+use crate::states::{States, Walk};
 use kept_states::Numbered;
+use machine::Machine;
 use machine_state::Answer;
-use model::Event;
+use model::{Event, ScheduleEntry};
 use std::alloc::{AllocError, Global};
+
+/// A machine that has done the events of an entry from a state: this one, unless it has done one more; else that state
+/// is taken up again, and they are done once more. The only error is a want of memory.
+fn settled(
+    states: &States,
+    number: u32,
+    state: &Numbered,
+    machine: Machine,
+    entry: ScheduleEntry,
+    is_past: bool,
+) -> Result<Machine, AllocError>
+    requires number { number < length states.now.schedules }
+    requires state { IsStateOf states.now number state.now }
+    requires done { IsFalse is_past → IsAfter states.now number entry machine }
+    ensures { IfOk result (IsAfter states.now number entry) }
+{
+    if !is_past {
+        return Ok(machine);
+    }
+    let mut machine = states.again(number, machine, state)?;
+    do_more(&mut machine, entry.event, entry.repeat)?;
+    Ok(machine)
+}
 
 /// Adds the state to which an event led from a state, and takes the machine that did the event back to that one.
 /// Answers false where there would be more states than so many. The only error is a want of memory.
@@ -33,9 +57,10 @@ fn meet(
         mut machine,
         moved: _,
     } = walk;
-    let entry = go_past(alloc, &mut machine, event)?;
-    let (added, states) = states.add(number, state, entry, &machine, most)?;
-    let machine = states.again(number, machine, state)?;
+    let (entry, is_past) = go_past(alloc, &mut machine, event)?;
+    let after = settled(&states, number, state, machine, entry, is_past)?;
+    let (added, states) = states.add(number, state, entry, &after, most)?;
+    let machine = states.again(number, after, state)?;
     let walk = Walk {
         states,
         machine,

@@ -1,13 +1,14 @@
 //! A machine that shows where a schedule led.
 
-ghost use Rattle.std.specs.Prelude.{◌≡◌, ◌<◌, ◌≤◌, [], IfOk, OnOk};
+ghost use Rattle.std.specs.Prelude.{◌≡◌, ◌*◌, ◌≤◌, [], IfOk, OnOk};
 ghost use Rattle.std.specs.Arc.{arc_value};
 ghost use Rattle.machine.specs.Machines.{IsOfAccepted};
 ghost use Rattle.machine_state.specs.declared.refusals.EventRefusal.TheVariants as refusals;
-ghost use Rattle.search.specs.Machines.{IsAt, GoesOrStops, HasDoneMore, AreLocalBehind, GoesPast, TellsOutcome};
+ghost use Rattle.search.specs.Machines.{IsAt, GoesOrStops, HasDoneMore, GoesAlone, GoesBehind, GoesPast, TellsOutcome};
 
 use crate::local_runs::local_count;
 use crate::run_outcomes::Outcome;
+use alone_events::{Ahead, go_ahead};
 use hierarchy::ClassSet;
 use linked_code::LinkedProgram;
 use machine::machine_reports::{is_quiet, report_of};
@@ -16,6 +17,7 @@ use machine_state::shown_runs::{runs_are_opened, runs_go_on};
 use machine_state::{Answer, EventRefusal};
 use model::{Event, Limits, ScheduleEntry};
 use run_laws::word_reports::reports_of_words;
+use search_laws::kept_states::local_events_are_passed;
 use std::alloc::{AllocError, Global};
 use std::sync::Arc;
 
@@ -68,35 +70,94 @@ pub(crate) fn do_more(machine: &mut Machine, event: Event, count: u32) -> Result
     }
 }
 
-/// How many events like this one are next in a machine that has done it, each of which is local. The only error is a
+/// How often local events and one more that is alone are done, one after another, at most.
+const ROUNDS: u32 = 1024;
+
+/// The events behind an event that were done, all like that one.
+#[derive(Clone, Copy)]
+pub(crate) struct Behind {
+    /// How many there are that are alone, up to the first one that isn't.
+    pub(crate) count: u32,
+    /// Whether one more was done, which is not known to be alone.
+    pub(crate) is_past: bool,
+}
+
+/// Does the local events that are next of a thread, and like this event. Answers how many they are. The only error is a
 /// want of memory.
-fn local_behind(alloc: Global, machine: &Machine, event: Event) -> Result<u32, AllocError>
-    ensures local { IfOk result (AreLocalBehind machine.now event) }
-    ensures alone { IfOk result (λ count. 0 < count → event.pick ≡ 0) }
+fn do_local(alloc: Global, machine: &mut Machine, event: Event) -> Result<u32, AllocError>
+    requires { event.pick ≡ 0 }
+    ensures alone { IfOk result (λ count. GoesAlone event count machine.old machine.new) }
     ensures most { IfOk result (λ count. count ≤ 1024) }
 {
+    local_events_are_passed();
+    let count = local_count(alloc, machine.program(), machine.shared(), event.thread)?;
+    do_more(machine, event, count)?;
+    Ok(count)
+}
+
+/// Does the events that come behind an event that was done: those of the same thread, as long as each is alone, local
+/// ones and others. The only error is a want of memory.
+fn do_alone(alloc: Global, machine: &mut Machine, event: Event) -> Result<Behind, AllocError>
+    requires { event.pick ≡ 0 }
+    ensures alone { IfOk result (λ behind. GoesBehind event behind machine.old machine.new) }
+    ensures most { IfOk result (λ behind. behind.count ≤ 1025 * 1024) }
+{
+    let mut count = 0;
+    'rounds: for round in 0..ROUNDS {
+        let local = do_local(alloc, machine, event)?;
+        count += local;
+        match go_ahead(machine, event.thread) {
+            Ahead::Alone => count += 1,
+            Ahead::Stays => {
+                return Ok(Behind {
+                    count,
+                    is_past: false,
+                });
+            }
+            Ahead::Past => {
+                return Ok(Behind {
+                    count,
+                    is_past: true,
+                });
+            }
+        }
+    }
+    Ok(Behind {
+        count,
+        is_past: false,
+    })
+}
+
+/// Does the events that come behind an event that was done, in the manner of `do_alone`, if the event picked nothing.
+fn go_behind(alloc: Global, machine: &mut Machine, event: Event) -> Result<Behind, AllocError>
+    ensures alone { IfOk result (λ behind. GoesBehind event behind machine.old machine.new) }
+    ensures most { IfOk result (λ behind. behind.count ≤ 1025 * 1024) }
+{
     if event.pick == 0 {
-        local_count(alloc, machine.program(), machine.shared(), event.thread)
+        do_alone(alloc, machine, event)
     } else {
-        Ok(0)
+        Ok(Behind {
+            count: 0,
+            is_past: false,
+        })
     }
 }
 
-/// Does the local events that come behind an event that was done: those of the same thread. Answers the entry of all
-/// these events. The only error is a want of memory.
+/// Does the events that come behind an event that was done: those of the same thread, as long as each is alone. Answers
+/// the entry of all these events, and whether one more was done. The only error is a want of memory.
 pub(crate) fn go_past(
     alloc: Global,
     machine: &mut Machine,
     event: Event,
-) -> Result<ScheduleEntry, AllocError>
-    ensures { IfOk result (GoesPast event machine.old machine.new) }
+) -> Result<(ScheduleEntry, bool), AllocError>
+    ensures { IfOk result (λ r. GoesPast event machine.old machine.new r.0 r.1) }
 {
-    let count = local_behind(alloc, machine, event)?;
-    do_more(machine, event, count)?;
-    Ok(ScheduleEntry {
+    let behind = go_behind(alloc, machine, event)?;
+    let entry = ScheduleEntry {
         event,
-        repeat: 1 + count,
-    })
+        repeat: 1 + behind.count,
+    };
+    Ok((entry, behind.is_past))
 }
 
 /// The outcome of the state that a machine is in, if no thread may step there. The classes are those of its files.

@@ -17,8 +17,8 @@ use hierarchy::ClassSet;
 use linked_code::LinkedProgram;
 use machine::Machine;
 use model::Limits;
-use run_laws::searches::searches_are_complete;
 use schedule::Schedule;
+use search_laws::kept_states::schedules_are_complete;
 use std::alloc::{AllocError, Global};
 use std::sync::Arc;
 
@@ -133,7 +133,7 @@ fn visit_all<P: Progress>(
     ensures few { IfOk result (λ r. 1 ≤ most → length r.1.states.schedules ≤ most) }
 {
     searches_are_whole();
-    searches_are_complete();
+    schedules_are_complete();
     let mut walk = walk;
     let mut outcomes = Outcomes::new(alloc);
     'states: for number in 0..most {

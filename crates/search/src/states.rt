@@ -7,7 +7,7 @@ ghost use Rattle.machine.specs.Machines.{IsOfAccepted};
 ghost use Rattle.kept_states.specs.States.{IsStateRow};
 ghost use Rattle.kept_states.specs.Kept.{IsStateAdded};
 ghost use Rattle.search.specs.Machines.{IsAt};
-ghost use Rattle.search.specs.States.{one_state, IsSchedule, IsInState, IsStateOf, IsMetFrom, GrowsTo, IsLocalFrom, IsAfter};
+ghost use Rattle.search.specs.States.{one_state, IsSchedule, IsInState, IsStateOf, IsMetFrom, GrowsTo, IsAloneFrom, IsAfter};
 
 use crate::met_states::{alike_states_are_met, new_states_are_met};
 use kept_states::{KeptStates, Numbered, copied};
@@ -162,7 +162,7 @@ impl States {
     ) -> Result<(bool, States), AllocError>
         requires number { number < length self.schedules }
         requires state { IsStateOf self number state.now }
-        requires local { IsLocalFrom self number entry }
+        requires alone { IsAloneFrom self number entry }
         requires is_after { IsAfter self number entry machine.now }
         ensures { IfOk result (λ r. GrowsTo (λ s. IsMetFrom s number entry.event) most self r.1 r.0) }
     {

@@ -30,3 +30,7 @@ pub mod LockEvents
 pub mod LockSteps
 pub mod Instructed
 pub mod OwnedMonitors
+pub mod Moves
+pub mod Schedules
+pub mod Leaving
+pub mod Releases

@@ -211,14 +211,14 @@ module _ (files : List (List ℕ)) (trees : Program) (accepted : IsAccepted file
 
   -- ---- a search past local events
 
-  abbrev Chain : List ℕ → State → State → Type 0
+  abbrev pub Chain : List ℕ → State → State → Type 0
   Chain = AreAlone trees frames (passing no_conflict) (HaveSameWords trees)
 
-  record LocalChain (threads : List ℕ) (state last : State) : Type 0 where
-    are_alone : Chain threads state last
-    typed_last : IsWellTyped trees last
+  pub record LocalChain (threads : List ℕ) (state last : State) : Type 0 where
+    pub are_alone : Chain threads state last
+    pub typed_last : IsWellTyped trees last
 
-  local_chain : (threads : List ℕ) (state last : State) → IsWellTyped trees state → AreClassesHeld state → AreLocal trees threads state last
+  pub local_chain : (threads : List ℕ) (state last : State) → IsWellTyped trees state → AreClassesHeld state → AreLocal trees threads state last
       → LocalChain threads state last
   local_chain [] state last h held l = record { are_alone = l; typed_last = subst (IsWellTyped trees) l h }
   local_chain (t ∷ threads) state last h held l =

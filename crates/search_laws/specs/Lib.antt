@@ -9,3 +9,6 @@ pub mod Waits
 pub mod OwnSteps
 pub mod OwnedMonitors
 pub mod Writes
+pub mod Moves
+pub mod Schedules
+pub mod Releases

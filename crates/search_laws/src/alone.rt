@@ -33,8 +33,12 @@
 //!   get of a field that nothing may put, static or not, and the load of an element where nothing may store one. What
 //!   is static is of a class that the thread may use, and the field `target` of `Thread` is left out
 //!   (`own_steps_are_own`).
+//! - Where the stack of a thread tells that its event called a method, whose frame entered no monitor, or returned from
+//!   one that had entered none, that event is alone (`calls_and_returns_are_alone`).
 //! - A monitorexit of a monitor that the thread owns, a monitorenter of one, and the return from a synchronized method
 //!   whose monitor it owns, but for its first method, are alone (`events_on_owned_monitors_are_alone`).
+//! - An event by which a thread leaves a monitor that it owned is alone, where the thread runs on, with no exception
+//!   pending and no more entries on its stack (`events_that_leave_monitors_are_alone`).
 //!
 //! # Not proved
 //!
@@ -43,10 +47,14 @@
 
 ghost use Rattle.search_laws.specs.Alone.{AreSameWordsBisimilar, AreSoleEventsAlone, DoesAloneStay};
 ghost use Rattle.search_laws.specs.Lengths.{AreLengthsKept};
+ghost use Rattle.search_laws.specs.Moves.{AreMovesAlone};
 ghost use Rattle.search_laws.specs.OwnEvents.{AreLocalEventsOwn, AreOwnEventsAlone};
 ghost use Rattle.search_laws.specs.OwnSteps.{AreOwnStepsOwn};
 ghost use Rattle.search_laws.specs.OwnedMonitors.{AreOwnedMonitorsAlone};
+ghost use Rattle.search_laws.specs.Releases.{AreReleasesAlone};
 ghost use Rattle.search_laws.specs.Writes.{AreVariablesKept, AreWritesOfProgramKept};
+
+use monitor_laws::owners::owners_are_kept;
 
 /// Well-typed states with the same words do the same.
 pub fn states_with_the_same_words_are_bisimilar()
@@ -95,7 +103,19 @@ pub fn own_steps_are_own()
     ensures holds { AreOwnStepsOwn }
 {}
 
+/// A call or a return that enters and leaves no monitor, as the stack of its thread tells, is alone.
+pub fn calls_and_returns_are_alone()
+    ensures holds { AreMovesAlone }
+{}
+
 /// An event by which a thread leaves a monitor that it owns, or enters it again, is alone.
 pub fn events_on_owned_monitors_are_alone()
     ensures holds { AreOwnedMonitorsAlone }
 {}
+
+/// An event by which a thread leaves a monitor, and runs on, is alone.
+pub fn events_that_leave_monitors_are_alone()
+    ensures holds { AreReleasesAlone }
+{
+    owners_are_kept();
+}

@@ -8,7 +8,7 @@
 //!   for each seed up to the last, and none shows what is wanted. *Found*: the last run shows it, and none before it.
 //!   *GaveUp* comes only where the watch may stop a sweep, behind a run, and none shows what is wanted (`EndsSo`).
 //! - `PolicyRuns`: a run is the record of one of these class files, under these limits and with this budget, and it
-//!   hasn't ended for want of memory. By `mixed` its events are those of the seed (`IsRunWith`, with `events_by` of
+//!   hasn't ended for want of memory. Its events are those of the policy and the seed (`IsRunWith`, with `events_by` of
 //!   `policies`).
 //! - `SideBySide`: the run with a seed is such a run with that seed, though others are done beside it, ahead of what is
 //!   asked for (`is`, with `AreAhead` of all that are kept). So no clause of `sweep` names the workers: what is told
@@ -19,9 +19,7 @@
 //!
 //! # Not proved
 //!
-//! - Said by the documents, and by no clause: that by `random` the run with a seed is the one that `jvm run --seed`
-//!   does with it, as `policies` of `program_runs` tells. `oracle/sweeps.py` makes the texts of the sweeps of lessons
-//!   once more.
+//! - Shown by cases, whose texts `oracle/sweeps.py` makes once more: the sweeps of lessons.
 //! - That no more of further runs show another outcome than the text says: that is measured, and not proved.
 //!
 //! # Wrong bodies

@@ -15,7 +15,7 @@ use Rattle.program_runs.specs.declared.policies.turn_lengths.TurnLengths.{TurnLe
 use Rattle.program_runs.specs.policies.Keeping.{IsFoundBehind, drawn_pick, turn_for}
 use Rattle.program_runs.specs.policies.Lengths.{HasLength, IsFirstLength, IsLengthOfAnother, IsLengthOfSame}
 use Rattle.program_runs.specs.policies.PolicyTurns.{DoesTurn}
-use Rattle.program_runs.specs.policies.Runs.{Mixed, Turned, can_do, first_of, in_rotation, length_of, length_of_another, length_of_same, mixed_turn, mixed_turn_of, pick_of, rotation_turn, turned_if, waiting_in, with_picked, with_turn}
+use Rattle.program_runs.specs.policies.Runs.{Mixed, Turned, can_do, first_of, in_rotation, length_of, length_of_another, length_of_same, mixed_turn, mixed_turn_of, pick_of, random_event, random_turn, rotation_turn, turned_if, waiting_in, with_picked, with_turn}
 use Rattle.program_runs.specs.worlds.Worlds.{WorldOf, Holds}
 use Rattle.program_runs.proofs.policies.Orders.{first_is}
 use Rattle.program_runs.proofs.policies.TurnEvents.{turn_appends}
@@ -64,6 +64,11 @@ rotation_next quantum trees bounds budget = rotation_turn trees bounds budget qu
 pub rotation_next_appends : (quantum : ℕ) (trees : Program) (bounds : Bounds) (budget : ℕ) (last : Option ℕ) (done : List Event)
     → (more : List Event) × ((rotation_next quantum trees bounds budget last done).events ≡ done ++ more)
 rotation_next_appends quantum trees bounds budget last done = rotation_appends trees bounds budget quantum last done
+
+pub random_appends : (trees : Program) (bounds : Bounds) (budget : ℕ) (kept : Stream) (done : List Event)
+    → (more : List Event) × ((random_turn trees bounds budget kept done).events ≡ done ++ more)
+random_appends trees bounds budget kept done =
+    if_appends (run trees bounds.frames done) (random_event trees bounds budget kept done) kept done (λ state. picked_appends trees bounds budget _ 1 _ done)
 
 -- ---- the length of a turn
 

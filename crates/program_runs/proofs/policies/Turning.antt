@@ -230,6 +230,22 @@ module _ {Kept : Type 0} (next_of : Program → Bounds → (budget : ℕ) → Ke
         stopped (next_in first) appends_in may_stop all_events first new later (k + 1)
         (subst (λ x. Far new x (k + 1)) kept_is (goes_on (next_in first) appends_in may_stop all_events first w kept k far on few new by_first)) told stops
 
+    -- the same, where what is kept is known as long as there is no end
+    pub far_behind_if : (new told : WorldOf) (later : Kept) → w.end ≡ None → k ≤ first.budget → DoesTurn (next_in w kept w.events).events w new
+        → (new.end ≡ None → later ≡ (next_in w kept w.events).kept) → StopsFor may_stop new told → Far told later (k + 1)
+    far_behind_if new told later on few does keeps stops =
+        let going = going_on (next_in first) appends_in may_stop all_events first w kept k far on in
+        let by_first : DoesTurn (next_in first kept w.events).events w new = subst (λ (x : Turned Kept). DoesTurn x.events w new) (next_is going.same) does in
+        let there = goes_on (next_in first) appends_in may_stop all_events first w kept k far on few new by_first in
+        stopped (next_in first) appends_in may_stop all_events first new later (k + 1)
+        (record { same = there.same; how = by there.how (λ e. keeps e ∙ ap (λ (x : Turned Kept). x.kept) (next_is going.same)) }) told stops
+      where
+        by : IsGoing (next_in first) appends_in all_events first new (next_in first kept w.events).kept (k + 1) ⊎ HasRunThrough may_stop all_events new
+            → (new.end ≡ None → later ≡ (next_in first kept w.events).kept)
+            → IsGoing (next_in first) appends_in all_events first new later (k + 1) ⊎ HasRunThrough may_stop all_events new
+        by (inl h) kept_is = inl (subst (λ x. IsGoing (next_in first) appends_in all_events first new x (k + 1)) (sym (kept_is h.on)) h)
+        by (inr h) kept_is = inr h
+
     -- where there is an end
     pub through_if : (o : Option End) → o ≡ w.end → (r : Bool) → r ≡ is_some o → r ≡ true → HasRunThrough may_stop all_events w
     through_if None is r some is_so = let bad : false ≡ true = sym some ∙ is_so in absurd cc

@@ -91,20 +91,10 @@ pub record HasRunThrough (may_stop : Bool) (all : List Event) (w : WorldOf) : Ty
   pub whole : (left ≡ []) ⊎ IsEarly may_stop end
 
 -- a run by a policy came to these events and this end: they are those of the policy, or a front of them, where the end is early
-pub record IsRunOf (by : Policy) (may_stop : Bool) (trees : Program) (limits : Limits) (budget : ℕ) (events : List Event) (end : End) : Type 0 where
+pub record IsRunBy (by : Policy) (may_stop : Bool) (trees : Program) (limits : Limits) (budget : ℕ) (events : List Event) (end : End) : Type 0 where
   pub left : List Event
   pub front : events_by by trees (bounds_of limits) budget ≡ events ++ left
   pub whole : (left ≡ []) ⊎ IsEarly may_stop end
 
--- of a policy whose schedule is proved: of random, nothing
 abbrev pub RunsThrough : Policy → (may_stop : Bool) → (old new : WorldOf) → Type 0
-RunsThrough (policy.Mixed seed) may_stop old new =
-    HasRunThrough may_stop (events_by (policy.Mixed seed) old.trees (bounds_of old.machine.limits) old.budget) new
-RunsThrough (policy.Random seed) may_stop old new = Unit {0}
-RunsThrough (policy.Rotation quantum) may_stop old new =
-    HasRunThrough may_stop (events_by (policy.Rotation quantum) old.trees (bounds_of old.machine.limits) old.budget) new
-
-abbrev pub IsRunBy : Policy → (may_stop : Bool) → Program → Limits → (budget : ℕ) → List Event → End → Type 0
-IsRunBy (policy.Mixed seed) may_stop trees limits budget events end = IsRunOf (policy.Mixed seed) may_stop trees limits budget events end
-IsRunBy (policy.Random seed) may_stop trees limits budget events end = Unit {0}
-IsRunBy (policy.Rotation quantum) may_stop trees limits budget events end = IsRunOf (policy.Rotation quantum) may_stop trees limits budget events end
+RunsThrough by may_stop old new = HasRunThrough may_stop (events_by by old.trees (bounds_of old.machine.limits) old.budget) new

@@ -1,6 +1,7 @@
 //! Whose turn it is.
 
 ghost use Rattle.std.specs.Prelude.{IfSome};
+ghost use Rattle.program_runs.specs.policies.Drawn.{AreAble, IsAbleAt};
 ghost use Rattle.program_runs.specs.worlds.Turns.{IsFirst, IsFound, IsFoundDownwards, IsLast, MayGo, MayStep};
 
 use machine::Machine;
@@ -63,7 +64,9 @@ pub(crate) fn first_enabled_below(machine: &Machine, number: u16) -> Option<u16>
 }
 
 /// How many threads have an event that is enabled.
-pub(crate) fn enabled_count(machine: &Machine) -> u16 {
+pub(crate) fn enabled_count(machine: &Machine) -> u16
+    ensures { AreAble machine.now result }
+{
     let mut count = 0u16;
     'threads: for thread in 0..machine.shared().threads.len() as u16 {
         if may(machine, thread) {
@@ -75,7 +78,8 @@ pub(crate) fn enabled_count(machine: &Machine) -> u16 {
 
 /// The thread that has an event which is enabled, behind so many others that have one.
 pub(crate) fn enabled_at(machine: &Machine, place: u16) -> Option<u16>
-    ensures { IfSome result (MayGo machine.now) }
+    ensures able { IfSome result (MayGo machine.now) }
+    ensures at { IsAbleAt machine.now place result }
 {
     let mut left = place;
     'threads: for thread in 0..machine.shared().threads.len() as u16 {

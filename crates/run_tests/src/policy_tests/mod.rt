@@ -1,4 +1,5 @@
-//! Tests of policies: which schedules come of seeds. No clause says so of a whole run.
+//! Tests of policies: which schedules come of seeds. Clauses say that a run's events are those of `events_by`, and no
+//! clause what these are over the files of a lesson.
 //!
 //! # Not proved
 //!

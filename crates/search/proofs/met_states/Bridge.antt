@@ -19,7 +19,7 @@ use Rattle.model.specs.Words.{words_of}
 use Rattle.run_laws.proofs.typed_runs.Settled.{lengths_same}
 use Rattle.run_laws.specs.searches.Picks.{ArePicksInOrder}
 use Rattle.machine_state.specs.same_states.Same.{AreWordsTold}
-use Rattle.search.specs.local_runs.Local.{LeadsPast, AreLocalAfter}
+use Rattle.alone_events.specs.Alone.{LeadsPast, AreAloneAfter}
 use Rattle.search.specs.met_states.Met.{AreAlikeStatesMet, AreNewStatesMet, AreHigherPicksLeft, AreOtherThreadsLeft, AreMovingStatesNotQuiet, AreMetStatesKept, AreSearchesWhole}
 
 -- ---- one event more
@@ -38,7 +38,7 @@ run_more trees frames (first ∷ events) from state next event r e = by (step tr
     by (Some s) q rest = rest s q
 
 -- with others behind it
-module _ (trees : Program) (frames : ℕ) (events more : List Event) (event : Event) (past : AreLocalAfter trees frames (events ++ event ∷ []) more) (state next : State) (r : run trees frames events ≡ Some state)
+module _ (trees : Program) (frames : ℕ) (events more : List Event) (event : Event) (past : AreAloneAfter trees frames (events ++ event ∷ []) more) (state next : State) (r : run trees frames events ≡ Some state)
     (e : step trees frames state event ≡ Some next) where
   pub leads : LeadsPast trees frames (events ++ event ∷ []) more next
   leads = past next (run_more trees frames events (opening values trees) state next event r e)
@@ -55,7 +55,7 @@ alike_met words_told trees p bounds schedules events more schedule event one oth
     record {
       threads = l.threads;
       last = l.last;
-      are_local = l.are_local;
+      are_alone = l.are_alone;
       is_met = record {
         schedule = schedule;
         has = has;
@@ -71,7 +71,7 @@ new_met trees frames schedules events more event past has state next r e =
     record {
       threads = l.threads;
       last = l.last;
-      are_local = l.are_local;
+      are_alone = l.are_alone;
       is_met = record { schedule = events ++ event ∷ more; has = has; met = l.last; leads = reached trees frames events more event past state next r e; same = refl };
     }
 
@@ -169,7 +169,7 @@ kept_met trees frames some all events event listed met state next r e =
     record {
       threads = f.threads;
       last = f.last;
-      are_local = f.are_local;
+      are_alone = f.are_alone;
       is_met = record { schedule = m.schedule; has = listed m.schedule m.has; met = m.met; leads = m.leads; same = m.same };
     }
 
@@ -179,7 +179,7 @@ whole trees frames schedules outcomes s =
       opened = record {
         threads = [];
         last = opening values trees;
-        are_local = refl;
+        are_alone = refl;
         is_met = record { schedule = []; has = s.opened; met = opening values trees; leads = refl; same = refl };
       };
       closed = λ schedule state next event has r e. s.met schedule event has state next r e;

@@ -7,34 +7,34 @@ use Rattle.model.specs.Run.{run, is_quiet}
 use Rattle.model.specs.State.{State}
 use Rattle.model.specs.Step.{step, is_enabled}
 use Rattle.run_laws.specs.interleavings.Ends.{Has, Outcome, outcome_of, EndsWith}
-use Rattle.run_laws.specs.searches.Searches.{IsFollowed, IsWhole}
+use Rattle.search_laws.specs.Schedules.{IsFollowed, IsWhole}
 use Rattle.linked_code.specs.declared.program.LinkedProgram.{LinkedProgram}
 use Rattle.machine_state.specs.declared.state.Shared.{Shared}
 use Rattle.machine_state.specs.same_states.Same.{AreAlike}
 use Rattle.machine_state.specs.shown_runs.Runs.{HasRun}
-use Rattle.search.specs.local_runs.Local.{AreLocalAfter}
+use Rattle.alone_events.specs.Alone.{AreAloneAfter}
 
--- where the event leads on from where the first events led, one of the schedules has met the state, or one to which local events lead
--- from there
+-- where the event leads on from where the first events led, one of the schedules has met the state, or one to which events that are alone
+-- lead from there
 abbrev pub IsNextMet : (trees : Program) (frames : ℕ) (schedules : List (List Event)) (events : List Event) → Event → Type 0
 IsNextMet trees frames schedules events event =
     (state next : State) → run trees frames events ≡ Some state → step trees frames state event ≡ Some next → IsFollowed trees frames schedules next
 
 -- ---- one event
 
--- it leads, with local events behind it, to a state that is alike to that of another schedule
+-- it leads, with events behind it that are alone, to a state that is alike to that of another schedule
 abbrev pub AreAlikeStatesMet : Type 0
 AreAlikeStatesMet =
     (trees : Program) (p : LinkedProgram) (bounds : Bounds) (schedules : List (List Event)) (events more schedule : List Event) (event : Event) (one other : Shared)
-    → AreLocalAfter trees bounds.frames (events ++ event ∷ []) more
+    → AreAloneAfter trees bounds.frames (events ++ event ∷ []) more
     → Has schedules schedule → HasRun trees p bounds one (events ++ event ∷ more) → HasRun trees p bounds other schedule → AreAlike one other
     → IsNextMet trees bounds.frames schedules events event
 
--- the schedule that is longer by it is listed, with local events behind it
+-- the schedule that is longer by it is listed, with events behind it that are alone
 abbrev pub AreNewStatesMet : Type 0
 AreNewStatesMet =
     (trees : Program) (frames : ℕ) (schedules : List (List Event)) (events more : List Event) (event : Event)
-    → AreLocalAfter trees frames (events ++ event ∷ []) more
+    → AreAloneAfter trees frames (events ++ event ∷ []) more
     → Has schedules (events ++ event ∷ more) → IsNextMet trees frames schedules events event
 
 -- a lower pick is not enabled

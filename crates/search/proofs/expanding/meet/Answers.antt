@@ -1,15 +1,17 @@
 use Rattle.search.proofs.Expanded.{met_again}
 use Rattle.search.proofs.Growth.{still_state, within}
-use Rattle.search.proofs.Schedules.{past_after, past_local}
+use Rattle.search.proofs.Schedules.{past_after, past_alone}
 use Rattle.search.proofs.expanding.meet.Goals as goal
 
-pub add-requires-clause-local : goal.add-requires-clause-local
-add-requires-clause-local c =
-    past_local c.args.walk.states c.args.number c.args.event c.in_ok-entry.entry c.requires.has_gone.0 c.args.walk.machine c.go_past.new.machine c.requires.has_gone.1 c.requires.has_gone.2 c.in_ok-entry.ensures
+pub settled-requires-clause-done : goal.settled-requires-clause-done
+settled-requires-clause-done c =
+    past_after c.args.walk.states c.args.number c.args.event c.in_ok-entry.entry c.requires.has_gone.0 c.args.walk.machine c.go_past.new.machine c.requires.has_gone.1 c.requires.has_gone.2 c.in_ok-entry.is_past
+    c.in_ok-entry.ensures
 
-pub add-requires-clause-is_after : goal.add-requires-clause-is_after
-add-requires-clause-is_after c =
-    past_after c.args.walk.states c.args.number c.args.event c.in_ok-entry.entry c.requires.has_gone.0 c.args.walk.machine c.go_past.new.machine c.requires.has_gone.1 c.requires.has_gone.2 c.in_ok-entry.ensures
+pub add-requires-clause-alone : goal.add-requires-clause-alone
+add-requires-clause-alone c =
+    past_alone c.args.walk.states c.args.number c.args.event c.in_ok-entry.entry c.requires.has_gone.0 c.args.walk.machine c.go_past.new.machine c.requires.has_gone.1 c.requires.has_gone.2 c.in_ok-entry.is_past
+    c.in_ok-entry.ensures
 
 pub again-requires-clause-number : goal.again-requires-clause-number
 again-requires-clause-number c = within c.args.walk.states c.in_ok-added.states c.in_ok-added.ensures.grows c.args.number c.requires.number

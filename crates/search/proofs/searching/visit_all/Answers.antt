@@ -5,7 +5,7 @@ use Rattle.search.proofs.searching.visit_all.Goals as goal
 pub returns-then-number-len-clause-says : goal.returns-then-number-len-clause-says
 returns-then-number-len-clause-says g c =
     complete c.args.classes.now c.args.walk.states.limits c.args.wanted.now c.states.walk.states c.states.outcomes c.states.number c.states.invariant.0 (omega arith) c.searches_are_whole.ensures.holds
-    c.searches_are_complete.ensures.holds
+    c.schedules_are_complete.ensures.holds
 
 pub returns-then-is_over-clause-says : goal.returns-then-is_over-clause-says
 returns-then-is_over-clause-says g c = inl (c.is_over.ensures c.if-is_over.true)
@@ -30,4 +30,4 @@ returns-in-GaveUp-clause-says g c =
 pub returns-then-len-most-clause-says : goal.returns-then-len-most-clause-says
 returns-then-len-most-clause-says g c =
     complete c.args.classes.now c.args.walk.states.limits c.args.wanted.now c.states.walk.states c.states.outcomes c.states.number c.states.invariant.0 (omega arith) c.searches_are_whole.ensures.holds
-    c.searches_are_complete.ensures.holds
+    c.schedules_are_complete.ensures.holds

@@ -14,7 +14,7 @@ pub returns-in-Some : goal.returns-in-Some
 returns-in-Some c =
     let inside = c.states.inside in
     met_before (arc_value inside.program) inside.limits inside.tree inside.kept c.write.new.self c.shared.result.now c.args.machine.now c.shared.ensures.same c.states.invariant.1 c.in_ok-write.ensures
-    c.args.most c.args.number c.args.entry c.args.self c.states.view_is c.alike_states_are_met.ensures.holds c.in-Some._met c.in-Some.ensures c.requires.local c.requires.is_after
+    c.args.most c.args.number c.args.entry c.args.self c.states.view_is c.alike_states_are_met.ensures.holds c.in-Some._met c.in-Some.ensures c.requires.alone c.requires.is_after
 
 pub invariant_of-states-then-len-most : goal.invariant_of-states-then-len-most
 invariant_of-states-then-len-most c =
@@ -42,4 +42,4 @@ returns c =
     let made = subst (λ (s : Shared). IsRowMade s inside.kept c.write.new.self) c.shared.ensures.same c.in_ok-write.ensures in
     added_grows (arc_value inside.program) inside.limits inside.tree inside.kept c.write.new.self c.args.machine.now.shared c.args.machine.now refl c.states.invariant.1 made c.args.most c.args.number c.args.entry
     c.args.self c.states.view_is c.keep.new.kept _ c.in_ok-keep.ensures c.push.new.self c.in_ok-push.ensures.ok c.requires.number c.requires.is_after c.new_states_are_met.ensures.holds
-    (omega (arith, c.len.ensures, c.if-len-most.false)) c.requires.local
+    (omega (arith, c.len.ensures, c.if-len-most.false)) c.requires.alone
