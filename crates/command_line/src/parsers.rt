@@ -382,14 +382,14 @@ fn with_form<'a>(alloc: Global, command: clap::Command<'a>) -> Result<clap::Comm
     ensures { IsLocal command.entry
         → IfOk result (λ whole. IsParser whole (spec.with_form (app_of command.entry))) }
 {
-    let columns = flag_argument(alloc, "columns", "Gives each thread a column of its own");
-    let json = flag_argument(alloc, "json", "Tells each event as an object of JSON");
-    let summary = flag_argument(
-        alloc,
-        "summary",
-        "Tells a run of local instructions in one line",
-    );
-    command.arg(columns)?.arg(json)?.arg(summary)
+    command
+        .arg(flag_argument(alloc, "columns", "Gives each thread a column of its own"))?
+        .arg(flag_argument(alloc, "json", "Tells each event as an object of JSON"))?
+        .arg(flag_argument(
+            alloc,
+            "summary",
+            "Tells a run of local instructions in one line",
+        ))
 }
 
 /// The command with the options of a search.
@@ -445,19 +445,17 @@ fn with_places<'a>(
     ensures { IsLocal command.entry
         → IfOk result (λ whole. IsParser whole (spec.with_places (app_of command.entry))) }
 {
-    let places = flag_argument(
-        alloc,
-        "places",
-        "Prints a schedule of class files as a text with places",
-    );
-    let schedule = path_argument(
-        alloc,
-        "schedule",
-        "The schedule of --places: a file, or its text, or '0*22 1'",
-    );
     command
-        .arg(places)?
-        .arg(schedule)?
+        .arg(flag_argument(
+            alloc,
+            "places",
+            "Prints a schedule of class files as a text with places",
+        ))?
+        .arg(path_argument(
+            alloc,
+            "schedule",
+            "The schedule of --places: a file, or its text, or '0*22 1'",
+        ))?
         .arg(any_files_argument(alloc))?
         .arg(main_argument(alloc))?
         .arg(alone_argument(alloc))
@@ -531,18 +529,16 @@ fn with_files<'a>(
     ensures { IsLocal command.entry
         → IfOk result (λ whole. IsParser whole (spec.with_files (app_of command.entry) class_files)) }
 {
-    let explain = flag_argument(
-        alloc,
-        "explain",
-        "Tells what threads wait for, however long that takes",
-    );
-    let quiet = flag_argument(
-        alloc,
-        "quiet",
-        "Adds no words on why files are refused or what threads wait for",
-    );
     command
-        .arg(explain)?
-        .arg(quiet)?
+        .arg(flag_argument(
+            alloc,
+            "explain",
+            "Tells what threads wait for, however long that takes",
+        ))?
+        .arg(flag_argument(
+            alloc,
+            "quiet",
+            "Adds no words on why files are refused or what threads wait for",
+        ))?
         .arg(files_argument(alloc, help))
 }

@@ -8,6 +8,6 @@ use Rattle.command_line.proofs.parsers.with_files.Goals as goal
 pub returns : goal.returns
 returns c = λ local.
     let start : IsParser c.args.command (app_of c.args.command) = (refl, local) in
-    let explain = with_argument _ c.flag_argument-explain.result _ _ _ start c.flag_argument-explain.ensures.rule c.flag_argument-explain.ensures.local c.in_ok-arg.ensures in
-    let quiet = with_argument _ c.flag_argument-quiet.result _ _ _ explain c.flag_argument-quiet.ensures.rule c.flag_argument-quiet.ensures.local c.in_ok-arg-2.ensures in
+    let explain = with_argument _ c.flag_argument.result _ _ _ start c.flag_argument.ensures.rule c.flag_argument.ensures.local c.in_ok-arg.ensures in
+    let quiet = with_argument _ c.flag_argument-2.result _ _ _ explain c.flag_argument-2.ensures.rule c.flag_argument-2.ensures.local c.in_ok-arg-2.ensures in
     IfOk-weaker c.arg-3.result _ _ (λ whole added. with_argument _ c.files_argument.result _ _ _ quiet c.files_argument.ensures.rule c.files_argument.ensures.local added) c.arg-3.ensures

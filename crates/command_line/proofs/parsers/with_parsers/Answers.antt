@@ -13,4 +13,4 @@ returns c =
     let five = c.in_ok-program-5.ensures jvm_shrink c.shrink_parser.ensures ∙ ap (λ app. with_subcommand app jvm_shrink.top) four in
     let six = c.in_ok-program-6.ensures jvm_verify c.verify_parser.ensures ∙ ap (λ app. with_subcommand app jvm_verify.top) five in
     let seven = c.in_ok-program-7.ensures jvm_disasm c.disasm_parser.ensures ∙ ap (λ app. with_subcommand app jvm_disasm.top) six in
-    IfOk-weaker c.with_parser.result _ _ (λ whole added. added ∙ ap (λ app. with_subcommand app jvm_schedule.top) seven) (c.with_parser.ensures jvm_schedule c.schedule_parser.ensures)
+    IfOk-weaker c.with_parser-8.result _ _ (λ whole added. added ∙ ap (λ app. with_subcommand app jvm_schedule.top) seven) (c.with_parser-8.ensures jvm_schedule c.schedule_parser.ensures)
