@@ -206,6 +206,7 @@ with_places app = with_rule (with_rule (with_rule (with_rule (with_rule app
     main_option)
     alone_flag
 
+-- the options of `schedule`
 abbrev pub with_schedule_options : App → App
 with_schedule_options app = with_places (with_made_file app)
 

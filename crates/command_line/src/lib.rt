@@ -28,6 +28,7 @@
 //! - Shown by cases alone: the text of a usage fault, of help and of the version.
 #![tactic(auto)]
 
+mod arguments;
 mod goal;
 mod help;
 mod numbers;

@@ -1,11 +1,15 @@
 //! The parsers of the command line.
 
-ghost use Rattle.std.specs.Prelude.{◌≡◌, codes, false, IfOk, IfErr};
-ghost use Rattle.clap.specs.Words.{App, app_of, kind_of, new_app, rule_of, with_subcommand};
+ghost use Rattle.std.specs.Prelude.{◌≡◌, IfOk, IfErr};
+ghost use Rattle.clap.specs.Words.{App, app_of, kind_of, new_app, with_subcommand};
 ghost use Rattle.clap.specs.declared.error.kind.ErrorKind.TheVariants.{OutOfMemory as no_memory};
-ghost use Rattle.command_line.specs.CommandLine.{IsLocal, IsParser, alone_flag, class_files, flag, goal_option, jvm, jvm_disasm, jvm_replay, jvm_run, jvm_schedule, jvm_search, jvm_shrink, jvm_trace, jvm_verify, main_option, path_option, record_option, required_goal_option, schedule_option};
+ghost use Rattle.command_line.specs.CommandLine.{IsLocal, IsParser, class_files, jvm, jvm_disasm, jvm_replay, jvm_run, jvm_schedule, jvm_search, jvm_shrink, jvm_trace, jvm_verify};
 ghost use Rattle.command_line.specs.CommandLine as spec;
 
+use crate::arguments::{
+    alone_argument, any_files_argument, files_argument, flag_argument, goal_argument,
+    main_argument, path_argument, record_argument, required_goal_argument, schedule_argument,
+};
 use crate::help::{
     ABOUT, AFTER, DISASM_PAGE, FILES_HELP, LISTED_HELP, RECORD_HELP, REPLAY_PAGE, RUN_PAGE,
     RUN_RECORD_HELP, SCHEDULE_HELP, SCHEDULE_PAGE, SEARCH_PAGE, SHRINK_PAGE, TRACE_PAGE,
@@ -17,7 +21,6 @@ use crate::numbers::{
 };
 use crate::run_arguments::{policy_argument, seed_argument};
 use crate::sweep_arguments::seeds_argument;
-use clap::{Arg, ArgAction};
 use std::alloc::{AllocError, Global};
 
 /// The parser of the command line.
@@ -188,119 +191,6 @@ fn schedule_parser<'a>(alloc: Global) -> Result<clap::Command<'a>, AllocError>
     let schedule = with_made_file(alloc, schedule)?;
     let schedule = with_places(alloc, schedule)?;
     with_files(alloc, schedule, SCHEDULE_HELP)
-}
-
-/// The file of the schedule, which has to be there.
-fn schedule_argument<'a>(alloc: Global) -> Arg<'a>
-    ensures rule { rule_of result ≡ schedule_option }
-    ensures local { result.global ≡ false }
-{
-    path_argument(
-        alloc,
-        "schedule",
-        "The schedule file, or its text, or '0*22 1'",
-    )
-    .required(true)
-}
-
-/// Whether the schedule is for any class files.
-fn any_files_argument<'a>(alloc: Global) -> Arg<'a>
-    ensures rule { rule_of result ≡ flag (codes "any-files") }
-    ensures local { result.global ≡ false }
-{
-    flag_argument(
-        alloc,
-        "any-files",
-        "Takes any class files, whatever the schedule was recorded over",
-    )
-}
-
-/// The file that a schedule is written to, or the folder for several.
-fn record_argument<'a>(alloc: Global, help: &'a str) -> Arg<'a>
-    ensures rule { rule_of result ≡ record_option }
-    ensures local { result.global ≡ false }
-{
-    path_argument(alloc, "record", help)
-}
-
-/// The class whose main is run.
-fn main_argument<'a>(alloc: Global) -> Arg<'a>
-    ensures rule { rule_of result ≡ main_option }
-    ensures local { result.global ≡ false }
-{
-    Arg::new(alloc, "main")
-        .long("main")
-        .value_name("NAME")
-        .action(ArgAction::Set)
-        .help("The class whose main method is run, as bank.Main or bank/Main")
-}
-
-/// That no class is added from the library.
-fn alone_argument<'a>(alloc: Global) -> Arg<'a>
-    ensures rule { rule_of result ≡ alone_flag }
-    ensures local { result.global ≡ false }
-{
-    flag_argument(
-        alloc,
-        "files-alone",
-        "Adds no class of the library to the class files",
-    )
-}
-
-/// The outcome that is to be kept, which has to be there.
-fn required_goal_argument<'a>(alloc: Global) -> Arg<'a>
-    ensures rule { rule_of result ≡ required_goal_option }
-    ensures local { result.global ≡ false }
-{
-    goal_argument(alloc).required(true)
-}
-
-/// The outcome that is to be found, or to be kept.
-fn goal_argument<'a>(alloc: Global) -> Arg<'a>
-    ensures rule { rule_of result ≡ goal_option }
-    ensures local { result.global ≡ false }
-{
-    Arg::new(alloc, "for")
-        .long("for")
-        .value_name("OUTCOME")
-        .action(ArgAction::Set)
-        .help("The outcome: deadlock, uncaught, output=NUMBERS or differs=FILE")
-}
-
-/// The class files, one or more.
-fn files_argument<'a>(alloc: Global, help: &'a str) -> Arg<'a>
-    ensures rule { rule_of result ≡ class_files }
-    ensures local { result.global ≡ false }
-{
-    Arg::new(alloc, "files")
-        .value_name("FILE")
-        .required(true)
-        .num_args(1..)
-        .action(ArgAction::Append)
-        .help(help)
-}
-
-/// An option that takes the path of a file.
-fn path_argument<'a>(alloc: Global, name: &'a str, help: &'a str) -> Arg<'a>
-    ensures rule { rule_of result ≡ path_option name.now }
-    ensures local { result.global ≡ false }
-{
-    Arg::new(alloc, name)
-        .long(name)
-        .value_name("FILE")
-        .action(ArgAction::Set)
-        .help(help)
-}
-
-/// An option that is there or not.
-fn flag_argument<'a>(alloc: Global, name: &'a str, help: &'a str) -> Arg<'a>
-    ensures rule { rule_of result ≡ flag name.now }
-    ensures local { result.global ≡ false }
-{
-    Arg::new(alloc, name)
-        .long(name)
-        .action(ArgAction::SetTrue)
-        .help(help)
 }
 
 /// The command with the options by which threads get turns, and how long that goes on.
