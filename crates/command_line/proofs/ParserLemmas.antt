@@ -13,7 +13,3 @@ pub with_argument : (old : Command) (argument : Arg) (new : Command) (app : App)
     → argument.global ≡ false → AddsArg old argument new → IsParser new (with_rule app rule)
 with_argument old argument new app rule parser rule_is local added =
     (added.shape local ∙ ap₂ with_rule parser.0 rule_is, added.globals ∙ ap₂ (λ a b. a || b) parser.1 local)
-
--- some arguments more
-pub with_more : (more : App → App) (old new : Command) (app : App) → IsParser old app → IsParser new (more (app_of old)) → IsParser new (more app)
-with_more more old new app parser made = (made.0 ∙ ap more parser.0, made.1)

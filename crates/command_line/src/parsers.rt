@@ -1,9 +1,9 @@
 //! The parsers of the command line.
 
-ghost use Rattle.std.specs.Prelude.{◌≡◌, IfOk, IfErr};
-ghost use Rattle.clap.specs.Words.{App, app_of, kind_of, new_app, with_subcommand};
+ghost use Rattle.std.specs.Prelude.{◌≡◌, false, IfOk, IfErr};
+ghost use Rattle.clap.specs.Words.{App, Rule, app_of, kind_of, new_app, rule_of, with_rule, with_subcommand};
 ghost use Rattle.clap.specs.declared.error.kind.ErrorKind.TheVariants.{OutOfMemory as no_memory};
-ghost use Rattle.command_line.specs.CommandLine.{IsLocal, IsParser, class_files, jvm, jvm_disasm, jvm_replay, jvm_run, jvm_schedule, jvm_search, jvm_shrink, jvm_trace, jvm_verify};
+ghost use Rattle.command_line.specs.CommandLine.{IsParser, class_files, jvm, jvm_disasm, jvm_replay, jvm_run, jvm_schedule, jvm_search, jvm_shrink, jvm_trace, jvm_verify};
 ghost use Rattle.command_line.specs.CommandLine as spec;
 
 use crate::arguments::{
@@ -21,6 +21,7 @@ use crate::numbers::{
 };
 use crate::run_arguments::{policy_argument, seed_argument};
 use crate::sweep_arguments::seeds_argument;
+use clap::Arg;
 use std::alloc::{AllocError, Global};
 
 /// The parser of the command line.
@@ -79,356 +80,400 @@ fn titled<'a>(alloc: Global, name: &'a str, about: &'a str, page: &'a str) -> cl
 fn run_parser<'a>(alloc: Global) -> Result<clap::Command<'a>, AllocError>
     ensures { IfOk result (λ run. IsParser run jvm_run) }
 {
-    let run = titled(
+    let run = Ok(titled(
         alloc,
         "run",
         "Runs class files, and may record the schedule",
         RUN_PAGE,
-    );
-    let run = with_run_options(alloc, run)?;
-    let run = with_sweep_options(alloc, run)?;
-    let run = with_record(alloc, run, RUN_RECORD_HELP)?;
-    let run = with_follow(alloc, run)?;
+    ));
+    let run = with_run_options(alloc, run);
+    let run = with_sweep_options(alloc, run);
+    let run = with_record(alloc, run, RUN_RECORD_HELP);
+    let run = with_follow(alloc, run);
     with_files(alloc, run, FILES_HELP)
 }
 
 fn replay_parser<'a>(alloc: Global) -> Result<clap::Command<'a>, AllocError>
     ensures { IfOk result (λ replay. IsParser replay jvm_replay) }
 {
-    let replay = titled(
+    let replay = Ok(titled(
         alloc,
         "replay",
         "Runs class files under the schedule of a file, and may go on behind it",
         REPLAY_PAGE,
-    );
-    let replay = with_schedule(alloc, replay)?;
-    let replay = with_then_run(alloc, replay)?;
-    let replay = with_follow(alloc, replay)?;
+    ));
+    let replay = with_schedule(alloc, replay);
+    let replay = with_then_run(alloc, replay);
+    let replay = with_follow(alloc, replay);
     with_files(alloc, replay, FILES_HELP)
 }
 
 fn trace_parser<'a>(alloc: Global) -> Result<clap::Command<'a>, AllocError>
     ensures { IfOk result (λ trace. IsParser trace jvm_trace) }
 {
-    let trace = titled(
+    let trace = Ok(titled(
         alloc,
         "trace",
         "Runs class files under the schedule of a file, and tells the run event by event",
         TRACE_PAGE,
-    );
-    let trace = with_schedule(alloc, trace)?;
-    let trace = with_window(alloc, trace)?;
-    let trace = with_form(alloc, trace)?;
-    let trace = with_program(alloc, trace)?;
+    ));
+    let trace = with_schedule(alloc, trace);
+    let trace = with_window(alloc, trace);
+    let trace = with_form(alloc, trace);
+    let trace = with_program(alloc, trace);
     with_files(alloc, trace, FILES_HELP)
 }
 
 fn search_parser<'a>(alloc: Global) -> Result<clap::Command<'a>, AllocError>
     ensures { IfOk result (λ search. IsParser search jvm_search) }
 {
-    let search = titled(
+    let search = Ok(titled(
         alloc,
         "search",
         "Searches all schedules of class files for what can come of them",
         SEARCH_PAGE,
-    );
-    let search = with_search_options(alloc, search)?;
-    let search = with_program(alloc, search)?;
+    ));
+    let search = with_search_options(alloc, search);
+    let search = with_program(alloc, search);
     with_files(alloc, search, FILES_HELP)
 }
 
 fn shrink_parser<'a>(alloc: Global) -> Result<clap::Command<'a>, AllocError>
     ensures { IfOk result (λ shrink. IsParser shrink jvm_shrink) }
 {
-    let shrink = titled(
+    let shrink = Ok(titled(
         alloc,
         "shrink",
         "Looks for a schedule with fewer switches that has the same outcome",
         SHRINK_PAGE,
-    );
-    let shrink = with_shrink_options(alloc, shrink)?;
-    let shrink = with_program(alloc, shrink)?;
+    ));
+    let shrink = with_shrink_options(alloc, shrink);
+    let shrink = with_program(alloc, shrink);
     with_files(alloc, shrink, FILES_HELP)
 }
 
 fn verify_parser<'a>(alloc: Global) -> Result<clap::Command<'a>, AllocError>
     ensures { IfOk result (λ verify. IsParser verify jvm_verify) }
 {
-    let library = flag_argument(alloc, "library", "No class has to have a main method");
-    let verify = titled(
+    let verify = Ok(titled(
         alloc,
         "verify",
         "Links and verifies class files",
         VERIFY_PAGE,
-    )
-    .arg(library)?
-    .arg(main_argument(alloc))?
-    .arg(alone_argument(alloc))?;
+    ));
+    let verify = with_argument(
+        verify,
+        flag_argument(alloc, "library", "No class has to have a main method"),
+    );
+    let verify = with_argument(verify, main_argument(alloc));
+    let verify = with_argument(verify, alone_argument(alloc));
     with_files(alloc, verify, FILES_HELP)
 }
 
 fn disasm_parser<'a>(alloc: Global) -> Result<clap::Command<'a>, AllocError>
     ensures { IfOk result (λ disasm. IsParser disasm jvm_disasm) }
 {
-    let names = flag_argument(
-        alloc,
-        "names",
-        "Adds names and line numbers, and tells instructions that are left out",
+    let disasm = Ok(titled(alloc, "disasm", "Lists class files", DISASM_PAGE));
+    let disasm = with_argument(
+        disasm,
+        flag_argument(
+            alloc,
+            "names",
+            "Adds names and line numbers, and tells instructions that are left out",
+        ),
     );
-    let disasm = titled(alloc, "disasm", "Lists class files", DISASM_PAGE).arg(names)?;
     with_files(alloc, disasm, LISTED_HELP)
 }
 
 fn schedule_parser<'a>(alloc: Global) -> Result<clap::Command<'a>, AllocError>
     ensures { IfOk result (λ schedule. IsParser schedule jvm_schedule) }
 {
-    let schedule = titled(
+    let schedule = Ok(titled(
         alloc,
         "schedule",
         "Prints a schedule file as text, or makes one of a text",
         SCHEDULE_PAGE,
-    );
-    let schedule = with_made_file(alloc, schedule)?;
-    let schedule = with_places(alloc, schedule)?;
+    ));
+    let schedule = with_made_file(alloc, schedule);
+    let schedule = with_places(alloc, schedule);
     with_files(alloc, schedule, SCHEDULE_HELP)
+}
+
+/// The command with an argument, if there was memory for the command.
+fn with_argument<'a>(
+    command: Result<clap::Command<'a>, AllocError>,
+    argument: Arg<'a>,
+) -> Result<clap::Command<'a>, AllocError>
+    ensures { (app : App) (rule : Rule) → IfOk command.entry (λ made. IsParser made app) → rule_of argument.entry ≡ rule
+        → argument.entry.global ≡ false → IfOk result (λ whole. IsParser whole (with_rule app rule)) }
+{
+    match command {
+        Ok(command) => command.arg(argument),
+        Err(error) => Err(error),
+    }
 }
 
 /// The command with the options by which threads get turns, and how long that goes on.
 fn with_run_options<'a>(
     alloc: Global,
-    command: clap::Command<'a>,
+    command: Result<clap::Command<'a>, AllocError>,
 ) -> Result<clap::Command<'a>, AllocError>
-    ensures { IsLocal command.entry
-        → IfOk result (λ whole. IsParser whole (spec.with_run_options (app_of command.entry))) }
+    ensures { (app : App) → IfOk command.entry (λ made. IsParser made app)
+        → IfOk result (λ whole. IsParser whole (spec.with_run_options app)) }
 {
-    command
-        .arg(WORKERS.argument(alloc))?
-        .arg(BUDGET.argument(alloc))?
-        .arg(QUANTUM.argument(alloc))?
-        .arg(seed_argument(alloc))?
-        .arg(policy_argument(alloc))?
-        .arg(SECONDS.argument(alloc))
+    let command = with_argument(command, WORKERS.argument(alloc));
+    let command = with_argument(command, BUDGET.argument(alloc));
+    let command = with_argument(command, QUANTUM.argument(alloc));
+    let command = with_argument(command, seed_argument(alloc));
+    let command = with_argument(command, policy_argument(alloc));
+    with_argument(command, SECONDS.argument(alloc))
 }
 
 /// The command with the options of a sweep over seeds.
 fn with_sweep_options<'a>(
     alloc: Global,
-    command: clap::Command<'a>,
+    command: Result<clap::Command<'a>, AllocError>,
 ) -> Result<clap::Command<'a>, AllocError>
-    ensures { IsLocal command.entry
-        → IfOk result (λ whole. IsParser whole (spec.with_sweep_options (app_of command.entry))) }
+    ensures { (app : App) → IfOk command.entry (λ made. IsParser made app)
+        → IfOk result (λ whole. IsParser whole (spec.with_sweep_options app)) }
 {
-    command
-        .arg(seeds_argument(alloc))?
-        .arg(goal_argument(alloc))
+    let command = with_argument(command, seeds_argument(alloc));
+    with_argument(command, goal_argument(alloc))
 }
 
 /// The command with a schedule, and the flag that takes it for any class files.
 fn with_schedule<'a>(
     alloc: Global,
-    command: clap::Command<'a>,
+    command: Result<clap::Command<'a>, AllocError>,
 ) -> Result<clap::Command<'a>, AllocError>
-    ensures { IsLocal command.entry
-        → IfOk result (λ whole. IsParser whole (spec.with_schedule (app_of command.entry))) }
+    ensures { (app : App) → IfOk command.entry (λ made. IsParser made app)
+        → IfOk result (λ whole. IsParser whole (spec.with_schedule app)) }
 {
-    command
-        .arg(schedule_argument(alloc))?
-        .arg(any_files_argument(alloc))
+    let command = with_argument(command, schedule_argument(alloc));
+    with_argument(command, any_files_argument(alloc))
 }
 
 /// The command with the options of a run that goes on behind its schedule.
 fn with_then_run<'a>(
     alloc: Global,
-    command: clap::Command<'a>,
+    command: Result<clap::Command<'a>, AllocError>,
 ) -> Result<clap::Command<'a>, AllocError>
-    ensures { IsLocal command.entry
-        → IfOk result (λ whole. IsParser whole (spec.with_then_run (app_of command.entry))) }
+    ensures { (app : App) → IfOk command.entry (λ made. IsParser made app)
+        → IfOk result (λ whole. IsParser whole (spec.with_then_run app)) }
 {
-    let then_run = flag_argument(
-        alloc,
-        "then-run",
-        "Goes on where the schedule ends: the threads take turns",
+    let command = with_argument(
+        command,
+        flag_argument(
+            alloc,
+            "then-run",
+            "Goes on where the schedule ends: the threads take turns",
+        ),
     );
-    let command = command.arg(then_run)?.arg(WHOLE_BUDGET.argument(alloc))?;
+    let command = with_argument(command, WHOLE_BUDGET.argument(alloc));
     with_record(alloc, command, RECORD_HELP)
 }
 
 /// The command with the options that say which events are told.
 fn with_window<'a>(
     alloc: Global,
-    command: clap::Command<'a>,
+    command: Result<clap::Command<'a>, AllocError>,
 ) -> Result<clap::Command<'a>, AllocError>
-    ensures { IsLocal command.entry
-        → IfOk result (λ whole. IsParser whole (spec.with_window (app_of command.entry))) }
+    ensures { (app : App) → IfOk command.entry (λ made. IsParser made app)
+        → IfOk result (λ whole. IsParser whole (spec.with_window app)) }
 {
-    command
-        .arg(FROM.argument(alloc))?
-        .arg(TO.argument(alloc))?
-        .arg(ONLY.list_argument(alloc))
+    let command = with_argument(command, FROM.argument(alloc));
+    let command = with_argument(command, TO.argument(alloc));
+    with_argument(command, ONLY.list_argument(alloc))
 }
 
 /// The command with the flags that say in which form events are told.
-fn with_form<'a>(alloc: Global, command: clap::Command<'a>) -> Result<clap::Command<'a>, AllocError>
-    ensures { IsLocal command.entry
-        → IfOk result (λ whole. IsParser whole (spec.with_form (app_of command.entry))) }
+fn with_form<'a>(
+    alloc: Global,
+    command: Result<clap::Command<'a>, AllocError>,
+) -> Result<clap::Command<'a>, AllocError>
+    ensures { (app : App) → IfOk command.entry (λ made. IsParser made app)
+        → IfOk result (λ whole. IsParser whole (spec.with_form app)) }
 {
-    command
-        .arg(flag_argument(alloc, "columns", "Gives each thread a column of its own"))?
-        .arg(flag_argument(alloc, "json", "Tells each event as an object of JSON"))?
-        .arg(flag_argument(
+    let command = with_argument(
+        command,
+        flag_argument(alloc, "columns", "Gives each thread a column of its own"),
+    );
+    let command = with_argument(
+        command,
+        flag_argument(alloc, "json", "Tells each event as an object of JSON"),
+    );
+    with_argument(
+        command,
+        flag_argument(
             alloc,
             "summary",
             "Tells a run of local instructions in one line",
-        ))
+        ),
+    )
 }
 
 /// The command with the options of a search.
 fn with_search_options<'a>(
     alloc: Global,
-    command: clap::Command<'a>,
+    command: Result<clap::Command<'a>, AllocError>,
 ) -> Result<clap::Command<'a>, AllocError>
-    ensures { IsLocal command.entry
-        → IfOk result (λ whole. IsParser whole (spec.with_search_options (app_of command.entry))) }
+    ensures { (app : App) → IfOk command.entry (λ made. IsParser made app)
+        → IfOk result (λ whole. IsParser whole (spec.with_search_options app)) }
 {
-    let command = command
-        .arg(goal_argument(alloc))?
-        .arg(STATES.argument(alloc))?
-        .arg(MEMORY.argument(alloc))?
-        .arg(SECONDS.argument(alloc))?;
+    let command = with_argument(command, goal_argument(alloc));
+    let command = with_argument(command, STATES.argument(alloc));
+    let command = with_argument(command, MEMORY.argument(alloc));
+    let command = with_argument(command, SECONDS.argument(alloc));
     with_record(alloc, command, RECORD_HELP)
 }
 
 /// The command with the options by which a schedule is shrunk.
 fn with_shrink_options<'a>(
     alloc: Global,
-    command: clap::Command<'a>,
+    command: Result<clap::Command<'a>, AllocError>,
 ) -> Result<clap::Command<'a>, AllocError>
-    ensures { IsLocal command.entry
-        → IfOk result (λ whole. IsParser whole (spec.with_shrink_options (app_of command.entry))) }
+    ensures { (app : App) → IfOk command.entry (λ made. IsParser made app)
+        → IfOk result (λ whole. IsParser whole (spec.with_shrink_options app)) }
 {
-    let command = command.arg(required_goal_argument(alloc))?;
-    let command = with_schedule(alloc, command)?.arg(WHOLE_BUDGET.argument(alloc))?;
+    let command = with_argument(command, required_goal_argument(alloc));
+    let command = with_schedule(alloc, command);
+    let command = with_argument(command, WHOLE_BUDGET.argument(alloc));
     with_record(alloc, command, RECORD_HELP)
 }
 
 /// The command with the options by which a schedule file is made of a text.
 fn with_made_file<'a>(
     alloc: Global,
-    command: clap::Command<'a>,
+    command: Result<clap::Command<'a>, AllocError>,
 ) -> Result<clap::Command<'a>, AllocError>
-    ensures { IsLocal command.entry
-        → IfOk result (λ whole. IsParser whole (spec.with_made_file (app_of command.entry))) }
+    ensures { (app : App) → IfOk command.entry (λ made. IsParser made app)
+        → IfOk result (λ whole. IsParser whole (spec.with_made_file app)) }
 {
-    let write = flag_argument(
-        alloc,
-        "write",
-        "Makes the schedule file of the text on standard input",
+    let command = with_argument(
+        command,
+        flag_argument(
+            alloc,
+            "write",
+            "Makes the schedule file of the text on standard input",
+        ),
     );
-    command.arg(write)?.arg(AS_VERSION.argument(alloc))
+    with_argument(command, AS_VERSION.argument(alloc))
 }
 
 /// The command with the options of a text with places.
 fn with_places<'a>(
     alloc: Global,
-    command: clap::Command<'a>,
+    command: Result<clap::Command<'a>, AllocError>,
 ) -> Result<clap::Command<'a>, AllocError>
-    ensures { IsLocal command.entry
-        → IfOk result (λ whole. IsParser whole (spec.with_places (app_of command.entry))) }
+    ensures { (app : App) → IfOk command.entry (λ made. IsParser made app)
+        → IfOk result (λ whole. IsParser whole (spec.with_places app)) }
 {
-    command
-        .arg(flag_argument(
+    let command = with_argument(
+        command,
+        flag_argument(
             alloc,
             "places",
             "Prints a schedule of class files as a text with places",
-        ))?
-        .arg(path_argument(
+        ),
+    );
+    let command = with_argument(
+        command,
+        path_argument(
             alloc,
             "schedule",
             "The schedule of --places: a file, or its text, or '0*22 1'",
-        ))?
-        .arg(any_files_argument(alloc))?
-        .arg(main_argument(alloc))?
-        .arg(alone_argument(alloc))
+        ),
+    );
+    let command = with_argument(command, any_files_argument(alloc));
+    let command = with_argument(command, main_argument(alloc));
+    with_argument(command, alone_argument(alloc))
 }
 
 /// The command with the options of the limits.
 fn with_limits<'a>(
     alloc: Global,
-    command: clap::Command<'a>,
+    command: Result<clap::Command<'a>, AllocError>,
 ) -> Result<clap::Command<'a>, AllocError>
-    ensures { IsLocal command.entry
-        → IfOk result (λ whole. IsParser whole (spec.with_limits (app_of command.entry))) }
+    ensures { (app : App) → IfOk command.entry (λ made. IsParser made app)
+        → IfOk result (λ whole. IsParser whole (spec.with_limits app)) }
 {
-    command
-        .arg(OBJECTS.argument(alloc))?
-        .arg(CELLS.argument(alloc))?
-        .arg(MONITORS.argument(alloc))?
-        .arg(THREADS.argument(alloc))?
-        .arg(FRAMES.argument(alloc))
+    let command = with_argument(command, OBJECTS.argument(alloc));
+    let command = with_argument(command, CELLS.argument(alloc));
+    let command = with_argument(command, MONITORS.argument(alloc));
+    let command = with_argument(command, THREADS.argument(alloc));
+    with_argument(command, FRAMES.argument(alloc))
 }
 
 /// The command with the options by which schedules are recorded.
 fn with_record<'a>(
     alloc: Global,
-    command: clap::Command<'a>,
+    command: Result<clap::Command<'a>, AllocError>,
     help: &'a str,
 ) -> Result<clap::Command<'a>, AllocError>
-    ensures { IsLocal command.entry
-        → IfOk result (λ whole. IsParser whole (spec.with_record (app_of command.entry))) }
+    ensures { (app : App) → IfOk command.entry (λ made. IsParser made app)
+        → IfOk result (λ whole. IsParser whole (spec.with_record app)) }
 {
-    command
-        .arg(record_argument(alloc, help))?
-        .arg(AS_VERSION.argument(alloc))
+    let command = with_argument(command, record_argument(alloc, help));
+    with_argument(command, AS_VERSION.argument(alloc))
 }
 
 /// The command with the options of the limits, with the one that names the class whose main is run, and with the flag
 /// that leaves the library out.
 fn with_program<'a>(
     alloc: Global,
-    command: clap::Command<'a>,
+    command: Result<clap::Command<'a>, AllocError>,
 ) -> Result<clap::Command<'a>, AllocError>
-    ensures { IsLocal command.entry
-        → IfOk result (λ whole. IsParser whole (spec.with_program (app_of command.entry))) }
+    ensures { (app : App) → IfOk command.entry (λ made. IsParser made app)
+        → IfOk result (λ whole. IsParser whole (spec.with_program app)) }
 {
-    with_limits(alloc, command)?
-        .arg(main_argument(alloc))?
-        .arg(alone_argument(alloc))
+    let command = with_limits(alloc, command);
+    let command = with_argument(command, main_argument(alloc));
+    with_argument(command, alone_argument(alloc))
 }
 
 /// The same command with the flag that has lines printed as soon as they can be.
 fn with_follow<'a>(
     alloc: Global,
-    command: clap::Command<'a>,
+    command: Result<clap::Command<'a>, AllocError>,
 ) -> Result<clap::Command<'a>, AllocError>
-    ensures { IsLocal command.entry
-        → IfOk result (λ whole. IsParser whole (spec.with_follow (app_of command.entry))) }
+    ensures { (app : App) → IfOk command.entry (λ made. IsParser made app)
+        → IfOk result (λ whole. IsParser whole (spec.with_follow app)) }
 {
-    with_program(alloc, command)?.arg(flag_argument(
-        alloc,
-        "follow",
-        "Prints each line as soon as the run prints it, not behind the run",
-    ))
+    let command = with_program(alloc, command);
+    with_argument(
+        command,
+        flag_argument(
+            alloc,
+            "follow",
+            "Prints each line as soon as the run prints it, not behind the run",
+        ),
+    )
 }
 
 /// The command with the flags that say how much standard error tells, and with files behind all options.
 fn with_files<'a>(
     alloc: Global,
-    command: clap::Command<'a>,
+    command: Result<clap::Command<'a>, AllocError>,
     help: &'a str,
 ) -> Result<clap::Command<'a>, AllocError>
-    ensures { IsLocal command.entry
-        → IfOk result (λ whole. IsParser whole (spec.with_files (app_of command.entry) class_files)) }
+    ensures { (app : App) → IfOk command.entry (λ made. IsParser made app)
+        → IfOk result (λ whole. IsParser whole (spec.with_files app class_files)) }
 {
-    command
-        .arg(flag_argument(
+    let command = with_argument(
+        command,
+        flag_argument(
             alloc,
             "explain",
             "Tells what threads wait for, however long that takes",
-        ))?
-        .arg(flag_argument(
+        ),
+    );
+    let command = with_argument(
+        command,
+        flag_argument(
             alloc,
             "quiet",
             "Adds no words on why files are refused or what threads wait for",
-        ))?
-        .arg(files_argument(alloc, help))
+        ),
+    );
+    with_argument(command, files_argument(alloc, help))
 }

@@ -1,13 +1,7 @@
-use Rattle.std.proofs.Common.{refl}
-use Rattle.std.proofs.lemmas.Result.{IfOk-weaker}
-use Rattle.clap.specs.Words.{app_of}
-use Rattle.command_line.proofs.ParserLemmas.{with_argument}
-use Rattle.command_line.specs.CommandLine.{IsParser}
 use Rattle.command_line.proofs.parsers.with_window.Goals as goal
 
 pub returns : goal.returns
-returns c = λ local.
-    let start : IsParser c.args.command (app_of c.args.command) = (refl, local) in
-    let from = with_argument _ c.argument.result _ _ _ start c.argument.ensures.rule c.argument.ensures.local c.in_ok-arg.ensures in
-    let to = with_argument _ c.argument-2.result _ _ _ from c.argument-2.ensures.rule c.argument-2.ensures.local c.in_ok-arg-2.ensures in
-    IfOk-weaker c.arg-3.result _ _ (λ whole added. with_argument _ c.list_argument.result _ _ _ to c.list_argument.ensures.rule c.list_argument.ensures.local added) c.arg-3.ensures
+returns c = λ app made.
+    let one = c.with_argument-command.ensures _ _ made c.argument.ensures.rule c.argument.ensures.local in
+    let two = c.with_argument-command-2.ensures _ _ one c.argument-2.ensures.rule c.argument-2.ensures.local in
+    c.with_argument.ensures _ _ two c.list_argument.ensures.rule c.list_argument.ensures.local
