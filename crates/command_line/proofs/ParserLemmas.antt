@@ -1,9 +1,9 @@
 -- The parser of a command, made argument by argument.
-use Rattle.std.proofs.Common.{◌≡◌, ◌∙◌, ap, ap₂, false}
+use Rattle.std.proofs.Common.{◌≡◌, ◌∙◌, ap₂, false}
 use Rattle.std.specs.Prelude.{◌||◌}
 use Rattle.clap.specs.Simple.{App}
 use Rattle.clap.specs.Walk.{Rule}
-use Rattle.clap.specs.Words.{AddsArg, app_of, rule_of, with_rule}
+use Rattle.clap.specs.Words.{AddsArg, rule_of, with_rule}
 use Rattle.clap.specs.declared.builder.arg.Arg.{Arg}
 use Rattle.clap.specs.declared.builder.command.Command.{Command}
 use Rattle.command_line.specs.CommandLine.{IsParser}

@@ -204,8 +204,9 @@ fn with_argument<'a>(
     command: Result<clap::Command<'a>, AllocError>,
     argument: Arg<'a>,
 ) -> Result<clap::Command<'a>, AllocError>
-    ensures { (app : App) (rule : Rule) → IfOk command.entry (λ made. IsParser made app) → rule_of argument.entry ≡ rule
-        → argument.entry.global ≡ false → IfOk result (λ whole. IsParser whole (with_rule app rule)) }
+    ensures { (app : App) (rule : Rule) → IfOk command.entry (λ made. IsParser made app)
+        → rule_of argument.entry ≡ rule → argument.entry.global ≡ false
+        → IfOk result (λ whole. IsParser whole (with_rule app rule)) }
 {
     match command {
         Ok(command) => command.arg(argument),
