@@ -13,7 +13,7 @@ returns-in_err-check_path-clause-read c =
 
 pub returns-in_err-check_outcomes-clause-read : goal.returns-in_err-check_outcomes-clause-read
 returns-in_err-check_outcomes-clause-read c =
-    let p = err_from_is_err_and c.from_residual.result c.from_residual.ensures.1 in
+    let p = err_from_is_err_and c.from_residual-in_err-check_outcomes.result c.from_residual-in_err-check_outcomes.ensures.1 in
     rw (p.1, p.2)
     (refuses_more c.in_err-check_outcomes.field-0.0 _ _
     (λ read. inr (inl (subst (λ folder. IsReadIn folder (map string_bytes c.args.files.now)) c.outcome_folder.ensures read))) c.in_err-check_outcomes.ensures.read)
