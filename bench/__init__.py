@@ -1,0 +1,1 @@
+"""What times the built programs and weighs their memory."""

@@ -1,0 +1,10 @@
+/** A static method that calls itself. */
+public class Fib {
+    static int fib(int n) {
+        return n < 2 ? n : fib(n - 1) + fib(n - 2);
+    }
+
+    public static void main(String[] words) {
+        System.out.println(fib(24));
+    }
+}

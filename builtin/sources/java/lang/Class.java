@@ -1,0 +1,6 @@
+package java.lang;
+
+/** The class of the objects that stand for classes (JLS 15.8.2). */
+public final class Class {
+    private Class() {}
+}

@@ -1,0 +1,6 @@
+package java.lang;
+
+/** What programs are not expected to recover from (JLS 11.1.1). */
+public class Error extends Throwable {
+    public Error() {}
+}

@@ -1,0 +1,6 @@
+package java.lang;
+
+/** What programs may recover from (JLS 11.1.1). */
+public class Exception extends Throwable {
+    public Exception() {}
+}

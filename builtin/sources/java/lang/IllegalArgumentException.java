@@ -1,0 +1,6 @@
+package java.lang;
+
+/** An argument is none that a method takes. */
+public class IllegalArgumentException extends RuntimeException {
+    public IllegalArgumentException() {}
+}

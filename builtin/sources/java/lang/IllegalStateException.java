@@ -1,0 +1,6 @@
+package java.lang;
+
+/** An object is not in a state for what is asked of it. */
+public class IllegalStateException extends RuntimeException {
+    public IllegalStateException() {}
+}

@@ -1,0 +1,6 @@
+package java.lang;
+
+/** A thread is started twice. */
+public class IllegalThreadStateException extends IllegalArgumentException {
+    public IllegalThreadStateException() {}
+}

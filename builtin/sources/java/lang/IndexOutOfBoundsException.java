@@ -1,0 +1,6 @@
+package java.lang;
+
+/** An index is out of bounds. */
+public class IndexOutOfBoundsException extends RuntimeException {
+    public IndexOutOfBoundsException() {}
+}

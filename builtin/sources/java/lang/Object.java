@@ -1,0 +1,12 @@
+package java.lang;
+
+/** The class that all others are below (JLS 4.3.2). */
+public class Object {
+    public Object() {}
+
+    public final native void wait() throws InterruptedException;
+
+    public final native void notify();
+
+    public final native void notifyAll();
+}

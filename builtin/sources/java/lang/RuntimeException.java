@@ -1,0 +1,6 @@
+package java.lang;
+
+/** An exception that need not be declared (JLS 11.1.1). */
+public class RuntimeException extends Exception {
+    public RuntimeException() {}
+}

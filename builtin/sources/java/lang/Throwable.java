@@ -1,0 +1,6 @@
+package java.lang;
+
+/** What can be thrown (JLS 11.1.1). */
+public class Throwable {
+    public Throwable() {}
+}

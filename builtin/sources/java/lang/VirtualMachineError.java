@@ -1,0 +1,6 @@
+package java.lang;
+
+/** The machine fails (JVMS 6.3). */
+public abstract class VirtualMachineError extends Error {
+    public VirtualMachineError() {}
+}

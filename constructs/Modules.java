@@ -1,0 +1,7 @@
+/*
+ * Newer than Java 8: modules
+ *
+ * javac refuses it.
+ */
+module bank {
+}

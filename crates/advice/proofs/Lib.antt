@@ -1,0 +1,5 @@
+pub mod AdviceLaws
+pub mod ReadLaws
+pub mod TellingLaws
+pub mod TextLaws
+pub mod WalkLaws

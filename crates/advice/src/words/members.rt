@@ -1,0 +1,158 @@
+//! What to write in the place of a field or a method that a built-in class has not.
+
+use hierarchy::ClassSet;
+
+/// A class, a member of it and of those below it, by its name, which they have not here, and what is told behind it.
+/// With no name it is each other member.
+type Cure = (&'static str, &'static str, &'static str);
+
+const STRING: &str = "java/lang/String";
+
+const SYSTEM: &str = "java/lang/System";
+
+const THREAD: &str = "java/lang/Thread";
+
+const THROWABLE: &str = "java/lang/Throwable";
+
+const CLASS: &str = "java/lang/Class";
+
+const OBJECT: &str = "java/lang/Object";
+
+const NO_CLOCK: &str = ": there is no clock; leave it out";
+
+const NO_NAMES: &str = ": threads have numbers, and no names; leave it out";
+
+const NO_PRIORITIES: &str =
+    ": there are no priorities, the schedule says who goes on; leave it out";
+
+const NO_DAEMONS: &str = ": there are no daemon threads; end it by a flag or an interrupt";
+
+const NO_STOP: &str = ": end it by a flag or an interrupt";
+
+const NO_REFLECTION: &str = ": there is no reflection; leave it out";
+
+const CATCH: &str = ": catch the exception in run()";
+
+const DECLARE: &str = ": declare it in your class, and call it by the type of that class";
+
+/// The cures of a class stand together, and those of all other members last.
+static MEMBERS: [Cure; 43] = [
+    (
+        STRING,
+        "hashCode",
+        ", of a switch on a String: write if and else if, and compare constants by ==",
+    ),
+    (
+        STRING,
+        "equals",
+        ", which a switch on a String calls, too: compare constants by ==",
+    ),
+    (
+        STRING,
+        "",
+        ": a String has no methods; keep it, and compare constants by ==",
+    ),
+    (
+        "java/io/PrintStream",
+        "",
+        ": System.out has println(int) alone; print ints, one a line",
+    ),
+    (
+        SYSTEM,
+        "in",
+        ": nothing is read in a run; write the input into the program",
+    ),
+    (SYSTEM, "err", ": print ints by System.out.println"),
+    (
+        SYSTEM,
+        "exit",
+        ": a run ends with its threads; return from main",
+    ),
+    (SYSTEM, "arraycopy", ": copy the elements in a loop"),
+    (SYSTEM, "currentTimeMillis", NO_CLOCK),
+    (SYSTEM, "nanoTime", NO_CLOCK),
+    (
+        SYSTEM,
+        "",
+        ": System has out, and nothing else; leave it out",
+    ),
+    (
+        THREAD,
+        "sleep",
+        ": there is no clock, the schedule says who goes on; leave it out, or wait() to be notified",
+    ),
+    (THREAD, "join", ": there is no clock; take join()"),
+    (
+        THREAD,
+        "<init>",
+        ": take new Thread() or new Thread(Runnable)",
+    ),
+    (THREAD, "getName", NO_NAMES),
+    (THREAD, "setName", NO_NAMES),
+    (THREAD, "getId", NO_NAMES),
+    (THREAD, "setPriority", NO_PRIORITIES),
+    (THREAD, "getPriority", NO_PRIORITIES),
+    (THREAD, "setDaemon", NO_DAEMONS),
+    (THREAD, "isDaemon", NO_DAEMONS),
+    (THREAD, "getState", ": ask isAlive()"),
+    (
+        THREAD,
+        "getThreadGroup",
+        ": there are no groups of threads; leave it out",
+    ),
+    (THREAD, "stop", NO_STOP),
+    (THREAD, "suspend", NO_STOP),
+    (THREAD, "resume", NO_STOP),
+    (THREAD, "setUncaughtExceptionHandler", CATCH),
+    (THREAD, "setDefaultUncaughtExceptionHandler", CATCH),
+    (THREAD, "getUncaughtExceptionHandler", CATCH),
+    (
+        THREAD,
+        "getStackTrace",
+        ": jvm --explain tells where a thread stands; leave it out",
+    ),
+    (
+        THREAD,
+        "holdsLock",
+        ": jvm trace tells who owns a monitor; leave it out",
+    ),
+    (
+        THROWABLE,
+        "<init>",
+        ": an exception has no text and no cause; take the constructor without arguments",
+    ),
+    (
+        THROWABLE,
+        "addSuppressed",
+        ", of a try with resources: write try and finally",
+    ),
+    (
+        THROWABLE,
+        "",
+        ": an exception has no methods, and jvm --explain tells where it was thrown; leave it out",
+    ),
+    (
+        CLASS,
+        "desiredAssertionStatus",
+        ", of an assert: write if, and throw an IllegalStateException",
+    ),
+    (CLASS, "", NO_REFLECTION),
+    (OBJECT, "equals", DECLARE),
+    (OBJECT, "hashCode", DECLARE),
+    (OBJECT, "toString", DECLARE),
+    (OBJECT, "getClass", NO_REFLECTION),
+    (OBJECT, "wait", ": there is no clock; take wait()"),
+    (OBJECT, "clone", ": write a method that makes the copy"),
+    (OBJECT, "finalize", ": nothing calls it; leave it out"),
+];
+
+/// What is told behind a member of a class that the class and those above it have not, where it is known.
+pub(crate) fn words_of_member(set: &ClassSet, class: &[u8], name: &[u8]) -> Option<&'static str> {
+    for (above, member, words) in &MEMBERS {
+        let is_named = member.is_empty() || member.as_bytes() == name;
+        if is_named && set.is_subclass(class, above.as_bytes()) {
+            return Some(words);
+        }
+    }
+    None
+}

@@ -1,0 +1,6 @@
+mod Both
+mod Appended
+mod Fronts
+mod Stands
+mod Differ
+mod Indices

@@ -1,0 +1,4 @@
+pub mod View
+pub mod CodePlace
+pub mod Conditions
+pub mod builtin

@@ -1,0 +1,3 @@
+mod MemberLaws
+mod Whole
+mod Promises

@@ -1,0 +1,5 @@
+pub mod Counted
+pub mod Sized
+pub mod Operands
+pub mod Walks
+pub mod First

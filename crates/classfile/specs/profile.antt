@@ -1,0 +1,4 @@
+pub mod Descriptions
+pub mod Faults
+pub mod Places
+pub mod Opcodes

@@ -1,0 +1,4 @@
+pub mod Counted
+pub mod Tables
+pub mod Numbered
+pub mod MethodPlaces

@@ -1,0 +1,4 @@
+pub mod Lines
+pub mod Points
+pub mod Methods
+pub mod There

@@ -1,0 +1,8 @@
+pub mod ClashLemmas
+pub mod CommandLineLemmas
+mod CommandNames
+pub mod GoalLemmas
+pub mod ParserLemmas
+pub mod PathLemmas
+pub mod PolicyLemmas
+mod SweepLemmas

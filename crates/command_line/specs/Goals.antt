@@ -1,0 +1,48 @@
+-- Which outcome of a run a search is to find, as a word of the command line (own).
+use Rattle.std.specs.Prelude.{◌≡◌, ℤ, List, ◌∷◌, ◌++◌, Option, Some, None, map, codes, string_bytes}
+use Rattle.std.specs.Int.{w32}
+use Rattle.std.specs.Int.RustNames.{FitsSigned}
+use Rattle.std.specs.List.{All, join_with_byte}
+use Rattle.clap.specs.Words.{Text}
+use Rattle.model.specs.Report.{signed_number}
+use Rattle.command_line.specs.declared.options.Goal.{Goal}
+use Rattle.command_line.specs.declared.options.Goal.TheVariants as goals
+
+-- a value of the type int (JVMS 2.3.1)
+abbrev pub IsInt : ℤ → Type 0
+IsInt number = FitsSigned w32 number
+
+-- numbers in decimal, with commas between them: none are the empty text
+abbrev pub numbers_text : List ℤ → Text
+numbers_text numbers = join_with_byte 0x2c (map signed_number numbers)
+
+-- the text spells these ints
+pub record AreInts (text : Text) (ints : List ℤ) : Type 0 where
+  pub each : All IsInt ints
+  pub spelled : text ≡ numbers_text ints
+
+-- the texts spell these ints, each one of them
+pub record AreEachInt (texts : List Text) (ints : List ℤ) : Type 0 where
+  pub each : All IsInt ints
+  pub spelled : texts ≡ map signed_number ints
+
+-- the word names this outcome
+abbrev pub IsGoalWord : Text → Goal → Type 0
+IsGoalWord word goals.Deadlock = word ≡ codes "deadlock"
+IsGoalWord word goals.Uncaught = word ≡ codes "uncaught"
+IsGoalWord word (goals.Output ints) = (text : Text) × (word ≡ codes "output" ++ 0x3d ∷ text) × AreInts text ints.items
+IsGoalWord word (goals.Differs path) = word ≡ codes "differs" ++ 0x3d ∷ string_bytes path
+
+-- so does the word of a name and a value with `=` between them
+abbrev pub IsGoalWith : (name value : Text) → Goal → Type 0
+IsGoalWith name value goals.Deadlock = ⊥
+IsGoalWith name value goals.Uncaught = ⊥
+IsGoalWith name value (goals.Output ints) = (name ≡ codes "output") × AreInts value ints.items
+IsGoalWith name value (goals.Differs path) = (name ≡ codes "differs") × (value ≡ string_bytes path)
+
+-- the outcome that is asked for, where one is
+abbrev pub IsGoal : Option Text → Option Goal → Type 0
+IsGoal None None = Unit {0}
+IsGoal (Some word) (Some goal) = IsGoalWord word goal
+IsGoal None (Some goal) = ⊥
+IsGoal (Some word) None = ⊥

@@ -1,0 +1,7 @@
+pub mod Choices
+pub mod CommandLine
+pub mod Goals
+pub mod Numerals
+pub mod Paths
+pub mod Policies
+pub mod Sweeps

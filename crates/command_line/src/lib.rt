@@ -1,0 +1,54 @@
+//! The command line of the program `jvm`: which command its words spell, with which options.
+//!
+//! # Proved
+//!
+//! - `command`: the command is the one that the words spell, by the definitions of the parser's crate and with numbers
+//!   of digits alone, each in its range (`spelled`); a usage fault is answered only where the parser doesn't take the
+//!   words or they spell no command, memory aside; and help or the version is told only where it is what the parser may
+//!   answer to the words (`refused`).
+//! - In both clauses: what `search --for` seeks is what its word names (`IsGoalWord`). Behind `output=` stand ints,
+//!   each as a report prints it; there is no command where an item is none.
+//! - In both clauses: `schedule` has one file, and a version beside `--write` alone (`AreScheduleValues`,
+//!   `IsMadeVersion`); or with `--places` class files, a schedule of them, and neither `--write` nor a version
+//!   (`ArePlacesValues`). Of all others `--as-version` stands beside `--record` alone (`IsRecordedVersion`).
+//! - In both clauses: `--follow` is there where the words have it, and no run of a sweep has it (`IsFollow`).
+//! - In both clauses: the file that `--record` names is none that the command reads, by the words alone (`IsApart`);
+//!   there is no command where it is one.
+//! - The limits are the options or the defaults (`LimitOptions::limits`); `LimitOptions::allow` tells whether none is
+//!   asked for that is another one than these limits; workers, budget and quantum are the options or the defaults, and
+//!   the policy is the one that is named, `rotation` beside a quantum, and else `mixed` (`RunOptions`).
+//! - In both clauses: workers have neither a seed nor a policy, a policy that goes by a seed has no quantum, and a
+//!   rotation has no seed (`GoTogether`); there is no command where options don't go together. Beside `--seeds` each is
+//!   looked at by itself (`UnlessSweep`): workers go with any policy, and there is no seed and no quantum
+//!   (`IsSweepOf`).
+//!
+//! # Not proved
+//!
+//! - Shown by cases too: command lines as a user types them.
+//! - Shown by cases alone: the text of a usage fault, of help and of the version.
+#![tactic(auto)]
+
+mod goal;
+mod help;
+mod numbers;
+mod options;
+mod parse;
+mod parsers;
+mod paths;
+mod run_arguments;
+mod run_options;
+mod schedule_arguments;
+mod sweep_arguments;
+mod sweep_options;
+mod usage;
+mod values;
+
+pub use options::{
+    Command, Disasm, Goal, LimitOptions, Places, Replay, Run, Schedule, Search, Shrink, ThenRun,
+    Trace, TraceForm, Verify,
+};
+pub use parse::command;
+pub use paths::{is_absolute, is_same_path, steps_of};
+pub use run_options::{PolicyName, RunOptions};
+pub use sweep_options::{SeedRange, SweepOptions, SweepPolicy};
+pub use usage::Usage;

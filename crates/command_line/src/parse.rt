@@ -1,0 +1,363 @@
+//! The reading of the command line.
+
+ghost use Rattle.std.specs.Prelude.{◌≡◌, ◌⊎◌, List, codes, map, string_bytes, IfOk, IfErr, MatchOption};
+ghost use Rattle.clap.specs.Words.{HasMatchesOf, first_of, found_of, kind_of, rows_of, Text};
+ghost use Rattle.clap.specs.declared.error.kind.ErrorKind.TheVariants.{UnknownArgument as unknown_argument};
+ghost use Rattle.command_line.specs.CommandLine.{AreDisasmValues, AreRunNumbers, AreRunValues, AreSearchValues, AreShrinkValues, AreTraceValues, AreValues, AreVerifyValues, Asks, Fails, IsRequiredGoal, IsThenRun, IsTraceForm, Refuses, Spells, UnlessSweep, jvm, usage_of};
+ghost use Rattle.command_line.specs.Policies.{GoTogether};
+
+use crate::numbers::{
+    BUDGET, FROM, MEMORY, ONLY, QUANTUM, SECONDS, STATES, TO, WHOLE_BUDGET, WORKERS,
+    negative_number,
+};
+use crate::options;
+use crate::options::{
+    Disasm, Goal, Replay, Run, Search, Shrink, ThenRun, Trace, TraceForm, Verify,
+};
+use crate::parsers::program;
+use crate::paths::{check_file, check_files, check_goal};
+use crate::run_arguments::{policy_of, seed_of};
+use crate::run_options::{Clash, RunOptions};
+use crate::schedule_arguments::listed_of;
+use crate::sweep_arguments::{SEEDS, follow_of, sweep_of};
+use crate::usage::Usage;
+use crate::values::{
+    files_of, goal_of, is_set, limits_of, missing, path_of, recorded_version_of, required_path_of,
+};
+use clap::ArgMatches;
+use clap::error::ErrorKind;
+use std::alloc::Global;
+
+/// The command that the words spell, the program's name first.
+pub fn command(alloc: Global, words: &[String]) -> Result<options::Command, Usage>
+    ensures spelled { IfOk result (Spells (map string_bytes words.now)) }
+    ensures refused { IfErr result (Fails (map string_bytes words.now)) }
+{
+    let matches = parsed(alloc, words)?;
+    command_of(alloc, &matches)
+}
+
+/// The command that the words spell of which these are the matches.
+fn command_of(alloc: Global, matches: &ArgMatches<'_>) -> Result<options::Command, Usage>
+    ensures spelled { (words : List Text) → HasMatchesOf jvm words matches.now → IfOk result (Spells words) }
+    ensures refused { (words : List Text) → HasMatchesOf jvm words matches.now → IfErr result (Fails words) }
+{
+    if let Some(run) = matches.subcommand_matches("run") {
+        return Ok(options::Command::Run(run_of(alloc, run)?));
+    }
+    if let Some(replay) = matches.subcommand_matches("replay") {
+        return Ok(options::Command::Replay(replay_of(alloc, replay)?));
+    }
+    if let Some(trace) = matches.subcommand_matches("trace") {
+        return Ok(options::Command::Trace(trace_of(alloc, trace)?));
+    }
+    if let Some(search) = matches.subcommand_matches("search") {
+        return Ok(options::Command::Search(search_of(alloc, search)?));
+    }
+    if let Some(shrink) = matches.subcommand_matches("shrink") {
+        return Ok(options::Command::Shrink(shrink_of(alloc, shrink)?));
+    }
+    if let Some(verify) = matches.subcommand_matches("verify") {
+        return Ok(options::Command::Verify(verify_of(alloc, verify)?));
+    }
+    if let Some(disasm) = matches.subcommand_matches("disasm") {
+        return Ok(options::Command::Disasm(disasm_of(alloc, disasm)?));
+    }
+    match matches.subcommand_matches("schedule") {
+        Some(schedule) => listed_of(alloc, schedule),
+        None => Err(missing(alloc, "a subcommand is missing")),
+    }
+}
+
+/// What the parser finds in the words.
+fn parsed<'a>(alloc: Global, words: &'a [String]) -> Result<ArgMatches<'a>, Usage>
+    ensures matches { IfOk result (HasMatchesOf jvm (map string_bytes words.now)) }
+    ensures refused { IfErr result (Fails (map string_bytes words.now)) }
+{
+    match program(alloc)?.try_get_matches_from(words) {
+        Ok(matches) => Ok(matches),
+        Err(error) => Err(parser_usage(alloc, words, error)),
+    }
+}
+
+/// What the parser says of the words. A negative number it takes for an option that it doesn't know.
+fn parser_usage(alloc: Global, words: &[String], error: clap::Error) -> Usage
+    ensures { (result ≡ usage_of error) ⊎ ((kind_of error ≡ unknown_argument) × (Asks result → ⊥)) }
+{
+    if error.kind() == ErrorKind::UnknownArgument {
+        if let Some((name, text)) = negative_number(words) {
+            return Usage::no_number(alloc, name, text);
+        }
+    }
+    Usage::from(error)
+}
+
+fn run_of(alloc: Global, matches: &ArgMatches<'_>) -> Result<Run, Usage>
+    ensures values { IfOk result (AreRunValues (rows_of (found_of matches.now))) }
+    ensures none { IfErr result (λ usage. Refuses usage ((run : _)
+        → AreRunValues (rows_of (found_of matches.now)) run → ⊥)) }
+{
+    let options = run_options_of(alloc, matches)?;
+    let seconds = SECONDS.number(alloc, matches)?;
+    let sweep = sweep_of(alloc, matches)?;
+    let record = path_of(alloc, matches, "record")?;
+    let as_version = recorded_version_of(alloc, matches)?;
+    let limits = limits_of(alloc, matches)?;
+    let main = path_of(alloc, matches, "main")?;
+    let files = files_of(alloc, matches)?;
+    check_files(alloc, matches, &files)?;
+    let follow = follow_of(alloc, matches)?;
+    Ok(Run {
+        options,
+        seconds,
+        sweep,
+        record,
+        as_version,
+        limits,
+        main,
+        files,
+        explain: is_set(matches, "explain"),
+        quiet: is_set(matches, "quiet"),
+        files_alone: is_set(matches, "files-alone"),
+        follow,
+    })
+}
+
+fn replay_of(alloc: Global, matches: &ArgMatches<'_>) -> Result<Replay, Usage>
+    ensures values { IfOk result (AreValues (rows_of (found_of matches.now))) }
+    ensures none { IfErr result (λ usage. Refuses usage ((replay : _)
+        → AreValues (rows_of (found_of matches.now)) replay → ⊥)) }
+{
+    let schedule = required_path_of(alloc, matches, "schedule")?;
+    let then_run = then_run_of(alloc, matches)?;
+    let budget = WHOLE_BUDGET.number(alloc, matches)?;
+    let limits = limits_of(alloc, matches)?;
+    let main = path_of(alloc, matches, "main")?;
+    let files = files_of(alloc, matches)?;
+    check_file(alloc, matches, schedule.as_str())?;
+    check_files(alloc, matches, &files)?;
+    Ok(Replay {
+        schedule,
+        then_run,
+        budget,
+        limits,
+        main,
+        files,
+        explain: is_set(matches, "explain"),
+        quiet: is_set(matches, "quiet"),
+        any_files: is_set(matches, "any-files"),
+        files_alone: is_set(matches, "files-alone"),
+        follow: is_set(matches, "follow"),
+    })
+}
+
+fn trace_of(alloc: Global, matches: &ArgMatches<'_>) -> Result<Trace, Usage>
+    ensures values { IfOk result (AreTraceValues (rows_of (found_of matches.now))) }
+    ensures none { IfErr result (λ usage. Refuses usage ((trace : _)
+        → AreTraceValues (rows_of (found_of matches.now)) trace → ⊥)) }
+{
+    let schedule = required_path_of(alloc, matches, "schedule")?;
+    let from = FROM.number(alloc, matches)?;
+    let to = TO.number(alloc, matches)?;
+    let only = ONLY.numbers(alloc, matches)?;
+    let form = form_of(alloc, matches)?;
+    let limits = limits_of(alloc, matches)?;
+    let main = path_of(alloc, matches, "main")?;
+    let files = files_of(alloc, matches)?;
+    Ok(Trace {
+        schedule,
+        from,
+        to,
+        only,
+        form,
+        summary: is_set(matches, "summary"),
+        limits,
+        main,
+        files,
+        explain: is_set(matches, "explain"),
+        quiet: is_set(matches, "quiet"),
+        any_files: is_set(matches, "any-files"),
+        files_alone: is_set(matches, "files-alone"),
+    })
+}
+
+fn search_of(alloc: Global, matches: &ArgMatches<'_>) -> Result<Search, Usage>
+    ensures values { IfOk result (AreSearchValues (rows_of (found_of matches.now))) }
+    ensures none { IfErr result (λ usage. Refuses usage ((search : _)
+        → AreSearchValues (rows_of (found_of matches.now)) search → ⊥)) }
+{
+    let goal = goal_of(alloc, matches)?;
+    let states = STATES.number(alloc, matches)?;
+    let memory = MEMORY.number(alloc, matches)?;
+    let seconds = SECONDS.number(alloc, matches)?;
+    let record = path_of(alloc, matches, "record")?;
+    let as_version = recorded_version_of(alloc, matches)?;
+    let limits = limits_of(alloc, matches)?;
+    let main = path_of(alloc, matches, "main")?;
+    let files = files_of(alloc, matches)?;
+    check_goal(alloc, matches, &goal)?;
+    check_files(alloc, matches, &files)?;
+    Ok(Search {
+        goal,
+        states,
+        memory,
+        seconds,
+        record,
+        as_version,
+        limits,
+        main,
+        files,
+        explain: is_set(matches, "explain"),
+        quiet: is_set(matches, "quiet"),
+        files_alone: is_set(matches, "files-alone"),
+    })
+}
+
+fn shrink_of(alloc: Global, matches: &ArgMatches<'_>) -> Result<Shrink, Usage>
+    ensures values { IfOk result (AreShrinkValues (rows_of (found_of matches.now))) }
+    ensures none { IfErr result (λ usage. Refuses usage ((shrink : _)
+        → AreShrinkValues (rows_of (found_of matches.now)) shrink → ⊥)) }
+{
+    let goal = required_goal_of(alloc, matches)?;
+    let schedule = required_path_of(alloc, matches, "schedule")?;
+    let budget = WHOLE_BUDGET.number(alloc, matches)?;
+    let record = path_of(alloc, matches, "record")?;
+    let as_version = recorded_version_of(alloc, matches)?;
+    let limits = limits_of(alloc, matches)?;
+    let main = path_of(alloc, matches, "main")?;
+    let files = files_of(alloc, matches)?;
+    check_file(alloc, matches, schedule.as_str())?;
+    check_files(alloc, matches, &files)?;
+    Ok(Shrink {
+        goal,
+        schedule,
+        any_files: is_set(matches, "any-files"),
+        budget,
+        record,
+        as_version,
+        limits,
+        main,
+        files,
+        explain: is_set(matches, "explain"),
+        quiet: is_set(matches, "quiet"),
+        files_alone: is_set(matches, "files-alone"),
+    })
+}
+
+/// The outcome that has to be there, and that is read from no file which is to be written.
+fn required_goal_of(alloc: Global, matches: &ArgMatches<'_>) -> Result<Goal, Usage>
+    ensures goal { IfOk result (IsRequiredGoal (rows_of (found_of matches.now))) }
+    ensures none { IfErr result (λ usage. Refuses usage ((goal : _)
+        → IsRequiredGoal (rows_of (found_of matches.now)) goal → ⊥)) }
+{
+    let goal = goal_of(alloc, matches)?;
+    check_goal(alloc, matches, &goal)?;
+    match goal {
+        Some(goal) => Ok(goal),
+        None => Err(missing(alloc, "an outcome is missing")),
+    }
+}
+
+fn verify_of(alloc: Global, matches: &ArgMatches<'_>) -> Result<Verify, Usage>
+    ensures values { IfOk result (AreVerifyValues (rows_of (found_of matches.now))) }
+    ensures none { IfErr result (λ usage. Refuses usage ((verify : _)
+        → AreVerifyValues (rows_of (found_of matches.now)) verify → ⊥)) }
+{
+    let files = files_of(alloc, matches)?;
+    let main = path_of(alloc, matches, "main")?;
+    Ok(Verify {
+        main,
+        files,
+        library: is_set(matches, "library"),
+        explain: is_set(matches, "explain"),
+        quiet: is_set(matches, "quiet"),
+        files_alone: is_set(matches, "files-alone"),
+    })
+}
+
+fn disasm_of(alloc: Global, matches: &ArgMatches<'_>) -> Result<Disasm, Usage>
+    ensures values { IfOk result (AreDisasmValues (rows_of (found_of matches.now))) }
+    ensures none { IfErr result (λ usage. Refuses usage ((disasm : _)
+        → AreDisasmValues (rows_of (found_of matches.now)) disasm → ⊥)) }
+{
+    let files = files_of(alloc, matches)?;
+    Ok(Disasm {
+        files,
+        names: is_set(matches, "names"),
+        explain: is_set(matches, "explain"),
+        quiet: is_set(matches, "quiet"),
+    })
+}
+
+/// The form in which a trace is asked for. It is at most one.
+fn form_of(alloc: Global, matches: &ArgMatches<'_>) -> Result<TraceForm, Usage>
+    ensures form { IfOk result (IsTraceForm (rows_of (found_of matches.now))) }
+    ensures none { IfErr result (λ usage. Refuses usage ((form : _)
+        → IsTraceForm (rows_of (found_of matches.now)) form → ⊥)) }
+{
+    let columns = is_set(matches, "columns");
+    let json = is_set(matches, "json");
+    if columns && json {
+        Err(Usage::not_together(alloc, "--columns", "--json"))
+    } else if columns {
+        Ok(TraceForm::Columns)
+    } else if json {
+        Ok(TraceForm::Json)
+    } else {
+        Ok(TraceForm::Plain)
+    }
+}
+
+/// How the run goes on where the schedule ends. `--record` stands beside `--then-run` alone, and so does
+/// `--as-version`.
+fn then_run_of(alloc: Global, matches: &ArgMatches<'_>) -> Result<Option<ThenRun>, Usage>
+    ensures values { IfOk result (IsThenRun (rows_of (found_of matches.now))) }
+    ensures none { IfErr result (λ usage. Refuses usage ((then_run : _)
+        → IsThenRun (rows_of (found_of matches.now)) then_run → ⊥)) }
+{
+    let record = path_of(alloc, matches, "record")?;
+    let as_version = recorded_version_of(alloc, matches)?;
+    if is_set(matches, "then-run") {
+        let budget = WHOLE_BUDGET.number(alloc, matches)?;
+        Ok(Some(ThenRun {
+            budget,
+            record,
+            as_version,
+        }))
+    } else if record.is_some() {
+        Err(Usage::not_provided(alloc, "--then-run"))
+    } else {
+        Ok(None)
+    }
+}
+
+fn run_options_of(alloc: Global, matches: &ArgMatches<'_>) -> Result<RunOptions, Usage>
+    ensures numbers { IfOk result (AreRunNumbers (rows_of (found_of matches.now))) }
+    ensures none { IfErr result (λ usage. Refuses usage ((options : _)
+        → AreRunNumbers (rows_of (found_of matches.now)) options → ⊥)) }
+{
+    let options = RunOptions {
+        workers: WORKERS.number(alloc, matches)?,
+        budget: BUDGET.number(alloc, matches)?,
+        quantum: QUANTUM.number(alloc, matches)?,
+        seed: seed_of(alloc, matches)?,
+        policy: policy_of(alloc, matches)?,
+    };
+    match clash_of(matches, &options) {
+        None => Ok(options),
+        Some((one, other)) => Err(Usage::not_together(alloc, one, other)),
+    }
+}
+
+/// Two of the options of a run that don't go together, if there are such. Of a sweep each is looked at by itself.
+fn clash_of(matches: &ArgMatches<'_>, options: &RunOptions) -> Option<Clash>
+    ensures { MatchOption result (UnlessSweep (first_of (codes "seeds") (rows_of (found_of matches.now)))
+        (GoTogether options.now.workers options.now.quantum options.now.seed options.now.policy))
+        (λ _. UnlessSweep (first_of (codes "seeds") (rows_of (found_of matches.now)))
+        (GoTogether options.now.workers options.now.quantum options.now.seed options.now.policy) → ⊥) }
+{
+    match matches.get_str(SEEDS) {
+        Some(_) => None,
+        None => options.clash(),
+    }
+}

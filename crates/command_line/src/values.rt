@@ -1,0 +1,153 @@
+//! Values of options that several commands have.
+
+ghost use Rattle.std.specs.Prelude.{◌≡◌, List, false, Some, codes, map, string_bytes, IfOk, IfErr};
+ghost use Rattle.std.specs.Option.{option_map};
+ghost use Rattle.clap.specs.Words.{all_of, first_of, found_of, rows_of, Text};
+ghost use Rattle.command_line.specs.CommandLine.{AreLimitNumbers, Asks, IsRecordedVersion, Refuses, is_set as is_true};
+ghost use Rattle.command_line.specs.Goals.{IsGoal};
+
+use crate::goal::goal_by;
+use crate::numbers::{AS_VERSION, CELLS, FRAMES, MONITORS, OBJECTS, THREADS};
+use crate::options::{Goal, LimitOptions};
+use crate::parsers::program;
+use crate::usage::Usage;
+use clap::ArgMatches;
+use clap::error::ErrorKind;
+use std::alloc::{AllocError, Global};
+
+/// The fault that the words lack something. The parser says so first, so that this text is never seen.
+pub(crate) fn missing(alloc: Global, what: &str) -> Usage
+    ensures { Asks result → ⊥ }
+{
+    match missing_argument(alloc, what) {
+        Ok(error) => Usage::Parser(error),
+        Err(_) => Usage::OutOfMemory,
+    }
+}
+
+fn missing_argument(alloc: Global, what: &str) -> Result<clap::Error, clap::Error> {
+    let mut program = program(alloc)?;
+    Ok(program.error(ErrorKind::MissingRequiredArgument, what)?)
+}
+
+/// Whether a flag is there.
+pub(crate) fn is_set(matches: &ArgMatches<'_>, flag: &str) -> bool
+    ensures { result ≡ is_true (first_of flag.now (rows_of (found_of matches.now))) }
+{
+    match matches.get_str(flag) {
+        Some(text) => text == "true",
+        None => false,
+    }
+}
+
+/// The outcome that a search is to find, where one is asked for.
+pub(crate) fn goal_of(alloc: Global, matches: &ArgMatches<'_>) -> Result<Option<Goal>, Usage>
+    ensures goal { IfOk result (IsGoal (first_of (codes "for") (rows_of (found_of matches.now)))) }
+    ensures none { IfErr result (λ usage. Refuses usage ((goal : _)
+        → IsGoal (first_of (codes "for") (rows_of (found_of matches.now))) goal → ⊥)) }
+{
+    match matches.get_str("for") {
+        None => Ok(None),
+        Some(word) => Ok(Some(goal_by(alloc, word)?)),
+    }
+}
+
+pub(crate) fn limits_of(alloc: Global, matches: &ArgMatches<'_>) -> Result<LimitOptions, Usage>
+    ensures limits { IfOk result (AreLimitNumbers (rows_of (found_of matches.now))) }
+    ensures none { IfErr result (λ usage. Refuses usage ((limits : _)
+        → AreLimitNumbers (rows_of (found_of matches.now)) limits → ⊥)) }
+{
+    Ok(LimitOptions {
+        objects: OBJECTS.number(alloc, matches)?,
+        cells: CELLS.number(alloc, matches)?,
+        monitors: MONITORS.number(alloc, matches)?,
+        threads: THREADS.number(alloc, matches)?,
+        frames: FRAMES.number(alloc, matches)?,
+    })
+}
+
+/// The path that an argument has which has to be there.
+pub(crate) fn required_path_of(
+    alloc: Global,
+    matches: &ArgMatches<'_>,
+    argument: &str,
+) -> Result<String, Usage>
+    ensures path { IfOk result (λ path.
+        first_of argument.now (rows_of (found_of matches.now)) ≡ Some (string_bytes path)) }
+    ensures none { IfErr result (λ usage. Refuses usage ((path : _)
+        → first_of argument.now (rows_of (found_of matches.now)) ≡ Some path → ⊥)) }
+{
+    match path_of(alloc, matches, argument)? {
+        Some(path) => Ok(path),
+        None => Err(missing(alloc, "a file is missing")),
+    }
+}
+
+/// The text that an option has, as a path or a name, where it is there.
+pub(crate) fn path_of(
+    alloc: Global,
+    matches: &ArgMatches<'_>,
+    option: &str,
+) -> Result<Option<String>, AllocError>
+    ensures { IfOk result (λ path.
+        first_of option.now (rows_of (found_of matches.now)) ≡ option_map string_bytes path) }
+{
+    match matches.get_str(option) {
+        Some(path) => Ok(Some(String::from_str(alloc, path)?)),
+        None => Ok(None),
+    }
+}
+
+/// The paths of the class files.
+pub(crate) fn files_of(alloc: Global, matches: &ArgMatches<'_>) -> Result<Vec<String>, Usage>
+    ensures files { IfOk result (λ files. all_of (codes "files") (rows_of (found_of matches.now))
+        ≡ Some (map string_bytes files.items)) }
+    ensures none { IfErr result (λ usage. Refuses usage ((files : _)
+        → all_of (codes "files") (rows_of (found_of matches.now)) ≡ Some files → ⊥)) }
+{
+    match matches.get_strs("files") {
+        Some(paths) => Ok(copied(alloc, paths)?),
+        None => Err(missing(alloc, "the class files are missing")),
+    }
+}
+
+fn copied(alloc: Global, texts: &[&str]) -> Result<Vec<String>, AllocError>
+    ensures { IfOk result (λ copies. map string_bytes copies.items ≡ map (λ text. text.now) texts.now) }
+{
+    let mut copies = Vec::with_capacity(alloc, texts.len())?;
+    for text in texts {
+        copies.push(String::from_str(alloc, text)?)?;
+    }
+    Ok(copies)
+}
+
+/// The version that a recorded schedule is of at most. `--as-version` stands beside `--record` alone.
+pub(crate) fn recorded_version_of(
+    alloc: Global,
+    matches: &ArgMatches<'_>,
+) -> Result<Option<u32>, Usage>
+    ensures version { IfOk result (IsRecordedVersion (rows_of (found_of matches.now))) }
+    ensures none { IfErr result (λ usage. Refuses usage ((version : _)
+        → IsRecordedVersion (rows_of (found_of matches.now)) version → ⊥)) }
+{
+    let version = AS_VERSION.number(alloc, matches)?;
+    match matches.get_str("record") {
+        Some(_) => Ok(version),
+        None => no_version(alloc, version, "--record <FILE>"),
+    }
+}
+
+/// Refuses a version, where the option isn't there that it stands beside.
+pub(crate) fn no_version(
+    alloc: Global,
+    version: Option<u32>,
+    beside: &str,
+) -> Result<Option<u32>, Usage>
+    ensures none { IfOk result (λ same. (same ≡ None) × (version ≡ None)) }
+    ensures refused { IfErr result (λ usage. Refuses usage (version ≡ None → ⊥)) }
+{
+    match version {
+        Some(_) => Err(Usage::not_provided(alloc, beside)),
+        None => Ok(None),
+    }
+}

@@ -1,0 +1,4 @@
+mod Places
+pub mod TextLaws
+pub mod PoolLaws
+pub mod Passing

@@ -1,0 +1,3 @@
+mod NameLaws
+mod FieldLaws
+mod MethodLaws

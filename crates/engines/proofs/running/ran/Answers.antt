@@ -1,0 +1,43 @@
+use Rattle.std.proofs.Common.{ap, arith, map, vec_items, subst, sym, ◌∙◌}
+use Rattle.std.proofs.lemmas.List.{length-map}
+use Rattle.std.specs.Prelude.{IfSome, IsTrue, is_some}
+use Rattle.std.specs.Option.{option_map}
+use Rattle.model.specs.Schedule.{events_of}
+use Rattle.schedule.specs.Joined.{RecordedFile}
+use Rattle.engines.specs.RecordForms.{record_form, recorded_as}
+use Rattle.engines.specs.Stopped.{run_text}
+use Rattle.engines.proofs.RunLemmas.{by_one, by_two, few_files}
+use Rattle.engines.proofs.running.ran.Goals as goal
+
+pub tell_growth-requires : goal.tell_growth-requires
+tell_growth-requires g c = omega (arith, few_files (map vec_items c.args.files.now) c.args.verified c.requires, length-map c.args.files.now vec_items)
+
+pub outcome_of-requires : goal.outcome_of-requires
+outcome_of-requires g c = omega (arith, few_files (map vec_items c.args.files.now) c.args.verified c.requires, length-map c.args.files.now vec_items)
+
+pub returns-clause-run : goal.returns-clause-run
+returns-clause-run g c =
+    let run = c.in_ok-recorded.recorded in
+    let within = c.in_ok-recorded.ensures.recorded in
+    by_two c.unless_stopped.result _ _ _ (λ outcome told same. record {
+      trees = c.args.verified;
+      accepted = c.requires;
+      limits = c.limits-limits.result;
+      chosen = c.limits-limits.ensures;
+      events = events_of run.schedule;
+      report = run.report;
+      end = run.end;
+      spent = within.0;
+      of_budget = within.1;
+      recorded = within.2.3;
+      as_asked = c.in_ok-recorded.ensures.as_asked;
+      told = told ∙ ap (λ b. run_text b run.report run.end) c.budget-budget.ensures;
+      ended = same.1 ∙ c.in_ok-outcome.ensures.ended;
+      spelled =
+          subst (λ file. IfSome (option_map vec_items file) (λ bytes. RecordedFile bytes (recorded_as c.limits-limits.result (record_form c.args.given c.args.options.now.as_version) (map vec_items c.args.files.now)) (events_of run.schedule)))
+          (sym same.0) c.in_ok-outcome.ensures.spelled;
+    }) c.unless_stopped.ensures.told c.unless_stopped.ensures.same
+
+pub returns-clause-asked : goal.returns-clause-asked
+returns-clause-asked g c =
+    by_one c.unless_stopped.result _ _ (λ outcome same asked. subst (λ file. IsTrue (is_some file)) (sym same.0) (c.in_ok-outcome.ensures.asked (c.is_some.ensures ∙ asked))) c.unless_stopped.ensures.same

@@ -1,0 +1,43 @@
+use Rattle.std.proofs.Common.{◌≡◌, ◌∙◌, ℕ, List, Bool, ap, map, subst, vec_items}
+use Rattle.std.specs.Prelude.{is_some, unwrap_or}
+use Rattle.std.specs.Arc.{arc_value}
+use Rattle.sweeps.specs.Policies.{IsRunWith, RunsBy}
+use Rattle.sweeps.specs.Sweeps.{Sweeps}
+use Rattle.sweeps.specs.Tallies.{Same, same_in}
+use Rattle.sweeps.specs.Texts.{sweep_text}
+use Rattle.sweeps.specs.declared.policy_runs.SeededPolicy.{SeededPolicy}
+use Rattle.engines.specs.OutcomeFiles.{AreOutcomeFiles}
+use Rattle.engines.specs.RecordForms.{record_form, recorded_as}
+use Rattle.engines.specs.Sweeps.{seeded_policy}
+use Rattle.engines.proofs.sweep_runs.swept_over.Goals as goal
+
+pub returns : goal.returns
+returns g c =
+    let task = c.args.task in
+    let options = task.options.now in
+    let sweep = task.sweep.now in
+    let swept = c.in_ok-swept.swept in
+    let schedules = map vec_items c.in_ok-schedules.schedules.items in
+    let told = recorded_as c.limits-limits.result (record_form task.given options.as_version) (map vec_items c.args.files.now) in
+    let by : SeededPolicy → ℕ → RunsBy = λ policy budget. record { policy = policy; trees = arc_value c.args.verified.now; limits = c.limits-limits.result; budget = budget } in
+    let runs : c.new-runs-2.result ≡ by (seeded_policy sweep.policy) (unwrap_or options.options.budget 10000000) =
+    c.new-runs-2.ensures
+    ∙ (c.new-runs.ensures
+    ∙ (ap (λ p. by p c.sweep_budget-budget.result) c.seeded_policy-policy.ensures
+    ∙ ap (by (seeded_policy sweep.policy)) c.sweep_budget-budget.ensures))
+    in
+    record {
+      limits = c.limits-limits.result;
+      chosen = c.limits-limits.ensures;
+      swept = swept;
+      sweeps = subst (λ (r : RunsBy). Sweeps (IsRunWith r) (g.P.Watch.may_stop c.args.watch.now) task.wanted.now sweep.seeds.first sweep.seeds.last swept) runs
+          c.in_ok-swept.ensures;
+      told =
+          c.in_ok-text.ensures
+          ∙ (ap (λ p. sweep_text p swept.first c.as_str.result.now swept.tally swept.end) c.seeded_policy-policy.ensures
+          ∙ ap (λ (words : List ℕ). sweep_text (seeded_policy sweep.policy) swept.first words swept.tally swept.end) (c.as_str.ensures.value ∙ c.in_ok-words.ensures));
+      spelled =
+          subst (λ (same : List Same). AreOutcomeFiles (is_some options.record) told same schedules) c.same.ensures
+          (subst (λ (asked : Bool). AreOutcomeFiles asked told (map same_in c.same.result.now) schedules) c.is_some-is_recorded.ensures c.in_ok-schedules.ensures);
+      ended = c.of_sweep-status.ensures;
+    }

@@ -1,0 +1,4 @@
+mod Paths
+mod Runs
+mod Threads
+mod Waiting

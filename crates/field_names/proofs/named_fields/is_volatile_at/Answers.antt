@@ -1,0 +1,23 @@
+use Rattle.std.proofs.Common.{rules, ◌≡◌, Some, false, Option, List, map, ap, sym, ◌∙◌}
+use Rattle.std.specs.Prelude.{slice_get}
+use Rattle.std.specs.Option.{option_map_or}
+use Rattle.model.specs.Tree.{FieldTree}
+use Rattle.constant_pool.specs.View.{reference_of}
+use Rattle.constant_pool.proofs.Passing.{read_at}
+use Rattle.class_tree.specs.declared.tree.Field as declared_field
+use Rattle.class_tree.specs.View.{field_of, file_of}
+use Rattle.hierarchy.specs.Places.{class_at}
+use Rattle.hierarchy.proofs.Apart.{field_there}
+use Rattle.data_races.specs.Variables.{is_volatile_field}
+use Rattle.field_names.proofs.named_fields.is_volatile_at.Goals as goal
+
+pub returns-in-Some-get : goal.returns-in-Some-get
+returns-in-Some-get c =
+    let files = c.args.set.now in
+    let file = file_of c.in-Some.class.now in
+    let declared = field_of c.in-Some-get.declared.now in
+    let at : class_at files c.args.place.class ≡ Some file = search rules in
+    let read = read_at field_of c.deref.result.now c.args.place.member c.in-Some-get.declared.now c.in-Some-get.ensures.lookup.3.0 c.in-Some-get.ensures.lookup.1 in
+    let there : slice_get file.fields c.args.place.member ≡ Some declared = ap (λ (vs : List declared_field.Field). slice_get (map field_of vs) c.args.place.member) (sym c.deref.ensures.value) ∙ read in
+    let so : c.has.result ≡ is_volatile_field declared = search rules in
+    so ∙ ap (λ (o : Option FieldTree). option_map_or is_volatile_field o false) (sym there ∙ field_there files (reference_of c.args.field) c.args.place file c.requires.differ at c.requires.at)

@@ -1,0 +1,4 @@
+pub mod Kept
+pub mod Laid
+pub mod Sound
+pub mod Same

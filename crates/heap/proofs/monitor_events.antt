@@ -1,0 +1,3 @@
+pub mod Woken
+pub mod Ending
+pub mod Alive

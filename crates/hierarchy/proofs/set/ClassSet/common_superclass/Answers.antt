@@ -1,0 +1,14 @@
+use Rattle.std.proofs.Common.{List, sym, subst}
+use Rattle.hierarchy.specs.declared.lineage.Lineage.{Lineage}
+use Rattle.hierarchy.specs.Set.{trees_of, files_of}
+use Rattle.hierarchy.specs.Lineages.{HasLineages}
+use Rattle.hierarchy.proofs.set.ClassSet.common_superclass.Goals as goal
+
+pub common_superclass-requires : goal.common_superclass-requires
+common_superclass-requires c =
+    let set = c.self.inside in
+    record {
+      told =
+          subst (λ files. HasLineages files c.deref.result.now) c.self.view_is
+          (subst (λ (table : List Lineage). HasLineages (files_of (trees_of set.classes.items)) table) (sym c.deref.ensures.value) c.self.invariant.lineages);
+    }

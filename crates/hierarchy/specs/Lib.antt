@@ -1,0 +1,11 @@
+pub mod Set
+pub mod Places
+pub mod Wanted
+pub mod Above
+pub mod Numbers
+pub mod Ranks
+pub mod Fields
+pub mod Types
+pub mod Lineages
+pub mod MemberKeys
+pub mod MembersAt

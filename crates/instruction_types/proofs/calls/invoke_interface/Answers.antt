@@ -1,0 +1,22 @@
+use Rattle.std.proofs.Common.{◌≡◌, ◌∙◌, false, true, refl, sym, subst}
+use Rattle.std.specs.Option.{option_map_or}
+use Rattle.model.specs.Classes.{Program}
+use Rattle.model.specs.Lookup.{method_of, find_interface_method}
+use Rattle.model.specs.Operands.{values}
+use Rattle.model.specs.Calls.{is_instance_one, interface_call}
+use Rattle.constant_pool.specs.View.{reference_of}
+use Rattle.hierarchy.specs.Places.{member_in}
+use Rattle.instruction_types.specs.Wants.{TellsCallOn}
+use Rattle.instruction_types.proofs.Calling.{answers_call_on, picked_method}
+use Rattle.instruction_types.proofs.calls.invoke_interface.Goals as goal
+
+pub returns : goal.returns
+returns c = λ site others.
+    let files = c.args.hierarchy.now in
+    let m = reference_of c.args.method in
+    let found = member_in files m c.in-Some.found in
+    let kind : option_map_or is_instance_one (method_of files found) false ≡ true =
+    sym (subst (λ (p : Program). c.is_method_of_kind.result ≡ option_map_or is_instance_one (method_of p (member_in p m c.in-Some.found)) false) c.set-set.ensures c.is_method_of_kind.ensures) ∙ c.if-not-is_method_of_kind.false in
+    answers_call_on files site m others _ (interface_call values files site m.class found) c.call_on_named.result
+    (picked_method files is_instance_one (interface_call values files site m.class) (find_interface_method files m) found c.in-Some.ensures.found kind) refl (λ ts ops rest. refl)
+    (subst (λ (p : Program). TellsCallOn p m c.call_on_named.result) c.set-set.ensures c.call_on_named.ensures)

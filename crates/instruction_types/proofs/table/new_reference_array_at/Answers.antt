@@ -1,0 +1,21 @@
+use Rattle.std.proofs.Common.{Some, ◌||◌, nat_le, subst}
+use Rattle.std.specs.List.{list_any}
+use Rattle.model.specs.Classes.{Program}
+use Rattle.model.specs.DescriptorScan.{dimensions_of}
+use Rattle.model.specs.DescriptorParts.{classes_named}
+use Rattle.model.specs.DescribedTypes.{type_named}
+use Rattle.model.specs.Resolution.{is_missing}
+use Rattle.model.specs.Operands.{values}
+use Rattle.model.specs.Arrays.{reference_array_meaning}
+use Rattle.types.specs.method_code.View.{files_of}
+use Rattle.types.specs.method_code.Site.{site_of}
+use Rattle.instruction_types.specs.Answers.{Answers, is_no_type}
+use Rattle.instruction_types.proofs.Sites.{for_array}
+use Rattle.instruction_types.proofs.table.new_reference_array_at.Goals as goal
+
+pub returns-in-Some : goal.returns-in-Some
+returns-in-Some c =
+    let site = site_of c.args.site.now in
+    let name = c.in-Some.name.now in
+    for_array (files_of c.args.site.now.method) site c.new_reference_array.result c.args.index name c.requires.there c.in-Some.ensures
+    (subst (λ (p : Program). Answers p site (list_any (is_missing p) (classes_named name) || (nat_le 255 (dimensions_of name) || is_no_type name)) (Some (reference_array_meaning values p site (type_named name))) c.new_reference_array.result) c.set.ensures (c.new_reference_array.ensures site))

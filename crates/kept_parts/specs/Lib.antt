@@ -1,0 +1,5 @@
+pub mod Heaps
+pub mod Objects
+pub mod Rows
+pub mod Stacks
+pub mod Threads

@@ -1,0 +1,5 @@
+pub mod One
+pub mod Read
+pub mod Same
+pub mod Stays
+pub mod Written

@@ -1,0 +1,19 @@
+use Rattle.std.proofs.Common.{arith, sym}
+use Rattle.std.proofs.lemmas.List.Folds.{flat_map-map}
+use Rattle.class_tree.specs.View.{method_of}
+use Rattle.library_files.specs.Parts.{declared_classes}
+use Rattle.library_files.proofs.Needing.{adds_nothing, adds_step, adds_all, adds_same}
+use Rattle.library_files.proofs.needs.need_methods.Goals as goal
+
+pub loop-method-init : goal.loop-method-init
+loop-method-init c = λ pool. adds_nothing pool c.args.texts.now
+
+pub loop-method-preserved : goal.loop-method-preserved
+loop-method-preserved c = λ pool.
+    adds_step pool c.args.texts.now c.loop-method.texts c.need_descriptor.new.self (λ f. declared_classes pool (method_of f)) c.args.methods.now c.loop-method.method-index c.method-item.result c.method-item.result (omega (arith, c.loop-method-test.true)) c.method-item.is
+    (c.loop-method.invariant pool) (c.in_ok-need_descriptor.ensures pool)
+
+pub returns : goal.returns
+returns c = λ pool.
+    adds_same pool c.args.texts.now c.loop-method.texts _ _ (sym (flat_map-map (declared_classes pool) method_of c.args.methods.now))
+    (adds_all pool c.args.texts.now c.loop-method.texts (λ f. declared_classes pool (method_of f)) c.args.methods.now c.loop-method.method-index (omega (arith, c.loop-method-test.false)) (c.loop-method.invariant pool))

@@ -1,0 +1,4 @@
+pub mod Operands
+pub mod Texts
+pub mod Rows
+pub mod Walks

@@ -1,0 +1,4 @@
+pub mod Rules
+pub mod Finding
+pub mod Declared
+pub mod Suspected

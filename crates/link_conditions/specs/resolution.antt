@@ -1,0 +1,4 @@
+pub mod Found
+pub mod Operands
+pub mod Rows
+pub mod Unresolved

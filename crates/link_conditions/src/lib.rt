@@ -1,0 +1,7 @@
+//! What linking asks of a set of class files, and how it says no.
+#![tactic(auto)]
+
+pub mod class_rules;
+pub mod limits_of_linking;
+pub mod refusal;
+pub mod resolution;

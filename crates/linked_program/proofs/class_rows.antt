@@ -1,0 +1,4 @@
+pub mod Counts
+pub mod Supers
+pub mod Initialising
+pub mod Filling

@@ -1,0 +1,5 @@
+pub mod Rows
+pub mod KindsOfRows
+pub mod Constants
+pub mod Classes
+pub mod Fields

@@ -1,0 +1,2 @@
+pub mod PoolRows
+pub mod CaughtClasses

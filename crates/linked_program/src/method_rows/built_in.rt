@@ -1,0 +1,130 @@
+//! Which of the methods of the machine a method without code is.
+
+ghost use Rattle.std.specs.Prelude.{◌≡◌, find, map, option_map};
+ghost use Rattle.constant_pool.specs.View.{reference_of};
+ghost use Rattle.model.specs.Names.{member_eq};
+ghost use Rattle.model.specs.BuiltInMethods.{built_in_method, is_row_of};
+ghost use Rattle.linked_code.specs.Methods.{built_in_of};
+ghost use Rattle.linked_program.specs.method_rows.BuiltIns.{declared_member, entry_of};
+
+use classfile::Reference;
+use linked_code::BuiltInMethod;
+
+/// A method of a built-in class that has no code.
+#[derive(Clone, Copy)]
+struct Declared {
+    class: &'static [u8],
+    name: &'static [u8],
+    descriptor: &'static [u8],
+    method: BuiltInMethod,
+}
+
+/// All but the constructors without parameters.
+const DECLARED: [Declared; 13] = [
+    Declared {
+        class: b"java/lang/Object",
+        name: b"wait",
+        descriptor: b"()V",
+        method: BuiltInMethod::ObjectWait,
+    },
+    Declared {
+        class: b"java/lang/Object",
+        name: b"notify",
+        descriptor: b"()V",
+        method: BuiltInMethod::ObjectNotify,
+    },
+    Declared {
+        class: b"java/lang/Object",
+        name: b"notifyAll",
+        descriptor: b"()V",
+        method: BuiltInMethod::ObjectNotifyAll,
+    },
+    Declared {
+        class: b"java/lang/Thread",
+        name: b"<init>",
+        descriptor: b"(Ljava/lang/Runnable;)V",
+        method: BuiltInMethod::ConstructWithTarget,
+    },
+    Declared {
+        class: b"java/lang/Thread",
+        name: b"start",
+        descriptor: b"()V",
+        method: BuiltInMethod::ThreadStart,
+    },
+    Declared {
+        class: b"java/lang/Thread",
+        name: b"interrupt",
+        descriptor: b"()V",
+        method: BuiltInMethod::ThreadInterrupt,
+    },
+    Declared {
+        class: b"java/lang/Thread",
+        name: b"isInterrupted",
+        descriptor: b"()Z",
+        method: BuiltInMethod::ThreadIsInterrupted,
+    },
+    Declared {
+        class: b"java/lang/Thread",
+        name: b"interrupted",
+        descriptor: b"()Z",
+        method: BuiltInMethod::ThreadInterrupted,
+    },
+    Declared {
+        class: b"java/lang/Thread",
+        name: b"yield",
+        descriptor: b"()V",
+        method: BuiltInMethod::ThreadYield,
+    },
+    Declared {
+        class: b"java/lang/Thread",
+        name: b"currentThread",
+        descriptor: b"()Ljava/lang/Thread;",
+        method: BuiltInMethod::ThreadCurrentThread,
+    },
+    Declared {
+        class: b"java/lang/Thread",
+        name: b"join",
+        descriptor: b"()V",
+        method: BuiltInMethod::ThreadJoin,
+    },
+    Declared {
+        class: b"java/lang/Thread",
+        name: b"isAlive",
+        descriptor: b"()Z",
+        method: BuiltInMethod::ThreadIsAlive,
+    },
+    Declared {
+        class: b"java/io/PrintStream",
+        name: b"println",
+        descriptor: b"(I)V",
+        method: BuiltInMethod::PrintStreamPrintln,
+    },
+];
+
+fn is_declared(declared: &Declared, method: Reference<'_>) -> bool
+    ensures { result ≡ member_eq (declared_member declared.now) (reference_of method.entry) }
+{
+    declared.class == method.class
+        && declared.name == method.name
+        && declared.descriptor == method.descriptor
+}
+
+/// The first among some that is declared as a method is.
+fn declared_among(all: &[Declared], method: Reference<'_>) -> Option<BuiltInMethod>
+    ensures { option_map built_in_of result
+        ≡ option_map (λ row. row.1) (find (is_row_of (reference_of method.entry)) (map entry_of all.now)) }
+{
+    for declared in all {
+        if is_declared(declared, method) {
+            return Some(declared.method);
+        }
+    }
+    None
+}
+
+/// Which of them a method without code is: the constructors without parameters have no row of their own.
+pub(crate) fn built_in_method(method: Reference<'_>) -> BuiltInMethod
+    ensures { built_in_of result ≡ built_in_method (reference_of method.entry) }
+{
+    declared_among(&DECLARED, method).unwrap_or(BuiltInMethod::Construct)
+}

@@ -1,0 +1,4 @@
+pub mod Lists
+pub mod Decoded
+pub mod Stages
+pub mod Telling

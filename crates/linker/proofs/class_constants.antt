@@ -1,0 +1,5 @@
+pub mod Sizes
+pub mod Places
+pub mod StaticConstants
+pub mod Pushes
+pub mod Numbers

@@ -1,0 +1,12 @@
+pub mod Positions
+pub mod Lineages
+pub mod Members
+pub mod StaticSlots
+pub mod Sums
+pub mod OwnNames
+pub mod Bounds
+pub mod Loops
+pub mod FieldPlaces
+pub mod RowLaws
+pub mod TableLaws
+pub mod NumberLaws

@@ -1,0 +1,11 @@
+use Rattle.std.proofs.Common.{◌≡◌, ◌≤◌, take, map, length}
+use Rattle.std.specs.List.{filter}
+use Rattle.classfile.specs.View.{field_of}
+use Rattle.model.specs.AccessFlags.{is_static_field}
+use Rattle.linker.proofs.field_links.count.static_count.Given as goal
+
+abbrev pub invariant-loop-field : goal.invariant-loop-field
+invariant-loop-field l = record {
+  few : l.count ≤ l.field-index;
+  counted : l.count ≡ length (filter is_static_field (map field_of (take l.field-index l.fields)));
+}

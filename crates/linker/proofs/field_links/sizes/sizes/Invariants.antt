@@ -1,0 +1,9 @@
+use Rattle.std.proofs.Common.{◌≡◌, ◌++◌, drop, map, length}
+use Rattle.model.specs.Tree.{FileTree}
+use Rattle.model.specs.Classes.{classes_of, name_of}
+use Rattle.model.specs.Lookup.{instance_fields}
+use Rattle.linker.specs.field_links.Slots.{sizes}
+use Rattle.linker.proofs.field_links.sizes.sizes.Given as goal
+
+abbrev pub invariant-loop-place : goal.invariant-loop-place
+invariant-loop-place l = l.rows.items ++ map (λ (file : FileTree). length (instance_fields l.set (name_of file))) (drop l.place (classes_of l.set)) ≡ sizes l.set

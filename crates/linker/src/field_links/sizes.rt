@@ -1,0 +1,22 @@
+//! How many slots the objects of each class have.
+
+ghost use Rattle.std.specs.Prelude.{◌≡◌, IfOk};
+ghost use Rattle.linker.specs.Linking.{IsLinked};
+ghost use Rattle.linker.specs.field_links.Slots.{sizes};
+
+use crate::field_links::chain::{chain_sum, shapes};
+use hierarchy::ClassSet;
+use std::alloc::{AllocError, Global};
+
+/// For each class how many instance fields its objects have, with those of its superclasses.
+pub(crate) fn sizes(alloc: Global, set: &ClassSet) -> Result<Vec<usize>, AllocError>
+    requires { IsLinked set.now }
+    ensures { IfOk result (λ rows. rows.items ≡ sizes set.now) }
+{
+    let shapes = shapes(alloc, set)?;
+    let mut rows = Vec::new(alloc);
+    for place in 0..shapes.len() {
+        rows.push(chain_sum(&shapes, place))?;
+    }
+    Ok(rows)
+}

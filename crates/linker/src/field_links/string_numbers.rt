@@ -1,0 +1,131 @@
+//! The texts of string constants, by their numbers.
+
+ghost use Rattle.std.specs.Prelude.{◌≡◌, length, map, IfOk};
+ghost use Rattle.std.specs.Option.{option_and_then};
+ghost use Rattle.model.specs.Classes.{Program};
+ghost use Rattle.model.specs.Pool.{string_at};
+ghost use Rattle.model.specs.StringConstants.{string_texts};
+ghost use Rattle.classfile.specs.View.{file_of};
+ghost use Rattle.linker.specs.field_links.Numbers.{number_in, text_number, string_number, IsStringRow, SayNumbers, AreStringNumbers};
+
+use classfile::ClassFile;
+use hierarchy::ClassSet;
+use link_conditions::limits_of_linking::{TextSet, add_texts};
+use std::alloc::{AllocError, Global};
+use std::marker::Model;
+
+/// For each String of the constant pools of a program's classes the number of its text, and how many texts there are.
+/// Equal texts of all files have one number; they count from 0 in the order of the files.
+#[derive(Drop)]
+pub struct StringNumbers {
+    /// For each class those that its constant pool has, by their index.
+    rows: Vec<Vec<Option<usize>>>,
+    count: usize,
+}
+
+impl Model for StringNumbers {
+    ghost use Rattle.std.specs.Prelude.{map};
+    ghost use Rattle.linker.specs.field_links.Numbers.{StringTables};
+
+    ghost Value = { StringTables };
+
+    ghost view = { λ s. record { rows = map (λ row. row.items) s.rows.items; count = s.count } };
+}
+
+/// The texts of the string constants of files.
+fn all_texts(alloc: Global, set: &ClassSet) -> Result<TextSet, AllocError>
+    ensures { IfOk result (λ texts. texts ≡ string_texts set.now) }
+{
+    let mut texts = TextSet::new(alloc);
+    for number in 0..set.file_count() {
+        let Some(file) = set.file_at(number) else {
+            return Ok(texts);
+        };
+        add_texts(alloc, &mut texts, file)?;
+    }
+    Ok(texts)
+}
+
+/// The number of the text of the String of an index.
+fn number_of(texts: &TextSet, file: &ClassFile, index: u16) -> Option<usize>
+    ensures { result ≡ option_and_then (text_number texts.now) (string_at file.now.pool index) }
+{
+    match file.pool.string(index) {
+        Some(text) => texts.number_of(text),
+        None => None,
+    }
+}
+
+/// The numbers of the texts of a file's Strings, by the index.
+fn number_row(
+    alloc: Global,
+    texts: &TextSet,
+    file: &ClassFile,
+) -> Result<Vec<Option<usize>>, AllocError>
+    ensures { IfOk result (λ row. IsStringRow texts.now (file_of file.now) row.items) }
+{
+    let mut row = Vec::new(alloc);
+    let indices = (file.pool.constants().len() + 1).min(0x1_0000);
+    for index in 0..indices {
+        row.push(number_of(texts, file, index as u16))?;
+    }
+    Ok(row)
+}
+
+/// The numbers of the texts of each class's Strings.
+fn number_rows(
+    alloc: Global,
+    set: &ClassSet,
+    texts: &TextSet,
+) -> Result<Vec<Vec<Option<usize>>>, AllocError>
+    requires { texts.now ≡ string_texts set.now }
+    ensures { IfOk result (λ rows. SayNumbers set.now (map (λ row. row.items) rows.items)) }
+{
+    let mut rows = Vec::new(alloc);
+    for place in 0..set.count() {
+        let Some(file) = set.class_at(place) else {
+            return Ok(rows);
+        };
+        rows.push(number_row(alloc, texts, file)?)?;
+    }
+    Ok(rows)
+}
+
+/// What a row says of an index.
+fn entry_of_row(row: &[Option<usize>], index: u16) -> Option<usize>
+    ensures { result ≡ number_in row.now index }
+{
+    row.get(index as usize).copied().unwrap_or(None)
+}
+
+impl StringNumbers {
+    /// The numbers in a set of classes. This alone takes memory.
+    pub fn new(alloc: Global, set: &ClassSet) -> Result<StringNumbers, AllocError>
+        ensures { IfOk result (λ numbers. AreStringNumbers set.now numbers) }
+    {
+        let texts = all_texts(alloc, set)?;
+        let rows = number_rows(alloc, set, &texts)?;
+        Ok(StringNumbers {
+            rows,
+            count: texts.count(),
+        })
+    }
+
+    /// The number of the text of the String of an index, in the constant pool of the class with a number. `None`
+    /// where the index names no String.
+    pub fn string(&self, class: usize, index: u16) -> Option<usize>
+        ensures { (files : Program) → AreStringNumbers files self.now → result ≡ string_number files class index }
+    {
+        match self.rows.get(class) {
+            Some(row) => entry_of_row(row, index),
+            None => None,
+        }
+    }
+
+    /// How many texts there are.
+    pub fn count(&self) -> usize
+        ensures { (files : Program) → AreStringNumbers files self.now → result ≡ length (string_texts files) }
+    {
+        self.count
+    }
+}

@@ -1,0 +1,5 @@
+pub mod Turning
+pub mod Repeating
+pub mod Lent
+pub mod Advancing
+mod Copied

@@ -1,0 +1,3 @@
+pub mod Opened
+mod Telling
+pub mod Replayed

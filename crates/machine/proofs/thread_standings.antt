@@ -1,0 +1,4 @@
+mod Enabled
+mod Tops
+mod Statuses
+mod States

@@ -1,0 +1,10 @@
+pub mod Machines
+pub mod Tops
+pub mod machine_bursts
+pub mod machine_replay
+pub mod machine_reports
+pub mod object_bursts
+pub mod object_events
+pub mod schedule_runs
+pub mod thread_standings
+pub mod top_frames

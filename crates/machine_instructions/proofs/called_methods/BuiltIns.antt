@@ -1,0 +1,47 @@
+-- Which members some of the built-in methods are.
+use Rattle.std.proofs.Common.{◌≡◌, find, Bool, true, false, Option, Some, None, option_map, refl, sym, ap, ◌∙◌}
+use Rattle.std.specs.Prelude.{unwrap_or, codes}
+use Rattle.std.specs.Option.{option_map_or}
+use Rattle.std.specs.List.{list_all}
+use Rattle.std.proofs.lemmas.Option.{same_Some}
+use Rattle.model.specs.Names.{Member, member_eq, constructor_name, println_int}
+use Rattle.model.specs.AccessFlags.{is_private_method}
+use Rattle.model.specs.BuiltIn.{built_in_classes}
+use Rattle.model.specs.Classes.{Program}
+use Rattle.model.specs.Calls.{is_one}
+use Rattle.model.specs.BuiltInMethods.{BuiltInMethod, Construct, ConstructWithTarget, PrintStreamPrintln, of_thread, built_in_methods, is_row_of, built_in_method}
+use Rattle.run_laws.proofs.laws.Found.{found_passes, found_has, every_all}
+use Rattle.run_laws.proofs.laws.Classes.{members_same}
+
+-- Thread.<init>(Runnable)
+abbrev pub target_constructor : Member
+target_constructor = of_thread constructor_name (codes "(Ljava/lang/Runnable;)V")
+
+abbrev pub member_for : BuiltInMethod → Option Member
+member_for ConstructWithTarget = Some target_constructor
+member_for PrintStreamPrintln = Some println_int
+member_for _ = None
+
+abbrev is_known : Member × BuiltInMethod → Bool
+is_known row = option_map_or (λ (m : Member). member_eq row.0 m) (member_for row.1) true
+
+all_known : list_all is_known built_in_methods ≡ true
+all_known = refl
+
+pub known : (method is : Member) → member_for (built_in_method method) ≡ Some is → method ≡ is
+known method is e = by (find (is_row_of method) built_in_methods) refl e
+  where
+    of_row : (row : Member × BuiltInMethod) (o : Option Member) → member_for row.1 ≡ o → o ≡ Some is → is_known row ≡ true → row.0 ≡ is
+    of_row row None p q t = absurd cc
+    of_row row (Some m) p q t = members_same row.0 m (sym (ap (λ x. option_map_or (λ (y : Member). member_eq row.0 y) x true) p) ∙ t) ∙ same_Some m is q
+
+    by : (o : Option (Member × BuiltInMethod)) → find (is_row_of method) built_in_methods ≡ o
+        → member_for (unwrap_or (option_map (λ (row : Member × BuiltInMethod). row.1) o) Construct) ≡ Some is → method ≡ is
+    by None f q = absurd cc
+    by (Some row) f q =
+        sym (members_same row.0 method (found_passes (is_row_of method) built_in_methods row f))
+        ∙ of_row row (member_for row.1) refl q (found_has (λ r. is_known r ≡ true) (is_row_of method) built_in_methods row (every_all is_known built_in_methods all_known) f)
+
+pub target_is_public : (files : Program) → is_one is_private_method files target_constructor ≡ false
+unfolding built_in_classes
+target_is_public files = refl

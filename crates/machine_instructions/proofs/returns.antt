@@ -1,0 +1,4 @@
+pub mod Going
+pub mod Exits
+pub mod Given
+pub mod Returned

@@ -1,0 +1,84 @@
+use Rattle.std.proofs.Common.{take, sym, subst, ⊎_elim}
+use Rattle.run_laws.specs.word_operands.Receivers.{is_any}
+use Rattle.machine_instructions.specs.thread_methods.Called.{AreArguments, DoesUnpicked}
+use Rattle.machine_instructions.proofs.thread_methods.There.{receiver_there, statuses_within, thread_there}
+use Rattle.machine_instructions.proofs.thread_methods.called.run_unpicked.Goals as goal
+
+-- src/called.rt
+pub wait-requires-clause-started : goal.wait-requires-clause-started
+wait-requires-clause-started c = let r = c.requires in (thread_there r.trees r.p r.bounds r.inflated c.args.thread c.args.shared.now c.args.stack.now r.state r.frame r.rest _ c.args.operands c.args.next r.offset r.is).0
+
+pub notify-requires : goal.notify-requires
+notify-requires c = let r = c.requires in
+    receiver_there r.trees r.p r.bounds r.inflated c.args.thread c.args.shared.now c.args.stack.now r.state r.frame r.rest _ c.args.operands c.args.next r.offset r.is is_any
+    (subst (AreArguments r.trees r.state.world.heap (take c.args.operands r.frame.place.slots.stack)) c.in-ObjectNotify.is r.is.arguments)
+
+pub notify_all-requires : goal.notify_all-requires
+notify_all-requires c = let r = c.requires in
+    receiver_there r.trees r.p r.bounds r.inflated c.args.thread c.args.shared.now c.args.stack.now r.state r.frame r.rest _ c.args.operands c.args.next r.offset r.is is_any
+    (subst (AreArguments r.trees r.state.world.heap (take c.args.operands r.frame.place.slots.stack)) c.in-ObjectNotifyAll.is r.is.arguments)
+
+pub interrupt-requires : goal.interrupt-requires
+interrupt-requires c = let r = c.requires in statuses_within r.trees r.p r.bounds r.inflated c.args.thread c.args.shared.now c.args.stack.now r.state r.frame r.rest _ c.args.operands c.args.next r.offset r.is
+
+pub current_thread-requires : goal.current_thread-requires
+current_thread-requires c = let r = c.requires in (thread_there r.trees r.p r.bounds r.inflated c.args.thread c.args.shared.now c.args.stack.now r.state r.frame r.rest _ c.args.operands c.args.next r.offset r.is).1
+
+pub returns-in-Construct : goal.returns-in-Construct
+returns-in-Construct c =
+    ⊎_elim
+    (λ is. subst (λ m. DoesUnpicked m c.args.operands c.args.next c.args.thread c.pass.result c.args.shared.now c.args.shared.now c.args.stack.now c.pass.new.stack)
+    (sym is) (c.pass.ensures.construct c.args.shared.now c.args.thread))
+    (λ is. subst (λ m. DoesUnpicked m c.args.operands c.args.next c.args.thread c.pass.result c.args.shared.now c.args.shared.now c.args.stack.now c.pass.new.stack)
+    (sym is) (c.pass.ensures.yields c.args.shared.now c.args.thread))
+    c.in-Construct.is
+
+pub returns-in-ConstructWithTarget : goal.returns-in-ConstructWithTarget
+returns-in-ConstructWithTarget c =
+    subst (λ m. DoesUnpicked m c.args.operands c.args.next c.args.thread c.set_target.result c.args.shared.now c.set_target.new.shared c.args.stack.now c.set_target.new.stack)
+    (sym c.in-ConstructWithTarget.is) (c.set_target.ensures c.args.thread)
+
+pub returns-in-ObjectWait : goal.returns-in-ObjectWait
+returns-in-ObjectWait c =
+    subst (λ m. DoesUnpicked m c.args.operands c.args.next c.args.thread c.wait.result c.args.shared.now c.wait.new.shared c.args.stack.now c.wait.new.stack)
+    (sym c.in-ObjectWait.is) (c.wait.ensures)
+
+pub returns-in-ThreadStart : goal.returns-in-ThreadStart
+returns-in-ThreadStart c =
+    subst (λ m. DoesUnpicked m c.args.operands c.args.next c.args.thread c.start.result c.args.shared.now c.start.new.shared c.args.stack.now c.start.new.stack)
+    (sym c.in-ThreadStart.is) (c.start.ensures c.args.thread)
+
+pub returns-in-ThreadInterrupt : goal.returns-in-ThreadInterrupt
+returns-in-ThreadInterrupt c =
+    subst (λ m. DoesUnpicked m c.args.operands c.args.next c.args.thread c.interrupt.result c.args.shared.now c.interrupt.new.shared c.args.stack.now c.interrupt.new.stack)
+    (sym c.in-ThreadInterrupt.is) (c.interrupt.ensures c.args.thread)
+
+pub returns-in-ThreadIsInterrupted : goal.returns-in-ThreadIsInterrupted
+returns-in-ThreadIsInterrupted c =
+    subst (λ m. DoesUnpicked m c.args.operands c.args.next c.args.thread c.ask_interrupted.result c.args.shared.now c.args.shared.now c.args.stack.now c.ask_interrupted.new.stack)
+    (sym c.in-ThreadIsInterrupted.is) (c.ask_interrupted.ensures c.args.thread)
+
+pub returns-in-ThreadInterrupted : goal.returns-in-ThreadInterrupted
+returns-in-ThreadInterrupted c =
+    subst (λ m. DoesUnpicked m c.args.operands c.args.next c.args.thread c.take_interrupted.result c.args.shared.now c.take_interrupted.new.shared c.args.stack.now c.take_interrupted.new.stack)
+    (sym c.in-ThreadInterrupted.is) (c.take_interrupted.ensures)
+
+pub returns-in-ThreadCurrentThread : goal.returns-in-ThreadCurrentThread
+returns-in-ThreadCurrentThread c =
+    subst (λ m. DoesUnpicked m c.args.operands c.args.next c.args.thread c.current_thread.result c.args.shared.now c.args.shared.now c.args.stack.now c.current_thread.new.stack)
+    (sym c.in-ThreadCurrentThread.is) (c.current_thread.ensures)
+
+pub returns-in-ThreadJoin : goal.returns-in-ThreadJoin
+returns-in-ThreadJoin c =
+    subst (λ m. DoesUnpicked m c.args.operands c.args.next c.args.thread c.join.result c.args.shared.now c.args.shared.now c.args.stack.now c.join.new.stack)
+    (sym c.in-ThreadJoin.is) (c.join.ensures)
+
+pub returns-in-ThreadIsAlive : goal.returns-in-ThreadIsAlive
+returns-in-ThreadIsAlive c =
+    subst (λ m. DoesUnpicked m c.args.operands c.args.next c.args.thread c.ask_alive.result c.args.shared.now c.args.shared.now c.args.stack.now c.ask_alive.new.stack)
+    (sym c.in-ThreadIsAlive.is) (c.ask_alive.ensures c.args.thread)
+
+pub returns-in-PrintStreamPrintln : goal.returns-in-PrintStreamPrintln
+returns-in-PrintStreamPrintln c =
+    subst (λ m. DoesUnpicked m c.args.operands c.args.next c.args.thread c.print_line.result c.args.shared.now c.print_line.new.shared c.args.stack.now c.print_line.new.stack)
+    (sym c.in-PrintStreamPrintln.is) (c.print_line.ensures c.args.thread)

@@ -1,0 +1,5 @@
+mod Events
+mod Making
+mod Testing
+mod Storing
+mod Made

@@ -1,0 +1,4 @@
+pub mod Frames
+pub mod Invoked
+pub mod Plain
+pub mod Selected

@@ -1,0 +1,4 @@
+pub mod Places
+pub mod Leaving
+pub mod Returned
+pub mod Unwound

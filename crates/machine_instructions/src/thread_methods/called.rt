@@ -1,0 +1,80 @@
+//! Which method is called.
+
+ghost use Rattle.machine_instructions.specs.thread_methods.Called.{CanCall, DoesCall, DoesUnpicked};
+
+use crate::thread_methods::{lives, printing, targets, waiting};
+use linked_code::BuiltInMethod;
+use machine_state::{Effect, EventRefusal, Shared};
+use thread_stacks::ThreadStack;
+
+/// By an event that picks nothing.
+fn run_unpicked(
+    shared: &mut Shared,
+    stack: &mut ThreadStack,
+    thread: u16,
+    method: BuiltInMethod,
+    operands: usize,
+    next: usize,
+) -> Result<Effect, EventRefusal>
+    requires { CanCall thread shared.old stack.old method operands next }
+    ensures { DoesUnpicked method operands next thread result shared.old shared.new stack.old stack.new }
+{
+    match method {
+        BuiltInMethod::Construct | BuiltInMethod::ThreadYield => {
+            targets::pass(stack, operands, next)
+        }
+        BuiltInMethod::ConstructWithTarget => targets::set_target(shared, stack, operands, next),
+        BuiltInMethod::ObjectWait => waiting::wait(shared, stack, thread, operands, next),
+        BuiltInMethod::ObjectNotify => waiting::notify(shared, stack, thread, 0, operands, next),
+        BuiltInMethod::ObjectNotifyAll => {
+            waiting::notify_all(shared, stack, thread, operands, next)
+        }
+        BuiltInMethod::ThreadStart => lives::start(shared, stack, operands, next),
+        BuiltInMethod::ThreadInterrupt => { lives::interrupt(shared, stack, operands, next) }
+        BuiltInMethod::ThreadIsInterrupted => {
+            lives::ask_interrupted(shared, stack, operands, next)
+        }
+        BuiltInMethod::ThreadInterrupted => {
+            lives::take_interrupted(shared, stack, thread, operands, next)
+        }
+        BuiltInMethod::ThreadCurrentThread => {
+            lives::current_thread(shared, stack, thread, operands, next)
+        }
+        BuiltInMethod::ThreadJoin => lives::join(shared, stack, thread, operands, next),
+        BuiltInMethod::ThreadIsAlive => lives::ask_alive(shared, stack, operands, next),
+        BuiltInMethod::PrintStreamPrintln => printing::print_line(shared, stack, operands, next),
+    }
+}
+
+/// A thread calls a built-in method, which takes so many words of the stack of its frame, a receiver that is not null
+/// among them; `next` is the place behind the call. The method has no frame: its whole effect is this event (JLS
+/// 17.2, the API of Object and Thread). The pick is the event's: which member of the wait set a `notify` wakes, and
+/// else 0.
+///
+/// # Errors
+///
+/// Where a lock would become one of too many fat locks, too many threads would be started, or there is no memory.
+/// Nothing has changed then.
+pub fn run_built_in(
+    shared: &mut Shared,
+    stack: &mut ThreadStack,
+    thread: u16,
+    pick: u16,
+    method: BuiltInMethod,
+    operands: usize,
+    next: usize,
+) -> Result<Effect, EventRefusal>
+    requires { CanCall thread shared.old stack.old method operands next }
+    ensures { DoesCall method operands next
+        (record { thread = thread; pick = pick }) result shared.old shared.new stack.old stack.new }
+{
+    if pick == 0 {
+        return run_unpicked(shared, stack, thread, method, operands, next);
+    }
+    match method {
+        BuiltInMethod::ObjectNotify => {
+            waiting::notify(shared, stack, thread, pick, operands, next)
+        }
+        _ => Ok(Effect::NotEnabled),
+    }
+}

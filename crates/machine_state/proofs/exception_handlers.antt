@@ -1,0 +1,4 @@
+pub mod Numbered
+pub mod Climbing
+pub mod Finding
+pub mod ErrorObjects

@@ -1,0 +1,5 @@
+mod Reading
+mod Selecting
+mod Running
+mod Objects
+mod Searching

@@ -1,0 +1,42 @@
+-- What an allocation on the heap of a machine is of the world that it shows (JVMS 2.7, 6.5 new; limits: own).
+use Rattle.std.specs.Prelude.{◌≡◌, ◌<◌, ◌+◌, ◌^◌, ℕ, List, None, Ok, Err, true, length}
+use Rattle.model.specs.Classes.{Program}
+use Rattle.model.specs.State.{ObjectOf, WorldOf}
+use Rattle.model.specs.Outcomes.{Makes}
+use Rattle.model.specs.LimitStands.{Bounds}
+use Rattle.model.specs.Worlds.{allocated}
+use Rattle.heap.specs.declared.kind.ObjectKind.{ObjectKind}
+use Rattle.heap.specs.declared.refusal.AllocRefusal.{AllocRefusal}
+use Rattle.heap.specs.Heap.{fresh, Allocates}
+use Rattle.machine_state.specs.limits_at_words.FatLocks.{flags_after}
+use Rattle.linked_code.specs.declared.program.LinkedProgram.{LinkedProgram}
+use Rattle.machine_state.specs.shown_objects.Shown.{ShowsObject}
+use Rattle.machine_state.specs.declared.state.Shared.{Shared}
+use Rattle.machine_state.specs.Refusals.{of_heap}
+use Rattle.machine_state.specs.Shown.{Represents}
+use Rattle.machine_state.specs.Events.{limit_of, MayBeRefused}
+
+-- The world has one object more, whose reference is the next, and a monitor for it; no limit stood, and no lock is fat that wasn't.
+pub record IsMade (trees : Program) (p : LinkedProgram) (bounds : Bounds) (inflated : List ℕ) (world : WorldOf ℕ) (object : ObjectOf ℕ)
+    (reference count : ℕ) (old new : Shared) : Type 0 where
+  pub next : reference ≡ length world.heap
+  pub word : reference + 1 < 2 ^ 32
+  pub within : limit_of trees bounds inflated world (Makes count) ≡ None
+  pub represents : Represents trees p bounds new (allocated world object)
+  pub flags : new.heap.locks.fat ≡ flags_after (Makes count) old.heap.locks.fat
+
+-- whichever object of zeros the new one shows
+abbrev pub AreMade : Type 0
+AreMade =
+    (trees : Program) (p : LinkedProgram) (bounds : Bounds) (inflated : List ℕ) (world : WorldOf ℕ) (old new : Shared) → Represents trees p bounds old world
+    → (kind : ObjectKind) (reference count : ℕ) → Allocates (Ok reference) kind count old.heap new.heap
+    → new ≡ record old { heap = new.heap }
+    → (object : ObjectOf ℕ) → ShowsObject trees p.components.items (fresh kind count) object
+    → IsMade trees p bounds inflated world object reference count old new
+
+-- of both limits, that of objects is told
+abbrev pub AreRefused : Type 0
+AreRefused =
+    (trees : Program) (p : LinkedProgram) (bounds : Bounds) (inflated : List ℕ) (world : WorldOf ℕ) (old new : Shared) → Represents trees p bounds old world
+    → (kind : ObjectKind) (count : ℕ) (told : AllocRefusal) → Allocates (Err told) kind count old.heap new.heap
+    → MayBeRefused trees bounds inflated world (Makes count) true (of_heap told) × (new.heap ≡ old.heap)

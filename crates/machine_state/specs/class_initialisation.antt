@@ -1,0 +1,4 @@
+pub mod Constants
+pub mod Statuses
+pub mod Needed
+pub mod Steps

@@ -1,0 +1,4 @@
+pub mod Receivers
+pub mod Rows
+pub mod Selected
+pub mod Run

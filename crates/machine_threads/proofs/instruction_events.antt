@@ -1,0 +1,4 @@
+mod Families
+mod Picks
+mod Classes
+mod Steps

@@ -1,0 +1,4 @@
+pub mod Adding
+pub mod OpenedHeap
+pub mod OpenedClasses
+pub mod OpenedStates

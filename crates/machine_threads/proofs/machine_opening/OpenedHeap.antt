@@ -1,0 +1,127 @@
+-- The objects of the opening heap are those of the definitions.
+use Rattle.std.proofs.Common.{◌≡◌, ℕ, suc, ◌≤◌, List, [], ◌∷◌, ◌++◌, map, length, replicate, refl, sym, ap, subst, ◌∙◌}
+use Rattle.model.specs.Names.{Member, java_lang_class, java_lang_string, java_lang_thread, java_io_print_stream, thread_target}
+use Rattle.model.specs.Tree.{FileTree}
+use Rattle.model.specs.BuiltIn.{built_in_classes}
+use Rattle.model.specs.Classes.{Program, classes_of}
+use Rattle.model.specs.DescribedTypes.{DeclaredType, DeclaredInt, DeclaredReference, field_declared}
+use Rattle.model.specs.Lookup.{instance_fields}
+use Rattle.model.specs.StringConstants.{string_texts}
+use Rattle.model.specs.Operands.{words}
+use Rattle.model.specs.State.{ObjectOf, Instance}
+use Rattle.model.specs.Opening.{first_value, with_first, new_instance, opening_heap}
+use Rattle.heap.specs.declared.kind.ObjectKind.TheVariants as kind
+use Rattle.heap.specs.Heap.{Object, fresh}
+use Rattle.linked_code.specs.declared.class.LinkedClass.{LinkedClass}
+use Rattle.linked_code.specs.declared.program.LinkedProgram.{LinkedProgram}
+use Rattle.linked_code.specs.declared.types.LinkedType.{LinkedType}
+use Rattle.linked_code.specs.Numbers.{IsClassAt}
+use Rattle.linked_code.specs.Programs.{AreClasses, IsLinkedProgram}
+use Rattle.run_laws.proofs.object_counts.Bounded.{openings_fit}
+use Rattle.machine_state.specs.shown_objects.Shown.{names_of, words_in, ShowsObject, ShowsObjects}
+use Rattle.machine_state.proofs.shown_objects.Objects.{counted}
+use Rattle.machine_state.specs.Shown.{IsProgram}
+use Rattle.machine_threads.specs.machine_opening.Opened.{opening_objects}
+use Rattle.model.specs.BuiltInNumbers.{class_number, print_stream_number, string_number, thread_number}
+
+-- ---- lists that are shown
+
+module _ (trees : Program) (components : List LinkedType) where
+  copies : {X : Type 0} (one : Object) (object : ObjectOf ℕ) → ShowsObject trees components one object → (xs : List X)
+      → ShowsObjects trees components (replicate (length xs) one) (map (λ x. object) xs)
+  copies one object h [] = tt
+  copies one object h (x ∷ xs) = (h, copies one object h xs)
+
+  both : (os : List Object) (ms : List (ObjectOf ℕ)) (others : List Object) (rest : List (ObjectOf ℕ))
+      → ShowsObjects trees components os ms → ShowsObjects trees components others rest
+      → ShowsObjects trees components (os ++ others) (ms ++ rest)
+  both [] [] others rest f s = s
+  both [] (m ∷ ms) others rest f s = absurd f
+  both (o ∷ os) [] others rest f s = absurd f
+  both (o ∷ os) (m ∷ ms) others rest f s = (f.0, both os ms others rest f.1 s)
+
+-- ---- fields before any event
+
+first_is : (type : DeclaredType) → first_value words type ≡ 0
+first_is DeclaredInt = refl
+first_is (DeclaredReference type) = refl
+
+pub first_names : (fields : List Member) → names_of (map (with_first words) fields) ≡ fields
+first_names [] = refl
+first_names (field ∷ fields) = ap (λ l. field ∷ l) (first_names fields)
+
+pub first_words : (fields : List Member) → replicate (length fields) 0 ≡ words_in (map (with_first words) fields)
+first_words [] = refl
+first_words (field ∷ fields) =
+    let value = sym (first_is (field_declared field.descriptor)) in
+    let rest = first_words fields in
+    λ i. value i ∷ rest i
+
+-- ---- each object
+
+thread_fields : (trees : Program) → instance_fields trees java_lang_thread ≡ thread_target ∷ []
+unfolding built_in_classes
+thread_fields trees = refl
+
+thread_at : (trees : Program) → IsClassAt trees thread_number java_lang_thread
+unfolding built_in_classes
+thread_at trees = (_, refl, refl)
+
+module _ (trees : Program) (components : List LinkedType) where
+  shows_print_stream : ShowsObject trees components (fresh (kind.Instance print_stream_number) 0) (Instance java_io_print_stream [])
+  unfolding built_in_classes
+  shows_print_stream = record { kind = ((_, refl, refl), refl); words = refl }
+
+  shows_class : ShowsObject trees components (fresh (kind.Instance class_number) 0) (Instance java_lang_class [])
+  unfolding built_in_classes
+  shows_class = record { kind = ((_, refl, refl), refl); words = refl }
+
+  shows_string : ShowsObject trees components (fresh (kind.Instance string_number) 0) (Instance java_lang_string [])
+  unfolding built_in_classes
+  shows_string = record { kind = ((_, refl, refl), refl); words = refl }
+
+  shows_thread : ShowsObject trees components (fresh (kind.Instance thread_number) 1) (new_instance words trees java_lang_thread)
+  shows_thread =
+      record {
+        kind = (thread_at trees, first_names (instance_fields trees java_lang_thread));
+        words =
+            sym (ap (λ (fields : List Member). replicate (length fields) 0) (thread_fields trees))
+            ∙ first_words (instance_fields trees java_lang_thread);
+      }
+
+-- ---- all of them
+
+pub class_count : (trees : Program) (files : List FileTree) (classes : List LinkedClass) → AreClasses trees files classes
+    → length classes ≡ length files
+class_count trees [] [] h = refl
+class_count trees [] (l ∷ ls) h = absurd h
+class_count trees (f ∷ fs) [] h = absurd h
+class_count trees (f ∷ fs) (l ∷ ls) h = ap suc (class_count trees fs ls h.1)
+
+module _ (trees : Program) (p : LinkedProgram) (linked : IsLinkedProgram trees p) where
+  rest_shown : ShowsObjects trees p.components.items
+      (replicate (length p.classes.items) (fresh (kind.Instance class_number) 0) ++ replicate p.strings (fresh (kind.Instance string_number) 0))
+      (map (λ file. Instance java_lang_class []) (classes_of trees) ++ map (λ text. Instance java_lang_string []) (string_texts trees))
+  rest_shown =
+      let c = p.components.items in
+      let classes =
+      subst (λ n. ShowsObjects trees c (replicate n (fresh (kind.Instance class_number) 0)) (map (λ file. Instance java_lang_class []) (classes_of trees)))
+      (sym (class_count trees (classes_of trees) p.classes.items linked.classes))
+      (copies trees c (fresh (kind.Instance class_number) 0) (Instance java_lang_class []) (shows_class trees c) (classes_of trees)) in
+      let strings =
+      subst (λ n. ShowsObjects trees c (replicate n (fresh (kind.Instance string_number) 0)) (map (λ text. Instance java_lang_string []) (string_texts trees)))
+      (sym linked.strings)
+      (copies trees c (fresh (kind.Instance string_number) 0) (Instance java_lang_string []) (shows_string trees c) (string_texts trees)) in
+      both trees c _ _ _ _ classes strings
+
+  pub objects_shown : ShowsObjects trees p.components.items (opening_objects p) (opening_heap words trees)
+  unfolding opening_heap
+  objects_shown =
+      let c = p.components.items in
+      (shows_print_stream trees c, (record { kind = linked.string_component; words = refl }, (shows_thread trees c, rest_shown)))
+
+  pub object_count : length (opening_objects p) ≡ length (opening_heap words trees)
+  object_count = counted trees p.components.items (opening_objects p) (opening_heap words trees) objects_shown
+
+pub few_objects : (trees : Program) (p : LinkedProgram) → IsProgram trees p → length (opening_objects p) ≤ 294967295
+few_objects trees p program = subst (λ n. n ≤ 294967295) (sym (object_count trees p program.linked)) (openings_fit.of_words program.files trees program.linkable)

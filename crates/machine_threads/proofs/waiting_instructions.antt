@@ -1,0 +1,9 @@
+mod Quick
+mod BuiltIns
+mod Meant
+mod Enabled
+mod Instructed
+mod PrintedMember
+mod Statics
+mod Tops
+mod Ends

@@ -1,0 +1,42 @@
+-- The objects of the opening state, as a heap keeps them (own).
+use Rattle.std.specs.Prelude.{◌≡◌, ℕ, ◌+◌, List, [], ◌∷◌, ◌++◌, false, length, replicate}
+use Rattle.model.specs.BuiltInNumbers.{class_number, print_stream_number, string_number, thread_number}
+use Rattle.model.specs.declared.limits.Limits.{Limits}
+use Rattle.model.specs.Monitors.{unlocked}
+use Rattle.heap.specs.declared.kind.ObjectKind.TheVariants as kind
+use Rattle.heap.specs.Heap.{Object, Heap, fresh}
+use Rattle.linked_code.specs.declared.program.LinkedProgram.{LinkedProgram}
+
+-- ---- a heap of objects of the opening state
+
+-- no thread owns a monitor, and no lock is fat
+abbrev pub opened : Limits → List Object → Heap
+opened limits objects =
+    record {
+      objects = objects;
+      locks = record { monitors = replicate (length objects) unlocked; fat = replicate (length objects) false; limit = limits.monitors };
+      opening = length objects;
+      object_limit = limits.objects;
+      cell_limit = limits.cells;
+    }
+
+-- these objects more
+pub record AddsObjects (objects : List Object) (old new : Heap) : Type 0 where
+  pub count : length new.objects ≡ length old.objects + length objects
+  pub are : (limits : Limits) (before : List Object) → old ≡ opened limits before → new ≡ opened limits (before ++ objects)
+
+-- ---- the objects, by the numbers of their classes: the built-in classes come first in each program
+
+-- the PrintStream of System.out, the arguments, and the Thread of main, whose one field is its target
+abbrev pub first_objects : ℕ → List Object
+first_objects string_component =
+    fresh (kind.Instance print_stream_number) 0
+    ∷ fresh (kind.References string_component) 0
+    ∷ fresh (kind.Instance thread_number) 1
+    ∷ []
+
+-- then a Class for each class, and a String for each text
+abbrev pub opening_objects : LinkedProgram → List Object
+opening_objects p =
+    first_objects p.string_component
+    ++ (replicate (length p.classes.items) (fresh (kind.Instance class_number) 0) ++ replicate p.strings (fresh (kind.Instance string_number) 0))

@@ -1,0 +1,5 @@
+pub mod First
+pub mod Callees
+pub mod Runs
+pub mod Initial
+pub mod Threads

@@ -1,0 +1,11 @@
+pub mod BuiltIn
+pub mod Carrying
+pub mod Choosing
+pub mod Pairing
+pub mod InterfaceRows
+pub mod Fitting
+pub mod Tabling
+pub mod Rooting
+pub mod Layouts
+pub mod Inheriting
+pub mod MadeRows

@@ -1,0 +1,2 @@
+pub mod method_links
+pub mod selection_tables

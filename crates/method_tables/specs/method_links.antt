@@ -1,0 +1,6 @@
+pub mod Methods
+pub mod Numbers
+pub mod Calls
+pub mod Describing
+pub mod Named
+pub mod Selected

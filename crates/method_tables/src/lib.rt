@@ -1,0 +1,5 @@
+//! Which methods calls run, by number.
+#![tactic(auto)]
+
+pub mod method_links;
+pub mod selection_tables;

@@ -1,0 +1,179 @@
+-- What the built-in methods without code do (own: an event each, with no frame; JLS 17.2, and the API of Object and Thread). The
+-- receiver is not null here.
+use Rattle.std.specs.Prelude.{ℕ, List, [], ◌∷◌, ◌++◌, Option, Some, None, Bool, true, false, not, ◌&&◌, ◌||◌, if◌then◌else◌, nat_lt, codes, find, is_some, length, slice_get, unwrap_or}
+use Rattle.std.specs.Option.{option_map}
+use Rattle.model.specs.declared.event.Event.{Event}
+use Rattle.model.specs.Names.{Name, Member, member_eq, java_lang_object, java_lang_thread, thread_target, println_int, constructor_name}
+use Rattle.model.specs.Ints.{signed}
+use Rattle.model.specs.Operands.{Slots, Carrier}
+use Rattle.model.specs.State.{Waiter, Notified, Interrupted, ThreadStatus, Running, Waiting, Relock, Ended, Thread, WorldOf, new_thread}
+use Rattle.model.specs.Outcomes.{OutcomeOf, Raises, Interrupts, Waits, IllegalMonitorState, IllegalThreadState, Starts, Joins}
+use Rattle.model.specs.Monitors as monitors
+use Rattle.model.specs.Monitors.{monitor_at}
+use Rattle.model.specs.Worlds.{thread_at, with_status, with_interrupted, thread_of, is_alive, is_interrupted, object_at, with_object, with_field, is_owner, with_monitors, woken, all_woken, waiters_of}
+use Rattle.model.specs.Sites.{picks_none, pushing, pushing_at, operand, referent, int_operand}
+
+pub data BuiltInMethod : Type 0 where
+  -- <init>()V of Object, Thread and the classes of exceptions
+  Construct : BuiltInMethod
+  -- Thread.<init>(Runnable)
+  ConstructWithTarget : BuiltInMethod
+  ObjectWait : BuiltInMethod
+  ObjectNotify : BuiltInMethod
+  ObjectNotifyAll : BuiltInMethod
+  ThreadStart : BuiltInMethod
+  ThreadInterrupt : BuiltInMethod
+  ThreadIsInterrupted : BuiltInMethod
+  ThreadInterrupted : BuiltInMethod
+  ThreadYield : BuiltInMethod
+  ThreadCurrentThread : BuiltInMethod
+  ThreadJoin : BuiltInMethod
+  ThreadIsAlive : BuiltInMethod
+  PrintStreamPrintln : BuiltInMethod
+
+-- ---- by their names
+
+abbrev pub of_object : Name → Member
+of_object name = record { class = java_lang_object; name = name; descriptor = codes "()V" }
+
+abbrev pub of_thread : Name → Name → Member
+of_thread name descriptor = record { class = java_lang_thread; name = name; descriptor = descriptor }
+
+abbrev pub built_in_methods : List (Member × BuiltInMethod)
+built_in_methods =
+    (of_object (codes "wait"), ObjectWait)
+    ∷ (of_object (codes "notify"), ObjectNotify)
+    ∷ (of_object (codes "notifyAll"), ObjectNotifyAll)
+    ∷ (of_thread constructor_name (codes "(Ljava/lang/Runnable;)V"), ConstructWithTarget)
+    ∷ (of_thread (codes "start") (codes "()V"), ThreadStart)
+    ∷ (of_thread (codes "interrupt") (codes "()V"), ThreadInterrupt)
+    ∷ (of_thread (codes "isInterrupted") (codes "()Z"), ThreadIsInterrupted)
+    ∷ (of_thread (codes "interrupted") (codes "()Z"), ThreadInterrupted)
+    ∷ (of_thread (codes "yield") (codes "()V"), ThreadYield)
+    ∷ (of_thread (codes "currentThread") (codes "()Ljava/lang/Thread;"), ThreadCurrentThread)
+    ∷ (of_thread (codes "join") (codes "()V"), ThreadJoin)
+    ∷ (of_thread (codes "isAlive") (codes "()Z"), ThreadIsAlive)
+    ∷ (println_int, PrintStreamPrintln)
+    ∷ []
+
+abbrev pub is_row_of : Member → Member × BuiltInMethod → Bool
+is_row_of method row = member_eq row.0 method
+
+-- those that have no row of their own are the constructors without parameters
+abbrev pub built_in_method : Member → BuiltInMethod
+built_in_method method = unwrap_or (option_map (λ (row : Member × BuiltInMethod). row.1) (find (is_row_of method) built_in_methods)) Construct
+
+-- ---- wait, notify, notifyAll (JLS 17.2)
+
+-- The thread joins the wait set as last with the count of its entries, and nobody owns the monitor.
+abbrev pub waiting : {A : Type 0} → WorldOf A → ℕ → ℕ → WorldOf A
+waiting world t object =
+    with_status (with_monitors world (monitors.wait object t world.monitors)) t (Waiting object (monitor_at world.monitors object).count)
+
+-- by whether the thread owns the monitor, and whether it is interrupted
+abbrev pub wait_by : {A : Type 0} → Bool → Bool → ℕ → ℕ → WorldOf A → List A → OutcomeOf A
+wait_by false interrupted t object world rest = Raises IllegalMonitorState
+wait_by true true t object world rest = Interrupts
+wait_by true false t object world rest = Waits (Joins object) (waiting world t object) rest
+
+abbrev pub notified_one : {A : Type 0} → WorldOf A → ℕ → Option Waiter → WorldOf A
+notified_one world object None = world
+notified_one world object (Some waiter) = woken object Notified world waiter
+
+-- The member of the wait set that the event picks leaves it, if there is one.
+abbrev pub notified : {A : Type 0} → WorldOf A → ℕ → ℕ → ℕ → WorldOf A
+notified world t object pick = notified_one (with_monitors world (monitors.notify object t pick world.monitors)) object (slice_get (waiters_of world object) pick)
+
+-- All members leave it.
+abbrev pub notified_all : {A : Type 0} → WorldOf A → ℕ → ℕ → WorldOf A
+notified_all world t object = all_woken object Notified (with_monitors world (monitors.notify_all object t world.monitors)) (waiters_of world object)
+
+-- what only the owner of the monitor may do
+abbrev pub if_owner : {A : Type 0} → Bool → OutcomeOf A → OutcomeOf A
+if_owner true done = done
+if_owner false done = Raises IllegalMonitorState
+
+-- ---- threads (JLS 17.2.3, 17.3)
+
+abbrev pub with_started : {A : Type 0} → WorldOf A → ℕ → WorldOf A
+with_started world object = record world { threads = world.threads ++ new_thread object ∷ [] }
+
+-- by whether a thread of the object was started
+abbrev pub start_by : {A : Type 0} → Bool → ℕ → ℕ → WorldOf A → Slots A → List A → OutcomeOf A
+start_by true next object world slots rest = Raises IllegalThreadState
+start_by false next object world slots rest = pushing_at Starts next [] (with_started world object) slots rest
+
+-- A thread in a wait set leaves it; one that was notified before does not mind (own).
+abbrev pub interrupted_in : {A : Type 0} → WorldOf A → ℕ → ThreadStatus → WorldOf A
+interrupted_in world t Running = with_interrupted world t true
+interrupted_in world t (Waiting object count) =
+    with_status (with_interrupted (with_monitors world (monitors.interrupt object t world.monitors)) t true) t (Relock object count Interrupted)
+interrupted_in world t (Relock object count cause) = with_interrupted world t true
+interrupted_in world t (Ended exception) = world
+
+-- Nothing becomes of a thread that is not alive (own).
+abbrev pub interrupted_on : {A : Type 0} → WorldOf A → Option ℕ → WorldOf A
+interrupted_on world None = world
+interrupted_on world (Some t) = interrupted_in world t (thread_at world t).status
+
+-- A thread that is not alive is not waited for; an interrupted one does not wait (own: no monitor is entered).
+abbrev pub may_join : {A : Type 0} → WorldOf A → ℕ → ℕ → Bool
+may_join world t object = not (is_alive world object) || (thread_at world t).interrupted
+
+abbrev pub join_by : {A : Type 0} → Bool → ℕ → WorldOf A → Slots A → List A → OutcomeOf A
+join_by true next world slots rest = Interrupts
+join_by false next world slots rest = pushing next [] world slots rest
+
+abbrev pub bit : Bool → ℕ
+bit b = if b then 1 else 0
+
+-- ---- println
+
+abbrev pub with_printed : {A : Type 0} → WorldOf A → ℕ → WorldOf A
+with_printed world bits = record world { printed = world.printed ++ signed bits ∷ [] }
+
+-- ---- the table
+
+-- the object of a reference
+abbrev pub object_of : {A : Type 0} → Carrier A → List A → ℕ → ℕ
+object_of C ops k = unwrap_or (referent C ops k) 0
+
+-- whether the event may do it now; a method without parameters has its receiver on top
+abbrev pub built_in_may : {A : Type 0} → Carrier A → BuiltInMethod → Event → WorldOf A → List A → Bool
+built_in_may C ObjectNotify event world ops =
+    if is_owner world event.thread (object_of C ops 0) && nat_lt 0 (length (waiters_of world (object_of C ops 0)))
+    then nat_lt event.pick (length (waiters_of world (object_of C ops 0)))
+    else picks_none event world ops
+built_in_may C ThreadJoin event world ops = picks_none event world ops && may_join world event.thread (object_of C ops 0)
+built_in_may C method event world ops = picks_none event world ops
+
+abbrev pub built_in_does : {A : Type 0} → Carrier A → BuiltInMethod → ℕ → Event → WorldOf A → Slots A → List A → List A → OutcomeOf A
+-- .., objectref -> ..
+built_in_does C Construct next event world slots ops rest = pushing next [] world slots rest
+-- .., objectref, target -> ..
+built_in_does C ConstructWithTarget next event world slots ops rest =
+    pushing next [] (with_object world (object_of C ops 1) (with_field thread_target (operand C ops 0) (object_at world (object_of C ops 1)))) slots rest
+-- .., objectref -> ..
+built_in_does C ObjectWait next event world slots ops rest =
+    wait_by (is_owner world event.thread (object_of C ops 0)) (thread_at world event.thread).interrupted event.thread (object_of C ops 0) world rest
+built_in_does C ObjectNotify next event world slots ops rest =
+    if_owner (is_owner world event.thread (object_of C ops 0)) (pushing next [] (notified world event.thread (object_of C ops 0) event.pick) slots rest)
+built_in_does C ObjectNotifyAll next event world slots ops rest =
+    if_owner (is_owner world event.thread (object_of C ops 0)) (pushing next [] (notified_all world event.thread (object_of C ops 0)) slots rest)
+built_in_does C ThreadStart next event world slots ops rest = start_by (is_some (thread_of world (object_of C ops 0))) next (object_of C ops 0) world slots rest
+built_in_does C ThreadInterrupt next event world slots ops rest = pushing next [] (interrupted_on world (thread_of world (object_of C ops 0))) slots rest
+-- .., objectref -> .., result
+built_in_does C ThreadIsInterrupted next event world slots ops rest = pushing next (C.int (bit (is_interrupted world (object_of C ops 0))) ∷ []) world slots rest
+-- .. -> .., result: the status of the thread itself, which is cleared
+built_in_does C ThreadInterrupted next event world slots ops rest =
+    pushing next (C.int (bit (thread_at world event.thread).interrupted) ∷ []) (with_interrupted world event.thread false) slots rest
+-- .. -> ..
+built_in_does C ThreadYield next event world slots ops rest = pushing next [] world slots rest
+-- .. -> .., result
+built_in_does C ThreadCurrentThread next event world slots ops rest = pushing next (C.reference (thread_at world event.thread).object ∷ []) world slots rest
+-- .., objectref -> ..: where the target is alive, the thread was interrupted
+built_in_does C ThreadJoin next event world slots ops rest = join_by (is_alive world (object_of C ops 0)) next world slots rest
+-- .., objectref -> .., result
+built_in_does C ThreadIsAlive next event world slots ops rest = pushing next (C.int (bit (is_alive world (object_of C ops 0))) ∷ []) world slots rest
+-- .., objectref, value -> ..
+built_in_does C PrintStreamPrintln next event world slots ops rest = pushing next [] (with_printed world (int_operand C ops 0)) slots rest

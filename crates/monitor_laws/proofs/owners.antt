@@ -1,0 +1,4 @@
+pub mod Monitors
+pub mod Worlds
+pub mod Table
+pub mod Steps

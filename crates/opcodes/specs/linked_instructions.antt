@@ -1,0 +1,4 @@
+pub mod Rows
+pub mod Others
+pub mod Links
+pub mod Operands

@@ -1,0 +1,6 @@
+mod Gathering
+mod LocalEvents
+mod Passing
+mod Runs
+mod Seen
+mod Traced

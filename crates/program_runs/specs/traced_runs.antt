@@ -1,0 +1,4 @@
+pub mod Locals
+pub mod Telling
+pub mod Traces
+pub mod Windows

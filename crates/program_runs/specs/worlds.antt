@@ -1,0 +1,6 @@
+pub mod Turns
+pub mod Worlds
+pub mod Shown
+pub mod Commits
+pub mod Records
+pub mod Finishing

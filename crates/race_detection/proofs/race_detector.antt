@@ -1,0 +1,6 @@
+pub mod Known
+pub mod Clocks
+pub mod Kept
+pub mod Told
+pub mod Watching
+pub mod Steps

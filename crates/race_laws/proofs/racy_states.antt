@@ -1,0 +1,9 @@
+pub mod Unordered
+pub mod Shapes
+pub mod Accessing
+pub mod Instructions
+pub mod Stepping
+pub mod Upto
+pub mod Silent
+pub mod Parts
+pub mod Bridge

@@ -1,0 +1,4 @@
+pub mod Keys
+pub mod Renamed
+pub mod Stays
+pub mod Steps

@@ -1,0 +1,4 @@
+pub mod run_actions
+pub mod numbering
+pub mod named_actions
+pub mod action_detector

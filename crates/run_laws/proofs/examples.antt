@@ -1,0 +1,4 @@
+pub mod Fits
+pub mod Picks
+pub mod TypingProofs
+pub mod TableProofs

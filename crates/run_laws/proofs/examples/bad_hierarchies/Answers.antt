@@ -1,0 +1,30 @@
+use Rattle.std.proofs.Common.{refl}
+use Rattle.model.specs.OpcodeTable.{low_form, high_form}
+use Rattle.model.specs.Instruction.{wide_at, table_switch_at, lookup_switch_at}
+use Rattle.model.specs.InstructionStarts.{starts_from}
+use Rattle.model.specs.DescriptorScan.{element_at, field_at, field_type, parameters_at, method_type}
+use Rattle.model.specs.BuiltIn.{built_in_classes}
+use Rattle.run_laws.proofs.examples.bad_hierarchies.Goals as goal
+
+pub returns : goal.returns
+unfolding built_in_classes low_form high_form wide_at table_switch_at lookup_switch_at starts_from element_at field_at field_type parameters_at method_type
+returns c =
+    record {
+      holds = record {
+        itself = refl;
+        runnable = refl;
+        string = refl;
+        class_implemented = refl;
+        interface_below = refl;
+        wait = refl;
+        wait_of_interface = refl;
+        static = refl;
+        instance = refl;
+        other_package = refl;
+        same_package = refl;
+        private = refl;
+        of_private = refl;
+        object = refl;
+        array = refl;
+      };
+    }

@@ -1,0 +1,18 @@
+use Rattle.std.proofs.Common.{refl}
+use Rattle.std.specs.Fmt.{digits}
+use Rattle.model.specs.OpcodeTable.{low_form, high_form}
+use Rattle.model.specs.DescriptorScan.{element_at, field_at, field_type, parameters_at, method_type}
+use Rattle.model.specs.BuiltIn.{built_in_classes}
+use Rattle.model.specs.Opening.{opening_heap}
+use Rattle.run_laws.proofs.examples.Fits.{fits}
+use Rattle.run_laws.proofs.examples.counter_under_lock.Goals as goal
+
+pub returns : goal.returns
+unfolding digits low_form high_form element_at field_at field_type parameters_at method_type built_in_classes opening_heap
+returns c =
+    record {
+      holds = record {
+        layouts = (record { spelled = refl; fits = fits _ tt }, tt);
+        one_inside = record { within = refl; ends = refl; means = refl };
+      };
+    }

@@ -1,0 +1,23 @@
+use Rattle.std.proofs.Common.{refl}
+use Rattle.model.specs.OpcodeTable.{low_form, high_form}
+use Rattle.model.specs.BuiltIn.{built_in_classes}
+use Rattle.model.specs.Opening.{opening_heap}
+use Rattle.run_laws.proofs.examples.superclass_first.Goals as goal
+use Rattle.model.specs.DescriptorScan.{element_at, field_at, field_type, parameters_at, method_type}
+
+pub returns : goal.returns
+unfolding low_form high_form built_in_classes opening_heap element_at field_at field_type parameters_at method_type
+returns c =
+    record {
+      holds = record {
+        begun = refl;
+        superclass_begun = refl;
+        both_begun = refl;
+        its_superclass = refl;
+        superclass_done = refl;
+        again = refl;
+        goes_on = refl;
+        done = refl;
+        ended = refl;
+      };
+    }

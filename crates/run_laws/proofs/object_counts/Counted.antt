@@ -1,0 +1,122 @@
+-- How many objects there are after what an instruction does: outcomes, the changes of the world, and the methods of the machine.
+use Rattle.std.proofs.Common.{◌≡◌, ℕ, ◌+◌, List, [], ◌∷◌, length, Bool, true, false, Option, Some, None, refl, arith}
+use Rattle.std.specs.Prelude.{if◌then◌else◌, slice_get, is_some}
+use Rattle.std.proofs.lemmas.List.{length-set}
+use Rattle.model.specs.declared.event.Event.{Event}
+use Rattle.model.specs.Names.{thread_target}
+use Rattle.model.specs.Operands.{Slots, Carrier}
+use Rattle.model.specs.State.{ObjectOf, WorldOf, Waiter, WakeCause, Notified, ThreadStatus, Running, Waiting, Relock, Ended}
+use Rattle.model.specs.Monitors as monitors
+use Rattle.model.specs.Outcomes.{OutcomeOf, Goes, Raises, Throws, Interrupts, Calls, Returns, Waits, not_null}
+use Rattle.model.specs.Worlds.{thread_at, thread_of, is_alive, object_at, with_object, with_field, is_owner, with_monitors, woken, all_woken, waiters_of}
+use Rattle.model.specs.Sites.{operand, pushing}
+use Rattle.model.specs.BuiltInMethods.{BuiltInMethod, Construct, ConstructWithTarget, ObjectWait, ObjectNotify, ObjectNotifyAll, ThreadStart, ThreadInterrupt, ThreadIsInterrupted, ThreadInterrupted, ThreadYield, ThreadCurrentThread, ThreadJoin, ThreadIsAlive, PrintStreamPrintln, object_of, wait_by, notified_one, notified, notified_all, if_owner, start_by, interrupted_in, interrupted_on, join_by, built_in_does}
+use Rattle.run_laws.specs.object_counts.Bounds.{made}
+
+-- ---- lists
+
+pub same_count : (m n : ℕ) → m ≡ n → m ≡ n + 0
+same_count m n e = omega (arith, e)
+
+pub unchanged : (n : ℕ) → n ≡ n + 0
+unchanged n = same_count n n refl
+
+-- ---- outcomes
+
+-- what comes of so many objects
+abbrev pub OutcomeCounted : {A : Type 0} → ℕ → OutcomeOf A → Type 0
+OutcomeCounted n (Goes cost after slots to) = length after.heap ≡ n + made cost
+OutcomeCounted n (Raises fault) = Unit {0}
+OutcomeCounted n (Throws exception) = Unit {0}
+OutcomeCounted n Interrupts = Unit {0}
+OutcomeCounted n (Calls frame rest) = Unit {0}
+OutcomeCounted n (Returns after results) = length after.heap ≡ n
+OutcomeCounted n (Waits cost after rest) = length after.heap ≡ n + made cost
+
+module _ {A : Type 0} where
+  pub not_null_counted : (n : ℕ) (o : Option ℕ) (go : ℕ → OutcomeOf A) → ((r : ℕ) → OutcomeCounted n (go r))
+      → OutcomeCounted n (not_null o go)
+  not_null_counted n None go h = tt
+  not_null_counted n (Some r) go h = h r
+
+  pub either_counted : (n : ℕ) (b : Bool) (x y : OutcomeOf A) → OutcomeCounted n x → OutcomeCounted n y
+      → OutcomeCounted n (if b then x else y)
+  either_counted n true x y h g = h
+  either_counted n false x y h g = g
+
+  -- ---- worlds
+
+  pub object_count : (world : WorldOf A) (r : ℕ) (o : ObjectOf A) → length (with_object world r o).heap ≡ length world.heap
+  object_count world r o = length-set world.heap r o
+
+  pub woken_count : (object : ℕ) (cause : WakeCause) (world : WorldOf A) (ws : List Waiter)
+      → length (all_woken object cause world ws).heap ≡ length world.heap
+  woken_count object cause world [] = refl
+  woken_count object cause world (w ∷ ws) = woken_count object cause (woken object cause world w) ws
+
+  notified_count : (world : WorldOf A) (object : ℕ) (o : Option Waiter) → length (notified_one world object o).heap ≡ length world.heap
+  notified_count world object None = refl
+  notified_count world object (Some w) = refl
+
+  interrupted_count : (world : WorldOf A) (t : ℕ) (status : ThreadStatus) → length (interrupted_in world t status).heap ≡ length world.heap
+  interrupted_count world t Running = refl
+  interrupted_count world t (Waiting object count) = refl
+  interrupted_count world t (Relock object count cause) = refl
+  interrupted_count world t (Ended exception) = refl
+
+  interrupted_on_count : (world : WorldOf A) (o : Option ℕ) → length (interrupted_on world o).heap ≡ length world.heap
+  interrupted_on_count world None = refl
+  interrupted_on_count world (Some t) = interrupted_count world t (thread_at world t).status
+
+  -- ---- methods of the machine
+
+  wait_counted : (owns interrupted : Bool) (t object : ℕ) (world : WorldOf A) (rest : List A)
+      → OutcomeCounted (length world.heap) (wait_by owns interrupted t object world rest)
+  wait_counted false interrupted t object world rest = tt
+  wait_counted true true t object world rest = tt
+  wait_counted true false t object world rest = unchanged (length world.heap)
+
+  owner_counted : (n : ℕ) (b : Bool) (x : OutcomeOf A) → OutcomeCounted n x → OutcomeCounted n (if_owner b x)
+  owner_counted n true x h = h
+  owner_counted n false x h = tt
+
+  start_counted : (started : Bool) (next object : ℕ) (world : WorldOf A) (slots : Slots A) (rest : List A)
+      → OutcomeCounted (length world.heap) (start_by started next object world slots rest)
+  start_counted true next object world slots rest = tt
+  start_counted false next object world slots rest = unchanged (length world.heap)
+
+  join_counted : (alive : Bool) (next : ℕ) (world : WorldOf A) (slots : Slots A) (rest : List A)
+      → OutcomeCounted (length world.heap) (join_by alive next world slots rest)
+  join_counted true next world slots rest = tt
+  join_counted false next world slots rest = unchanged (length world.heap)
+
+  pub built_in_counted : (C : Carrier A) (method : BuiltInMethod) (next : ℕ) (event : Event) (world : WorldOf A) (slots : Slots A)
+      (ops rest : List A) → OutcomeCounted (length world.heap) (built_in_does C method next event world slots ops rest)
+  built_in_counted C Construct next event world slots ops rest = unchanged (length world.heap)
+  built_in_counted C ConstructWithTarget next event world slots ops rest =
+      let o = object_of C ops 1 in
+      let new = with_field thread_target (operand C ops 0) (object_at world o) in
+      same_count (length (with_object world o new).heap) (length world.heap) (object_count world o new)
+  built_in_counted C ObjectWait next event world slots ops rest =
+      wait_counted (is_owner world event.thread (object_of C ops 0)) (thread_at world event.thread).interrupted event.thread (object_of C ops 0) world rest
+  built_in_counted C ObjectNotify next event world slots ops rest =
+      let o = object_of C ops 0 in
+      let free = with_monitors world (monitors.notify o event.thread event.pick world.monitors) in
+      owner_counted (length world.heap) (is_owner world event.thread o) (pushing next [] (notified world event.thread o event.pick) slots rest)
+      (same_count (length (notified world event.thread o event.pick).heap) (length world.heap) (notified_count free o (slice_get (waiters_of world o) event.pick)))
+  built_in_counted C ObjectNotifyAll next event world slots ops rest =
+      let o = object_of C ops 0 in
+      let free = with_monitors world (monitors.notify_all o event.thread world.monitors) in
+      owner_counted (length world.heap) (is_owner world event.thread o) (pushing next [] (notified_all world event.thread o) slots rest)
+      (same_count (length (notified_all world event.thread o).heap) (length world.heap) (woken_count o Notified free (waiters_of world o)))
+  built_in_counted C ThreadStart next event world slots ops rest = start_counted (is_some (thread_of world (object_of C ops 0))) next (object_of C ops 0) world slots rest
+  built_in_counted C ThreadInterrupt next event world slots ops rest =
+      let after = interrupted_on world (thread_of world (object_of C ops 0)) in
+      same_count (length after.heap) (length world.heap) (interrupted_on_count world (thread_of world (object_of C ops 0)))
+  built_in_counted C ThreadIsInterrupted next event world slots ops rest = unchanged (length world.heap)
+  built_in_counted C ThreadInterrupted next event world slots ops rest = unchanged (length world.heap)
+  built_in_counted C ThreadYield next event world slots ops rest = unchanged (length world.heap)
+  built_in_counted C ThreadCurrentThread next event world slots ops rest = unchanged (length world.heap)
+  built_in_counted C ThreadJoin next event world slots ops rest = join_counted (is_alive world (object_of C ops 0)) next world slots rest
+  built_in_counted C ThreadIsAlive next event world slots ops rest = unchanged (length world.heap)
+  built_in_counted C PrintStreamPrintln next event world slots ops rest = unchanged (length world.heap)

@@ -1,0 +1,286 @@
+-- The built-in methods without code: each brings about what a call of it has to.
+use Rattle.std.proofs.Common.{◌≡◌, ℕ, zero, suc, List, [], ◌∷◌, ◌++◌, reverse, Bool, true, false, Some, None, refl, sym, ap, ◌∙◌, subst, ⊎_elim}
+use Rattle.std.specs.Prelude.{slice_get, slice_index_or, find, unwrap_or, is_some, codes}
+use Rattle.std.specs.Option.{option_map}
+use Rattle.std.specs.List.{AllByRecursion, list_any}
+use Rattle.std.proofs.lemmas.Bool.{false≢true, and_parts, and_from, or_cases, or_from, cond_both}
+use Rattle.std.proofs.lemmas.List.{reverse-reverse}
+use Rattle.model.specs.declared.event.Event.{Event}
+use Rattle.model.specs.declared.value.Value.{Value}
+use Rattle.model.specs.declared.value.Value.TheVariants as value
+use Rattle.model.specs.Names.{Name, Member, java_lang_object, java_lang_runnable, java_lang_thread, constructor_name, thread_target, println_int}
+use Rattle.model.specs.DescriptorScan.{method_type, field_type, parameters_at, field_at, element_at}
+use Rattle.model.specs.BuiltIn.{built_in_classes}
+use Rattle.model.specs.Classes.{Program}
+use Rattle.model.specs.ReferenceTypes.{ReferenceType, ClassType}
+use Rattle.model.specs.Types.{VerificationType, Unusable, IntType, OfType, UninitialisedThis, is_value_below}
+use Rattle.model.specs.DescribedTypes.{field_declared, verification_type, made_type}
+use Rattle.model.specs.Operands.{values, reference_of}
+use Rattle.model.specs.State.{types_of, Thread, Frame, World, new_thread}
+use Rattle.model.specs.Outcomes.{OutcomeOf, Free}
+use Rattle.model.specs.Worlds.{thread_at, object_at, with_object, with_field, with_interrupted, is_owner, is_alive, is_interrupted, thread_of}
+use Rattle.model.specs.Frames.{at_offset, at_call}
+use Rattle.model.specs.Sites.{pushing, operand, int_operand}
+use Rattle.model.specs.Calls.{parameter_count, result_types}
+use Rattle.model.specs.BuiltInMethods
+use Rattle.model.specs.BuiltInMethods.{BuiltInMethod, Construct, ConstructWithTarget, ObjectWait, ObjectNotify, ObjectNotifyAll, ThreadStart, ThreadInterrupt, ThreadIsInterrupted, ThreadInterrupted, ThreadYield, ThreadCurrentThread, ThreadJoin, ThreadIsAlive, PrintStreamPrintln, of_object, of_thread, built_in_methods, is_row_of, built_in_may, built_in_does, wait_by, waiting, notified, notified_all, if_owner, with_started, start_by, interrupted_on, join_by, bit, with_printed, object_of}
+use Rattle.model.specs.Typing.{has_no_receiver, argument_types}
+use Rattle.model.specs.WellTyped.{has_type, is_object_in, are_typed, Ready, Awaits}
+use Rattle.run_laws.proofs.laws.Lists.{Pairwise, pairs_of, pair_get, get_front}
+use Rattle.run_laws.proofs.laws.Classes.{names_same, members_same}
+use Rattle.run_laws.proofs.laws.Order.{Extends, extends_self}
+use Rattle.run_laws.proofs.typed_runs.Invariant.{awaits_more}
+use Rattle.run_laws.proofs.typed_runs.Objects.{object_found}
+use Rattle.run_laws.proofs.typed_runs.Frames.{resumed}
+use Rattle.run_laws.proofs.typed_runs.Changes.{Started, Go, OutcomeTyped}
+use Rattle.run_laws.proofs.laws.Linked.{Linked}
+use Rattle.run_laws.proofs.typed_runs.Threads.{kept_self, waits, wait_sets_weaken}
+use Rattle.run_laws.proofs.typed_runs.WorldChanges.{Keeps, self_keeps, object_keeps, printed_keeps, interrupted_keeps, goes_on}
+use Rattle.run_laws.proofs.typed_runs.WaitChanges.{notified_keeps, notified_all_keeps, interrupted_on_keeps, waiting_changes, waits_on}
+use Rattle.run_laws.proofs.typed_runs.Called.{Called, BuiltInTyped}
+use Rattle.run_laws.proofs.typed_runs.Instructions.{at_typed, at_there, with_field_typed, with_field_same}
+use Rattle.run_laws.proofs.typed_runs.Callees.{pair_reverse}
+
+-- ---- names
+
+-- ---- what the methods take and give
+
+module _ (files : Program) where
+  void_results : (class name : Name) → result_types files (record { class = class; name = name; descriptor = codes "()V" }) ≡ []
+  unfolding method_type parameters_at field_at element_at field_type
+  void_results class name = refl
+
+  bit_results : (name : Name) → result_types files (of_thread name (codes "()Z")) ≡ IntType ∷ []
+  unfolding method_type parameters_at field_at element_at field_type
+  bit_results name = refl
+
+  thread_results : result_types files (of_thread (codes "currentThread") (codes "()Ljava/lang/Thread;"))
+      ≡ OfType (ClassType java_lang_thread) ∷ []
+  unfolding method_type parameters_at field_at element_at field_type built_in_classes
+  thread_results = refl
+
+  target_results : result_types files (of_thread constructor_name (codes "(Ljava/lang/Runnable;)V")) ≡ []
+  unfolding method_type parameters_at field_at element_at field_type
+  target_results = refl
+
+  println_results : result_types files println_int ≡ []
+  unfolding method_type parameters_at field_at element_at field_type
+  println_results = refl
+
+  wait_arguments : argument_types files (of_object (codes "wait")) ≡ OfType (ClassType java_lang_object) ∷ []
+  unfolding method_type parameters_at field_at element_at field_type built_in_classes
+  wait_arguments = refl
+
+  wait_receiver : has_no_receiver files (of_object (codes "wait")) ≡ false
+  unfolding built_in_classes
+  wait_receiver = refl
+
+  start_arguments : argument_types files (of_thread (codes "start") (codes "()V")) ≡ OfType (ClassType java_lang_thread) ∷ []
+  unfolding method_type parameters_at field_at element_at field_type built_in_classes
+  start_arguments = refl
+
+  start_receiver : has_no_receiver files (of_thread (codes "start") (codes "()V")) ≡ false
+  unfolding built_in_classes
+  start_receiver = refl
+
+  no_parameters : (class name : Name) → parameter_count (record { class = class; name = name; descriptor = codes "()V" }) ≡ 0
+  unfolding method_type parameters_at field_at element_at field_type
+  no_parameters class name = refl
+
+  target_arguments : argument_types files (of_thread constructor_name (codes "(Ljava/lang/Runnable;)V"))
+      ≡ UninitialisedThis java_lang_thread ∷ OfType (made_type files (ClassType java_lang_runnable)) ∷ []
+  unfolding method_type parameters_at field_at element_at field_type built_in_classes
+  target_arguments = refl
+
+  target_receiver : has_no_receiver files (of_thread constructor_name (codes "(Ljava/lang/Runnable;)V")) ≡ false
+  unfolding built_in_classes
+  target_receiver = refl
+
+  target_parameters : parameter_count (of_thread constructor_name (codes "(Ljava/lang/Runnable;)V")) ≡ 1
+  unfolding method_type parameters_at field_at element_at field_type
+  target_parameters = refl
+
+  target_type : verification_type files (field_declared thread_target.descriptor) ≡ OfType (made_type files (ClassType java_lang_runnable))
+  unfolding field_type field_at element_at
+  target_type = refl
+
+-- ---- a thread that is started
+
+front_waits : (threads : List Thread) (new : Thread) (object u : ℕ) → waits threads object u ≡ true
+    → waits (threads ++ new ∷ []) object u ≡ true
+front_waits [] new object u h = absurd (false≢true h)
+front_waits (x ∷ xs) new object zero h = h
+front_waits (x ∷ xs) new object (suc u) h = front_waits xs new object u h
+
+last_is : (threads : List Thread) (new : Thread) (u : ℕ) (thread : Thread) → slice_get threads u ≡ None
+    → slice_get (threads ++ new ∷ []) u ≡ Some thread → new ≡ thread
+last_is [] new zero thread n e = cc
+last_is [] new (suc u) thread n e = absurd cc
+last_is (x ∷ xs) new zero thread n e = absurd cc
+last_is (x ∷ xs) new (suc u) thread n e = last_is xs new u thread n e
+
+started_go : (files : Program) (os : List ReferenceType) (t : ℕ) (threads : List Thread) (object : ℕ)
+    → is_object_in files os java_lang_thread object ≡ true → Go files os t threads (threads ++ new_thread object ∷ [])
+started_go files os t threads object h =
+    record {
+      still = λ u thread e. record { thread = thread; there = get_front threads (new_thread object ∷ []) u thread e; object = refl; kept = λ q. kept_self thread };
+      started = λ u thread n e. subst (Started files os) (last_is threads (new_thread object) u thread n e) (record { pending = refl; status = refl; object = h });
+    }
+
+module _ (files : Program) (linked : Linked files) (event : Event) (w : World) (f : Frame) (next : ℕ) (method : Member)
+    (ops rest : List Value) (c : Called files event w f next method ops rest) where
+  -- ---- how the frame goes on
+
+  ready_after : (after : World) (vs : List Value) → Extends (types_of w.heap) (types_of after.heap)
+      → are_typed files (types_of after.heap) (result_types files method) vs ≡ true
+      → Ready files (types_of after.heap) (at_offset f next (record { locals = f.place.slots.locals; stack = vs ++ rest }))
+  ready_after after vs x typed =
+      subst (λ to. Ready files (types_of after.heap) (at_offset f to (record { locals = f.place.slots.locals; stack = vs ++ rest }))) (sym c.next_is)
+      (resumed files linked.rooted (types_of after.heap) (result_types files method) (at_call f rest) vs (awaits_more files (types_of w.heap) (types_of after.heap) x (result_types files method) (at_call f rest) c.awaits) typed)
+
+  carries : (ts : List VerificationType) (after : World) (vs : List Value) → result_types files method ≡ ts → Keeps files w after
+      → are_typed files (types_of after.heap) ts vs ≡ true → OutcomeTyped files event.thread w f (pushing next vs after f.place.slots rest)
+  carries ts after vs e k typed =
+      goes_on files event.thread w after f Free (record { locals = f.place.slots.locals; stack = vs ++ rest }) next c.live k
+      (ready_after after vs k.extends (subst (λ l. are_typed files (types_of after.heap) l vs ≡ true) (sym e) typed))
+
+  -- ---- operands
+
+  typed_operand : (ts : List VerificationType) → argument_types files method ≡ ts → (k : ℕ)
+      → has_type files (types_of w.heap) (slice_index_or (reverse ts) k Unusable) (operand values ops k) ≡ true
+  typed_operand ts e k =
+      let R = has_type files (types_of w.heap) in
+      let p = pair_reverse R ts (reverse ops) (pairs_of R ts (reverse ops) (subst (λ l. are_typed files (types_of w.heap) l (reverse ops) ≡ true) e c.arguments)) in
+      pair_get R (reverse ts) ops Unusable value.Unset (subst (λ l. Pairwise R (reverse ts) l) (reverse-reverse ops) p) refl k
+
+  receiver_in : (class : Name) (k : ℕ) → has_no_receiver files method ≡ false → parameter_count method ≡ k
+      → is_value_below files (types_of w.heap) (ClassType class) (operand values ops k) ≡ true
+      → is_object_in files (types_of w.heap) class (object_of values ops k) ≡ true
+  receiver_in class k has count below =
+      let r = c.receiver has in
+      let at = subst (λ n. operand values ops n ≡ value.Reference r.0) count r.1 in
+      subst (λ n. is_object_in files (types_of w.heap) class n ≡ true) (sym (ap (λ v. unwrap_or (reference_of v) 0) at)) (subst (λ v. is_value_below files (types_of w.heap) (ClassType class) v ≡ true) at below)
+
+  -- ---- the methods, each by its row
+
+  abbrev Typed : BuiltInMethod → Type 0
+  Typed b = OutcomeTyped files event.thread w f (built_in_does values b next event w f.place.slots ops rest)
+
+  waited : method ≡ of_object (codes "wait") → (b interrupted : Bool) → is_owner w event.thread (object_of values ops 0) ≡ b
+      → OutcomeTyped files event.thread w f (wait_by b interrupted event.thread (object_of values ops 0) w rest)
+  waited e false interrupted q = tt
+  waited e true true q = tt
+  waited e true false q =
+      let object = receiver_in java_lang_object 0 (ap (has_no_receiver files) e ∙ wait_receiver files) (ap parameter_count e ∙ no_parameters files java_lang_object (codes "wait")) (typed_operand (OfType (ClassType java_lang_object) ∷ []) (ap (argument_types files) e ∙ wait_arguments files) 0) in
+      let x = waiting_changes files w c.fits event.thread (object_of values ops 0) q c.live in
+      (x, (waits_on files w c.fits event.thread (object_of values ops 0) c.live object, subst (λ ts. Awaits files (types_of w.heap) ts (at_call f rest)) (ap (result_types files) e ∙ void_results files java_lang_object (codes "wait")) c.awaits))
+
+  owner_typed : (b : Bool) (o : OutcomeOf Value) → (b ≡ true → OutcomeTyped files event.thread w f o)
+      → OutcomeTyped files event.thread w f (if_owner b o)
+  owner_typed true o k = k refl
+  owner_typed false o k = tt
+
+  started : method ≡ of_thread (codes "start") (codes "()V") → (b : Bool)
+      → OutcomeTyped files event.thread w f (start_by b next (object_of values ops 0) w f.place.slots rest)
+  started e true = tt
+  started e false =
+      let r = object_of values ops 0 in
+      let object = receiver_in java_lang_thread 0 (ap (has_no_receiver files) e ∙ start_receiver files) (ap parameter_count e ∙ no_parameters files java_lang_thread (codes "start")) (typed_operand (OfType (ClassType java_lang_thread) ∷ []) (ap (argument_types files) e ∙ start_arguments files) 0) in (
+        record {
+          extends = extends_self (types_of w.heap);
+          fits = record {
+            heap = c.fits.heap;
+            statics = c.fits.statics;
+            monitors = c.fits.monitors;
+            wait_sets = wait_sets_weaken w.threads (w.threads ++ new_thread r ∷ []) (λ o u q. front_waits w.threads (new_thread r) o u q) 0 w.monitors c.fits.wait_sets;
+            opened = c.fits.opened;
+          };
+          go = started_go files (types_of w.heap) event.thread w.threads r object;
+        },
+        (
+          record { thread = c.live.thread; there = get_front w.threads (new_thread r ∷ []) event.thread c.live.thread c.live.there; status = c.live.status; pending = c.live.pending },
+          ready_after (with_started w r) [] (extends_self (types_of w.heap)) (subst (λ ts. are_typed files (types_of w.heap) ts [] ≡ true) (sym (ap (result_types files) e ∙ void_results files java_lang_thread (codes "start"))) refl),
+        ),
+      )
+
+  targeted : method ≡ of_thread constructor_name (codes "(Ljava/lang/Runnable;)V") → Typed ConstructWithTarget
+  targeted e =
+      let os = types_of w.heap in
+      let ts = UninitialisedThis java_lang_thread ∷ OfType (made_type files (ClassType java_lang_runnable)) ∷ [] in
+      let args = ap (argument_types files) e ∙ target_arguments files in
+      let r = object_of values ops 1 in
+      let v = operand values ops 0 in
+      let receiver = receiver_in java_lang_thread 1 (ap (has_no_receiver files) e ∙ target_receiver files) (ap parameter_count e ∙ target_parameters files) (typed_operand ts args 1) in
+      let o = object_found files w.heap r (ClassType java_lang_thread) receiver in
+      let typed = subst (λ t. has_type files os t v ≡ true) (sym (target_type files)) (typed_operand ts args 0) in
+      carries [] (with_object w r (with_field thread_target v (object_at w r))) [] (ap (result_types files) e ∙ target_results files)
+      (object_keeps files w c.fits r (object_at w r) (with_field thread_target v (object_at w r)) (at_there w.heap r o.0 o.1) (with_field_same thread_target v (object_at w r)) (with_field_typed files os thread_target v (object_at w r) typed (at_typed files os w.heap r c.fits.heap))) refl
+
+  joined : method ≡ of_thread (codes "join") (codes "()V") → (b : Bool)
+      → OutcomeTyped files event.thread w f (join_by b next w f.place.slots rest)
+  joined e true = tt
+  joined e false = carries [] w [] (ap (result_types files) e ∙ void_results files java_lang_thread (codes "join")) (self_keeps files w c.fits) refl
+
+  on_rows : AllByRecursion (λ (row : Member × BuiltInMethod). method ≡ row.0 → Typed row.1) built_in_methods
+  on_rows = (
+    λ e. waited e (is_owner w event.thread (object_of values ops 0)) (thread_at w event.thread).interrupted refl,
+    (
+      λ e. owner_typed (is_owner w event.thread (object_of values ops 0)) _ (λ q. carries [] (notified w event.thread (object_of values ops 0) event.pick) [] (ap (result_types files) e ∙ void_results files java_lang_object (codes "notify")) (notified_keeps files w c.fits event.thread (object_of values ops 0) event.pick q) refl),
+      (
+        λ e. owner_typed (is_owner w event.thread (object_of values ops 0)) _ (λ q. carries [] (notified_all w event.thread (object_of values ops 0)) [] (ap (result_types files) e ∙ void_results files java_lang_object (codes "notifyAll")) (notified_all_keeps files w c.fits event.thread (object_of values ops 0) q) refl),
+        (
+          targeted,
+          (
+            λ e. started e (is_some (thread_of w (object_of values ops 0))),
+            (
+              λ e. carries [] (interrupted_on w (thread_of w (object_of values ops 0))) [] (ap (result_types files) e ∙ void_results files java_lang_thread (codes "interrupt")) (interrupted_on_keeps files w c.fits (thread_of w (object_of values ops 0))) refl,
+              (
+                λ e. carries (IntType ∷ []) w (value.Int (bit (is_interrupted w (object_of values ops 0))) ∷ []) (ap (result_types files) e ∙ bit_results files (codes "isInterrupted")) (self_keeps files w c.fits) refl,
+                (
+                  λ e. carries (IntType ∷ []) (with_interrupted w event.thread false) (value.Int (bit (thread_at w event.thread).interrupted) ∷ []) (ap (result_types files) e ∙ bit_results files (codes "interrupted")) (interrupted_keeps files w c.fits event.thread false) refl,
+                  (
+                    λ e. carries [] w [] (ap (result_types files) e ∙ void_results files java_lang_thread (codes "yield")) (self_keeps files w c.fits) refl,
+                    (
+                      λ e. carries (OfType (ClassType java_lang_thread) ∷ []) w (value.Reference (thread_at w event.thread).object ∷ []) (ap (result_types files) e ∙ thread_results files) (self_keeps files w c.fits) (and_from _ _ c.self refl),
+                      (
+                        λ e. joined e (is_alive w (object_of values ops 0)),
+                        (
+                          λ e. carries (IntType ∷ []) w (value.Int (bit (is_alive w (object_of values ops 0))) ∷ []) (ap (result_types files) e ∙ bit_results files (codes "isAlive")) (self_keeps files w c.fits) refl,
+                          (
+                            λ e. carries [] (with_printed w (int_operand values ops 0)) [] (ap (result_types files) e ∙ println_results files) (printed_keeps files w c.fits (int_operand values ops 0)) refl,
+                            tt,
+                          ),
+                        ),
+                      ),
+                    ),
+                  ),
+                ),
+              ),
+            ),
+          ),
+        ),
+      ),
+    ),
+  )
+
+  -- a constructor without parameters
+  constructed : method.descriptor ≡ codes "()V" → Typed Construct
+  constructed e = carries [] w [] (ap (λ d. result_types files (record { class = method.class; name = method.name; descriptor = d })) e ∙ void_results files method.class method.name) (self_keeps files w c.fits) refl
+
+  walk : (rows : List (Member × BuiltInMethod)) → AllByRecursion (λ (row : Member × BuiltInMethod). method ≡ row.0 → Typed row.1) rows
+      → (list_any (is_row_of method) rows ≡ false → Typed Construct)
+      → Typed (unwrap_or (option_map (λ (row : Member × BuiltInMethod). row.1) (find (is_row_of method) rows)) Construct)
+  walk [] h k = k refl
+  walk (row ∷ rows) h k =
+      cond_both (is_row_of method row) (Some row) (find (is_row_of method) rows) (λ o. Typed (unwrap_or (option_map (λ (r : Member × BuiltInMethod). r.1) o) Construct))
+      (λ q. h.0 (sym (members_same row.0 method q))) (λ q. walk rows h.1 (λ n. k (or_from (is_row_of method row) (list_any (is_row_of method) rows) q n)))
+
+  built_in_case : OutcomeTyped files event.thread w
+      f (built_in_does values (BuiltInMethods.built_in_method method) next event w f.place.slots ops rest)
+  built_in_case =
+      walk built_in_methods on_rows
+      (λ n. constructed (⊎_elim (λ q. absurd (false≢true (sym n ∙ q))) (λ q. names_same method.descriptor (codes "()V") (and_parts _ _ q).1) (or_cases (list_any (is_row_of method) built_in_methods) _ c.machine)))
+
+-- each built-in method brings about what a call of it has to
+pub built_in_typed : (files : Program) → Linked files → BuiltInTyped files
+built_in_typed files linked event w f next method ops rest c = built_in_case files linked event w f next method ops rest c

@@ -1,0 +1,13 @@
+pub mod Orders
+pub mod Joins
+pub mod Rows
+pub mod Uninitialised
+pub mod Forms
+pub mod Leads
+pub mod Flows
+pub mod Searching
+pub mod Merging
+pub mod Weights
+pub mod Linking
+pub mod Deciding
+pub mod Bounds

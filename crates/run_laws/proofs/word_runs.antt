@@ -1,0 +1,12 @@
+pub mod WordWorlds
+pub mod WordMeanings
+pub mod WordArrays
+pub mod WordBuiltIns
+pub mod WordCalls
+pub mod WordTable
+pub mod WordEvents
+pub mod Carried
+pub mod OpenedWords
+pub mod InCode
+pub mod KeptWords
+pub mod Room

@@ -1,0 +1,13 @@
+pub mod examples
+pub mod interleavings
+pub mod laws
+pub mod monitor_counts
+pub mod object_counts
+pub mod searches
+pub mod soundness
+pub mod typed_runs
+pub mod typed_threads
+pub mod typing_search
+pub mod word_operands
+pub mod word_reports
+pub mod word_runs

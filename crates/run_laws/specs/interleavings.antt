@@ -1,0 +1,4 @@
+pub mod Local
+pub mod Reduced
+pub mod Ends
+pub mod Statements

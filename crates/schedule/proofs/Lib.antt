@@ -1,0 +1,10 @@
+pub mod Fewest
+pub mod FileNumbers
+pub mod JoinedEntries
+pub mod Laws
+pub mod Loop
+pub mod OneList
+pub mod Recordings
+pub mod Texts
+pub mod Whole
+pub mod Written

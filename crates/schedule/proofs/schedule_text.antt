@@ -1,0 +1,10 @@
+pub mod ChecksumLaws
+pub mod CommandLaws
+pub mod EntryLaws
+pub mod GrowingLaws
+pub mod HexLaws
+pub mod LengthLaws
+pub mod LimitLaws
+pub mod OneText
+pub mod WordLaws
+pub mod WriteLaws

@@ -1,0 +1,10 @@
+pub mod FileExamples
+pub mod Files
+pub mod growing_text
+pub mod Joined
+pub mod Names
+pub mod Outcomes
+pub mod Reading
+pub mod recorded_events
+pub mod schedule_text
+pub mod schedule_tree

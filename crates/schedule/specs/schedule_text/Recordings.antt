@@ -1,0 +1,14 @@
+-- Where parts of what a text says beside the events end (own).
+use Rattle.std.specs.Prelude.{◌≡◌, ◌⊎◌, ℕ, List, ◌∷◌, codes}
+
+-- this word comes next
+abbrev pub BeginWith : List ℕ → List (List ℕ) → Type 0
+BeginWith word words = (rest : List (List ℕ)) × (words ≡ word ∷ rest)
+
+-- behind lengths the events come next, or checksums
+abbrev pub EndLengths : List (List ℕ) → Type 0
+EndLengths words = BeginWith (codes "#events") words ⊎ BeginWith (codes "#checksums") words
+
+-- behind checksums the events
+abbrev pub EndRecording : List (List ℕ) → Type 0
+EndRecording words = BeginWith (codes "#events") words

@@ -1,0 +1,4 @@
+mod Orders
+mod Lists
+mod Places
+pub mod SameLaws

@@ -1,0 +1,77 @@
+-- The order of outcomes is a total order, and tells them apart.
+use Rattle.std.proofs.Common.{◌≡◌, ℕ, zero, suc, ℤ, List, [], ◌∷◌, refl, sym, ap, ◌∙◌}
+use Rattle.std.specs.Cmp.{IsTotalOrder}
+use Rattle.std.specs.Cmp.Lexicographic.{slice_cmp}
+use Rattle.std.specs.Ordering.{nat_cmp, int_cmp, ordering_then}
+use Rattle.std.specs.declared.cmp.Ordering.{Ordering}
+use Rattle.std.specs.declared.cmp.Ordering.TheVariants.{Less, Equal, Greater}
+use Rattle.std.proofs.lemmas.Cmp.{ranked, int_ranked, nat_cmp_total, int_cmp_total, nat_list_cmp_total, lists_total, on_total, then_total}
+use Rattle.model.specs.Report.{ThreadEnd, Ended, Threw, Blocked, Waiting, Joining, Initialising, Runnable}
+use Rattle.run_laws.specs.interleavings.Ends.{Outcome}
+use Rattle.search.specs.run_outcomes.Outcomes.{rank_of, exception_of, end_cmp, outcome_cmp}
+
+-- ---- a total order
+
+ends_total : IsTotalOrder end_cmp
+ends_total = then_total (on_total rank_of nat_cmp_total) (on_total exception_of nat_list_cmp_total)
+
+pub outcomes_total : IsTotalOrder outcome_cmp
+outcomes_total = then_total (on_total (λ (o : Outcome). o.printed) (lists_total int_cmp_total)) (on_total (λ (o : Outcome). o.ends) (lists_total ends_total))
+
+-- ---- what is equal in it is the same
+
+both_equal : (one other : Ordering) → ordering_then one other ≡ Equal → (one ≡ Equal) × (other ≡ Equal)
+both_equal Less other e = absurd cc
+both_equal Equal other e = (refl, e)
+both_equal Greater other e = absurd cc
+
+module _ {X : Type 0} (cmp : X → X → Ordering) (same : (x y : X) → cmp x y ≡ Equal → x ≡ y) where
+  same_lists : (xs ys : List X) → slice_cmp cmp xs ys ≡ Equal → xs ≡ ys
+  same_lists [] [] e = refl
+  same_lists [] (y ∷ ys) e = absurd cc
+  same_lists (x ∷ xs) [] e = absurd cc
+  same_lists (x ∷ xs) (y ∷ ys) e =
+      let both = both_equal (cmp x y) (slice_cmp cmp xs ys) e in
+      let first = same x y both.0 in
+      let others = same_lists xs ys both.1 in
+      ap (λ z. z ∷ xs) first ∙ ap (λ zs. y ∷ zs) others
+
+same_number : (x y : ℕ) → nat_cmp x y ≡ Equal → x ≡ y
+same_number x y e = ranked x y Equal (sym e)
+
+same_integer : (x y : ℤ) → int_cmp x y ≡ Equal → x ≡ y
+same_integer x y e = int_ranked x y Equal (sym e)
+
+-- a standing, by its rank and its exception
+end_at : ℕ → List ℕ → ThreadEnd
+end_at zero name = Ended
+end_at (suc zero) name = Threw name
+end_at (suc (suc zero)) name = Blocked
+end_at (suc (suc (suc zero))) name = Waiting
+end_at (suc (suc (suc (suc zero)))) name = Joining
+end_at (suc (suc (suc (suc (suc zero))))) name = Initialising
+end_at (suc (suc (suc (suc (suc (suc n)))))) name = Runnable
+
+told_apart : (end : ThreadEnd) → end_at (rank_of end) (exception_of end) ≡ end
+unfolding end_at
+told_apart Ended = refl
+told_apart (Threw name) = refl
+told_apart Blocked = refl
+told_apart Waiting = refl
+told_apart Joining = refl
+told_apart Initialising = refl
+told_apart Runnable = refl
+
+same_end : (one other : ThreadEnd) → end_cmp one other ≡ Equal → one ≡ other
+same_end one other e =
+    let both = both_equal (nat_cmp (rank_of one) (rank_of other)) (slice_cmp nat_cmp (exception_of one) (exception_of other)) e in
+    let rank = same_number (rank_of one) (rank_of other) both.0 in
+    let name = same_lists nat_cmp same_number (exception_of one) (exception_of other) both.1 in
+    sym (told_apart one) ∙ (ap (λ n. end_at n (exception_of one)) rank ∙ (ap (end_at (rank_of other)) name ∙ told_apart other))
+
+pub same_outcome : (one other : Outcome) → outcome_cmp one other ≡ Equal → one ≡ other
+same_outcome one other e =
+    let both = both_equal (slice_cmp int_cmp one.printed other.printed) (slice_cmp end_cmp one.ends other.ends) e in
+    let printed = same_lists int_cmp same_integer one.printed other.printed both.0 in
+    let ends = same_lists end_cmp same_end one.ends other.ends both.1 in
+    ap (λ l. let o : Outcome = record { printed = l; ends = one.ends } in o) printed ∙ ap (λ l. let o : Outcome = record { printed = other.printed; ends = l } in o) ends

@@ -1,0 +1,2 @@
+mod OutcomeTexts
+mod Reported

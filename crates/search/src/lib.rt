@@ -1,0 +1,55 @@
+//! A search over all schedules of a program: every outcome that any of them can have, or one that is wanted.
+//!
+//! # Proved
+//!
+//! - `search`, memory aside, for the linked program of all accepted files (`IsProgramOf`), limits and numbers of
+//!   states: *Found* is a schedule, in entries that are joined, whose events lead to a state in which no thread may
+//!   step, with an outcome that is wanted, and no limit stood at any of them; *Complete* has the outcomes of all runs
+//!   that end, and no other, and none is wanted; *GaveUp* comes only where as many states were met as may be, or some
+//!   run can't be gone on with, or where the progress said that the search is over (`Says`, `GivesUp`, `may_stop` of
+//!   `Progress`). Of runs that never end nothing is said.
+//! - The number of states that is told is at most the number that may be met, if that is at least 1 (`few`); of
+//!   *Complete* it is that of schedules among which the search is whole (`HasMetAll`). `states_within` is a 128th of
+//!   the bytes.
+//! - A state is kept behind each event of a kept one, and behind those events of the same thread that come next and are
+//!   alone (`IsNextMet`, by the law of `search_laws`): local ones, and those that `alone_events` tells of. So the number
+//!   of states says how many were kept, and nothing of the states between.
+//! - `GivesUp`: as many states were met as may be (`most`), or some run leads to a state with an enabled event that a
+//!   limit forbids, or a thread may pick the last of 65,535 that wait. An outcome is what was printed, and how each
+//!   thread stands. A program in which a thread waits for a flag in a loop can be *Complete* though one of its runs
+//!   goes on for ever: of such runs nothing is said.
+//!
+//! # Not proved
+//!
+//! - Not said: that each state is met once. Nor is it that a state takes 128 bytes.
+//!
+//! # Wrong bodies
+//!
+//! - `opening-state-is-skipped`, `first-thread-is-skipped`: a search passes over the opening state, or over the main
+//!   thread; refused by what `visit_all` keeps (`HasVisited`), for `Says`; `AreMetByThreads` of `expand_threads`.
+//! - `silent-outcomes-are-dropped`: an outcome of a run that printed nothing is dropped; refused by the contract of
+//!   `is_found` (`ListsOr`).
+//! - `event-itself-is-left-out`: an entry has the events alone that come behind one, and not that one; refused by
+//!   `repeat` of `GoesPast`, of `go_past`.
+//! - `one-event-too-far-is-kept`, `too-far-is-not-taken-back`: an event that isn't alone is gone past; refused by `more`
+//!   of `GoesBehind`, of `do_alone`, and by `IsAfter`, of `settled`.
+//! - `gives-up-unasked`: a search gives up though it isn't over; refused by `Says`: `may_stop` of `Progress` follows
+//!   from the answer of `is_over` alone.
+//! - `goes-back-to-the-opening`, `quiet-states-are-passed-over`: the events of each state are tried in the opening
+//!   state, or an event is said to have led on before any was done; refused by the contracts of `expand` and of what it
+//!   calls (`IsStateOf`, `IsThere`).
+#![tactic(auto)]
+
+mod expanding;
+pub mod local_runs;
+mod machines;
+pub mod met_states;
+mod progress;
+pub mod run_outcomes;
+pub mod search_reports;
+mod searching;
+mod states;
+
+pub use progress::Progress;
+pub use searching::{Searched, Verdict, search};
+pub use states::states_within;

@@ -1,0 +1,115 @@
+-- Outcomes of instructions that neither call nor return.
+use Rattle.std.proofs.Common.{ℕ, List, Bool, true, false, if◌then◌else◌, Option, Some, None}
+use Rattle.std.specs.Prelude.{is_some}
+use Rattle.model.specs.declared.event.Event.{Event}
+use Rattle.model.specs.declared.instr.ArrayKind.{ArrayKind}
+use Rattle.model.specs.declared.instr.ArrayKind.TheVariants as array_kind
+use Rattle.model.specs.declared.value.Value.{Value}
+use Rattle.model.specs.Arrays.{made_array, in_range, at_index, may_stand_in, if_storable, load_of, store_of}
+use Rattle.model.specs.BuiltInMethods.{BuiltInMethod, Construct, ConstructWithTarget, ObjectWait, ObjectNotify, ObjectNotifyAll, ThreadStart, ThreadInterrupt, ThreadIsInterrupted, ThreadInterrupted, ThreadYield, ThreadCurrentThread, ThreadJoin, ThreadIsAlive, PrintStreamPrintln, object_of, wait_by, if_owner, start_by, join_by, built_in_does}
+use Rattle.model.specs.Classes.{Program}
+use Rattle.model.specs.MonitorMeanings.{left}
+use Rattle.model.specs.Meanings.{local_meaning}
+use Rattle.model.specs.Objects.{cast}
+use Rattle.model.specs.Operands.{Slots, values}
+use Rattle.model.specs.Outcomes.{OutcomeOf, Goes, Raises, Throws, Interrupts, Calls, Returns, Waits, Free, Arithmetic, not_null}
+use Rattle.model.specs.Rows.{Row, after_row, row_target}
+use Rattle.model.specs.Sites.{Site, operand, referent, int_operand}
+use Rattle.model.specs.State.{ObjectOf, World}
+use Rattle.model.specs.Worlds.{thread_at, is_owner, object_at, thread_of, is_alive}
+
+abbrev pub IsPlain : OutcomeOf Value → Type 0
+IsPlain (Goes cost world slots to) = Unit {0}
+IsPlain (Raises fault) = Unit {0}
+IsPlain (Throws exception) = Unit {0}
+IsPlain Interrupts = Unit {0}
+IsPlain (Calls callee rest) = ⊥
+IsPlain (Returns world results) = ⊥
+IsPlain (Waits cost world rest) = Unit {0}
+
+pub null_plain : (o : Option ℕ) (go : ℕ → OutcomeOf Value) → ((r : ℕ) → IsPlain (go r)) → IsPlain (not_null o go)
+null_plain None go h = tt
+null_plain (Some r) go h = h r
+
+pub either_plain : (b : Bool) (x y : OutcomeOf Value) → IsPlain x → IsPlain y → IsPlain (if b then x else y)
+either_plain true x y h g = h
+either_plain false x y h g = g
+
+pub index_plain : (b : Bool) (x : OutcomeOf Value) → IsPlain x → IsPlain (at_index b x)
+index_plain true x h = h
+index_plain false x h = tt
+
+pub storable_plain : (b : Bool) (x : OutcomeOf Value) → IsPlain x → IsPlain (if_storable b x)
+storable_plain true x h = h
+storable_plain false x h = tt
+
+owner_plain : (b : Bool) (x : OutcomeOf Value) → IsPlain x → IsPlain (if_owner b x)
+owner_plain true x h = h
+owner_plain false x h = tt
+
+pub cast_plain : (b : Bool) (next : ℕ) (value : Value) (world : World) (slots : Slots Value) (rest : List Value)
+    → IsPlain (cast b next value world slots rest)
+cast_plain true next value world slots rest = tt
+cast_plain false next value world slots rest = tt
+
+pub left_plain : (b : Bool) (next t r : ℕ) (world : World) (slots : Slots Value) (rest : List Value) → IsPlain (left b next t r world slots rest)
+left_plain true next t r world slots rest = tt
+left_plain false next t r world slots rest = tt
+
+pub array_plain : (b : Bool) (next count : ℕ) (array : List Value → ObjectOf Value) (first : Value) (world : World) (slots : Slots Value)
+    (rest : List Value) → IsPlain (made_array values b next count array first world slots rest)
+array_plain true next count array first world slots rest = tt
+array_plain false next count array first world slots rest = tt
+
+wait_plain : (owner interrupted : Bool) (t object : ℕ) (world : World) (rest : List Value) → IsPlain (wait_by owner interrupted t object world rest)
+wait_plain false interrupted t object world rest = tt
+wait_plain true true t object world rest = tt
+wait_plain true false t object world rest = tt
+
+start_plain : (b : Bool) (next object : ℕ) (world : World) (slots : Slots Value) (rest : List Value)
+    → IsPlain (start_by b next object world slots rest)
+start_plain true next object world slots rest = tt
+start_plain false next object world slots rest = tt
+
+join_plain : (b : Bool) (next : ℕ) (world : World) (slots : Slots Value) (rest : List Value) → IsPlain (join_by b next world slots rest)
+join_plain true next world slots rest = tt
+join_plain false next world slots rest = tt
+
+pub built_in_plain : (method : BuiltInMethod) (next : ℕ) (event : Event) (world : World) (slots : Slots Value) (ops rest : List Value)
+    → IsPlain (built_in_does values method next event world slots ops rest)
+built_in_plain Construct next event world slots ops rest = tt
+built_in_plain ConstructWithTarget next event world slots ops rest = tt
+built_in_plain ObjectWait next event world slots ops rest =
+    wait_plain (is_owner world event.thread (object_of values ops 0)) (thread_at world event.thread).interrupted event.thread (object_of values ops 0) world rest
+built_in_plain ObjectNotify next event world slots ops rest = owner_plain (is_owner world event.thread (object_of values ops 0)) _ tt
+built_in_plain ObjectNotifyAll next event world slots ops rest = owner_plain (is_owner world event.thread (object_of values ops 0)) _ tt
+built_in_plain ThreadStart next event world slots ops rest = start_plain (is_some (thread_of world (object_of values ops 0))) next (object_of values ops 0) world slots rest
+built_in_plain ThreadInterrupt next event world slots ops rest = tt
+built_in_plain ThreadIsInterrupted next event world slots ops rest = tt
+built_in_plain ThreadInterrupted next event world slots ops rest = tt
+built_in_plain ThreadYield next event world slots ops rest = tt
+built_in_plain ThreadCurrentThread next event world slots ops rest = tt
+built_in_plain ThreadJoin next event world slots ops rest = join_plain (is_alive world (object_of values ops 0)) next world slots rest
+built_in_plain ThreadIsAlive next event world slots ops rest = tt
+built_in_plain PrintStreamPrintln next event world slots ops rest = tt
+
+module _ (files : Program) (site : Site) (event : Event) (world : World) (slots : Slots Value) (ops rest : List Value) where
+  pub load_plain : (kind : ArrayKind) → IsPlain ((load_of values files site kind).does event world slots ops rest)
+  load_plain array_kind.Int = null_plain (referent values ops 1) _ (λ r. index_plain (in_range world r (int_operand values ops 0)) _ tt)
+  load_plain array_kind.Reference = null_plain (referent values ops 1) _ (λ r. index_plain (in_range world r (int_operand values ops 0)) _ tt)
+  load_plain array_kind.ByteOrBoolean = null_plain (referent values ops 1) _ (λ r. index_plain (in_range world r (int_operand values ops 0)) _ tt)
+  load_plain array_kind.Char = null_plain (referent values ops 1) _ (λ r. index_plain (in_range world r (int_operand values ops 0)) _ tt)
+  load_plain array_kind.Short = null_plain (referent values ops 1) _ (λ r. index_plain (in_range world r (int_operand values ops 0)) _ tt)
+
+  pub store_plain : (kind : ArrayKind) → IsPlain ((store_of values files site kind).does event world slots ops rest)
+  store_plain array_kind.Int = null_plain (referent values ops 2) _ (λ r. index_plain (in_range world r (int_operand values ops 1)) _ tt)
+  store_plain array_kind.Reference =
+      null_plain (referent values ops 2) _
+      (λ r. index_plain (in_range world r (int_operand values ops 1)) _ (storable_plain (may_stand_in values files world (object_at world r) (operand values ops 0)) _ tt))
+  store_plain array_kind.ByteOrBoolean = null_plain (referent values ops 2) _ (λ r. index_plain (in_range world r (int_operand values ops 1)) _ tt)
+  store_plain array_kind.Char = null_plain (referent values ops 2) _ (λ r. index_plain (in_range world r (int_operand values ops 1)) _ tt)
+  store_plain array_kind.Short = null_plain (referent values ops 2) _ (λ r. index_plain (in_range world r (int_operand values ops 1)) _ tt)
+
+  pub row_plain : (row : Row) → IsPlain ((local_meaning values row).does event world slots ops rest)
+  row_plain row =
+      either_plain (row.fails (values.words ops)) (Raises Arithmetic) (Goes Free world (after_row values.over row slots) (row_target row (values.words ops))) tt tt

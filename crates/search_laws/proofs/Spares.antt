@@ -1,0 +1,428 @@
+-- What an instruction of a thread leaves to the others: the monitors that they own, and the initialisation of classes.
+use Rattle.std.proofs.Common.{◌≡◌, ℕ, zero, suc, List, [], ◌∷◌, Bool, true, false, if◌then◌else◌, Option, Some, None, refl, sym, ap, ◌∙◌, subst}
+use Rattle.std.specs.List.{remove}
+use Rattle.std.specs.Option.{option_and_then}
+use Rattle.std.specs.Prelude.{◌+◌, ◌-◌, ◌++◌, slice_get, slice_set, unwrap_or, is_some}
+use Rattle.std.proofs.lemmas.Bool.{false≢true, true≢false}
+use Rattle.model.specs.declared.event.Event.{Event}
+use Rattle.model.specs.declared.instr.ArrayKind.{ArrayKind}
+use Rattle.model.specs.declared.instr.ArrayKind.TheVariants as array_kind
+use Rattle.model.specs.declared.instr.FieldAccess.TheVariants as access
+use Rattle.model.specs.declared.instr.Returned.{Returned}
+use Rattle.model.specs.declared.instr.Returned.TheVariants as returned
+use Rattle.model.specs.declared.value.Value.{Value}
+use Rattle.model.specs.Arrays.{is_negative, made_array, in_range, at_index, element_at, load_of, stored, kept_by, may_stand_in, if_storable, store_of, store_reference_meaning}
+use Rattle.model.specs.BuiltInMethods.{BuiltInMethod, Construct, ConstructWithTarget, ObjectWait, ObjectNotify, ObjectNotifyAll, ThreadStart, ThreadInterrupt, ThreadIsInterrupted, ThreadInterrupted, ThreadYield, ThreadCurrentThread, ThreadJoin, ThreadIsAlive, PrintStreamPrintln, built_in_method, object_of, wait_by, notified_one, notified, notified_all, if_owner, start_by, interrupted_in, interrupted_on, join_by, built_in_does}
+use Rattle.model.specs.Calls.{Chosen, Fails, Runs, runs, invoked, of_receiver, parameter_count, return_of}
+use Rattle.model.specs.Classes.{Program, Body, body_of}
+use Rattle.model.specs.Lookup.{find_field, is_instance_field, is_static_field}
+use Rattle.model.specs.MonitorMeanings.{left, monitor_exit_meaning}
+use Rattle.model.specs.Meanings.{local_meaning, meaning_of}
+use Rattle.model.specs.Monitors as monitors
+use Rattle.model.specs.Monitors.{Answered, unlocked, owns, monitor_at, as_owner, as_entrant, owned, answers_done, at_object, released, relock_from}
+use Rattle.model.specs.Names.{Member, member_eq, thread_target}
+use Rattle.model.specs.Objects.{cast}
+use Rattle.model.specs.Opening.{class_reference}
+use Rattle.model.specs.Operands.{Slots, values}
+use Rattle.model.specs.Outcomes.{OutcomeOf, Goes, Raises, Throws, Interrupts, Calls, Returns, Waits, Free, Arithmetic, not_null}
+use Rattle.model.specs.Rows.{Row, after_row, row_target}
+use Rattle.model.specs.Sites.{MeaningOf, Site, operand, referent, int_operand, pushing}
+use Rattle.model.specs.State.{ObjectOf, Monitor, Waiter, WakeCause, Notified, ThreadStatus, Running, Waiting, Relock, Ended, Thread, World}
+use Rattle.model.specs.declared.monitor_answer.MonitorAnswer.TheVariants.{Held, NotOwner}
+use Rattle.model.specs.Worlds.{thread_at, with_monitors, with_entry, with_exit, is_owner, object_at, all_woken, woken, waiters_of, thread_of, is_alive, allocated, put_value, with_element, with_field, with_object, value_in}
+use Rattle.run_laws.proofs.laws.Classes.{members_same}
+use Rattle.run_laws.proofs.laws.Operations.{NamedField, Operation, OfRow, GetSystemOut, GetStatic, PutStatic, GetField, PutField, Println, CallVirtual, CallConstructor, CallSpecial, CallStatic, CallInterface, Return, LoadClass, LoadString, New, NewArray, NewReferenceArray, ArrayLength, LoadElement, StoreElement, CheckCast, InstanceOf, Throw, MonitorEnter, MonitorExit, operation, OfMeaning, each_meaning}
+use Rattle.search_laws.specs.Writes.{Variables, Fields, Statics, Elements, site_written, written_by, put_by, IsUnchanged, KeepsVariables}
+use Rattle.search_laws.proofs.Owners.{owner_is, differs}
+use Rattle.search_laws.proofs.Variables.{keeps_same, keeps_on, keeps_more, keeps_set, field_put, target_put, element_put, value_other}
+
+-- whoever else owns a monitor owns it still
+abbrev pub SparesMonitors : ℕ → List Monitor → List Monitor → Type 0
+SparesMonitors v before after =
+    (u object : ℕ) → (u ≡ v → ⊥) → owns u (monitor_at before object).owner ≡ true → owns u (monitor_at after object).owner ≡ true
+
+-- static fields have their values, but for what is written
+abbrev pub SparesStatics : (Variables → Bool) → List (Member × Value) → List (Member × Value) → Type 0
+SparesStatics writes before after =
+    (field : Member) (first : Value) → writes (Statics field) ≡ false → value_in first field after ≡ value_in first field before
+
+pub record Spares (writes : Variables → Bool) (v : ℕ) (before after : World) : Type 0 where
+  pub monitors : SparesMonitors v before.monitors after.monitors
+  pub classes : after.classes ≡ before.classes
+  pub variables : KeepsVariables writes before.heap after.heap
+  pub statics : SparesStatics writes before.statics after.statics
+
+-- ---- a monitor
+
+module _ (writes : Variables → Bool) (v : ℕ) where
+  -- what the thread asks of a monitor leaves another owner
+  abbrev Leaves : (Monitor → Answered Monitor) → Type 0
+  Leaves call = (m : Monitor) (u : ℕ) → (u ≡ v → ⊥) → owns u m.owner ≡ true → owns u (call m).after.owner ≡ true
+
+  enter_leaves : Leaves (monitors.monitor_enter v)
+  enter_leaves m u ne own =
+      let free = answers_done (owned m v 1) in
+      let again = answers_done (owned m v (m.count + 1)) in
+      let held : Answered Monitor = record { answer = Held; after = m } in
+      let is : (monitors.monitor_enter v m).after.owner ≡ m.owner =
+      ap (λ o. (as_entrant v o m free again).after.owner) (owner_is u m.owner own)
+      ∙ ap (λ (b : Bool). (if b then again else held).after.owner) (differs u v ne)
+      in
+      ap (owns u) is ∙ own
+
+  owner_leaves : (after : Monitor → Monitor) → Leaves (λ m. as_owner v m (after m))
+  owner_leaves after m u ne own =
+      let none : Answered Monitor = record { answer = NotOwner; after = m } in
+      let is : (as_owner v m (after m)).after.owner ≡ m.owner =
+      ap (λ o. (if owns v o then answers_done (after m) else none).after.owner) (owner_is u m.owner own)
+      ∙ ap (λ (b : Bool). (if b then answers_done (after m) else none).after.owner) (differs u v ne)
+      in
+      ap (owns u) is ∙ own
+
+  relock_leaves : (count : ℕ) → Leaves (monitors.monitor_relock v count)
+  relock_leaves count m u ne own =
+      let is : (monitors.monitor_relock v count m).after.owner ≡ m.owner =
+      ap (λ o. (relock_from o m (answers_done (owned m v count))).after.owner) (owner_is u m.owner own)
+      in
+      ap (owns u) is ∙ own
+
+  -- ---- all monitors
+
+  set_at : (ms : List Monitor) (k j : ℕ) (x : Monitor) (P : Monitor → Type 0) → P (monitor_at ms j) → (k ≡ j → P x)
+      → P (monitor_at (slice_set ms k x) j)
+  set_at [] k j x P h g = h
+  set_at (m ∷ ms) zero zero x P h g = g refl
+  set_at (m ∷ ms) zero (suc j) x P h g = h
+  set_at (m ∷ ms) (suc k) zero x P h g = h
+  set_at (m ∷ ms) (suc k) (suc j) x P h g = set_at ms k j x P h (λ e. g (ap suc e))
+
+  added : (ms : List Monitor) (j u : ℕ) → owns u (monitor_at ms j).owner ≡ true → owns u (monitor_at (ms ++ unlocked ∷ []) j).owner ≡ true
+  added [] zero u h = absurd (false≢true h)
+  added [] (suc j) u h = absurd (false≢true h)
+  added (m ∷ ms) zero u h = h
+  added (m ∷ ms) (suc j) u h = added ms j u h
+
+  called : (before : World) (world : World) (object : ℕ) (call : Monitor → Answered Monitor) → Leaves call → Spares writes v before world
+      → Spares writes v before (with_monitors world (at_object object call world.monitors))
+  called before world object call leaves s =
+      record {
+        monitors = λ u o ne own.
+            let h = s.monitors u o ne own in
+            set_at world.monitors object o (call (monitor_at world.monitors object)).after (λ m. owns u m.owner ≡ true) h
+            (λ e. leaves (monitor_at world.monitors object) u ne (ap (λ k. owns u (monitor_at world.monitors k).owner) e ∙ h));
+        classes = s.classes;
+        variables = s.variables;
+        statics = s.statics;
+      }
+
+  -- what is written is among these
+  abbrev pub Permits : Option Variables → Type 0
+  Permits o = (variables : Variables) → o ≡ Some variables → writes variables ≡ true
+
+  -- ---- a world
+
+  pub itself : (world : World) → Spares writes v world world
+  itself world = record { monitors = λ u o ne own. own; classes = refl; variables = keeps_same writes world.heap; statics = λ field first n. refl }
+
+  -- the threads have no part in it
+  pub threads_aside : (before world : World) (threads : List Thread) → Spares writes v before world
+      → Spares writes v before (record world { threads = threads })
+  threads_aside before world threads s = record { monitors = s.monitors; classes = s.classes; variables = s.variables; statics = s.statics }
+
+  pub with_object_made : (before world : World) (object : ObjectOf Value) → Spares writes v before world → Spares writes v before (allocated world object)
+  with_object_made before world object s =
+      record {
+        monitors = λ u o ne own. added world.monitors o u (s.monitors u o ne own);
+        classes = s.classes;
+        variables = keeps_on writes before.heap world.heap (world.heap ++ object ∷ []) s.variables (keeps_more writes world.heap object);
+        statics = s.statics;
+      }
+
+  -- an object is changed in what the thread may write
+  with_object_set : (world : World) (r : ℕ) (object : ObjectOf Value) → IsUnchanged writes (object_at world r) object
+      → Spares writes v world (with_object world r object)
+  with_object_set world r object same =
+      record { monitors = λ u o ne own. own; classes = refl; variables = keeps_set writes world.heap r object same; statics = λ field first n. refl }
+
+  pub entry_spares : (before world : World) (r : ℕ) → Spares writes v before world → Spares writes v before (with_entry world v r)
+  entry_spares before world r s = called before world r (monitors.monitor_enter v) enter_leaves s
+
+  pub exit_spares : (before world : World) (r : ℕ) → Spares writes v before world → Spares writes v before (with_exit world v r)
+  exit_spares before world r s =
+      called before world r (monitors.monitor_exit v) (owner_leaves (λ m. released m (m.count - 1))) s
+
+  pub relock_spares : (before world : World) (r count : ℕ) → Spares writes v before world
+      → Spares writes v before (with_monitors world (monitors.relock r v count world.monitors))
+  relock_spares before world r count s = called before world r (monitors.monitor_relock v count) (relock_leaves count) s
+
+  woken_spares : (before : World) (object : ℕ) (cause : WakeCause) (ws : List Waiter) (world : World) → Spares writes v before world
+      → Spares writes v before (all_woken object cause world ws)
+  woken_spares before object cause [] world s = s
+  woken_spares before object cause (w ∷ ws) world s =
+      woken_spares before object cause ws (woken object cause world w)
+      (threads_aside before world (slice_set world.threads w.thread (record (thread_at world w.thread) { status = Relock object w.count cause })) s)
+
+  pub all_leave : (before world : World) (object : ℕ) → Spares writes v before world
+      → Spares writes v before (all_woken object Notified (with_monitors world (monitors.wake_all object world.monitors)) (waiters_of world object))
+  all_leave before world object s =
+      woken_spares before object Notified (waiters_of world object) (with_monitors world (monitors.wake_all object world.monitors))
+      (called before world object monitors.monitor_wake_all (λ m u ne own. own) s)
+
+  -- ---- outcomes
+
+  abbrev pub OutcomeSpares : World → OutcomeOf Value → Type 0
+  OutcomeSpares world (Goes cost after slots to) = Spares writes v world after
+  OutcomeSpares world (Raises fault) = Unit {0}
+  OutcomeSpares world (Throws exception) = Unit {0}
+  OutcomeSpares world Interrupts = Unit {0}
+  OutcomeSpares world (Calls frame rest) = Unit {0}
+  OutcomeSpares world (Returns after results) = Spares writes v world after
+  OutcomeSpares world (Waits cost after rest) = Spares writes v world after
+
+  module _ (world : World) where
+    abbrev Ok : OutcomeOf Value → Type 0
+    Ok = OutcomeSpares world
+
+    not_null_ok : (o : Option ℕ) (go : ℕ → OutcomeOf Value) → ((r : ℕ) → Ok (go r)) → Ok (not_null o go)
+    not_null_ok None go h = tt
+    not_null_ok (Some r) go h = h r
+
+    either_ok : (b : Bool) (x y : OutcomeOf Value) → Ok x → Ok y → Ok (if b then x else y)
+    either_ok true x y h g = h
+    either_ok false x y h g = g
+
+    index_ok : (b : Bool) (x : OutcomeOf Value) → Ok x → Ok (at_index b x)
+    index_ok true x h = h
+    index_ok false x h = tt
+
+    storable_ok : (b : Bool) (x : OutcomeOf Value) → Ok x → Ok (if_storable b x)
+    storable_ok true x h = h
+    storable_ok false x h = tt
+
+    owner_ok : (b : Bool) (x : OutcomeOf Value) → Ok x → Ok (if_owner b x)
+    owner_ok true x h = h
+    owner_ok false x h = tt
+
+    cast_ok : (b : Bool) (next : ℕ) (value : Value) (slots : Slots Value) (rest : List Value) → Ok (cast b next value world slots rest)
+    cast_ok true next value slots rest = itself world
+    cast_ok false next value slots rest = tt
+
+    left_ok : (b : Bool) (next r : ℕ) (slots : Slots Value) (rest : List Value) → Ok (left b next v r world slots rest)
+    left_ok true next r slots rest = exit_spares world world r (itself world)
+    left_ok false next r slots rest = tt
+
+    array_ok : (negative : Bool) (next count : ℕ) (array : List Value → ObjectOf Value) (first : Value) (slots : Slots Value)
+        (rest : List Value) → Ok (made_array values negative next count array first world slots rest)
+    array_ok true next count array first slots rest = tt
+    array_ok false next count array first slots rest = with_object_made world world _ (itself world)
+
+    same_ok : Spares writes v world world
+    same_ok = itself world
+
+    -- ---- methods of the machine
+
+    wait_ok : (owner interrupted : Bool) (object : ℕ) (rest : List Value) → Ok (wait_by owner interrupted v object world rest)
+    wait_ok false interrupted object rest = tt
+    wait_ok true true object rest = tt
+    wait_ok true false object rest =
+        let left = with_monitors world (monitors.wait object v world.monitors) in
+        let s = called world world object (monitors.monitor_wait v) (owner_leaves (λ m. record { owner = None; count = 0; waiters = m.waiters ++ record { thread = v; count = m.count } ∷ [] })) same_ok in
+        threads_aside world left (slice_set left.threads v (record (thread_at left v) { status = Waiting object (monitor_at world.monitors object).count })) s
+
+    notified_ok : (object pick : ℕ) → Spares writes v world (notified world v object pick)
+    notified_ok object pick = by (slice_get (waiters_of world object) pick)
+      where
+        one : Spares writes v world (with_monitors world (monitors.notify object v pick world.monitors))
+        one = called world world object (monitors.monitor_notify v pick) (owner_leaves (λ m. record m { waiters = remove m.waiters pick })) same_ok
+
+        by : (o : Option Waiter)
+            → Spares writes v world (notified_one (with_monitors world (monitors.notify object v pick world.monitors)) object o)
+        by None = one
+        by (Some w) = record { monitors = one.monitors; classes = one.classes; variables = one.variables; statics = one.statics }
+
+    notified_all_ok : (object : ℕ) → Spares writes v world (notified_all world v object)
+    notified_all_ok object =
+        woken_spares world object Notified (waiters_of world object) (with_monitors world (monitors.notify_all object v world.monitors))
+        (called world world object (monitors.monitor_notify_all v) (owner_leaves (λ m. record m { waiters = [] })) same_ok)
+
+    interrupted_ok : (t : ℕ) (status : ThreadStatus) → Spares writes v world (interrupted_in world t status)
+    interrupted_ok t Running = record { monitors = same_ok.monitors; classes = refl; variables = same_ok.variables; statics = same_ok.statics }
+    interrupted_ok t (Waiting object count) =
+        let s = called world world object (monitors.monitor_interrupt t) (λ m u ne own. own) same_ok in
+        record { monitors = s.monitors; classes = s.classes; variables = s.variables; statics = s.statics }
+    interrupted_ok t (Relock object count cause) = record { monitors = same_ok.monitors; classes = refl; variables = same_ok.variables; statics = same_ok.statics }
+    interrupted_ok t (Ended exception) = same_ok
+
+    interrupted_on_ok : (o : Option ℕ) → Spares writes v world (interrupted_on world o)
+    interrupted_on_ok None = same_ok
+    interrupted_on_ok (Some t) = interrupted_ok t (thread_at world t).status
+
+    start_ok : (started : Bool) (next object : ℕ) (slots : Slots Value) (rest : List Value)
+        → Ok (start_by started next object world slots rest)
+    start_ok true next object slots rest = tt
+    start_ok false next object slots rest = record { monitors = same_ok.monitors; classes = refl; variables = same_ok.variables; statics = same_ok.statics }
+
+    join_ok : (alive : Bool) (next : ℕ) (slots : Slots Value) (rest : List Value) → Ok (join_by alive next world slots rest)
+    join_ok true next slots rest = tt
+    join_ok false next slots rest = same_ok
+
+    module _ (event : Event) (is : event.thread ≡ v) where
+      built_in_ok : (method : BuiltInMethod) (next : ℕ) (slots : Slots Value) (ops rest : List Value)
+          → Ok (built_in_does values method next event world slots ops rest)
+      built_in_ok Construct next slots ops rest = same_ok
+      built_in_ok ConstructWithTarget next slots ops rest =
+          let object = object_at world (object_of values ops 1) in
+          with_object_set world (object_of values ops 1) (with_field thread_target (operand values ops 0) object) (target_put writes (operand values ops 0) object)
+      built_in_ok ObjectWait next slots ops rest =
+          let object = object_of values ops 0 in
+          subst (λ t. Ok (wait_by (is_owner world t object) (thread_at world t).interrupted t object world rest)) (sym is)
+          (wait_ok (is_owner world v object) (thread_at world v).interrupted object rest)
+      built_in_ok ObjectNotify next slots ops rest =
+          let object = object_of values ops 0 in
+          owner_ok (is_owner world event.thread object) _
+          (subst (λ t. Spares writes v world (notified world t object event.pick)) (sym is) (notified_ok object event.pick))
+      built_in_ok ObjectNotifyAll next slots ops rest =
+          let object = object_of values ops 0 in
+          owner_ok (is_owner world event.thread object) _ (subst (λ t. Spares writes v world (notified_all world t object)) (sym is) (notified_all_ok object))
+      built_in_ok ThreadStart next slots ops rest = start_ok (is_some (thread_of world (object_of values ops 0))) next (object_of values ops 0) slots rest
+      built_in_ok ThreadInterrupt next slots ops rest = interrupted_on_ok (thread_of world (object_of values ops 0))
+      built_in_ok ThreadIsInterrupted next slots ops rest = same_ok
+      built_in_ok ThreadInterrupted next slots ops rest = record { monitors = same_ok.monitors; classes = refl; variables = same_ok.variables; statics = same_ok.statics }
+      built_in_ok ThreadYield next slots ops rest = same_ok
+      built_in_ok ThreadCurrentThread next slots ops rest = same_ok
+      built_in_ok ThreadJoin next slots ops rest = join_ok (is_alive world (object_of values ops 0)) next slots rest
+      built_in_ok ThreadIsAlive next slots ops rest = same_ok
+      built_in_ok PrintStreamPrintln next slots ops rest = record { monitors = same_ok.monitors; classes = refl; variables = same_ok.variables; statics = same_ok.statics }
+
+      -- ---- the table
+
+      module _ (files : Program) (site : Site) (permits : Permits (site_written files site)) (slots : Slots Value) (ops rest : List Value) where
+        runs_ok : (object : ℕ) (method : Member) (o : Option Body) → Ok (runs values files site event world slots ops rest object method o)
+        runs_ok object method None = built_in_ok (built_in_method method) site.next slots ops rest
+        runs_ok object method (Some body) = tt
+
+        invoked_ok : (object : ℕ) (chosen : Chosen) → Ok (invoked values files site event world slots ops rest object chosen)
+        invoked_ok object (Fails fault) = tt
+        invoked_ok object (Runs method) = runs_ok object method (body_of files method)
+
+        call_ok : (method : Member) (choose : ℕ → Chosen)
+            → Ok (invoked values files site event world slots ops
+            rest (unwrap_or (values.referent (operand values ops (parameter_count method))) 0)
+            (of_receiver (values.referent (operand values ops (parameter_count method))) choose))
+        call_ok method choose =
+            let r = values.referent (operand values ops (parameter_count method)) in invoked_ok (unwrap_or r 0) (of_receiver r choose)
+
+        loaded_ok : (next : ℕ) (first : Value)
+            → Ok (not_null (referent values ops 1)
+            (λ r. at_index (in_range world r (int_operand values ops 0)) (pushing next (element_at first world r (int_operand values ops 0)
+            ∷ []) world slots rest)))
+        loaded_ok next first = not_null_ok (referent values ops 1) _ (λ r. index_ok (in_range world r (int_operand values ops 0)) _ same_ok)
+
+        stored_ok : writes Elements ≡ true → (next : ℕ)
+            → Ok (not_null (referent values ops 2) (λ r. at_index (in_range world r (int_operand values ops 1))
+            (stored next world r (int_operand values ops 1) (kept_by values (object_at world r) (operand values ops 0)) slots rest)))
+        stored_ok may next =
+            not_null_ok (referent values ops 2) _
+            (λ r. index_ok (in_range world r (int_operand values ops 1)) _
+            (with_object_set world r (with_element (int_operand values ops 1) (kept_by values (object_at world r) (operand values ops 0)) (object_at world r))
+            (element_put writes (int_operand values ops 1) (kept_by values (object_at world r) (operand values ops 0)) (object_at world r) may)))
+
+        stored_reference_ok : writes Elements ≡ true → Ok ((store_reference_meaning values files site).does event world slots ops rest)
+        stored_reference_ok may =
+            not_null_ok (referent values ops 2) _
+            (λ r. index_ok (in_range world r (int_operand values ops 1)) _ (storable_ok (may_stand_in values files world (object_at world r) (operand values ops 0)) _
+            (with_object_set world r (with_element (int_operand values ops 1) (operand values ops 0) (object_at world r)) (element_put writes (int_operand values ops 1) (operand values ops 0) (object_at world r) may))))
+
+        load_ok : (kind : ArrayKind) → Ok ((load_of values files site kind).does event world slots ops rest)
+        load_ok array_kind.Int = loaded_ok site.next (values.int 0)
+        load_ok array_kind.Reference = loaded_ok site.next values.over.null
+        load_ok array_kind.ByteOrBoolean = loaded_ok site.next (values.int 0)
+        load_ok array_kind.Char = loaded_ok site.next (values.int 0)
+        load_ok array_kind.Short = loaded_ok site.next (values.int 0)
+
+        store_ok : writes Elements ≡ true → (kind : ArrayKind) → Ok ((store_of values files site kind).does event world slots ops rest)
+        store_ok may array_kind.Int = stored_ok may site.next
+        store_ok may array_kind.Reference = stored_reference_ok may
+        store_ok may array_kind.ByteOrBoolean = stored_ok may site.next
+        store_ok may array_kind.Char = stored_ok may site.next
+        store_ok may array_kind.Short = stored_ok may site.next
+
+        return_ok : (kind : Returned) → Ok ((return_of values files site.method.descriptor kind).does event world slots ops rest)
+        return_ok returned.Nothing = same_ok
+        return_ok returned.Int = same_ok
+        return_ok returned.Reference = same_ok
+
+        exit_ok : Ok ((monitor_exit_meaning values site).does event world slots ops rest)
+        exit_ok =
+            not_null_ok (referent values ops 0) _
+            (λ r. subst (λ t. Ok (left (is_owner world t r) site.next t r world slots rest)) (sym is) (left_ok (is_owner world v r) site.next r slots rest))
+
+        row_ok : (row : Row) → Ok ((local_meaning values row).does event world slots ops rest)
+        row_ok row =
+            either_ok (row.fails (values.words ops)) (Raises Arithmetic) (Goes Free world (after_row values.over row slots) (row_target row (values.words ops))) tt same_ok
+
+        -- a put writes the field
+        puts : (f : NamedField files site access.PutField is_instance_field) → site_written files site ≡ Some (Fields f.field)
+        puts f =
+            ap (written_by files site) f.instruction
+            ∙ (ap (λ o. option_and_then (put_by access.PutField) (option_and_then (find_field files) o)) f.names
+            ∙ ap (option_and_then (put_by access.PutField)) f.found)
+
+        puts_static : (f : NamedField files site access.PutStatic is_static_field) → site_written files site ≡ Some (Statics f.field)
+        puts_static f =
+            ap (written_by files site) f.instruction
+            ∙ (ap (λ o. option_and_then (put_by access.PutStatic) (option_and_then (find_field files) o)) f.names
+            ∙ ap (option_and_then (put_by access.PutStatic)) f.found)
+
+        field_beside : (f : NamedField files site access.PutStatic is_static_field) (other : Member) → writes (Statics other) ≡ false
+            → member_eq f.field other ≡ false
+        field_beside f other n = by (member_eq f.field other) refl
+          where
+            by : (b : Bool) → member_eq f.field other ≡ b → member_eq f.field other ≡ false
+            by true q =
+                absurd (true≢false (sym (permits (Statics f.field) (puts_static f)) ∙ (ap (λ m. writes (Statics m)) (members_same f.field other q) ∙ n)))
+            by false q = q
+
+        operation_ok : (o : Operation files site) → Ok ((operation values files site o).does event world slots ops rest)
+        operation_ok (OfRow row e) = row_ok row
+        operation_ok (GetSystemOut index i) = same_ok
+        operation_ok (GetStatic f) = same_ok
+        operation_ok (PutStatic f) =
+            record {
+              monitors = same_ok.monitors;
+              classes = refl;
+              variables = same_ok.variables;
+              statics = λ other first n. value_other f.field other first (put_value values f.field (operand values ops 0)) (field_beside f other n) world.statics;
+            }
+        operation_ok (GetField f) = not_null_ok (referent values ops 0) _ (λ r. same_ok)
+        operation_ok (PutField f) =
+            not_null_ok (referent values ops 1) _
+            (λ r. with_object_set world r (with_field f.field (put_value values f.field (operand values ops 0)) (object_at world r)) (field_put writes f.field (put_value values f.field (operand values ops 0)) (object_at world r) (permits (Fields f.field) (puts f))))
+        operation_ok (Println call e) = not_null_ok (referent values ops 1) _ (λ r. record { monitors = same_ok.monitors; classes = refl; variables = same_ok.variables; statics = same_ok.statics })
+        operation_ok (CallVirtual call e m) = call_ok m.method _
+        operation_ok (CallConstructor call e passes) = call_ok call.named _
+        operation_ok (CallSpecial call e m) = call_ok m.method _
+        operation_ok (CallStatic index i m) = invoked_ok (class_reference files m.method.class) (Runs m.method)
+        operation_ok (CallInterface call m) = call_ok m.method _
+        operation_ok (Return kind i) = return_ok kind
+        operation_ok (LoadClass constant file e) = same_ok
+        operation_ok (LoadString constant) = same_ok
+        operation_ok (New class file e) = with_object_made world world _ same_ok
+        operation_ok (NewArray code of i e) = array_ok (is_negative (int_operand values ops 0)) site.next (int_operand values ops 0) _ _ slots rest
+        operation_ok (NewReferenceArray class) = array_ok (is_negative (int_operand values ops 0)) site.next (int_operand values ops 0) _ _ slots rest
+        operation_ok (ArrayLength i) = not_null_ok (referent values ops 0) _ (λ r. same_ok)
+        operation_ok (LoadElement kind i) = load_ok kind
+        operation_ok (StoreElement kind i) = store_ok (permits Elements (ap (written_by files site) i)) kind
+        operation_ok (CheckCast class) = cast_ok _ site.next (operand values ops 0) slots rest
+        operation_ok (InstanceOf class) = same_ok
+        operation_ok (Throw i) = not_null_ok (referent values ops 0) (λ r. Throws r) (λ r. tt)
+        operation_ok (MonitorEnter i) =
+            not_null_ok (referent values ops 0) _ (λ r. subst (λ t. Spares writes v world (with_entry world t r)) (sym is) (entry_spares world world r same_ok))
+        operation_ok (MonitorExit i) = exit_ok
+
+      -- what an instruction does spares the others
+      abbrev pub DoesSpare : MeaningOf Value → Type 0
+      DoesSpare m = (slots : Slots Value) (ops rest : List Value) → Ok (m.does event world slots ops rest)
+
+      pub meaning_spares : (files : Program) (site : Site) → Permits (site_written files site) → OfMeaning DoesSpare (meaning_of values files site)
+      meaning_spares files site permits = each_meaning values files site DoesSpare (λ o slots ops rest. operation_ok files site permits slots ops rest o)

@@ -1,0 +1,14 @@
+pub mod Alone
+pub mod KeptStates
+pub mod Verdicts
+pub mod Ends
+pub mod Preemptions
+pub mod Lengths
+pub mod OwnEvents
+pub mod Waits
+pub mod OwnSteps
+pub mod OwnedMonitors
+pub mod Writes
+pub mod Moves
+pub mod Schedules
+pub mod Releases

@@ -1,0 +1,2 @@
+mod Switching
+mod Budgets

@@ -1,0 +1,11 @@
+use Rattle.std.proofs.Common.{◌≡◌, ◌∙◌, ◌==◌, ◌&&◌, rules, sym}
+use Rattle.std.specs.Prelude.{count_by}
+use Rattle.sweeps.specs.Shown.{shown_in}
+use Rattle.sweeps.specs.Texts.{is_outcome}
+use Rattle.sweeps.proofs.Telling.{count_through}
+use Rattle.sweeps.proofs.sweep_texts.once_count.Goals as goal
+
+pub returns : goal.returns
+returns c =
+    let counted : c.count.result ≡ count_by (λ s. is_outcome (shown_in s.shown) && (s.count == 1)) c.args.listed.now = search rules in
+    counted ∙ sym (count_through (λ s. is_outcome s.shown && (s.count == 1)) c.args.listed.now)

@@ -1,0 +1,2 @@
+pub mod needed_classes
+pub mod next_rules

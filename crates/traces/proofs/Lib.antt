@@ -1,0 +1,4 @@
+mod Counts
+mod Escapes
+mod MethodPlaces
+mod OneLine

@@ -1,0 +1,4 @@
+pub mod JsonTexts
+pub mod Lines
+pub mod Methods
+pub mod traced_events

@@ -1,0 +1,55 @@
+//! What calls of methods did that have no code.
+
+use crate::traced_events::before::Before;
+use crate::traced_events::deed::Deed;
+use linked_code::{BuiltInMethod, LinkedProgram, MethodBody};
+use machine_state::Shared;
+use machine_state::method_selection::method_at;
+
+/// The built-in method of a number, if it is one.
+pub(crate) fn built_in_called(
+    program: &LinkedProgram,
+    method: Option<u32>,
+) -> Option<BuiltInMethod> {
+    match &method_at(program, method?)?.body {
+        MethodBody::BuiltIn(built_in) => Some(*built_in),
+        MethodBody::Abstract | MethodBody::Code(_) => None,
+    }
+}
+
+/// The last number that was printed.
+pub(crate) fn printed(shared: &Shared) -> Deed {
+    match shared.printed.last() {
+        Some(number) => Deed::Prints { number: *number },
+        None => Deed::Nothing,
+    }
+}
+
+/// What a call of a built-in method did: `top` is the word on top after it, and `pick` that of its event.
+pub(crate) fn built_in_deed(
+    before: &Before,
+    shared: &Shared,
+    method: u32,
+    built_in: BuiltInMethod,
+    top: u32,
+    pick: u16,
+) -> Deed {
+    let object = before.receiver.saturating_sub(1);
+    match built_in {
+        BuiltInMethod::Construct | BuiltInMethod::ConstructWithTarget => Deed::Runs { method },
+        BuiltInMethod::ObjectWait => Deed::Waits { object },
+        BuiltInMethod::ObjectNotify => Deed::Notifies {
+            thread: before.waiting.get(usize::from(pick)).copied(),
+        },
+        BuiltInMethod::ObjectNotifyAll => Deed::NotifiesAll,
+        BuiltInMethod::ThreadStart => Deed::Starts { object },
+        BuiltInMethod::ThreadInterrupt => Deed::Interrupts { object },
+        BuiltInMethod::ThreadJoin => Deed::Joins { object },
+        BuiltInMethod::ThreadYield => Deed::Yields,
+        BuiltInMethod::ThreadIsInterrupted
+        | BuiltInMethod::ThreadInterrupted
+        | BuiltInMethod::ThreadCurrentThread
+        | BuiltInMethod::ThreadIsAlive => Deed::Pushes { word: top },
+        BuiltInMethod::PrintStreamPrintln => printed(shared),
+    }
+}

@@ -1,0 +1,4 @@
+pub mod Places
+pub mod Arrays
+pub mod Parameters
+pub mod Found

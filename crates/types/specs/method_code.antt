@@ -1,0 +1,4 @@
+pub mod Linked
+pub mod Declaration
+pub mod View
+pub mod Site

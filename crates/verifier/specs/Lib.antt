@@ -1,0 +1,13 @@
+pub mod Worklist
+pub mod Waiting
+pub mod Packed
+pub mod Raised
+pub mod Found
+pub mod Agreeing
+pub mod Changes
+pub mod Looks
+pub mod Near
+pub mod Steps
+pub mod Verified
+pub mod Places
+pub mod flow

@@ -1,0 +1,26 @@
+/** Two threads need two locks, and take them in the same order. */
+class Repaired extends Thread {
+    static final Object LEFT = new Object();
+    static final Object RIGHT = new Object();
+
+    final Object first;
+    final Object second;
+
+    Repaired(Object first, Object second) {
+        this.first = first;
+        this.second = second;
+    }
+
+    public void run() {
+        synchronized (first) {
+            synchronized (second) {
+                System.out.println(1);
+            }
+        }
+    }
+
+    public static void main(String[] args) {
+        new Repaired(LEFT, RIGHT).start();
+        new Repaired(LEFT, RIGHT).start();
+    }
+}

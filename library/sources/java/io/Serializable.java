@@ -1,0 +1,5 @@
+package java.io;
+
+/** A mark. Nothing is serialised here. */
+public interface Serializable {
+}

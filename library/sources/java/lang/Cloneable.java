@@ -1,0 +1,5 @@
+package java.lang;
+
+/** A mark. Nothing is cloned here. */
+public interface Cloneable {
+}

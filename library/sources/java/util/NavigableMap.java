@@ -1,0 +1,28 @@
+package java.util;
+
+/** A sorted map that finds what is next to a key. Left out: views. */
+public interface NavigableMap<K, V> extends SortedMap<K, V> {
+    Map.Entry<K, V> lowerEntry(K key);
+
+    K lowerKey(K key);
+
+    Map.Entry<K, V> floorEntry(K key);
+
+    K floorKey(K key);
+
+    Map.Entry<K, V> ceilingEntry(K key);
+
+    K ceilingKey(K key);
+
+    Map.Entry<K, V> higherEntry(K key);
+
+    K higherKey(K key);
+
+    Map.Entry<K, V> firstEntry();
+
+    Map.Entry<K, V> lastEntry();
+
+    Map.Entry<K, V> pollFirstEntry();
+
+    Map.Entry<K, V> pollLastEntry();
+}

@@ -1,0 +1,14 @@
+package java.util;
+
+/** Elements that are taken out in an order. */
+public interface Queue<E> extends Collection<E> {
+    boolean offer(E element);
+
+    E remove();
+
+    E poll();
+
+    E element();
+
+    E peek();
+}

@@ -1,0 +1,316 @@
+#!/usr/bin/env python3
+"""Searches by the oracle: what `jvm search` has to print, worked out by a machine of its own.
+
+    oracle/searches.py [--for OUTCOME] [--states N] FILE..
+    oracle/searches.py --write
+
+States are searched breadth first, the events of each in the order of threads and picks. Behind an event with pick 0
+those of its thread are done, too, that are alone: local instructions, at most 1,024 in a row, calls and returns by which
+no monitor is entered or left, and what leaves a monitor for good. They are told by what they did. A state is told apart from others by its objects in
+the order in which they were made, its classes, threads and stacks, and what was printed. A state is kept as the events
+that lead to it. With --write the searches of the lessons below become cases of `crates/conformance`, with what they
+have to print. The schedule of a run that was found is recorded and replayed.
+"""
+
+import argparse
+import pathlib
+import re
+import sys
+from typing import Any, Dict, Iterator, List, Optional, Sequence, Set, Tuple, Union
+
+sys.dont_write_bytecode = True
+sys.path.insert(0, str(pathlib.Path(__file__).resolve().parent.parent))
+
+from oracle.frames import Frame
+from oracle.lessons import LESSONS, class_files
+from oracle.machine import Machine, status_of, text_of
+from oracle.schedules import Event
+from oracle.state import Initialisation, JavaThread, NotEnabled, Object, Refused, Value
+from tools.cases import store, stored
+from tools.repository import CONFORMANCE
+
+# How the words of a report are ordered.
+RANKS = ["ended", "threw", "blocked", "waiting", "joining", "initialising"]
+
+
+# What was printed, and how each thread stands.
+Outcome = Tuple[Tuple[int, ...], Tuple[str, ...]]
+
+# A value as it tells a state apart.
+Word = Union[int, Tuple[Any, ...]]
+
+
+class Numbered(Machine):
+    """A machine that numbers its objects in the order in which they are made."""
+
+    def __init__(self, files: Sequence[bytes]) -> None:
+        self.numbers: Dict[Object, int] = {}
+        super().__init__(files)
+
+    def allocated(self, thing: Object, cells: int) -> Object:
+        self.numbers[thing] = len(self.numbers)
+        return super().allocated(thing, cells)
+
+    def word(self, value: Value) -> Word:
+        """A value as a word: null is 0, as are locals that were not written."""
+        if value is None:
+            return 0
+        if isinstance(value, int):
+            return value
+        number = self.numbers.get(value)
+        return ("new", number) if number is not None else ("old", value.kind, self.place(value))
+
+    def place(self, thing: Object) -> Union[int, str]:
+        """An object that is there from the beginning."""
+        for name, one in self.classes.items():
+            if one.object is thing:
+                return name
+        for text, string in self.strings.items():
+            if string is thing:
+                return text
+        return 0
+
+    def monitor(self, thing: Object) -> Tuple[Any, ...]:
+        owner = self.threads.index(thing.owner) if thing.owner else None
+        return owner, thing.entries, tuple(self.threads.index(waiter) for waiter in thing.waiters)
+
+    def entry(self, entry: Union[Frame, Initialisation]) -> Tuple[Any, ...]:
+        if not isinstance(entry, Frame):
+            return entry.of.name, entry.phase
+        entered = self.word(entry.entered)
+        method = entry.method.owner.name, entry.method.name, entry.method.descriptor
+        return method, entry.at, entered, tuple(map(self.word, entry.locals)), tuple(map(self.word, entry.stack))
+
+    def thread(self, thread: JavaThread) -> Tuple[Any, ...]:
+        waits = thread.waits and (self.word(thread.waits[0]), thread.waits[1])
+        relock = thread.relock and (self.word(thread.relock[0]), *thread.relock[1:])
+        entries = tuple(map(self.entry, thread.entries))
+        flags = thread.is_interrupted, thread.has_ended
+        return self.word(thread.object), self.word(thread.pending), flags, waits, relock, entries
+
+    def things(self) -> List[Object]:
+        return [*self.numbers, *(one.object for one in self.classes.values()), *self.strings.values()]
+
+    def key(self) -> Tuple[Any, ...]:
+        """What tells the state apart from others."""
+        things = []
+        for thing in self.things():
+            parts = thing.elements if thing.elements is not None else thing.fields.values()
+            things.append((thing.kind, tuple(map(self.word, parts)), self.monitor(thing)))
+        classes = []
+        for one in self.classes.values():
+            by = self.threads.index(one.by) if one.state == "begun" and one.by else None
+            classes.append((one.state, by, tuple(map(self.word, one.statics.values()))))
+        return tuple(things), tuple(classes), tuple(map(self.thread, self.threads)), tuple(self.printed)
+
+    def is_quiet(self) -> bool:
+        return all(self.state(number) != "runnable" for number in range(len(self.threads)))
+
+    def outcome(self) -> Outcome:
+        return tuple(self.printed), tuple(self.state(number) for number in range(len(self.threads)))
+
+
+def at(files: Sequence[bytes], events: Tuple[Event, ...]) -> Numbered:
+    """A machine that has done these events."""
+    machine = Numbered(files)
+    for thread, pick in events:
+        machine.step(thread, pick)
+    return machine
+
+
+# How many local instructions are done at most, and how often these and another event that is alone.
+MOST, ROUNDS = 1024, 1024
+
+
+def seen(thread: JavaThread) -> Optional[Tuple[int, Optional[Object]]]:
+    """How many entries a thread has that runs in a frame, with no exception pending, and what the frame has entered."""
+    top = thread.top()
+    if thread.has_ended or thread.waits or thread.relock or thread.pending or not isinstance(top, Frame):
+        return None
+    return len(thread.entries), top.entered
+
+
+def is_alone(machine: Numbered, number: int) -> bool:
+    """Does the next event of a thread, if it is enabled, and tells whether it was alone."""
+    thread = machine.threads[number]
+    owned = [thing for thing in machine.things() if thing.owner is thread]
+    before = seen(thread)
+    try:
+        machine.step(number)
+    except (NotEnabled, Refused):
+        return False
+    after = seen(thread)
+    if not before or not after:
+        return False
+    called = after[0] == before[0] + 1 and not after[1]
+    returned = after[0] + 1 == before[0] and not before[1]
+    left = after[0] <= before[0] and any(thing.owner is not thread for thing in owned)
+    return called or returned or left
+
+
+def past(files: Sequence[bytes], events: Tuple[Event, ...], number: int) -> Tuple[Tuple[Event, ...], Numbered]:
+    """These events, and those of a thread behind them that are alone, and where they lead."""
+    machine = at(files, events)
+    for _ in range(ROUNDS):
+        local = 0
+        while local < MOST and machine.threads[number].next_is_local():
+            machine.step(number)
+            local += 1
+        events = (*events, *[(number, 0)] * local)
+        if not is_alone(machine, number):
+            return events, at(files, events)
+        events = (*events, (number, 0))
+    return events, machine
+
+
+def following(files: Sequence[bytes], events: Tuple[Event, ...]) -> Iterator[Tuple[Tuple[Event, ...], Numbered]]:
+    """The states to which an event leads from the end of these, in the order of threads and picks."""
+    for thread in range(len(at(files, events).threads)):
+        for pick in range(1 << 16):
+            machine = at(files, events)
+            try:
+                machine.step(thread, pick)
+            except NotEnabled:
+                break
+            after = (*events, (thread, pick))
+            yield (after, machine) if pick else past(files, after, thread)
+
+
+def is_wanted(goal: Optional[str], outcome: Outcome) -> bool:
+    printed, threads = outcome
+    if goal == "deadlock":
+        return any(state in RANKS[2:] for state in threads)
+    if goal == "uncaught":
+        return any(state.startswith("threw") for state in threads)
+    if goal and goal.startswith("differs="):
+        return "".join(f"{number}\n" for number in printed) != text_at(goal.removeprefix("differs="))
+    return goal is not None and goal == "output=" + ",".join(map(str, printed))
+
+
+def text_at(path: str) -> str:
+    """A text that is given below, or else lies there."""
+    lines = TEXTS.get(path)
+    return pathlib.Path(path).read_text() if lines is None else "".join(f"{line}\n" for line in lines)
+
+
+def order(outcome: Outcome) -> Tuple[Any, ...]:
+    """Where an outcome stands in a list."""
+    printed, threads = outcome
+    return printed, tuple((RANKS.index(state.split(" ")[0]), state.encode()) for state in threads)
+
+
+def lines_of(outcome: Outcome) -> List[str]:
+    printed, threads = outcome
+    return [*map(str, printed), *(f"thread {number} {state}" for number, state in enumerate(threads))]
+
+
+def search(files: Sequence[bytes], goal: Optional[str], most: int) -> Tuple[str, int, Optional[Numbered]]:
+    """What `jvm search` prints, its status, and the machine that was found."""
+    met = {at(files, ()).key()}
+    states: List[Tuple[Event, ...]] = [()]
+    outcomes: Set[Outcome] = set()
+    for events in states:
+        machine = at(files, events)
+        if machine.is_quiet():
+            outcome = machine.outcome()
+            if is_wanted(goal, outcome):
+                return text_of(machine, "quiet") + last_lines(states, "found"), 1, machine
+            outcomes.add(outcome)
+        for after, machine in following(files, events):
+            key = machine.key()
+            if key not in met:
+                if len(states) == most:
+                    return last_lines(states, "gave up"), 5, None
+                met.add(key)
+                states.append(after)
+    text: List[str] = []
+    for number, outcome in enumerate(sorted(outcomes, key=order), 1):
+        text += [f"outcome {number}", *lines_of(outcome)]
+    return "\n".join([*text, f"outcomes {len(outcomes)}", last_lines(states, "complete")]), 0, None
+
+
+def last_lines(states: List[Tuple[Event, ...]], word: str) -> str:
+    scope = "of runs that end\n" if word == "complete" else ""
+    return f"states {len(states)}\n{scope}search {word}\n"
+
+
+# The lessons that are searched: folder, class files, and options.
+SEARCHED = [
+    ("lost-update", ["LostUpdate"], ""),
+    ("lost-update", ["LostUpdate"], "--states 50"),
+    ("lost-update", ["LostUpdate"], "--for output=1"),
+    ("lost-update", ["LostUpdate"], "--for differs=two"),
+    ("lost-update", ["Repaired"], "--for output=1"),
+    ("lost-update", ["Repaired"], "--for differs=two"),
+    ("lock-order", ["LockOrder"], "--for deadlock"),
+    ("lock-order", ["Repaired"], "--for deadlock"),
+    ("missed-notify", ["MissedNotify"], "--for deadlock"),
+    ("missed-notify", ["Repaired"], "--for deadlock"),
+    ("class-initialisation", ["Initialisers", "Left", "Right"], "--for deadlock"),
+    ("interrupted-wait", ["InterruptedWait"], ""),
+    ("interrupted-wait", ["InterruptedWait"], "--for uncaught"),
+    ("wrong-waiter", ["WrongWaiter"], "--for deadlock"),
+]
+
+# The texts that printed numbers are compared with, by their lines.
+TEXTS = {"two": [2]}
+
+HEAD = [
+    "# Searches over all schedules, made by `oracle/searches.py` over the files of the lessons.",
+    "",
+    "files lessons.cases",
+    "",
+]
+
+
+def words_of(words: Sequence[str]) -> argparse.Namespace:
+    """The words behind `search`."""
+    parser = argparse.ArgumentParser()
+    parser.add_argument("--for", dest="goal")
+    parser.add_argument("--states", type=int, default=10_000_000)
+    parser.add_argument("files", nargs="+")
+    return parser.parse_args(words)
+
+
+def cases_of(folder: str, names: List[str], options: str) -> Tuple[List[str], str]:
+    """The lines of the cases of a search, and what they have to print."""
+    words = words_of([*options.split(), *names])
+    files = class_files(LESSONS / folder)
+    told, status, found = search([files[f"{name}.class"] for name in names], words.goal, words.states)
+    name = "-".join([folder, names[0], re.sub("[ =]", "-", options.replace("--for ", "").replace("--", "")) or "all"])
+    paths = " ".join(f"{folder}/{one}.class" for one in names)
+    record = f"--record {name}.schedule" if words.goal else ""
+    text = [f"case search-{name}", "  " + " ".join(["search", *options.split(), *record.split(), paths])]
+    printed = f"case search-{name}\n{told}status {status}\n"
+    if found:
+        text += [f"case replay-{name}", f"  replay --schedule {name}.schedule {paths}"]
+        printed += f"case replay-{name}\n{text_of(found, 'quiet')}status {status_of(found, 'quiet')}\n"
+    elif record:
+        text += [f"shown {name}.schedule"]
+        printed += f"recorded {name}.schedule is missing\n"
+    return text, printed
+
+
+def write() -> None:
+    lines, shown = [*HEAD], ""
+    for name, numbers in TEXTS.items():
+        lines += [f"text {name}", *(f"  {number}" for number in numbers), ""]
+    for row in SEARCHED:
+        text, printed = cases_of(*row)
+        lines, shown = [*lines, *text], shown + printed
+    (CONFORMANCE / "data/searches.cases").write_text("\n".join([*lines, ""]))
+    store(stored().split("case search-lost-update-")[0] + shown.encode().decode("latin-1"))
+
+
+def main() -> int:
+    if sys.argv[1:] == ["--write"]:
+        write()
+        return 0
+    words = words_of(sys.argv[1:])
+    text, status, _ = search([pathlib.Path(path).read_bytes() for path in words.files], words.goal, words.states)
+    sys.stdout.write(text)
+    return status
+
+
+if __name__ == "__main__":
+    sys.exit(main())

@@ -1,0 +1,253 @@
+"""The state of a run: classes, objects with their monitors, and threads."""
+
+from typing import Any, Callable, Dict, Iterator, List, Mapping, Optional, Sequence, Tuple, Union
+
+from oracle.classes import PRIVATE, STATIC, Class, Method, built_in_classes, narrowed, read_class
+from oracle.frames import Frame, short
+from oracle.opcodes import LOCAL, MNEMONICS
+
+# What an event does.
+Action = Callable[[], None]
+
+# An int, an Object, or None for null; which of them, verification says.
+Value = Any
+
+LIMITS = {"objects": 1_000_000, "cells": 16_000_000, "monitors": 65_536, "threads": 256, "frames": 1_024}
+
+# A lock keeps this many entries of one owner without a monitor.
+THIN_ENTRIES = 256
+
+
+class NotEnabled(Exception):
+    """The event is not enabled; the argument is the state of its thread."""
+
+
+class Refused(Exception):
+    """The event is enabled, and a limit stands at it."""
+
+
+class Object:
+    """An object: its class's name or an array's descriptor, fields or elements, and its monitor."""
+
+    def __init__(self, kind: str) -> None:
+        self.kind = kind
+        self.fields: Dict[Tuple[str, str, str], Value] = {}
+        self.elements: Optional[List[Value]] = None
+        self.owner: Optional[JavaThread] = None
+        self.entries = 0
+        self.waiters: List[JavaThread] = []
+        self.has_monitor = False
+
+
+class Initialisation:
+    """An initialisation under way."""
+
+    def __init__(self, of: Class) -> None:
+        self.of, self.phase = of, "Super"
+
+
+class JavaThread:
+    """A thread: its Thread object, what it stands in, and what it waits for."""
+
+    def __init__(self, thing: Object) -> None:
+        self.object = thing
+        self.entries: List[Union[Frame, Initialisation]] = []
+        self.pending: Optional[Object] = None
+        self.is_interrupted, self.has_begun, self.has_ended = False, False, False
+        # The object in whose wait set it is, with its entries; and what it enters again, with the cause.
+        self.waits: Optional[Tuple[Object, int]] = None
+        self.relock: Optional[Tuple[Object, int, str]] = None
+
+    def top(self) -> Union[Frame, Initialisation, None]:
+        return self.entries[-1] if self.entries else None
+
+    def top_frame(self) -> Frame:
+        top = self.top()
+        assert isinstance(top, Frame)
+        return top
+
+    def next_is_local(self) -> bool:
+        """Whether the next event is an instruction that touches its frame alone, and throws nothing."""
+        top = self.top()
+        if self.has_ended or self.waits or self.relock or self.pending or not isinstance(top, Frame):
+            return False
+        name = MNEMONICS[top.opcode()]
+        if name in ("ldc", "ldc_w"):
+            index = top.code()[top.at + 1] if name == "ldc" else short(top, 1)
+            return top.method.owner.pool[index][0] == "int"
+        return name in LOCAL and not (name in ("idiv", "irem") and top.stack[-1] == 0)
+
+    def frames(self) -> int:
+        return sum(isinstance(entry, Frame) for entry in self.entries)
+
+    def wake(self, cause: str) -> None:
+        """Leaves the wait set, to enter the monitor again."""
+        assert self.waits
+        self.relock, self.waits = (*self.waits, cause), None
+
+
+class State:
+    """Classes, objects and threads, with what events share."""
+
+    def __init__(self, files: Sequence[bytes], limits: Optional[Mapping[str, int]] = None) -> None:
+        self.limits = {**LIMITS, **(limits or {})}
+        self.classes = {one.name: one for one in built_in_classes()}
+        read = [read_class(data) for data in files]
+        self.classes.update((one.name, one) for one in read)
+        for one in self.classes.values():
+            one.object = Object("java/lang/Class")
+            one.statics = {
+                name: None if descriptor[0] in "L[" else 0
+                for flags, name, descriptor, _ in one.fields
+                if flags & STATIC
+            }
+        self.classes["java/lang/System"].statics["out"] = Object("java/io/PrintStream")
+        self.initial, self.done = read[0], 0
+        self.strings: Dict[str, Object] = {}
+        self.printed: List[int] = []
+        self.objects = self.cells = self.monitors = 0
+        self.threads = [JavaThread(self.made("java/lang/Thread"))]
+
+    # Classes
+
+    def supers(self, name: Optional[str]) -> Iterator[Class]:
+        """The class and its superclasses, the nearest first."""
+        while name is not None:
+            yield self.classes[name]
+            name = self.classes[name].superclass
+
+    def interfaces(self, name: str) -> Iterator[Class]:
+        """All interfaces of a class, and those above them."""
+        for one in self.supers(name):
+            for interface in one.interfaces:
+                yield self.classes[interface]
+                yield from self.interfaces(interface)
+
+    def is_below(self, kind: str, wanted: str) -> bool:
+        """Whether an object of this kind is of the class or array type that is wanted."""
+        if wanted == "java/lang/Object" or kind == wanted:
+            return True
+        if kind[0] == "[":
+            if wanted[0] != "[" or kind[1] not in "L[" or wanted[1] not in "L[":
+                return False
+            return self.is_below(component(kind), component(wanted))
+        return any(one.name == wanted for one in [*self.supers(kind), *self.interfaces(kind)])
+
+    def found_field(self, name: str, field: str, descriptor: str) -> Class:
+        """The class that declares a field (5.4.3.2)."""
+        found = self.declaring(name, field, descriptor)
+        assert found, (name, field, descriptor)
+        return found
+
+    def declaring(self, name: str, field: str, descriptor: str) -> Optional[Class]:
+        one = self.classes[name]
+        if any(declared[1:3] == (field, descriptor) for declared in one.fields):
+            return one
+        for above in [*one.interfaces, *([one.superclass] if one.superclass else [])]:
+            found = self.declaring(above, field, descriptor)
+            if found:
+                return found
+        return None
+
+    def found_method(self, name: str, method: str, descriptor: str) -> Method:
+        """The method that a reference names (5.4.3.3)."""
+        for one in [*self.supers(name), *self.interfaces(name)]:
+            if (method, descriptor) in one.methods:
+                return one.methods[method, descriptor]
+        raise AssertionError((name, method, descriptor))
+
+    def selected(self, start: Optional[str], method: Method) -> Optional[Method]:
+        """The nearest declaration from a class upwards of an instance method that isn't private."""
+        for one in self.supers(start):
+            found = one.methods.get((method.name, method.descriptor))
+            if found and not found.has(STATIC) and not found.has(PRIVATE):
+                return found
+        return None
+
+    # Objects
+
+    def made(self, kind: str) -> Object:
+        """A new object with its fields."""
+        thing = Object(kind)
+        for one in self.supers(kind):
+            for flags, name, descriptor, _ in one.fields:
+                if not flags & STATIC:
+                    thing.fields[one.name, name, descriptor] = None if descriptor[0] in "L[" else 0
+        return thing
+
+    def room(self, cells: int) -> None:
+        """Refuses where a limit stands at one more object with so many cells."""
+        if self.objects + 1 > self.limits["objects"]:
+            raise Refused("objects")
+        if self.cells + cells > self.limits["cells"]:
+            raise Refused("cells")
+
+    def allocated(self, thing: Object, cells: int) -> Object:
+        self.objects += 1
+        self.cells += cells
+        return thing
+
+    def entering(self, thread: JavaThread, thing: Object) -> Action:
+        """What enters a monitor, where the thread may."""
+        if thing.owner is not None and thing.owner is not thread:
+            raise NotEnabled("blocked")
+        if thing.entries == THIN_ENTRIES:
+            self.monitor_room(thing)
+
+        def enter() -> None:
+            if thing.entries == THIN_ENTRIES:
+                self.give_monitor(thing)
+            thing.owner, thing.entries = thread, thing.entries + 1
+
+        return enter
+
+    def monitor_room(self, thing: Object) -> None:
+        if not thing.has_monitor and self.monitors + 1 > self.limits["monitors"]:
+            raise Refused("monitors")
+
+    def give_monitor(self, thing: Object) -> None:
+        self.monitors += not thing.has_monitor
+        thing.has_monitor = True
+
+    @staticmethod
+    def leave(thing: Object) -> None:
+        thing.entries -= 1
+        if thing.entries == 0:
+            thing.owner = None
+
+    def throwing(self, thread: JavaThread, name: str) -> Action:
+        """What leaves a new exception of the machine pending."""
+        self.room(0)
+
+        def throw() -> None:
+            thread.pending = self.allocated(Object(f"java/lang/{name}"), 0)
+
+        return throw
+
+    def of_object(self, thing: Object) -> Optional[JavaThread]:
+        """The thread that was started of a Thread object."""
+        return next((thread for thread in self.threads if thread.object is thing), None)
+
+    def begin_class(self, thread: JavaThread, one: Class) -> None:
+        """Marks a class, sets its constants and pushes its initialisation."""
+        one.state, one.by = "begun", thread
+        for _, name, descriptor, constant in one.fields:
+            if constant is not None:
+                one.statics[name] = narrowed(descriptor, constant)
+        thread.entries.append(Initialisation(one))
+
+    def looking(self, thread: JavaThread, one: Class) -> Optional[Action]:
+        """What an instruction that uses a class does instead, where the class isn't initialised."""
+        if one.state == "none":
+            return lambda: self.begin_class(thread, one)
+        if one.state == "begun" and one.by is not thread:
+            raise NotEnabled("initialising")
+        if one.state == "erroneous":
+            return self.throwing(thread, "NoClassDefFoundError")
+        return None
+
+
+def component(kind: str) -> str:
+    """The type of an array's elements, as a class or array type."""
+    return kind[2:-1] if kind[1] == "L" else kind[1:]
+

@@ -1,0 +1,7 @@
+package bank;
+
+/** What a customer wants. */
+public enum Kind {
+    DEPOSIT,
+    WITHDRAWAL
+}

@@ -1,0 +1,1 @@
+"""What a contributor or the gate calls, and what all scripts share."""
