@@ -7,8 +7,8 @@
 //!
 //! # Proved
 //!
-//! - `go_ahead` (`GoesAhead`): where it answers `Stays`, no event was done, and whatever run was shown is shown. Else the
-//!   next event of the thread was done, with pick 0. Where it answers `Alone`, the thread ran in a frame before and
+//! - `go_ahead` (`GoesAhead`): where it answers `Stays`, no event was done, and whatever run was shown is shown. Else
+//!   the next event of the thread was done, with pick 0. Where it answers `Alone`, the thread ran in a frame before and
 //!   after, with no exception pending, and the event called a method or returned from one, by which no monitor was
 //!   entered or left (`HasCalledOrReturned`), or left a monitor that the thread owned, and the stack got no deeper
 //!   (`HasLeftMonitor`). Such an event is alone behind each run that was shown (`AreAloneAfter`). Where it answers
@@ -20,8 +20,8 @@
 //!
 //! # Wrong bodies
 //!
-//! - `entered-monitors-are-passed-over`, `left-monitors-are-passed-over`: a call of a synchronized method, or the return
-//!   from one, is taken for one of another method; refused by `HasMovedBy`, of `has_moved`.
+//! - `entered-monitors-are-passed-over`, `left-monitors-are-passed-over`: a call of a synchronized method, or the
+//!   return from one, is taken for one of another method; refused by `HasMovedBy`, of `has_moved`.
 //! - `any-owner-will-do`, `owned-monitors-are-left`: a monitor counts as owned whoever owns it, or as left though the
 //!   thread owns it still; refused by the contracts of `owns` and of `has_left`.
 //! - `each-event-is-alone`: whatever was done is told to be alone; refused by `Tells`, of `told`.

@@ -28,6 +28,7 @@
 //! - Shown by cases alone: the text of a usage fault, of help and of the version.
 #![tactic(auto)]
 
+mod arguments;
 mod goal;
 mod help;
 mod numbers;
@@ -35,6 +36,7 @@ mod options;
 mod parse;
 mod parsers;
 mod paths;
+mod program_options;
 mod run_arguments;
 mod run_options;
 mod schedule_arguments;

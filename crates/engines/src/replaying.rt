@@ -24,7 +24,8 @@ use std::alloc::{AllocError, Global};
 /// fault of it is answered before a class file is read, and one of the class files before anything runs. It may say
 /// with which limits it was recorded, and over how many class files, how long each: where they are others, or another
 /// limit is asked for, that is its fault, and it is answered once the class files are read and before one is decoded.
-/// The run has its limits, and the gate is told of it. Where the schedule or a class file is refused, nothing is written.
+/// The run has its limits, and the gate is told of it. Where the schedule or a class file is refused, nothing is
+/// written.
 pub fn replay_engine<G: Gate, S: Source, W: Sink>(
     alloc: Global,
     gate: &G,

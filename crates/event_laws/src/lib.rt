@@ -1,5 +1,5 @@
-//! Theorems over the definitions of a step, which the actions of events rest on: what an event may change of classes and
-//! threads, what the count of a monitor tells, and whether an instruction does the accesses that it names.
+//! Theorems over the definitions of a step, which the actions of events rest on: what an event may change of classes
+//! and threads, what the count of a monitor tells, and whether an instruction does the accesses that it names.
 #![tactic(auto)]
 
 pub mod access_outcomes;

@@ -12,8 +12,8 @@
 //!   *Complete* it is that of schedules among which the search is whole (`HasMetAll`). `states_within` is a 128th of
 //!   the bytes.
 //! - A state is kept behind each event of a kept one, and behind those events of the same thread that come next and are
-//!   alone (`IsNextMet`, by the law of `search_laws`): local ones, and those that `alone_events` tells of. So the number
-//!   of states says how many were kept, and nothing of the states between.
+//!   alone (`IsNextMet`, by the law of `search_laws`): local ones, and those that `alone_events` tells of. So the
+//!   number of states says how many were kept, and nothing of the states between.
 //! - `GivesUp`: as many states were met as may be (`most`), or some run leads to a state with an enabled event that a
 //!   limit forbids, or a thread may pick the last of 65,535 that wait. An outcome is what was printed, and how each
 //!   thread stands. A program in which a thread waits for a flag in a loop can be *Complete* though one of its runs
@@ -31,8 +31,8 @@
 //!   `is_found` (`ListsOr`).
 //! - `event-itself-is-left-out`: an entry has the events alone that come behind one, and not that one; refused by
 //!   `repeat` of `GoesPast`, of `go_past`.
-//! - `one-event-too-far-is-kept`, `too-far-is-not-taken-back`: an event that isn't alone is gone past; refused by `more`
-//!   of `GoesBehind`, of `do_alone`, and by `IsAfter`, of `settled`.
+//! - `one-event-too-far-is-kept`, `too-far-is-not-taken-back`: an event that isn't alone is gone past; refused by
+//!   `more` of `GoesBehind`, of `do_alone`, and by `IsAfter`, of `settled`.
 //! - `gives-up-unasked`: a search gives up though it isn't over; refused by `Says`: `may_stop` of `Progress` follows
 //!   from the answer of `is_over` alone.
 //! - `goes-back-to-the-opening`, `quiet-states-are-passed-over`: the events of each state are tried in the opening

@@ -4,10 +4,10 @@
 //! # Proved
 //!
 //! - Theorems of a search that keeps schedules (`IsNextMet`): where the state to which an event leads, with events
-//!   behind it that are alone, is alike to that of a schedule that is kept, or its schedule is kept, it is met; where a pick is
-//!   not enabled, no higher one leads anywhere; nor does an event of a thread that isn't there. A state from which an
-//!   event leads on is not quiet. What is met stays so. Where the events of all schedules are met, and the outcomes of
-//!   those that end are listed, the search is whole (`searches_are_whole`, with `IsWhole` of `searches`).
+//!   behind it that are alone, is alike to that of a schedule that is kept, or its schedule is kept, it is met; where a
+//!   pick is not enabled, no higher one leads anywhere; nor does an event of a thread that isn't there. A state from
+//!   which an event leads on is not quiet. What is met stays so. Where the events of all schedules are met, and the
+//!   outcomes of those that end are listed, the search is whole (`searches_are_whole`, with `IsWhole` of `Schedules`).
 
 ghost use Rattle.search.specs.met_states.Met.{AreAlikeStatesMet, AreNewStatesMet, AreHigherPicksLeft, AreOtherThreadsLeft, AreMovingStatesNotQuiet, AreMetStatesKept, AreSearchesWhole};
 

@@ -1,22 +1,20 @@
 -- An event that called or returned, as the stack of its thread tells, is the thread's own, and alone.
-use Rattle.std.proofs.Common.{◌≡◌, ℕ, zero, suc, ◌-◌, ◌<◌, List, [], ◌∷◌, ◌++◌, length, Bool, true, false, ◌&&◌, if◌then◌else◌, Option, Some, None, refl, sym, ap, ◌∙◌, subst, arith}
+use Rattle.std.proofs.Common.{◌≡◌, ℕ, zero, suc, List, [], ◌∷◌, ◌++◌, length, Bool, true, false, ◌&&◌, if◌then◌else◌, Option, Some, None, refl, sym, ap, ◌∙◌, subst, arith}
 use Rattle.std.specs.Prelude.{nat_lt, is_none, slice_get, slice_set, replicate}
 use Rattle.std.specs.Option.{option_and_then}
-use Rattle.std.proofs.lemmas.Bool.{false≢true}
 use Rattle.std.proofs.lemmas.Option.{same_Some, none-some}
-use Rattle.model.specs.declared.event.Event.{Event}
 use Rattle.model.specs.declared.value.Value.{Value}
 use Rattle.model.specs.Accepted.{IsAccepted}
 use Rattle.model.specs.Classes.{Program, Body, body_of}
 use Rattle.model.specs.ClassInitialisation.{Look, IsReady, IsNew, IsHeld, HasFailed, look_by, look_at, status_of}
-use Rattle.model.specs.Frames.{frame_count, at_offset, at_call}
+use Rattle.model.specs.Frames.{frame_count, at_call}
 use Rattle.model.specs.Meanings.{meaning_of}
 use Rattle.model.specs.Names.{Name}
 use Rattle.model.specs.Operands.{values, under}
 use Rattle.model.specs.Outcomes.{NoClassDefFound, StackOverflow, IllegalMonitorState, Cost, OutcomeOf, Goes, Raises, Throws, Interrupts, Calls, Returns, Waits}
 use Rattle.model.specs.Sites.{MeaningOf, Site, site_at}
-use Rattle.model.specs.State.{types_of, ThreadStatus, Running, Frame, Phase, Super, StackEntryOf, Invocation, Initialisation, StackOf, World, State}
-use Rattle.model.specs.Step.{SteppedOf, NotEnabled, WrongKind, Next, PartOf, part, on_to, raised, next_by, enabled_if, unpicked, ops_of, done, needing, needing_class, returned, leaving, become, entering, pushed, bytecode_by, bytecode_in, going_event, thread_event, step}
+use Rattle.model.specs.State.{types_of, Running, Frame, Phase, Super, StackEntryOf, Invocation, Initialisation, StackOf, World, State}
+use Rattle.model.specs.Step.{SteppedOf, NotEnabled, WrongKind, Next, PartOf, part, on_to, raised, next_by, enabled_if, unpicked, ops_of, done, needing, needing_class, returned, leaving, become, entering, bytecode_by, bytecode_in, going_event, thread_event, step}
 use Rattle.model.specs.Worlds.{thread_at, is_owner, may_enter, with_entry, with_exit, entry_cost}
 use Rattle.run_laws.specs.interleavings.Local.{is_going, with_stack}
 use Rattle.run_laws.proofs.typed_runs.Threads.{get_set_at}

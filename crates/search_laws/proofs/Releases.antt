@@ -1,11 +1,10 @@
 -- An event by which a thread leaves a monitor, and runs on, is alone.
-use Rattle.std.proofs.Common.{◌≡◌, ◌≤◌, ℕ, suc, List, [], ◌∷◌, length, Bool, true, false, ◌==◌, if◌then◌else◌, Option, Some, None, refl, sym, ap, ◌∙◌, subst, arith}
+use Rattle.std.proofs.Common.{◌≡◌, ◌≤◌, ℕ, List, [], ◌∷◌, length, Bool, true, false, if◌then◌else◌, Option, Some, None, refl, sym, ap, ◌∙◌, subst, arith}
 use Rattle.std.specs.Prelude.{nat_lt, slice_get, slice_set, replicate}
 use Rattle.std.specs.Option.{option_map_or, option_and_then}
 use Rattle.std.proofs.lemmas.Bool.{false≢true, eqb-true}
 use Rattle.std.proofs.lemmas.Bool.Decides.{Decides-ltb}
 use Rattle.std.proofs.lemmas.Option.{same_Some, none-some}
-use Rattle.model.specs.declared.event.Event.{Event}
 use Rattle.model.specs.declared.instr.Instr.{Instr}
 use Rattle.model.specs.declared.instr.Instr.TheVariants as instr
 use Rattle.model.specs.declared.value.Value.{Value}
@@ -13,20 +12,20 @@ use Rattle.model.specs.Accepted.{IsAccepted}
 use Rattle.model.specs.Classes.{Program, Body, body_of}
 use Rattle.model.specs.ClassInitialisation.{Look, IsReady, IsNew, IsHeld, HasFailed, look_by, status_of}
 use Rattle.model.specs.Meanings.{meaning_of}
-use Rattle.model.specs.Monitors.{owns, monitor_at}
+use Rattle.model.specs.Monitors.{owns}
 use Rattle.model.specs.Names.{Name}
 use Rattle.model.specs.Operands.{values, under}
 use Rattle.model.specs.Outcomes.{NoClassDefFound, IllegalMonitorState, Cost, OutcomeOf, Goes, Raises, Throws, Interrupts, Calls, Returns as ReturnsTo, Waits}
 use Rattle.model.specs.Sites.{MeaningOf, Site, site_at}
-use Rattle.model.specs.State.{types_of, Instance, Thread, Running, Frame, StackEntryOf, Invocation, Initialisation, StackOf, World, State}
-use Rattle.model.specs.Step.{SteppedOf, NotEnabled, WrongKind, Next, PartOf, part, on_to, raised, end_of, next_by, enabled_if, unpicked, ops_of, done, needing, needing_class, returned, leaving, become, bytecode_by, bytecode_in, going_event, thread_event, stepped, step}
+use Rattle.model.specs.State.{types_of, Instance, Thread, Running, Frame, StackEntryOf, Invocation, StackOf, World, State}
+use Rattle.model.specs.Step.{SteppedOf, NotEnabled, WrongKind, Next, PartOf, on_to, raised, end_of, next_by, enabled_if, unpicked, ops_of, done, needing, needing_class, returned, leaving, become, bytecode_by, bytecode_in, going_event, thread_event, stepped, step}
 use Rattle.model.specs.Outcomes.{exception_class}
 use Rattle.model.specs.Worlds.{thread_at, is_owner, with_exit, allocated}
 use Rattle.model.specs.WellTyped.{IsWellTyped}
 use Rattle.run_laws.proofs.typed_runs.Settled.{thread_there}
 use Rattle.run_laws.proofs.typed_runs.Threads.{get_set_at}
 use Rattle.run_laws.proofs.laws.Operations.{OfMeaning}
-use Rattle.monitor_laws.specs.owners.Owners.{is_meant, KeepsOwners, entered_in, monitor_operand, meant_by, meant_with, meant_at, meant_in, meant_running, meant_before, meant, AreOwnersKeptBy}
+use Rattle.monitor_laws.specs.owners.Owners.{is_meant, entered_in, monitor_operand, meant_by, meant_with, meant_at, meant_in, meant_running, meant_before, meant, AreOwnersKeptBy}
 use Rattle.search_laws.specs.Alone.{passing, next_event, IsAlone, HaveSameWords}
 use Rattle.search_laws.specs.KeptStates.{IsReached}
 use Rattle.search_laws.specs.OwnedMonitors.{IsAt, IsToUse, Exits, Enters, Returns}
@@ -34,7 +33,7 @@ use Rattle.search_laws.specs.OwnEvents.{IsFreeOf}
 use Rattle.search_laws.specs.Releases.{IsRelease, AreReleasesAlone}
 use Rattle.search_laws.proofs.Events.{IsDone, done_of}
 use Rattle.search_laws.proofs.Leaving.{thread_set, Told, IsTold, all_told}
-use Rattle.search_laws.proofs.Moves.{get_front, left_of, none_left, returned_many}
+use Rattle.search_laws.proofs.Moves.{get_front, left_of, none_left}
 use Rattle.search_laws.proofs.OwnedMonitors.{owned_monitors_alone}
 use Rattle.search_laws.proofs.Verdicts.{reached_typed}
 

@@ -27,7 +27,8 @@
 //!   of its quiet states (`searches_past_local_events_are_whole`).
 //! - A search may keep schedules, tell states apart by their words, and go past events that are alone, whatever they
 //!   access: where each event from where a schedule led is followed so to where one of them led, the outcomes of those
-//!   that end are those of all runs that end (`schedules_are_complete`). Local events are such (`local_events_are_passed`).
+//!   that end are those of all runs that end (`schedules_are_complete`). Local events are such
+//!   (`local_events_are_passed`).
 //!
 //! # Not proved
 //!

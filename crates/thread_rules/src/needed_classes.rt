@@ -2,8 +2,8 @@
 //!
 //! # Proved
 //!
-//! - `class_needed_by`: by the rule of the event, the number of the class that the definitions name (`needed_class`), or
-//!   none where they name none; of an instruction the number is handed in.
+//! - `class_needed_by`: by the rule of the event, the number of the class that the definitions name (`needed_class`),
+//!   or none where they name none; of an instruction the number is handed in.
 //!
 //! # Not proved
 //!

@@ -91,7 +91,8 @@ fn push_classes(
     classes: &[&[u8]],
 ) -> Result<(), AllocError>
     requires { first + 2 * length classes.now < 2 ^ 16 }
-    ensures { OnOk result (entries_of pool.new.items ≡ entries_of pool.old.items ++ classes_from first (map (λ n. n.now) classes.now)) }
+    ensures { OnOk result (entries_of pool.new.items
+        ≡ entries_of pool.old.items ++ classes_from first (map (λ n. n.now) classes.now)) }
 {
     let mut at = first;
     for class in classes {
@@ -157,7 +158,8 @@ fn push_texts(
 
 /// The constant pool of a class: names of classes, what code and fields name, and the texts of methods without code.
 fn pool_of(alloc: Global, class: &BuiltInClass) -> Result<Vec<Constant>, AllocError>
-    requires { 5 + 2 * length class.now.interfaces.now + length class.now.operands.now + 2 * length class.now.natives.now < 2 ^ 16 }
+    requires { 5 + 2 * length class.now.interfaces.now + length class.now.operands.now
+        + 2 * length class.now.natives.now < 2 ^ 16 }
     ensures { IfOk result (λ v. entries_of v.items ≡ (tree_of (class_of class.now)).pool) }
 {
     let mut pool = Vec::new(alloc);
@@ -267,7 +269,8 @@ fn push_methods(
 
 /// How many entries the constant pool has before the texts of methods without code.
 fn operands_end(class: &BuiltInClass) -> u16
-    requires { 5 + 2 * length class.now.interfaces.now + length class.now.operands.now + 2 * length class.now.natives.now < 2 ^ 16 }
+    requires { 5 + 2 * length class.now.interfaces.now + length class.now.operands.now
+        + 2 * length class.now.natives.now < 2 ^ 16 }
     ensures { result ≡ operands_end (class_of class.now) }
 {
     let behind = 2 * class.interfaces.len() + class.operands.len();
@@ -279,7 +282,8 @@ fn operands_end(class: &BuiltInClass) -> u16
 
 /// The methods: those with code, then those without.
 fn methods_of(alloc: Global, class: &BuiltInClass) -> Result<Vec<Method>, AllocError>
-    requires { 5 + 2 * length class.now.interfaces.now + length class.now.operands.now + 2 * length class.now.natives.now < 2 ^ 16 }
+    requires { 5 + 2 * length class.now.interfaces.now + length class.now.operands.now
+        + 2 * length class.now.natives.now < 2 ^ 16 }
     ensures { IfOk result (λ v. map method_of v.items ≡ (tree_of (class_of class.now)).methods) }
 {
     let end = operands_end(class);
@@ -301,7 +305,8 @@ fn super_index(class: &BuiltInClass) -> u16
 
 /// The class file of a built-in class.
 pub(crate) fn class_file(alloc: Global, class: &BuiltInClass) -> Result<ClassFile, AllocError>
-    requires { 6 + 2 * length class.now.interfaces.now + length class.now.operands.now + 2 * length class.now.natives.now < 2 ^ 16 }
+    requires { 6 + 2 * length class.now.interfaces.now + length class.now.operands.now
+        + 2 * length class.now.natives.now < 2 ^ 16 }
     ensures { IfOk result (λ c. file_of c ≡ tree_of (class_of class.now)) }
 {
     Ok(ClassFile {

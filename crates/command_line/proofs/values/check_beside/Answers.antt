@@ -1,7 +1,7 @@
 use Rattle.std.proofs.Common.{Some, None}
 use Rattle.command_line.proofs.CommandLineLemmas.{first_is, refuses}
 use Rattle.command_line.proofs.SweepLemmas.{isnt_there}
-use Rattle.command_line.proofs.schedule_arguments.check_places.Goals as goal
+use Rattle.command_line.proofs.values.check_beside.Goals as goal
 
 pub returns-in-Some-clause-none : goal.returns-in-Some-clause-none
 returns-in-Some-clause-none c =
