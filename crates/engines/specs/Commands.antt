@@ -11,6 +11,8 @@ use Rattle.traces.specs.declared.form.Form.TheVariants as lines
 use Rattle.command_line.specs.CommandLine.{Asks, Fails, Refuses, Spells}
 use Rattle.command_line.specs.declared.options.Command.{Command}
 use Rattle.command_line.specs.declared.options.Command.TheVariants as commands
+use Rattle.command_line.specs.declared.options.Goal.{Goal}
+use Rattle.command_line.specs.declared.options.Goal.TheVariants as goals
 use Rattle.command_line.specs.declared.options.Replay.{Replay}
 use Rattle.command_line.specs.declared.options.Run.{Run}
 use Rattle.command_line.specs.declared.options.Schedule.{Schedule}
@@ -132,12 +134,31 @@ abbrev pub IsReadIn : (folder : Option Path) → (files : List Path) → Type 0
 IsReadIn None files = ⊥
 IsReadIn (Some folder) files = has_outcome folder files ≡ true
 
--- what a command writes is none of these files, or may be one
+-- the path of the text behind `differs=`, if there is one
+abbrev pub goal_texts : Option Goal → List Path
+goal_texts (Some (goals.Differs path)) = string_bytes path ∷ []
+goal_texts goal = []
+
+-- that of a sweep
+abbrev pub sweep_texts : Command → List Path
+sweep_texts (commands.Run run) = unwrap_or (option_map (λ (sweep : SweepOptions). goal_texts sweep.goal) run.sweep) []
+sweep_texts (commands.Replay replay) = []
+sweep_texts (commands.Trace trace) = []
+sweep_texts (commands.Search search) = []
+sweep_texts (commands.Shrink shrink) = []
+sweep_texts (commands.Verify verify) = []
+sweep_texts (commands.Disasm disasm) = []
+sweep_texts (commands.Schedule schedule) = []
+sweep_texts (commands.Places places) = []
+
+-- what a command writes is none of these files, nor the text of a sweep; or it may be one
 abbrev pub IsUnread : Command → (files : List Path) → Type 0
-IsUnread command files = IsUnreadAt (record_path command) files × IsUnreadIn (outcome_folder command) files
+IsUnread command files =
+    IsUnreadAt (record_path command) files × IsUnreadIn (outcome_folder command) files × IsUnreadIn (outcome_folder command) (sweep_texts command)
 
 abbrev pub IsReadToo : Command → (files : List Path) → Type 0
-IsReadToo command files = IsReadAt (record_path command) files ⊎ IsReadIn (outcome_folder command) files
+IsReadToo command files =
+    IsReadAt (record_path command) files ⊎ IsReadIn (outcome_folder command) files ⊎ IsReadIn (outcome_folder command) (sweep_texts command)
 
 -- this is so of the files that a command hands on
 abbrev pub OfFiles : List LibraryFile → Held → Listed → Command → (List (Option (List ℕ)) → Type 0) → Type 0

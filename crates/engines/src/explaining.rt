@@ -170,19 +170,34 @@ fn schedule_of(command: &Command) -> Option<&str> {
     }
 }
 
-/// The path of the file that is read before the class files, if one is.
-fn first_of(alloc: Global, command: &Command) -> Option<&str> {
+/// The goal of a search, a sweep or a shrink, if there is one.
+fn goal_of(command: &Command) -> Option<&Goal> {
     match command {
-        Command::Search(options) => match &options.goal {
-            Some(Goal::Differs(path)) => Some(path.as_str()),
-            _ => None,
+        Command::Search(options) => options.goal.as_ref(),
+        Command::Shrink(options) => Some(&options.goal),
+        Command::Run(options) => match &options.sweep {
+            Some(sweep) => sweep.goal.as_ref(),
+            None => None,
         },
+        _ => None,
+    }
+}
+
+/// The path of the text behind `differs=`, if one is read.
+fn text_of(command: &Command) -> Option<&str> {
+    match goal_of(command) {
+        Some(Goal::Differs(path)) => Some(path.as_str()),
+        _ => None,
+    }
+}
+
+/// The path of the schedule that is read before the class files, if one is.
+fn first_of(alloc: Global, command: &Command) -> Option<&str> {
+    match schedule_of(command) {
         // it is a path, whatever it looks like
-        Command::Schedule(_) => schedule_of(command),
-        _ => match schedule_of(command) {
-            Some(word) if is_given_word(alloc, word.as_bytes()) => None,
-            other => other,
-        },
+        Some(word) if matches!(command, Command::Schedule(_)) => Some(word),
+        Some(word) if is_given_word(alloc, word.as_bytes()) => None,
+        other => other,
     }
 }
 
@@ -274,6 +289,11 @@ fn of_device<F: Folder>(
     if let Some(line) = of_streams(alloc, failures)? {
         return Ok(Some(line));
     }
+    if let Some(path) = text_of(command) {
+        if let Err(error) = folder.read(alloc, path) {
+            return line_with(alloc, path, &error);
+        }
+    }
     if let Some(path) = first_of(alloc, command) {
         if let Err(error) = folder.read(alloc, path) {
             return of_first(alloc, command, path, &error);
@@ -292,7 +312,7 @@ fn of_device<F: Folder>(
 /// Why the file can't be read that is read before the class files. Where a schedule could stand in place of its path,
 /// and the path has a mark of one, it is told that it is none.
 fn of_first(alloc: Global, command: &Command, path: &str, error: &io::Error) -> Told {
-    let may_be_word = !matches!(command, Command::Search(_) | Command::Schedule(_));
+    let may_be_word = !matches!(command, Command::Schedule(_));
     if may_be_word && (path.contains('*') || path.contains('@')) {
         let line = format!(in alloc; "{path}: {error}; nor is this word a schedule")?;
         return Ok(Some(line.into_bytes()));
