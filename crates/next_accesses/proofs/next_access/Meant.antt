@@ -16,7 +16,7 @@ use Rattle.model.specs.Lookup.{find_field}
 use Rattle.model.specs.LimitStands.{Bounds}
 use Rattle.model.specs.Operands.{Slots, values, word_of}
 use Rattle.model.specs.State as state
-use Rattle.model.specs.State.{types_of, StackOf, State}
+use Rattle.model.specs.State.{types_of, StackOf, World, State}
 use Rattle.model.specs.Worlds.{thread_at}
 use Rattle.model.specs.Sites.{MeaningOf, Site, site_with}
 use Rattle.model.specs.Meanings.{meaning_of}
@@ -180,6 +180,9 @@ module _ (wrong : IsNoEventWrong) (receives : AreReceived) (reads : AreOperandsR
         let is = h trees site (operands_of instruction) of_field (subst (λ (ns : List ℕ). ReadsAt (operands_of instruction) ns site.instr) operands_are read) in
         record { are = told_so told access is.are ∙ sym (seen passes); right = right_so told access is.right }
 
+    pub silent : told ≡ false → AreAccesses trees bounds.frames state t None
+    silent e = record { are = sym (seen passes ∙ ap (λ b. only_if b accesses) e); right = tt }
+
   -- by the instruction that was looked up
   pub frame_told : (place : ℕ) → place ≡ offset_at p frame.method frame.place → (i : Instr) → site.instr ≡ i → (field : Option NamedField)
       → IsFieldNamed trees frame.method place i field → (told : Bool) → GoesOn p shared t frame.operands i field told → (access : Option Action)
@@ -188,6 +191,13 @@ module _ (wrong : IsNoEventWrong) (receives : AreReceived) (reads : AreOperandsR
       let of_field : IsFieldOf trees site i field = named_so field i is (subst (λ (n : ℕ). IsFieldNamed trees frame.method n i field) (e ∙ sym offset_is) names) in
       tells field told (subst (λ (x : Instr). GoesOn p shared t frame.operands x field told) (sym is) goes) (subst (λ (x : Instr). IsFieldOf trees site x field) (sym is) of_field)
       access (subst (λ (x : Instr). TellsAccess frame.operands x field access) (sym is) h)
+
+  pub frame_silent : (place : ℕ) → place ≡ offset_at p frame.method frame.place → (i : Instr) → site.instr ≡ i → (field : Option NamedField)
+      → IsFieldNamed trees frame.method place i field → (told : Bool) → GoesOn p shared t frame.operands i field told → told ≡ false
+      → AreAccesses trees bounds.frames state t None
+  frame_silent place e i is field names told goes no =
+      let of_field : IsFieldOf trees site i field = named_so field i is (subst (λ (n : ℕ). IsFieldNamed trees frame.method n i field) (e ∙ sym offset_is) names) in
+      silent field told (subst (λ (x : Instr). GoesOn p shared t frame.operands x field told) (sym is) goes) (subst (λ (x : Instr). IsFieldOf trees site x field) (sym is) of_field) no
 
 -- ---- what a function tells of a frame
 
@@ -209,8 +219,10 @@ module _ (wrong : IsNoEventWrong) (receives : AreReceived) (reads : AreOperandsR
     pub goes_told : (access : Option Action) → TellsAccess frame.operands i field access → told ≡ true → TellsFrame trees p shared t frame access
     goes_told access h e = subst (λ b. TellsFrame trees p shared t frame (if b then access else None)) e (told_with access h)
 
-    pub stays_told : (access : Option Action) → TellsAccess frame.operands i field access → told ≡ false → TellsFrame trees p shared t frame None
-    stays_told access h e = subst (λ b. TellsFrame trees p shared t frame (if b then access else None)) e (told_with access h)
+    pub stays_told : told ≡ false → TellsFrame trees p shared t frame None
+    stays_told e bounds state r stack at top =
+        let is = same_Some _ _ (sym (instr_is wrong receives reads tops trees p shared t frame bounds state r stack at top (Some i) place place_is looked)) in
+        frame_silent wrong receives reads tops trees p shared t frame bounds state r stack at top place place_is i is field names told goes e
 
 -- ---- by the rule of a thread
 
@@ -235,7 +247,7 @@ module _ (meant : AreRulesMeant) (trees : Program) (p : LinkedProgram) (shared :
       let at : IsAtInstruction trees p bounds r.inflated t shared stack state = subst (MeansRule trees p bounds r.inflated t shared stack state) by (means e bounds state r) in
       absurd (none at.runs.shown at.runs.others at.runs.is_stack)
 
-  none_at : (bounds : Bounds) (state : State) (m : Rule) → rule_of trees state t ≡ m → ((world : _) → accesses_of trees (record { thread = t; pick = 0 }) world m ≡ [])
+  none_at : (bounds : Bounds) (state : State) (m : Rule) → rule_of trees state t ≡ m → ((world : World) → accesses_of trees (record { thread = t; pick = 0 }) world m ≡ [])
       → AreAccesses trees bounds.frames state t None
   none_at bounds state m e none = record { are = sym (none_of_rule trees bounds.frames state t m e none); right = tt }
 
