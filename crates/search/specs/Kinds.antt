@@ -33,11 +33,15 @@ IsStuck trees frames state = IsTrue (is_quiet trees frames state) × IsTrue (lis
 abbrev pub HasCircle : Program → ℕ → State → Type 0
 HasCircle trees frames state = (t : ℕ) × (threads : List ℕ) × IsCircle trees frames t threads state
 
+-- the one or the other
+abbrev pub IsDeadlocked : Program → ℕ → State → Type 0
+IsDeadlocked trees frames state = IsStuck trees frames state ⊎ HasCircle trees frames state
+
 -- the state is of the kind
 abbrev pub Shows : Program → ℕ → Kind → State → Type 0
 Shows trees frames kind.Race state = IsRacy trees frames state
 Shows trees frames kind.Uncaught state = HasUncaught trees frames state
-Shows trees frames kind.Deadlock state = IsStuck trees frames state ⊎ HasCircle trees frames state
+Shows trees frames kind.Deadlock state = IsDeadlocked trees frames state
 
 -- some run comes to a state of the kind
 abbrev pub IsShown : Program → ℕ → Kind → Type 0
@@ -79,9 +83,3 @@ abbrev pub is_sought : Goal → Kinds → Bool
 is_sought (goal.Outcome want) kinds = false
 is_sought (goal.Kind kind) kinds = is_told kinds kind
 is_sought goal.AnyKind kinds = kinds.race || (kinds.uncaught || kinds.deadlock)
-
--- a state of a kind that is
-abbrev pub IsSought : Goal → Program → ℕ → State → Type 0
-IsSought (goal.Outcome want) trees frames state = ⊥
-IsSought (goal.Kind kind) trees frames state = Shows trees frames kind state
-IsSought goal.AnyKind trees frames state = (kind : Kind) × Shows trees frames kind state

@@ -1,14 +1,14 @@
 //! The search over all schedules.
 
-ghost use Rattle.std.specs.Prelude.{◌<◌, ◌≤◌, [], length, IfOk};
+ghost use Rattle.std.specs.Prelude.{◌≤◌, length, IfOk};
 ghost use Rattle.std.specs.Arc.{arc_value};
 ghost use Rattle.machine.specs.Machines.{IsProgramOf};
 ghost use Rattle.search.specs.Verdicts.{Says};
-ghost use Rattle.search.specs.Visits.{HasVisited};
+ghost use Rattle.search.specs.Visits.{nothing_seen, HasVisited};
 
 use crate::kinds::{Goal, Kinds};
 use crate::machines::opened;
-use crate::met_states::searches_are_whole;
+use crate::met_states::{kinds_are_met, searches_are_whole};
 use crate::progress::Progress;
 use crate::run_outcomes::Outcomes;
 use crate::states::{States, Walk};
@@ -16,7 +16,7 @@ use crate::visiting::{Asked, Seen, Visit, visit_state};
 use linked_code::LinkedProgram;
 use linker::Linked;
 use model::Limits;
-use next_accesses::AccessTables;
+use racing_threads::lasting_races::races_are_told_by_words;
 use schedule::Schedule;
 use search_laws::kept_states::schedules_are_complete;
 use std::alloc::{AllocError, Global};
@@ -43,15 +43,25 @@ pub struct Searched {
 
 /// Visits states from the opening state on, up to so many, and tells how far it has come.
 fn visit_all<P: Progress>(
+    alloc: Global,
     progress: &P,
     asked: &Asked<'_>,
     walk: Walk,
-) -> Result<(Verdict, Walk), AllocError> {
+) -> Result<(Verdict, Walk), AllocError>
+    requires visited { HasVisited asked.now.trees walk.states.limits asked.now.goal walk.states nothing_seen 0 }
+    requires few { 1 ≤ asked.now.most → length walk.states.schedules ≤ asked.now.most }
+    ensures says { IfOk result (λ r. Says asked.now.trees walk.states.limits asked.now.goal (P.may_stop progress.now)
+        asked.now.most (length r.1.states.schedules) r.0) }
+    ensures few { IfOk result (λ r. 1 ≤ asked.now.most → length r.1.states.schedules ≤ asked.now.most) }
+{
     searches_are_whole();
     schedules_are_complete();
+    races_are_told_by_words();
+    kinds_are_met();
     let mut walk = walk;
-    let mut seen = Seen::new(asked.alloc);
-    'states: for number in 0..asked.most {
+    let most = asked.most();
+    let mut seen = Seen::new(alloc);
+    'states: for number in 0..most {
         if number >= walk.states.len() {
             return Ok((Verdict::Complete(seen.outcomes, seen.kinds), walk));
         }
@@ -67,7 +77,7 @@ fn visit_all<P: Progress>(
             Visit::GaveUp => return Ok((Verdict::GaveUp, walk)),
         }
     }
-    if walk.states.len() <= asked.most {
+    if walk.states.len() <= most {
         Ok((Verdict::Complete(seen.outcomes, seen.kinds), walk))
     } else {
         Ok((Verdict::GaveUp, walk))
@@ -98,14 +108,8 @@ pub fn search<P: Progress>(
         machine,
         moved: false,
     };
-    let asked = Asked {
-        alloc,
-        linked,
-        tables: AccessTables::new(alloc, linked)?,
-        goal,
-        most,
-    };
-    let (verdict, walk) = visit_all(progress, &asked, walk)?;
+    let asked = Asked::new(alloc, linked, goal, most)?;
+    let (verdict, walk) = visit_all(alloc, progress, &asked, walk)?;
     Ok(Searched {
         verdict,
         states: walk.states.len(),

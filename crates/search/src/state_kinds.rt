@@ -1,55 +1,75 @@
 //! Which kinds the state of a machine is of.
+//!
+//! # Proved
+//!
+//! - `kinds_at`, memory aside: of whatever run of the accepted class files the machine has done, exactly the kinds of
+//!   the state to which that led, whose outcome is given (`AreKindsOf`).
+//!
+//! # Wrong bodies
+//!
+//! - `a-kind-of-the-last-thread-alone`: only the last thread is asked how it ended; refused by `TellsState`, of
+//!   `is_uncaught`.
+//! - `stuck-threads-are-no-deadlock`: a state in which threads wait for ever, with no circle, is none; refused by
+//!   `TellsWith`, of `is_deadlocked`.
 
 ghost use Rattle.std.specs.Prelude.{◌≡◌, IfOk};
-ghost use Rattle.std.specs.List.{list_any};
-ghost use Rattle.search.specs.Kinds.{HasUncaught};
-ghost use Rattle.search.specs.StateKinds.{has_ended_with, any_has_ended_with, TellsState, TellsKinds, TellsStuck, TellsDeadlock};
-ghost use Rattle.search.specs.Machines.{TellsOutcome};
-ghost use Rattle.search.specs.run_outcomes.Outcomes.{told_by, IsWanted};
+ghost use Rattle.data_races.specs.Races.{IsRacy};
+ghost use Rattle.heap.specs.java_threads.Statuses.{status_of};
+ghost use Rattle.search.specs.Kinds.{HasUncaught, IsDeadlocked};
+ghost use Rattle.search.specs.StateKinds.{AreKindsOf, TellsState, TellsWith, Tells, has_thrown, is_stuck_if};
 
 use crate::kinds::Kinds;
-use crate::run_outcomes::{Outcome, Wanted};
+use crate::run_outcomes::{Outcome, any_is_stuck};
 use heap::java_threads::{ThreadStatus, Threads};
 use machine::Machine;
 use next_accesses::{AccessTables, is_racy};
 use std::alloc::{AllocError, Global};
 use waiting_circles::has_circle;
 
-/// Whether a thread has ended with an exception.
-fn has_thrown(threads: &Threads, thread: u16) -> bool
+/// Whether a thread ended with an exception.
+fn has_thrown(status: ThreadStatus) -> bool
+    ensures { result ≡ has_thrown (status_of status) }
 {
-    matches!(threads.status(thread), ThreadStatus::Ended(Some(_)))
+    match status {
+        ThreadStatus::Ended(exception) => exception.is_some(),
+        _ => false,
+    }
 }
 
-/// Whether a thread has ended with an exception, in the state of a machine (JLS 11.3).
+/// Whether a thread has ended with an exception that nothing caught, in the state of a machine (JLS 11.3).
 fn is_uncaught(machine: &Machine) -> bool
-    ensures { TellsState machine.now HasUncaught result }
+    ensures { (trees : _) → TellsState trees machine.now HasUncaught result }
 {
     let threads = &machine.shared().threads;
     'threads: for thread in 0..threads.len() {
-        if has_thrown(threads, thread as u16) {
+        if has_thrown(threads.status(thread as u16)) {
             return true;
         }
     }
     false
 }
 
-/// Whether no thread may step, and one waits for ever, by the outcome of a state.
-fn is_stuck(alloc: Global, outcome: &Option<Outcome>) -> Result<bool, AllocError> {
+/// Whether a thread waits for ever, by the outcome of a state in which no thread may step.
+fn is_stuck(outcome: &Option<Outcome>) -> bool
+    ensures { result ≡ is_stuck_if outcome.now }
+{
     match outcome {
-        Some(outcome) => Wanted::Stuck.is(alloc, outcome),
-        None => Ok(false),
+        Some(outcome) => any_is_stuck(&outcome.threads),
+        None => false,
     }
 }
 
-/// Whether no thread may step, and one waits for ever, or threads wait in a circle, in the state of a machine, which
-/// has this outcome.
+/// Whether the state of a machine, which has this outcome, is a deadlock: no thread may step, and one waits for ever;
+/// or threads wait in a circle. The only error is a want of memory.
 fn is_deadlocked(
     alloc: Global,
     machine: &Machine,
     outcome: &Option<Outcome>,
-) -> Result<bool, AllocError> {
-    if is_stuck(alloc, outcome)? {
+) -> Result<bool, AllocError>
+    ensures { IfOk result (λ told. (trees : _) → TellsWith trees machine.now outcome.now
+        (λ trees frames state. Tells told (IsDeadlocked trees frames state))) }
+{
+    if is_stuck(outcome) {
         return Ok(true);
     }
     has_circle(alloc, machine)
@@ -58,10 +78,13 @@ fn is_deadlocked(
 /// The kinds of the state of a machine, which has this outcome. The only error is a want of memory.
 pub(crate) fn kinds_at(
     alloc: Global,
-    tables: &AccessTables,
+    tables: &AccessTables<'_>,
     machine: &Machine,
     outcome: &Option<Outcome>,
-) -> Result<Kinds, AllocError> {
+) -> Result<Kinds, AllocError>
+    ensures { IfOk result (λ kinds. TellsWith tables.now.linked.now machine.now outcome.now
+        (λ trees frames state. AreKindsOf trees frames state kinds)) }
+{
     Ok(Kinds {
         race: is_racy(alloc, tables, machine)?,
         uncaught: is_uncaught(machine),

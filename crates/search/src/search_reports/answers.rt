@@ -1,7 +1,7 @@
 //! The text of what a search answers.
 
 ghost use Rattle.std.specs.Prelude.{◌≡◌, ◌++◌, IfOk, OnOk};
-ghost use Rattle.search.specs.search_reports.Reports.{answer_word, found_text, kind_line, kind_lines, race_text, scope_text, search_text};
+ghost use Rattle.search.specs.search_reports.Reports.{answer_word, found_text, kind_lines, line_if, race_line, scope_text, search_text};
 
 use crate::kinds::Kinds;
 use crate::run_outcomes::Outcomes;
@@ -35,7 +35,7 @@ pub struct SearchReport {
 
 /// A line of a kind, where it is told.
 fn push_kind(text: &mut Vec<u8>, is_told: bool, line: &[u8]) -> Result<(), AllocError>
-    ensures { OnOk result (text.new.items ≡ text.old.items ++ kind_line is_told line.now) }
+    ensures { OnOk result (text.new.items ≡ text.old.items ++ line_if is_told line.now) }
 {
     if is_told {
         push_line(text, line)
@@ -73,7 +73,7 @@ fn push_found(alloc: Global, text: &mut Vec<u8>, answer: &Answer) -> Result<(), 
 
 /// That no run has a data race, where none has.
 fn push_races(text: &mut Vec<u8>, kinds: Kinds, own_edges: bool) -> Result<(), AllocError>
-    ensures { OnOk result (text.new.items ≡ text.old.items ++ race_text kinds own_edges) }
+    ensures { OnOk result (text.new.items ≡ text.old.items ++ race_line kinds.race own_edges) }
 {
     if kinds.race {
         Ok(())

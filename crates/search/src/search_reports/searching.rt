@@ -1,7 +1,8 @@
 //! A search, and the report of the run that it finds.
 
-ghost use Rattle.std.specs.Prelude.{◌≤◌, IfOk};
+ghost use Rattle.std.specs.Prelude.{◌≡◌, ◌≤◌, IfOk};
 ghost use Rattle.std.specs.Arc.{arc_value};
+ghost use Rattle.data_races.specs.OwnEdges as own;
 ghost use Rattle.machine.specs.Machines.{IsProgramOf};
 ghost use Rattle.search.specs.declared.searching.Verdict.TheVariants as verdicts;
 ghost use Rattle.search.specs.search_reports.Answers.{Answers, IsAnswerTo};
@@ -72,7 +73,7 @@ pub fn search_report<P: Progress>(
     requires { IsProgramOf linked.now (arc_value program) }
     ensures answers { IfOk result (λ r. Answers linked.now limits goal.now (P.may_stop progress.now) most r.states
         r.answer) }
-    ensures own_edges { IfOk result (λ r. r.own_edges ≡ names_own_edges linked.now) }
+    ensures own_edges { IfOk result (λ r. r.own_edges ≡ own.names_own_edges linked.now) }
     ensures few { IfOk result (λ r. 1 ≤ most → r.states ≤ most) }
 {
     let searched_program = Arc::try_clone(&program)?;
