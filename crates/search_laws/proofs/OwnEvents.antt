@@ -24,7 +24,7 @@ use Rattle.run_laws.proofs.interleavings.Commuting.{local_is_own, left_alone}
 use Rattle.run_laws.proofs.interleavings.Own.{next_of, of_next, own_unpicked}
 use Rattle.run_laws.proofs.interleavings.Reduction.{opened, run_typed}
 use Rattle.run_laws.proofs.typed_runs.Threads.{get_set_other}
-use Rattle.search_laws.specs.Alone.{passing, next_event, AreOfOthers, IsAlone, AreAlone, HaveSameWords}
+use Rattle.search_laws.specs.Alone.{passing, next_event, AreOfOthers, IsAlone, HaveSameWords}
 use Rattle.search_laws.specs.KeptStates.{Graph, IsReached, IsFollowed as IsKeptBehind}
 use Rattle.search_laws.specs.OwnEvents.{StandsAs, IsOwnEvent, IsFreeOf, AreOwnEventsAlone, AreLocalEventsOwn, no_conflict, graph_of, AreSearchesWhole}
 use Rattle.search_laws.specs.Preemptions.{LeavesEnabled}
