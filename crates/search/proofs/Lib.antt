@@ -4,5 +4,9 @@ mod Schedules
 mod Growth
 mod Kept
 mod Expanded
+mod KindLists
+mod StateKinds
+mod Uncaught
+mod Walks
 mod Visits
 mod Whole

@@ -2,7 +2,7 @@
 
 ghost use Rattle.std.specs.Prelude.{◌≡◌};
 ghost use Rattle.constant_pool.specs.View.{entry_of};
-ghost use Rattle.data_races.specs.OwnEdges as spec;
+ghost use Rattle.search.specs.OwnEdges as spec;
 ghost use Rattle.class_tree.specs.View.{file_of};
 
 use class_tree::ClassFile;
