@@ -5,6 +5,7 @@ mod Growth
 mod Kept
 mod Expanded
 mod KindLists
+mod OwnEdges
 mod StateKinds
 mod Uncaught
 mod Walks

@@ -64,7 +64,8 @@ fn outcome_at(asked: &Asked<'_>, walk: &Walk) -> Result<Option<Outcome>, AllocEr
     if walk.moved {
         return Ok(None);
     }
-    outcome_of(asked.alloc, asked.linked.set(), &walk.machine)
+    let outcome = outcome_of(asked.alloc, asked.linked.set(), &walk.machine)?;
+    Ok(outcome)
 }
 
 /// Lists the outcome of a state, if there is one, unless it is to be found: then the answer is true. The only error is

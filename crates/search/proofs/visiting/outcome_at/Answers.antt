@@ -7,4 +7,6 @@ pub returns-then-walk : goal.returns-then-walk
 returns-then-walk c = none_told c.args.asked.now.linked.now c.args.walk.now c.moving_states_are_not_quiet.ensures.holds c.if-walk.true
 
 pub returns : goal.returns
-returns c = ?told
+returns c =
+    let outcome = c.in_ok-outcome.outcome in
+    outcome_told c.args.asked.now.linked.now c.args.walk.now outcome (subst (λ trees. TellsOutcome trees c.args.walk.now.machine outcome) c.set.ensures.same c.in_ok-outcome.ensures)
