@@ -1,7 +1,7 @@
 #!/usr/bin/env python3
 """Searches by the oracle: what `jvm search` has to print, worked out by a machine of its own.
 
-    oracle/searches.py [--for OUTCOME] [--states N] FILE..
+    oracle/searches.py [--for OUTCOME] [--states N] [--all-events] FILE..
     oracle/searches.py --write
 
 States are searched breadth first, the events of each in the order of threads and picks. Behind an event with pick 0
@@ -22,6 +22,7 @@ sys.dont_write_bytecode = True
 sys.path.insert(0, str(pathlib.Path(__file__).resolve().parent.parent))
 
 from oracle.frames import Frame
+from oracle.kinds import KINDS, kinds_of, race_line
 from oracle.lessons import LESSONS, class_files
 from oracle.machine import Machine, status_of, text_of
 from oracle.schedules import Event
@@ -163,7 +164,9 @@ def past(files: Sequence[bytes], events: Tuple[Event, ...], number: int) -> Tupl
     return events, machine
 
 
-def following(files: Sequence[bytes], events: Tuple[Event, ...]) -> Iterator[Tuple[Tuple[Event, ...], Numbered]]:
+def following(
+    files: Sequence[bytes], events: Tuple[Event, ...], is_reduced: bool
+) -> Iterator[Tuple[Tuple[Event, ...], Numbered]]:
     """The states to which an event leads from the end of these, in the order of threads and picks."""
     for thread in range(len(at(files, events).threads)):
         for pick in range(1 << 16):
@@ -173,7 +176,7 @@ def following(files: Sequence[bytes], events: Tuple[Event, ...]) -> Iterator[Tup
             except NotEnabled:
                 break
             after = (*events, (thread, pick))
-            yield (after, machine) if pick else past(files, after, thread)
+            yield past(files, after, thread) if is_reduced and not pick else (after, machine)
 
 
 def is_wanted(goal: Optional[str], outcome: Outcome) -> bool:
@@ -204,34 +207,66 @@ def lines_of(outcome: Outcome) -> List[str]:
     return [*map(str, printed), *(f"thread {number} {state}" for number, state in enumerate(threads))]
 
 
-def search(files: Sequence[bytes], goal: Optional[str], most: int) -> Tuple[str, int, Optional[Numbered]]:
-    """What `jvm search` prints, its status, and the machine that was found."""
+class Seen:
+    """What the states of a search have shown."""
+
+    def __init__(self, goal: Optional[str]) -> None:
+        self.goal = goal
+        self.outcomes: Set[Outcome] = set()
+        self.kinds: Set[str] = set()
+
+    def is_found(self, machine: Numbered) -> bool:
+        """Whether the state of a machine is to be found. If not, what it shows is listed."""
+        kinds = kinds_of(machine)
+        if kinds and self.goal == "any" or self.goal in kinds:
+            return True
+        self.kinds |= kinds
+        if not machine.is_quiet():
+            return False
+        outcome = machine.outcome()
+        if self.goal not in KINDS and is_wanted(self.goal, outcome):
+            return True
+        self.outcomes.add(outcome)
+        return False
+
+    def lines(self) -> List[str]:
+        """The outcomes, and the kinds."""
+        text: List[str] = []
+        for number, outcome in enumerate(sorted(self.outcomes, key=order), 1):
+            text += [f"outcome {number}", *lines_of(outcome)]
+        return [*text, f"outcomes {len(self.outcomes)}", *(f"kind {kind}" for kind in KINDS if kind in self.kinds)]
+
+
+def search(
+    files: Sequence[bytes], goal: Optional[str], most: int, is_reduced: bool = True
+) -> Tuple[str, int, Optional[Numbered]]:
+    """What `jvm search` prints, its status, and the machine that was found. Where the search isn't reduced there are
+    more states, and no event is followed by others."""
     met = {at(files, ()).key()}
     states: List[Tuple[Event, ...]] = [()]
-    outcomes: Set[Outcome] = set()
+    seen = Seen(goal)
     for events in states:
-        machine = at(files, events)
-        if machine.is_quiet():
-            outcome = machine.outcome()
-            if is_wanted(goal, outcome):
-                return text_of(machine, "quiet") + last_lines(states, "found"), 1, machine
-            outcomes.add(outcome)
-        for after, machine in following(files, events):
+        for after, machine in following(files, events, is_reduced):
             key = machine.key()
             if key not in met:
                 if len(states) == most:
                     return last_lines(states, "gave up"), 5, None
                 met.add(key)
                 states.append(after)
-    text: List[str] = []
-    for number, outcome in enumerate(sorted(outcomes, key=order), 1):
-        text += [f"outcome {number}", *lines_of(outcome)]
-    return "\n".join([*text, f"outcomes {len(outcomes)}", last_lines(states, "complete")]), 0, None
+        machine = at(files, events)
+        if seen.is_found(machine):
+            return text_of(machine, end_of(machine)) + last_lines(states, "found"), 1, machine
+    scope = ["of runs that end"] if "race" in seen.kinds else ["of runs that end", race_line(at(files, ()), files)]
+    text = "\n".join([*seen.lines(), last_lines(states, "complete", scope)])
+    return text, 4 if "deadlock" in seen.kinds else 0, None
 
 
-def last_lines(states: List[Tuple[Event, ...]], word: str) -> str:
-    scope = "of runs that end\n" if word == "complete" else ""
-    return f"states {len(states)}\n{scope}search {word}\n"
+def end_of(machine: Numbered) -> str:
+    return "quiet" if machine.is_quiet() else "schedule"
+
+
+def last_lines(states: List[Tuple[Event, ...]], word: str, scope: Sequence[str] = ()) -> str:
+    return "".join(f"{line}\n" for line in [f"states {len(states)}", *scope, f"search {word}"])
 
 
 # The lessons that are searched: folder, class files, and options.
@@ -268,6 +303,7 @@ def words_of(words: Sequence[str]) -> argparse.Namespace:
     parser = argparse.ArgumentParser()
     parser.add_argument("--for", dest="goal")
     parser.add_argument("--states", type=int, default=10_000_000)
+    parser.add_argument("--all-events", action="store_true")
     parser.add_argument("files", nargs="+")
     return parser.parse_args(words)
 
@@ -284,7 +320,8 @@ def cases_of(folder: str, names: List[str], options: str) -> Tuple[List[str], st
     printed = f"case search-{name}\n{told}status {status}\n"
     if found:
         text += [f"case replay-{name}", f"  replay --schedule {name}.schedule {paths}"]
-        printed += f"case replay-{name}\n{text_of(found, 'quiet')}status {status_of(found, 'quiet')}\n"
+        end = end_of(found)
+        printed += f"case replay-{name}\n{text_of(found, end)}status {status_of(found, end)}\n"
     elif record:
         text += [f"shown {name}.schedule"]
         printed += f"recorded {name}.schedule is missing\n"
@@ -307,7 +344,8 @@ def main() -> int:
         write()
         return 0
     words = words_of(sys.argv[1:])
-    text, status, _ = search([pathlib.Path(path).read_bytes() for path in words.files], words.goal, words.states)
+    files = [pathlib.Path(path).read_bytes() for path in words.files]
+    text, status, _ = search(files, words.goal, words.states, not words.all_events)
     sys.stdout.write(text)
     return status
 
