@@ -9,13 +9,17 @@ those of its thread are done, too, that are alone: local instructions, at most 1
 no monitor is entered or left, and what leaves a monitor for good. They are told by what they did. A state is told apart from others by its objects in
 the order in which they were made, its classes, threads and stacks, and what was printed. A state is kept as the events
 that lead to it. With --write the searches of the lessons below become cases of `crates/conformance`, with what they
-have to print. The schedule of a run that was found is recorded and replayed.
+have to print. The schedule of a run that was found is recorded and replayed. So are those of the programs in
+`programs/races/` and `programs/kinds/`, whose first lines say which variables race, or which kinds of states there are.
+
+With --all-events each event is a step by itself, and each state that any run comes to is looked at.
 """
 
 import argparse
 import pathlib
 import re
 import sys
+import tempfile
 from typing import Any, Dict, Iterator, List, Optional, Sequence, Set, Tuple, Union
 
 sys.dont_write_bytecode = True
@@ -27,8 +31,8 @@ from oracle.lessons import LESSONS, class_files
 from oracle.machine import Machine, status_of, text_of
 from oracle.schedules import Event
 from oracle.state import Initialisation, JavaThread, NotEnabled, Object, Refused, Value
-from tools.cases import store, stored
-from tools.repository import CONFORMANCE
+from tools.cases import file_lines, store, stored
+from tools.repository import CONFORMANCE, ROOT, compiled
 
 # How the words of a report are ordered.
 RANKS = ["ended", "threw", "blocked", "waiting", "joining", "initialising"]
@@ -273,8 +277,10 @@ def last_lines(states: List[Tuple[Event, ...]], word: str, scope: Sequence[str] 
 SEARCHED = [
     ("lost-update", ["LostUpdate"], ""),
     ("lost-update", ["LostUpdate"], "--states 50"),
+    ("lost-update", ["LostUpdate"], "--for race"),
     ("lost-update", ["LostUpdate"], "--for output=1"),
     ("lost-update", ["LostUpdate"], "--for differs=two"),
+    ("lost-update", ["Repaired"], "--for race"),
     ("lost-update", ["Repaired"], "--for output=1"),
     ("lost-update", ["Repaired"], "--for differs=two"),
     ("lock-order", ["LockOrder"], "--for deadlock"),
@@ -287,6 +293,27 @@ SEARCHED = [
     ("wrong-waiter", ["WrongWaiter"], "--for deadlock"),
 ]
 
+# The programs that are searched, too, beside all of programs/races/ and programs/kinds/ without an option.
+PROGRAMS = [
+    ("races/NoLock", "--for race"),
+    ("races/NoLock", "--for any"),
+    ("races/NoLock", "--for uncaught"),
+    ("races/NoLock", "--for race --states 4"),
+    ("races/OneLock", "--for race"),
+    ("races/OneLock", "--for any"),
+    ("races/Interrupted", "--for race"),
+    ("races/OneElement", "--for race"),
+    ("kinds/CircleBesideLoop", "--for deadlock"),
+    ("kinds/CircleBesideLoop", "--for race"),
+    ("kinds/CircleBesideLoop", "--for output="),
+    ("kinds/ClassesBesideLoop", "--for deadlock"),
+    ("kinds/ThrowsBesideLoop", "--for uncaught"),
+    ("kinds/ThrowsBesideLoop", "--for any"),
+    ("kinds/WaitsBesideLoop", "--for any"),
+    ("kinds/AllKinds", "--for uncaught"),
+    ("kinds/AllKinds", "--for deadlock"),
+]
+
 # The texts that printed numbers are compared with, by their lines.
 TEXTS = {"two": [2]}
 
@@ -294,6 +321,11 @@ HEAD = [
     "# Searches over all schedules, made by `oracle/searches.py` over the files of the lessons.",
     "",
     "files lessons.cases",
+    "",
+]
+
+KINDS_HEAD = [
+    "# Kinds of states, made by `oracle/searches.py` of the sources in programs/races/ and programs/kinds/.",
     "",
 ]
 
@@ -308,19 +340,18 @@ def words_of(words: Sequence[str]) -> argparse.Namespace:
     return parser.parse_args(words)
 
 
-def cases_of(folder: str, names: List[str], options: str) -> Tuple[List[str], str]:
-    """The lines of the cases of a search, and what they have to print."""
-    words = words_of([*options.split(), *names])
-    files = class_files(LESSONS / folder)
-    told, status, found = search([files[f"{name}.class"] for name in names], words.goal, words.states)
-    name = "-".join([folder, names[0], re.sub("[ =]", "-", options.replace("--for ", "").replace("--", "")) or "all"])
-    paths = " ".join(f"{folder}/{one}.class" for one in names)
+def cases_of(label: str, files: Dict[str, bytes], options: str) -> Tuple[List[str], str]:
+    """The lines of the cases of a search over files, and what they have to print."""
+    words = words_of([*options.split(), *files])
+    told, status, found = search(list(files.values()), words.goal, words.states)
+    name = "-".join([label, re.sub("[ =]", "-", options.replace("--for ", "").replace("--", "")) or "all"])
+    paths = " ".join(files)
     record = f"--record {name}.schedule" if words.goal else ""
     text = [f"case search-{name}", "  " + " ".join(["search", *options.split(), *record.split(), paths])]
     printed = f"case search-{name}\n{told}status {status}\n"
     if found:
-        text += [f"case replay-{name}", f"  replay --schedule {name}.schedule {paths}"]
         end = end_of(found)
+        text += [f"case replay-{name}", f"  replay --schedule {name}.schedule {paths}"]
         printed += f"case replay-{name}\n{text_of(found, end)}status {status_of(found, end)}\n"
     elif record:
         text += [f"shown {name}.schedule"]
@@ -328,14 +359,54 @@ def cases_of(folder: str, names: List[str], options: str) -> Tuple[List[str], st
     return text, printed
 
 
-def write() -> None:
+def of_lessons() -> Tuple[List[str], str]:
+    """The text of the cases of lessons, and what they have to print."""
     lines, shown = [*HEAD], ""
     for name, numbers in TEXTS.items():
         lines += [f"text {name}", *(f"  {number}" for number in numbers), ""]
-    for row in SEARCHED:
-        text, printed = cases_of(*row)
+    for folder, names, options in SEARCHED:
+        files = class_files(LESSONS / folder)
+        given = {f"{folder}/{name}.class": files[f"{name}.class"] for name in names}
+        text, printed = cases_of(f"{folder}-{names[0]}", given, options)
         lines, shown = [*lines, *text], shown + printed
+    return lines, shown
+
+
+def is_as_told(told: str, printed: str) -> bool:
+    """Whether a program shows the kinds that its first line says. Of races that is whether there is one."""
+    kinds = re.findall("(?m)^kind (.*)$", printed)
+    wanted = re.search(r"Kinds: (.*)\. \*/", told)
+    if wanted:
+        return kinds == wanted[1].split(", ")
+    if "No kind." in told:
+        return not kinds
+    return ("race" in kinds) == ("Races: " in told)
+
+
+def of_program(source: pathlib.Path) -> Tuple[List[str], str]:
+    """The text of the cases of a program, and what they have to print."""
+    told = source.read_text().splitlines()[0]
+    with tempfile.TemporaryDirectory() as folder:
+        files = {f"{source.stem}/{path.name}": path.read_bytes() for path in compiled([source], folder)}
+    lines = [f"# {told[4:-3]}", *(line for name, data in files.items() for line in file_lines(name, data))]
+    shown = ""
+    further = [options for name, options in PROGRAMS if name == f"{source.parent.name}/{source.stem}"]
+    for options in ["", *further]:
+        text, printed = cases_of(source.stem, files, options)
+        lines, shown = [*lines, *text], shown + printed
+    if not is_as_told(told, shown.split("\ncase ")[0]):
+        sys.exit(f"{source}: not the kinds of its first line")
+    return [*lines, ""], shown
+
+
+def write() -> None:
+    lines, shown = of_lessons()
     (CONFORMANCE / "data/searches.cases").write_text("\n".join([*lines, ""]))
+    lines = [*KINDS_HEAD]
+    for source in [*sorted((ROOT / "programs/races").iterdir()), *sorted((ROOT / "programs/kinds").iterdir())]:
+        text, printed = of_program(source)
+        lines, shown = [*lines, *text], shown + printed
+    (CONFORMANCE / "data/kinds.cases").write_text("\n".join(lines))
     store(stored().split("case search-lost-update-")[0] + shown.encode().decode("latin-1"))
 
 
