@@ -1,5 +1,8 @@
+pub mod Asked
 pub mod GivingUp
+pub mod Kinds
 pub mod Machines
+pub mod StateKinds
 pub mod States
 pub mod Verdicts
 pub mod Visits

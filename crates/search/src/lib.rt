@@ -41,15 +41,20 @@
 #![tactic(auto)]
 
 mod expanding;
+mod kinds;
 pub mod local_runs;
 mod machines;
 pub mod met_states;
+mod own_edges;
 mod progress;
 pub mod run_outcomes;
 pub mod search_reports;
 mod searching;
+mod state_kinds;
 mod states;
+mod visiting;
 
+pub use kinds::{Goal, Kind, Kinds};
 pub use progress::Progress;
 pub use searching::{Searched, Verdict, search};
 pub use states::states_within;

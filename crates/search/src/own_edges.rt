@@ -1,0 +1,57 @@
+//! Whether class files name methods whose edges of happens-before are this machine's own.
+
+ghost use Rattle.std.specs.Prelude.{◌≡◌};
+ghost use Rattle.constant_pool.specs.View.{entry_of};
+ghost use Rattle.data_races.specs.OwnEdges as spec;
+ghost use Rattle.class_tree.specs.View.{file_of};
+
+use class_tree::ClassFile;
+use constant_pool::{Constant, Pool};
+use linker::Linked;
+
+/// Whether a method of this name tells whether a thread was started, or interrupts it, or tells whether it is
+/// interrupted.
+fn has_own_edges(name: &[u8]) -> bool
+    ensures { result ≡ spec.has_own_edges name.now }
+{
+    name == b"isAlive"
+        || (name == b"interrupt" || (name == b"isInterrupted" || name == b"interrupted"))
+}
+
+/// Whether a constant of a pool is a Methodref with such a name.
+fn is_own_edge(pool: &Pool, constant: &Constant) -> bool
+    ensures { result ≡ spec.is_own_edge pool.now (entry_of constant.now) }
+{
+    match constant {
+        Constant::Method { name_and_type, .. } => match pool.name_and_type(*name_and_type) {
+            Some(named) => has_own_edges(named.name),
+            None => false,
+        },
+        _ => false,
+    }
+}
+
+/// Whether a class file has such a constant.
+fn names_own_edge(file: &ClassFile) -> bool
+    ensures { result ≡ spec.names_own_edge (file_of file.now) }
+{
+    let pool = &file.pool;
+    pool.constants()
+        .iter()
+        .any(|constant| is_own_edge(pool, constant))
+}
+
+/// Whether one of the class files has.
+pub(crate) fn names_own_edges(linked: &Linked) -> bool
+    ensures { result ≡ spec.names_own_edges linked.now }
+{
+    let set = linked.set();
+    'files: for number in 0..set.file_count() {
+        if let Some(file) = set.file_at(number) {
+            if names_own_edge(file) {
+                return true;
+            }
+        }
+    }
+    false
+}
