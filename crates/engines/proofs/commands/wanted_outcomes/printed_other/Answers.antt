@@ -3,8 +3,8 @@ use Rattle.engines.specs.Engines.{Reads}
 use Rattle.engines.specs.Goals.{text_of_file}
 use Rattle.engines.proofs.commands.wanted_outcomes.printed_other.Goals as goal
 
-pub returns-in_ok-text_of_file-clause-other : goal.returns-in_ok-text_of_file-clause-other
-returns-in_ok-text_of_file-clause-other g c =
+pub returns-clause-other : goal.returns-clause-other
+returns-clause-other g c =
     let text = c.in_ok-text_of_file.field-0 in
     let bytes = c.in_ok-bytes.bytes.items in
     let held = g.F.Folder.held c.args.folder.now in
