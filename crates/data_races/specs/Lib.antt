@@ -3,7 +3,6 @@ pub mod Variables
 pub mod Actions
 pub mod EventActions
 pub mod Races
-pub mod OwnEdges
 pub mod RaceTest
 pub mod race_examples
 pub mod race_tests

@@ -11,9 +11,9 @@ use Rattle.search_laws.specs.Ends.{HasThrown}
 use Rattle.search_laws.specs.KeptStates.{IsReached}
 use Rattle.search_laws.specs.Waits.{IsCircle}
 use Rattle.search.specs.declared.kinds.Goal.{Goal}
-use Rattle.search.specs.declared.kinds.Goal.TheVariants as goal
+use Rattle.search.specs.declared.kinds.Goal.TheVariants as the_goal
 use Rattle.search.specs.declared.kinds.Kind.{Kind}
-use Rattle.search.specs.declared.kinds.Kind.TheVariants as kind
+use Rattle.search.specs.declared.kinds.Kind.TheVariants as the_kind
 use Rattle.search.specs.declared.kinds.Kinds.{Kinds}
 use Rattle.search.specs.declared.run_outcomes.wanted.Wanted.{Wanted}
 use Rattle.search.specs.declared.run_outcomes.wanted.Wanted.TheVariants as wanted
@@ -39,9 +39,9 @@ IsDeadlocked trees frames state = IsStuck trees frames state ⊎ HasCircle trees
 
 -- the state is of the kind
 abbrev pub Shows : Program → ℕ → Kind → State → Type 0
-Shows trees frames kind.Race state = IsRacy trees frames state
-Shows trees frames kind.Uncaught state = HasUncaught trees frames state
-Shows trees frames kind.Deadlock state = IsDeadlocked trees frames state
+Shows trees frames the_kind.Race state = IsRacy trees frames state
+Shows trees frames the_kind.Uncaught state = HasUncaught trees frames state
+Shows trees frames the_kind.Deadlock state = IsDeadlocked trees frames state
 
 -- some run comes to a state of the kind
 abbrev pub IsShown : Program → ℕ → Kind → Type 0
@@ -53,9 +53,9 @@ abbrev pub no_kinds : Kinds
 no_kinds = record { race = false; uncaught = false; deadlock = false }
 
 abbrev pub is_told : Kinds → Kind → Bool
-is_told kinds kind.Race = kinds.race
-is_told kinds kind.Uncaught = kinds.uncaught
-is_told kinds kind.Deadlock = kinds.deadlock
+is_told kinds the_kind.Race = kinds.race
+is_told kinds the_kind.Uncaught = kinds.uncaught
+is_told kinds the_kind.Deadlock = kinds.deadlock
 
 -- these kinds, and others
 abbrev pub and_also : Kinds → Kinds → Kinds
@@ -74,12 +74,12 @@ AreAllKinds trees frames kinds =
 
 -- which outcomes are
 abbrev pub wanted_of : Goal → Wanted
-wanted_of (goal.Outcome want) = want
-wanted_of (goal.Kind kind) = wanted.Nothing
-wanted_of goal.AnyKind = wanted.Nothing
+wanted_of (the_goal.Outcome want) = want
+wanted_of (the_goal.Kind kind) = wanted.Nothing
+wanted_of the_goal.AnyKind = wanted.Nothing
 
 -- whether states of one of the kinds are
 abbrev pub is_sought : Goal → Kinds → Bool
-is_sought (goal.Outcome want) kinds = false
-is_sought (goal.Kind kind) kinds = is_told kinds kind
-is_sought goal.AnyKind kinds = kinds.race || (kinds.uncaught || kinds.deadlock)
+is_sought (the_goal.Outcome want) kinds = false
+is_sought (the_goal.Kind kind) kinds = is_told kinds kind
+is_sought the_goal.AnyKind kinds = kinds.race || (kinds.uncaught || kinds.deadlock)

@@ -1,7 +1,7 @@
-pub mod Asked
 pub mod GivingUp
 pub mod Kinds
 pub mod Machines
+pub mod OwnEdges
 pub mod StateKinds
 pub mod States
 pub mod Verdicts

@@ -10,7 +10,7 @@ use Rattle.model.specs.Schedule.{events_of}
 use Rattle.model.specs.State.{State}
 use Rattle.run_laws.specs.interleavings.Ends.{Outcome, EndsWith, Has, AreAllOutcomes}
 use Rattle.search.specs.declared.kinds.Goal.{Goal}
-use Rattle.search.specs.declared.kinds.Goal.TheVariants as goal
+use Rattle.search.specs.declared.kinds.Goal.TheVariants as the_goal
 use Rattle.search.specs.declared.kinds.Kind.{Kind}
 use Rattle.search.specs.declared.kinds.Kinds.{Kinds}
 use Rattle.search.specs.declared.run_outcomes.wanted.Wanted.{Wanted}
@@ -38,9 +38,9 @@ pub record ComesTo (trees : Program) (limits : Limits) (P : State → Type 0) (e
 
 -- a run that is to be found: it ends with an outcome that is wanted, or comes to a state of a kind that is to be found, where it may go on
 abbrev pub IsRunFor : Program → Limits → Goal → List Event → Type 0
-IsRunFor trees limits (goal.Outcome want) events = IsFound trees limits want events
-IsRunFor trees limits (goal.Kind kind) events = ComesTo trees limits (Shows trees limits.frames kind) events
-IsRunFor trees limits goal.AnyKind events = ComesTo trees limits (λ state. (kind : Kind) × Shows trees limits.frames kind state) events
+IsRunFor trees limits (the_goal.Outcome want) events = IsFound trees limits want events
+IsRunFor trees limits (the_goal.Kind kind) events = ComesTo trees limits (Shows trees limits.frames kind) events
+IsRunFor trees limits the_goal.AnyKind events = ComesTo trees limits (λ state. (kind : Kind) × Shows trees limits.frames kind state) events
 
 -- a schedule of such events, in as few entries as they can have
 abbrev pub IsFoundBy : Program → Limits → Goal → List ScheduleEntry → Type 0

@@ -81,7 +81,7 @@ impl Goal {
         match self {
             Goal::Outcome(_) => false,
             Goal::Kind(kind) => kinds.has(*kind),
-            Goal::AnyKind => kinds.race || kinds.uncaught || kinds.deadlock,
+            Goal::AnyKind => kinds.race || (kinds.uncaught || kinds.deadlock),
         }
     }
 

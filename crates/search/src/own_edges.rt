@@ -1,12 +1,14 @@
 //! Whether class files name methods whose edges of happens-before are this machine's own.
 
-ghost use Rattle.std.specs.Prelude.{◌≡◌};
+ghost use Rattle.std.specs.Prelude.{◌≡◌, false, slice_get};
+ghost use Rattle.std.specs.Option.{option_map_or};
 ghost use Rattle.constant_pool.specs.View.{entry_of};
-ghost use Rattle.data_races.specs.OwnEdges as spec;
+ghost use Rattle.search.specs.OwnEdges as spec;
 ghost use Rattle.class_tree.specs.View.{file_of};
 
 use class_tree::ClassFile;
 use constant_pool::{Constant, Pool};
+use hierarchy::ClassSet;
 use linker::Linked;
 
 /// Whether a method of this name tells whether a thread was started, or interrupts it, or tells whether it is
@@ -14,8 +16,9 @@ use linker::Linked;
 fn has_own_edges(name: &[u8]) -> bool
     ensures { result ≡ spec.has_own_edges name.now }
 {
-    name == b"isAlive"
-        || (name == b"interrupt" || (name == b"isInterrupted" || name == b"interrupted"))
+    name == b"isAlive".as_slice()
+        || (name == b"interrupt".as_slice()
+            || (name == b"isInterrupted".as_slice() || name == b"interrupted".as_slice()))
 }
 
 /// Whether a constant of a pool is a Methodref with such a name.
@@ -41,16 +44,25 @@ fn names_own_edge(file: &ClassFile) -> bool
         .any(|constant| is_own_edge(pool, constant))
 }
 
+/// Whether the class file of a number has, if there is one.
+fn is_naming(set: &ClassSet, number: usize) -> bool
+    ensures { result ≡ option_map_or spec.names_own_edge (slice_get set.now number) false }
+{
+    match set.file_at(number) {
+        Some(file) => names_own_edge(file),
+        None => false,
+    }
+}
+
 /// Whether one of the class files has.
 pub(crate) fn names_own_edges(linked: &Linked) -> bool
     ensures { result ≡ spec.names_own_edges linked.now }
 {
     let set = linked.set();
-    'files: for number in 0..set.file_count() {
-        if let Some(file) = set.file_at(number) {
-            if names_own_edge(file) {
-                return true;
-            }
+    let count = set.file_count();
+    'files: for number in 0..count {
+        if is_naming(set, number) {
+            return true;
         }
     }
     false

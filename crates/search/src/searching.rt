@@ -1,6 +1,6 @@
 //! The search over all schedules.
 
-ghost use Rattle.std.specs.Prelude.{◌≤◌, length, IfOk};
+ghost use Rattle.std.specs.Prelude.{◌≡◌, ◌≤◌, length, IfOk};
 ghost use Rattle.std.specs.Arc.{arc_value};
 ghost use Rattle.machine.specs.Machines.{IsProgramOf};
 ghost use Rattle.search.specs.Verdicts.{Says};
@@ -16,6 +16,7 @@ use crate::visiting::{Asked, Seen, Visit, visit_state};
 use linked_code::LinkedProgram;
 use linker::Linked;
 use model::Limits;
+use next_accesses::AccessTables;
 use racing_threads::lasting_races::races_are_told_by_words;
 use schedule::Schedule;
 use search_laws::kept_states::schedules_are_complete;
@@ -43,15 +44,16 @@ pub struct Searched {
 
 /// Visits states from the opening state on, up to so many, and tells how far it has come.
 fn visit_all<P: Progress>(
-    alloc: Global,
     progress: &P,
     asked: &Asked<'_>,
     walk: Walk,
 ) -> Result<(Verdict, Walk), AllocError>
-    requires visited { HasVisited asked.now.trees walk.states.limits asked.now.goal walk.states nothing_seen 0 }
+    requires tables { asked.now.tables.linked.now ≡ asked.now.linked.now }
+    requires visited { HasVisited asked.now.linked.now walk.states.limits asked.now.goal.now walk.states nothing_seen
+        0 }
     requires few { 1 ≤ asked.now.most → length walk.states.schedules ≤ asked.now.most }
-    ensures says { IfOk result (λ r. Says asked.now.trees walk.states.limits asked.now.goal (P.may_stop progress.now)
-        asked.now.most (length r.1.states.schedules) r.0) }
+    ensures says { IfOk result (λ r. Says asked.now.linked.now walk.states.limits asked.now.goal.now
+        (P.may_stop progress.now) asked.now.most (length r.1.states.schedules) r.0) }
     ensures few { IfOk result (λ r. 1 ≤ asked.now.most → length r.1.states.schedules ≤ asked.now.most) }
 {
     searches_are_whole();
@@ -59,9 +61,8 @@ fn visit_all<P: Progress>(
     races_are_told_by_words();
     kinds_are_met();
     let mut walk = walk;
-    let most = asked.most();
-    let mut seen = Seen::new(alloc);
-    'states: for number in 0..most {
+    let mut seen = Seen::new(asked.alloc);
+    'states: for number in 0..asked.most {
         if number >= walk.states.len() {
             return Ok((Verdict::Complete(seen.outcomes, seen.kinds), walk));
         }
@@ -77,7 +78,7 @@ fn visit_all<P: Progress>(
             Visit::GaveUp => return Ok((Verdict::GaveUp, walk)),
         }
     }
-    if walk.states.len() <= most {
+    if walk.states.len() <= asked.most {
         Ok((Verdict::Complete(seen.outcomes, seen.kinds), walk))
     } else {
         Ok((Verdict::GaveUp, walk))
@@ -108,8 +109,14 @@ pub fn search<P: Progress>(
         machine,
         moved: false,
     };
-    let asked = Asked::new(alloc, linked, goal, most)?;
-    let (verdict, walk) = visit_all(alloc, progress, &asked, walk)?;
+    let asked = Asked {
+        alloc,
+        linked,
+        tables: AccessTables::new(alloc, linked)?,
+        goal,
+        most,
+    };
+    let (verdict, walk) = visit_all(progress, &asked, walk)?;
     Ok(Searched {
         verdict,
         states: walk.states.len(),

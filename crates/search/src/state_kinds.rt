@@ -1,16 +1,4 @@
 //! Which kinds the state of a machine is of.
-//!
-//! # Proved
-//!
-//! - `kinds_at`, memory aside: of whatever run of the accepted class files the machine has done, exactly the kinds of
-//!   the state to which that led, whose outcome is given (`AreKindsOf`).
-//!
-//! # Wrong bodies
-//!
-//! - `a-kind-of-the-last-thread-alone`: only the last thread is asked how it ended; refused by `TellsState`, of
-//!   `is_uncaught`.
-//! - `stuck-threads-are-no-deadlock`: a state in which threads wait for ever, with no circle, is none; refused by
-//!   `TellsWith`, of `is_deadlocked`.
 
 ghost use Rattle.std.specs.Prelude.{◌≡◌, IfOk};
 ghost use Rattle.data_races.specs.Races.{IsRacy};
@@ -41,7 +29,8 @@ fn is_uncaught(machine: &Machine) -> bool
     ensures { (trees : _) → TellsState trees machine.now HasUncaught result }
 {
     let threads = &machine.shared().threads;
-    'threads: for thread in 0..threads.len() {
+    let count = threads.len();
+    'threads: for thread in 0..count {
         if has_thrown(threads.status(thread as u16)) {
             return true;
         }
@@ -72,7 +61,8 @@ fn is_deadlocked(
     if is_stuck(outcome) {
         return Ok(true);
     }
-    has_circle(alloc, machine)
+    let is_circle = has_circle(alloc, machine)?;
+    Ok(is_circle)
 }
 
 /// The kinds of the state of a machine, which has this outcome. The only error is a want of memory.
@@ -85,9 +75,12 @@ pub(crate) fn kinds_at(
     ensures { IfOk result (λ kinds. TellsWith tables.now.linked.now machine.now outcome.now
         (λ trees frames state. AreKindsOf trees frames state kinds)) }
 {
+    let race = is_racy(alloc, tables, machine)?;
+    let uncaught = is_uncaught(machine);
+    let deadlock = is_deadlocked(alloc, machine, outcome)?;
     Ok(Kinds {
-        race: is_racy(alloc, tables, machine)?,
-        uncaught: is_uncaught(machine),
-        deadlock: is_deadlocked(alloc, machine, outcome)?,
+        race,
+        uncaught,
+        deadlock,
     })
 }

@@ -14,55 +14,16 @@ use linker::Linked;
 use next_accesses::AccessTables;
 use schedule::Schedule;
 use std::alloc::{AllocError, Global};
-use std::marker::Model;
 
 /// What a search is to find among the schedules of linked classes, and how many states there may be.
 #[derive(Drop)]
 pub(crate) struct Asked<'a> {
-    alloc: Global,
-    linked: &'a Linked,
-    tables: AccessTables<'a>,
-    goal: &'a Goal,
-    most: u32,
-}
-
-impl<'a> Model for Asked<'a> {
-    ghost use Rattle.std.specs.Prelude.{◌≡◌};
-    ghost use Rattle.search.specs.Asked.{AskedOf};
-
-    ghost Value = { AskedOf };
-
-    ghost view = { λ a. record { trees = a.linked.now; goal = a.goal.now; most = a.most } };
-
-    ghost invariant = { λ a. a.tables.linked.now ≡ a.linked.now };
-}
-
-impl<'a> Asked<'a> {
-    /// A search for this, by tables of its own. The only error is a want of memory.
-    pub(crate) fn new(
-        alloc: Global,
-        linked: &'a Linked,
-        goal: &'a Goal,
-        most: u32,
-    ) -> Result<Asked<'a>, AllocError>
-        ensures { IfOk result (λ a. a
-            ≡ record { trees = linked.now; goal = goal.now; most = most }) }
-    {
-        Ok(Asked {
-            alloc,
-            linked,
-            tables: AccessTables::new(alloc, linked)?,
-            goal,
-            most,
-        })
-    }
-
-    /// How many states there may be.
-    pub(crate) fn most(&self) -> u32
-        ensures { result ≡ self.now.most }
-    {
-        self.most
-    }
+    pub(crate) alloc: Global,
+    pub(crate) linked: &'a Linked,
+    /// Those of the classes.
+    pub(crate) tables: AccessTables<'a>,
+    pub(crate) goal: &'a Goal,
+    pub(crate) most: u32,
 }
 
 /// What the states that were visited have shown.
@@ -97,13 +58,14 @@ impl Seen {
 /// The outcome of the state in which the machine of a walk is, if no thread may step there. The only error is a want
 /// of memory.
 fn outcome_at(asked: &Asked<'_>, walk: &Walk) -> Result<Option<Outcome>, AllocError>
-    ensures { IfOk result (HasOutcomeAt asked.now.trees walk.now) }
+    ensures { IfOk result (HasOutcomeAt asked.now.linked.now walk.now) }
 {
     moving_states_are_not_quiet();
     if walk.moved {
         return Ok(None);
     }
-    outcome_of(asked.alloc, asked.linked.set(), &walk.machine)
+    let outcome = outcome_of(asked.alloc, asked.linked.set(), &walk.machine)?;
+    Ok(outcome)
 }
 
 /// Lists the outcome of a state, if there is one, unless it is to be found: then the answer is true. The only error is
@@ -113,7 +75,7 @@ fn is_outcome_found(
     outcomes: &mut Outcomes,
     outcome: Option<Outcome>,
 ) -> Result<bool, AllocError>
-    ensures { IfOk result (λ found. ListsOr asked.now.goal outcome found outcomes.old outcomes.new) }
+    ensures { IfOk result (λ found. ListsOr asked.now.goal.now outcome found outcomes.old outcomes.new) }
 {
     let Some(outcome) = outcome else {
         return Ok(false);
@@ -132,7 +94,7 @@ fn is_found(
     outcome: Option<Outcome>,
     kinds: Kinds,
 ) -> Result<bool, AllocError>
-    ensures { IfOk result (λ found. IsSeenOr asked.now.goal outcome kinds found seen.old seen.new) }
+    ensures { IfOk result (λ found. IsSeenOr asked.now.goal.now outcome kinds found seen.old seen.new) }
 {
     if asked.goal.is_among(kinds) {
         return Ok(true);
@@ -144,8 +106,9 @@ fn is_found(
 /// Lists what the state shows in which the machine of a walk is, unless it is to be found: then the answer is true. The
 /// only error is a want of memory.
 fn is_found_at(asked: &Asked<'_>, seen: &mut Seen, walk: &Walk) -> Result<bool, AllocError>
-    ensures { IfOk result (λ found. (outcome : _) × (kinds : _) × (ShowsAt asked.now.trees walk.now outcome kinds
-        × IsSeenOr asked.now.goal outcome kinds found seen.old seen.new)) }
+    requires { asked.now.tables.linked.now ≡ asked.now.linked.now }
+    ensures { IfOk result (λ found. (outcome : _) × (kinds : _) × (ShowsAt asked.now.linked.now walk.now outcome kinds
+        × IsSeenOr asked.now.goal.now outcome kinds found seen.old seen.new)) }
 {
     let outcome = outcome_at(asked, walk)?;
     let kinds = kinds_at(asked.alloc, &asked.tables, &walk.machine, &outcome)?;
@@ -159,10 +122,13 @@ pub(crate) fn visit_state(
     seen: &mut Seen,
     number: u32,
 ) -> Result<(Visit, Walk), AllocError>
-    requires visited { HasVisited asked.now.trees walk.states.limits asked.now.goal walk.states seen.old number }
+    requires tables { asked.now.tables.linked.now ≡ asked.now.linked.now }
+    requires visited { HasVisited asked.now.linked.now walk.states.limits asked.now.goal.now walk.states seen.old
+        number }
     requires number { number < length walk.states.schedules }
     ensures visits { IfOk result (λ r.
-        Visits asked.now.trees walk.states.limits asked.now.goal asked.now.most number r.0 r.1.states seen.new) }
+        Visits asked.now.linked.now walk.states.limits asked.now.goal.now asked.now.most number r.0 r.1.states
+        seen.new) }
     ensures few { IfOk result (λ r. length walk.states.schedules ≤ asked.now.most
         → length r.1.states.schedules ≤ asked.now.most) }
 {

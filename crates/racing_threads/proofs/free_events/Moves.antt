@@ -1,6 +1,5 @@
 -- A call or a return accesses no variable: an access leaves as many entries on the stack.
-use Rattle.std.proofs.Common.{◌≡◌, ◌∷◌, Some, sym, ap, ◌∙◌, length}
-use Rattle.std.specs.Prelude.{ℕ, List, slice_get}
+use Rattle.std.proofs.Common.{◌≡◌, ◌∷◌, sym, ap, ◌∙◌, length}
 use Rattle.std.proofs.lemmas.Option.{same_Some}
 use Rattle.model.specs.declared.value.Value.{Value}
 use Rattle.model.specs.State.{Invocation, StackOf}

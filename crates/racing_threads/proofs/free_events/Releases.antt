@@ -1,6 +1,6 @@
 -- An instruction that leaves a monitor accesses no variable.
-use Rattle.std.proofs.Common.{◌≡◌, ℕ, List, ◌∷◌, Some, sym, ap, ◌∙◌, subst}
-use Rattle.std.specs.Prelude.{Option, None, slice_get}
+use Rattle.std.proofs.Common.{◌≡◌, ℕ, ◌∷◌, sym, ap, ◌∙◌, subst}
+use Rattle.std.specs.Prelude.{Option, None}
 use Rattle.std.specs.Option.{option_and_then}
 use Rattle.std.proofs.lemmas.Option.{same_Some}
 use Rattle.model.specs.declared.instr.Instr.{Instr}
@@ -8,7 +8,7 @@ use Rattle.model.specs.declared.value.Value.{Value}
 use Rattle.model.specs.Classes.{Program, Body, body_of}
 use Rattle.model.specs.Operands.{values}
 use Rattle.model.specs.Sites.{Site, site_at}
-use Rattle.model.specs.State.{Frame, Invocation, Initialisation, StackOf, State}
+use Rattle.model.specs.State.{Frame, Invocation, StackOf, State}
 use Rattle.data_races.specs.EventActions.{access_by, operands_of}
 use Rattle.data_races.proofs.Decided.{In}
 use Rattle.monitor_laws.specs.owners.Owners.{AreOwnersKeptBy}

@@ -2,7 +2,7 @@
 
 ghost use Rattle.std.specs.Prelude.{◌≡◌, ◌≤◌, IfOk};
 ghost use Rattle.std.specs.Arc.{arc_value};
-ghost use Rattle.data_races.specs.OwnEdges as own;
+ghost use Rattle.search.specs.OwnEdges as own;
 ghost use Rattle.machine.specs.Machines.{IsProgramOf};
 ghost use Rattle.search.specs.declared.searching.Verdict.TheVariants as verdicts;
 ghost use Rattle.search.specs.search_reports.Answers.{Answers, IsAnswerTo};
