@@ -43,7 +43,7 @@ class Plans(unittest.TestCase):
         running = {"linker": Begun(1, 15.0)}
         self.assertAlmostEqual(time_left(CRATES, SECONDS, {"model", "heap"}, running, 2), 45 + by_the_clock(1, 2))
         self.assertEqual(time_left(CRATES, SECONDS, {"model"}, {"linker": Begun(1, 100.0)}, 1), 26)
-        self.assertEqual(time_left(CRATES, SECONDS, {"model", "heap", "linker"}, {}, 4), by_the_clock(6, 4))
+        self.assertAlmostEqual(time_left(CRATES, SECONDS, {"model", "heap", "linker"}, {}, 4), by_the_clock(6, 4))
 
     def test_minutes(self) -> None:
         self.assertEqual(minutes(29), "less than a minute")
