@@ -18,7 +18,11 @@ CRATES = "low:\nleft: low\nright: low\njvm: left right\nbeside: low\n"
 # As `rt` it works alone in the folders of a crate and of those below it, and takes over what was proved elsewhere.
 STAND_IN = f"""#!{sys.executable}
 import fcntl, os, pathlib, sys, time
+if sys.argv[1] == "version":
+    sys.exit(print("stand-in"))
 folder = pathlib.Path.cwd()
+with open(os.environ["CALLS"], "a") as calls:
+    print(sys.argv[1], folder.name, file=calls)
 crates = dict(line.split(":") for line in (folder / "../../crates.txt").read_text().splitlines())
 shared = pathlib.Path(os.environ["SHARED"])
 
@@ -29,17 +33,17 @@ held = [os.open(folder.parent / name, os.O_RDONLY) for name in sorted({{folder.n
 for one in held:
     fcntl.flock(one, fcntl.LOCK_EX)
 for name in [*sorted(below(folder.name), key=list(crates).index), folder.name]:
+    (folder.parent / name / "out").mkdir(exist_ok=True)
     if not (shared / name).exists():
         begun = time.time()
         (shared / (name + ".at-work")).write_text(str(os.getpid()))
         text = (folder.parent / name / "src/lib.rt").read_text()
-        time.sleep(60 if text == "slow" else 0.5)
+        time.sleep(60 if text == "slow" else 0.3)
         if text == "wrong":
             sys.exit(f"{{name}}::one: a goal is open in {{folder}}")
         print("logic=proved functions=1")
         (shared / name).write_text(f"{{folder.parent.parent}} {{begun}} {{time.time()}}")
 if sys.argv[1] == "run":
-    (folder / "out").mkdir(exist_ok=True)
     (folder / "out" / folder.name).write_text("built")
     print("jvm 1")
 """
@@ -66,6 +70,7 @@ class Builds(unittest.TestCase):
             **os.environ,
             "PATH": f"{self.scratch}/bin:{os.environ['PATH']}",
             "SHARED": f"{self.scratch}/shared",
+            "CALLS": f"{self.scratch}/calls",
             "XDG_CACHE_HOME": f"{self.scratch}/cache",
         }
 
@@ -103,8 +108,24 @@ class Builds(unittest.TestCase):
         self.assertLess(max(left_begun, right_begun), min(left_ended, right_ended))
         self.assertEqual(proved["jvm"][0], str(self.root))
         self.assertEqual((self.root / "crates/jvm/out/jvm").read_text(), "built")
-        self.assertEqual(sorted(path.name for path in (self.root / "out/verdicts").iterdir()), sorted(proved))
+        self.assertEqual({path.name for path in (self.root / "out/verdicts").iterdir()}, {*proved, ".toolchain"})
         self.assertEqual(list((self.scratch / "cache/jvm-build").iterdir()), [])
+
+    def test_what_is_proved_is_not_asked_for_again(self) -> None:
+        calls = self.scratch / "calls"
+        self.assertEqual(self.build("--jobs", "2").returncode, 0)
+        self.assertEqual(calls.read_text().splitlines()[0], "lib low")
+        calls.unlink()
+        self.assertEqual(self.build("--jobs", "2").stdout.splitlines()[-1], "crates/jvm/out/jvm")
+        self.assertEqual(calls.read_text(), "run jvm\n")
+        calls.unlink()
+        self.write("left", "changed")
+        self.assertEqual(self.build("--jobs", "2").returncode, 0)
+        self.assertEqual(calls.read_text(), "lib left\nrun jvm\n")
+        shutil.rmtree(self.root / "out")
+        calls.unlink()
+        self.assertEqual(self.build("--jobs", "2").returncode, 0)
+        self.assertEqual(len(calls.read_text().splitlines()), 4)
 
     def test_one_at_once_needs_no_copy(self) -> None:
         self.assertEqual(self.build("--jobs", "1").returncode, 0)

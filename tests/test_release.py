@@ -48,7 +48,8 @@ class Installations(Scratch):
         prefix = self.scratch / "prefix"
         self.assertEqual(install(str(prefix)), prefix / "bin/jvm")
         share = prefix / "share"
-        for name in ("man/man1/jvm.1", "man/man1/jvm-run.1", "bash-completion/completions/jvm", "doc/jvm/docs/THEOREM.md"):
+        pages = ["man/man1/jvm.1", "man/man1/jvm-run.1"]
+        for name in [*pages, "bash-completion/completions/jvm", "doc/jvm/docs/THEOREM.md"]:
             self.assertTrue((share / name).is_file(), name)
         self.assertTrue((share / "doc/jvm/tools/jvm-cluster").is_file())
         self.assertFalse(list(prefix.rglob("*.new")))

@@ -32,6 +32,18 @@ class NoToolchain(Exception):
     """There is no `rt`."""
 
 
+def toolchain() -> str:
+    """The path of `rt`."""
+    found = shutil.which("rt")
+    if not found:
+        raise NoToolchain("there is no rt in the path: the toolchain of Rattle is needed")
+    return found
+
+
+def version_of_toolchain() -> str:
+    return subprocess.run([toolchain(), "version"], stdout=subprocess.PIPE, text=True).stdout
+
+
 def folder_of_copies() -> pathlib.Path:
     """Where the copies of this repository stand. It is outside, since `rt ci` refuses sources that no crate has."""
     cache = os.environ.get("XDG_CACHE_HOME") or os.path.join(os.path.expanduser("~"), ".cache")
@@ -75,6 +87,10 @@ class Lanes:
         self.free.remove(folder)
         return folder
 
+    def have(self, crate: str) -> bool:
+        """Whether some folder has something that was made of the crate."""
+        return any((folder / "crates" / crate / MADE).is_dir() for folder in [ROOT, *self.copies.glob("*")])
+
     def remove(self) -> None:
         """Removes the copies."""
         shutil.rmtree(self.copies, ignore_errors=True)
@@ -86,11 +102,8 @@ class Proof:
     def __init__(self, crate: str, words: List[str], folder: pathlib.Path, processes: int) -> None:
         self.folder, self.processes, self.begun = folder, processes, time.monotonic()
         self.output: IO[bytes] = tempfile.TemporaryFile()
-        rt = shutil.which("rt")
-        if not rt:
-            raise NoToolchain("there is no rt in the path: the toolchain of Rattle is needed")
         self.process = subprocess.Popen(
-            [rt, words[0], "--jobs", str(processes), *words[1:]],
+            [toolchain(), words[0], "--jobs", str(processes), *words[1:]],
             cwd=folder / "crates" / crate,
             stdin=subprocess.DEVNULL,
             stdout=self.output,
@@ -127,22 +140,29 @@ def end_all(proofs: Iterable[Proof]) -> None:
             proof.process.wait()
 
 
+def bytes_of(process: int) -> int:
+    """The memory of a process, and its part of what it shares with others."""
+    try:
+        lines = pathlib.Path(f"/proc/{process}/smaps_rollup").read_text(encoding="ascii").splitlines()
+        return next(int(line.split()[1]) << 10 for line in lines if line.startswith("Pss:"))
+    except (OSError, StopIteration):
+        return 0
+
+
 def bytes_held(roots: Iterable[int]) -> int:
     """The memory of these processes and of all that they began."""
     above: Dict[int, int] = {}
-    held: Dict[int, int] = {}
-    for entry in os.listdir("/proc"):
-        if entry.isdigit():
-            try:
-                fields = pathlib.Path("/proc", entry, "stat").read_text(errors="replace").rpartition(")")[2].split()
-            except OSError:
-                continue
-            above[int(entry)], held[int(entry)] = int(fields[1]), int(fields[21]) * os.sysconf("SC_PAGE_SIZE")
+    for entry in filter(str.isdigit, os.listdir("/proc")):
+        try:
+            status = pathlib.Path("/proc", entry, "stat").read_text(errors="replace")
+        except OSError:
+            continue
+        above[int(entry)] = int(status.rpartition(")")[2].split()[1])
     ours = set(roots)
     while True:
         more = {process for process, parent in above.items() if parent in ours} - ours
         if not more:
-            return sum(held.get(process, 0) for process in ours)
+            return sum(map(bytes_of, ours))
         ours |= more
 
 

@@ -23,7 +23,7 @@ class Pace:
         self.usual = dict(seconds)
 
     def is_anew(self, crate: str, taken: float) -> bool:
-        """Notes that a crate is proved, and answers whether so many seconds of a processor say that it wasn't before."""
+        """Notes that a crate is proved; answers whether so many seconds of a processor say that it wasn't before."""
         if taken < self.usual[crate] * LEAST_SHARE:
             self.seconds[crate] = 0.0
             return False

@@ -3,6 +3,7 @@
 import os
 import pathlib
 import shutil
+import signal
 import subprocess
 import sys
 from typing import List, Sequence
@@ -36,7 +37,10 @@ def prove_and_build(is_built: bool = False) -> None:
         if not JVM.is_file():
             raise Fault(f"{JVM.relative_to(ROOT)} isn't there: tools/build makes it")
         return
+    # An interrupt is the build's, which ends what it began.
+    before = signal.signal(signal.SIGINT, signal.SIG_IGN)
     done = subprocess.run([sys.executable, "-B", str(ROOT / "tools/build")])
+    signal.signal(signal.SIGINT, before)
     if done.returncode != 0:
         raise Fault("the program isn't proved, and nothing is installed")
 
