@@ -1,5 +1,6 @@
 """Builds of a small repository, by a command that stands in for `rt`."""
 
+import fcntl
 import os
 import pathlib
 import shutil
@@ -161,6 +162,12 @@ class Builds(unittest.TestCase):
         self.assertEqual(self.build("--jobs", "2").returncode, 0)
         after = self.proved()
         self.assertEqual({name: after[name] for name in before}, before)
+
+    def test_one_build_works_in_a_repository(self) -> None:
+        with (self.root / "tools/build").open() as held:
+            fcntl.flock(held, fcntl.LOCK_EX)
+            ran = self.build()
+        self.assertEqual((ran.returncode, ran.stderr), (1, "tools/build: another build is at work here\n"))
 
     def test_seconds_are_kept(self) -> None:
         (self.root / "tools/build-seconds").write_text("left 0.1\nother 7\n")
