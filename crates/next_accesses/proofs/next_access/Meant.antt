@@ -1,6 +1,6 @@
 -- What is told of a thread is what its next event reads or writes.
 use Rattle.std.proofs.Common.{◌≡◌, refl, sym, ap, subst, ◌∙◌, ℕ, zero, suc, List, [], ◌∷◌, map, Bool, true, false, if◌then◌else◌, Option, Some, None}
-use Rattle.std.specs.Prelude.{IsFalse, ◌⊎◌, slice_get}
+use Rattle.std.specs.Prelude.{IsFalse, ◌&&◌, ◌⊎◌, slice_get}
 use Rattle.std.specs.Option.{option_map, option_map_or, option_and_then, option_to_list}
 use Rattle.std.proofs.Common.{inl, inr}
 use Rattle.std.proofs.lemmas.Option.{same_Some}
@@ -195,9 +195,9 @@ module _ (wrong : IsNoEventWrong) (receives : AreReceived) (reads : AreOperandsR
   pub frame_silent : (place : ℕ) → place ≡ offset_at p frame.method frame.place → (i : Instr) → site.instr ≡ i → (field : Option NamedField)
       → IsFieldNamed trees frame.method place i field → (told : Bool) → GoesOn p shared t frame.operands i field told → told ≡ false
       → AreAccesses trees bounds.frames state t None
-  frame_silent place e i is field names told goes no =
+  frame_silent place e i is field names told goes not_so =
       let of_field : IsFieldOf trees site i field = named_so field i is (subst (λ (n : ℕ). IsFieldNamed trees frame.method n i field) (e ∙ sym offset_is) names) in
-      silent field told (subst (λ (x : Instr). GoesOn p shared t frame.operands x field told) (sym is) goes) (subst (λ (x : Instr). IsFieldOf trees site x field) (sym is) of_field) no
+      silent field told (subst (λ (x : Instr). GoesOn p shared t frame.operands x field told) (sym is) goes) (subst (λ (x : Instr). IsFieldOf trees site x field) (sym is) of_field) not_so
 
 -- ---- what a function tells of a frame
 
