@@ -10,12 +10,13 @@ use Rattle.model.specs.State.{State}
 use Rattle.run_laws.specs.interleavings.Ends.{Outcome}
 use Rattle.data_races.specs.Races.{IsRacy}
 use Rattle.machine.specs.Machines.{MachineOf}
+use Rattle.waiting_circles.specs.Circles.{HasCircle}
 use Rattle.search.specs.declared.kinds.Kind.{Kind}
 use Rattle.search.specs.declared.kinds.Kind.TheVariants as kind
 use Rattle.search.specs.declared.kinds.Kinds.{Kinds}
 use Rattle.search.specs.declared.run_outcomes.outcomes.Outcome.{Outcome as TheOutcome}
 use Rattle.search.specs.run_outcomes.Outcomes.{told_by, is_stuck}
-use Rattle.search.specs.Kinds.{HasUncaught, HasCircle, IsStuck, IsDeadlocked}
+use Rattle.search.specs.Kinds.{HasUncaught, IsStuck, IsDeadlocked}
 use Rattle.search.specs.Machines.{IsOutcomeOf}
 use Rattle.search.specs.StateKinds.{Tells, TellsState, TellsWith, AreKindsOf, is_stuck_if}
 
