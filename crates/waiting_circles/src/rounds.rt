@@ -30,12 +30,15 @@ fn goes_round(nexts: &[Option<u16>], first: usize) -> bool
 {
     let mut at = first;
     for step in 0..nexts.len() {
-        match next_in(nexts, at) {
-            Some(next) => at = usize::from(next),
-            None => return false,
-        }
+        let Some(next) = next_in(nexts, at) else {
+            return false;
+        };
+        at = next as usize;
     }
-    next_in(nexts, at).is_some()
+    match next_in(nexts, at) {
+        Some(_) => true,
+        None => false,
+    }
 }
 
 /// Whether there is a round.

@@ -1,5 +1,5 @@
 -- Ways from number to number: one with more steps than there are numbers has been somewhere twice.
-use Rattle.std.proofs.Common.{◌≡◌, ◌<◌, ◌≤◌, ◌⊎◌, inl, inr, ℕ, zero, suc, List, [], ◌∷◌, ◌++◌, length, Option, Some, None, Bool, true, false, ◌||◌, eqb, refl, sym, ap, subst, ◌∙◌, arith}
+use Rattle.std.proofs.Common.{◌≡◌, ◌<◌, ◌≤◌, ◌+◌, ◌⊎◌, inl, inr, ℕ, zero, suc, List, [], ◌∷◌, ◌++◌, length, Option, Some, None, Bool, true, false, ◌||◌, eqb, refl, sym, ap, subst, ◌∙◌, arith}
 use Rattle.std.specs.Prelude.{slice_get}
 use Rattle.std.specs.List.{AllByRecursion, IsDistinct, list_any}
 use Rattle.std.proofs.lemmas.Bool.{eqb-true}
@@ -88,15 +88,15 @@ module _ (nexts : List (Option ℕ)) where
       below_by at q (number ∷ past) (eqb q at) refl low (λ e. below number past way.1 (there nexts number at way.0) q e) h
 
   -- so one that has gone as many steps as there are numbers, and goes on, has a round
-  pub long_way : (at next : ℕ) (past : List ℕ) → IsWay at past → length past ≡ length nexts → next_in nexts at ≡ Some next
+  pub long_way : (at next : ℕ) (past : List ℕ) → IsWay at past → length nexts ≤ length past → next_in nexts at ≡ Some next
       → HasRound nexts
-  long_way at next past way count e = by (distinct at past way)
+  long_way at next past way many e = by (distinct at past way)
     where
       by : HasRound nexts ⊎ IsDistinct eqb (at ∷ past) → HasRound nexts
       by (inl round) = round
       by (inr apart) =
           let few = length-le_from_distinct_below (at ∷ past) (length nexts) apart (below at past way (there nexts at next e)) in
-          absurd (omega (arith, few, count))
+          absurd (omega (arith, few, many))
 
   -- ---- so far
 
@@ -110,15 +110,31 @@ module _ (nexts : List (Option ℕ)) where
   pub begins : (first : ℕ) → IsOn first first 0
   begins first = record { past = []; way = tt; count = refl; stays = λ others round. (others, round) }
 
-  pub goes_on : (first at step next : ℕ) → IsOn first at step → next_in nexts at ≡ Some next → IsOn first next (suc step)
+  pub goes_on : (first at step next : ℕ) → IsOn first at step → next_in nexts at ≡ Some next → IsOn first next (step + 1)
   goes_on first at step next on e =
       record {
         past = at ∷ on.past;
         way = (e, on.way);
-        count = ap suc on.count;
+        count = omega (arith, on.count);
         stays = λ others round. let here = on.stays others round in round_on at next here.0 here.1 e;
       }
 
   -- an end is reached
   pub ends : (first at step : ℕ) → IsOn first at step → next_in nexts at ≡ None → (others : List ℕ) → IsRound nexts first others → ⊥
   ends first at step on e others round = let here = on.stays others round in round_next at here.0 here.1 e
+
+  -- it goes on behind as many steps as there are numbers
+  pub goes_for_ever : (first at step next : ℕ) → IsOn first at step → length nexts ≤ step → next_in nexts at ≡ Some next → HasRound nexts
+  goes_for_ever first at step next on all e = long_way at next on.past on.way (omega (arith, on.count, all)) e
+
+  -- ---- all numbers
+
+  round_below : (first : ℕ) (others : List ℕ) → IsRound nexts first others → first < length nexts
+  round_below first [] round = there nexts first first round
+  round_below first (n ∷ others) round = there nexts first n round.0
+
+  -- none of the first numbers is in one
+  pub none_first : (n : ℕ) → length nexts ≤ n → ((k : ℕ) → k < n → (others : List ℕ) → IsRound nexts k others → ⊥) → HasRound nexts → ⊥
+  none_first n all none round =
+      let low = round_below round.first round.others round.is in
+      none round.first (omega (arith, low, all)) round.others round.is

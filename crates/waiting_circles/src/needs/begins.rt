@@ -1,7 +1,7 @@
 //! What a thread needs that begins, or that initialises a class (JVMS 5.2, 5.5; JLS 17).
 
-ghost use Rattle.std.specs.Prelude.{◌≡◌, None, Some, if◌then◌else◌};
-ghost use Rattle.waiting_circles.specs.Needs.{EntersMain, NeedsFirst, NeedsForMain, NeedsToRun, NeedsBeginning, NeedsForClass, NeedsInPhase};
+ghost use Rattle.waiting_circles.specs.Needs.{EntersMain, NeedsFirst, NeedsForMain, NeedsToRun, NeedsBeginning};
+ghost use Rattle.waiting_circles.specs.Needs.{NeedsForClass, NeedsInPhase};
 
 use crate::needs::kinds::Need;
 use linked_code::LinkedProgram;

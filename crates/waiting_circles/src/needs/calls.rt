@@ -19,7 +19,8 @@ pub(crate) fn virtual_need(
     place: u32,
     frames: usize,
 ) -> Option<Need>
-    ensures { NeedsInInstruction program.now (linked.InvokeVirtual parameters place) frames result shared.now stack.now }
+    ensures { NeedsInInstruction program.now (linked.InvokeVirtual parameters place) frames result shared.now
+        stack.now }
 {
     let Some(object) = receiver(stack, parameters) else {
         return None;

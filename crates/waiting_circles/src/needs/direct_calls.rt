@@ -19,7 +19,8 @@ pub(crate) fn static_need(
     frames: usize,
 ) -> Option<Need>
     ensures { (parameters class : ℕ) (shared : Shared)
-        → NeedsInInstruction program.now (linked.InvokeStatic parameters class method) frames result shared stack.now }
+        → NeedsInInstruction program.now (linked.InvokeStatic parameters class method) frames result shared
+        stack.now }
 {
     let object = class_object(program, method);
     call_need(stack, program, method, object, frames)

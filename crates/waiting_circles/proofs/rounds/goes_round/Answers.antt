@@ -1,16 +1,29 @@
-use Rattle.std.proofs.Common.{sym}
-use Rattle.std.proofs.lemmas.Bool.{false≢true}
-use Rattle.waiting_circles.proofs.rounds.Ways.{ends}
+use Rattle.std.proofs.Common.{◌≤◌, length, sym, arith}
+use Rattle.std.proofs.lemmas.Bool.{false≢true, true≢false}
+use Rattle.waiting_circles.proofs.rounds.Ways.{begins, goes_on, goes_for_ever, ends}
 use Rattle.waiting_circles.proofs.rounds.goes_round.Goals as goal
+
+pub loop-step-init : goal.loop-step-init
+loop-step-init c = begins c.args.nexts.now c.args.first
+
+pub returns-in_default : goal.returns-in_default
+returns-in_default c = (
+  λ h. absurd (false≢true h),
+  λ h others round. ends c.args.nexts.now c.args.first c.loop-step.at c.loop-step.step c.loop-step.invariant (sym c.in_default.ensures) others round,
+)
+
+pub loop-step-preserved : goal.loop-step-preserved
+loop-step-preserved c = goes_on c.args.nexts.now c.args.first c.loop-step.at c.loop-step.step c.in-Some.next c.loop-step.invariant (sym c.in-Some.ensures)
+
+pub returns-in-Some : goal.returns-in-Some
+returns-in-Some c =
+    let all : length c.args.nexts.now ≤ c.loop-step.step = omega (arith, c.loop-step-test.false) in (
+      λ h. goes_for_ever c.args.nexts.now c.args.first c.loop-step.at c.loop-step.step c.in-Some.field-0 c.loop-step.invariant all (sym c.in-Some.ensures),
+      λ h. absurd (true≢false h),
+    )
 
 pub returns-in-None : goal.returns-in-None
 returns-in-None c = (
   λ h. absurd (false≢true h),
   λ h others round. ends c.args.nexts.now c.args.first c.loop-step.at c.loop-step.step c.loop-step.invariant (sym c.in-None.ensures) others round,
 )
-
-pub loop-step-preserved : goal.loop-step-preserved
-loop-step-preserved c = ?
-
-pub returns : goal.returns
-returns c = ?
