@@ -8,7 +8,7 @@
 //! # Wrong bodies
 //!
 //! - `rounds-first-alone`: the way from the first number alone is gone; refused by `has_round`.
-//! - `rounds-too-few-steps`: the end of a way is not looked at; refused by `goes_round`.
+//! - `rounds-too-few-steps`: one step fewer is gone; refused by `goes_round`.
 
 ghost use Rattle.std.specs.Prelude.{◌≡◌};
 ghost use Rattle.waiting_circles.specs.Rounds as rounds;
