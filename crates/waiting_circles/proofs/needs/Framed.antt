@@ -1,5 +1,5 @@
 -- What a new frame needs, and a call by the row of its method.
-use Rattle.std.proofs.Common.{◌≡◌, ◌<◌, ◌≤◌, ℕ, Option, Some, None, Bool, true, false, if◌then◌else◌, option_map, refl, sym, ap, subst, ◌∙◌}
+use Rattle.std.proofs.Common.{◌≡◌, ◌<◌, ◌≤◌, ℕ, List, Option, Some, None, Bool, true, false, if◌then◌else◌, option_map, refl, sym, ap, subst, ◌∙◌}
 use Rattle.std.specs.Prelude.{nat_lt, slice_get}
 use Rattle.std.specs.Option.{option_and_then}
 use Rattle.std.proofs.lemmas.Bool.{le-ltb, lt-ltb}
@@ -18,9 +18,17 @@ use Rattle.linked_code.specs.declared.method.MethodBody.TheVariants as body
 use Rattle.linked_code.specs.declared.program.LinkedProgram.{LinkedProgram}
 use Rattle.linked_code.specs.Methods.{IsLinkedMethod}
 use Rattle.linked_code.specs.Selection.{IsChosenAt}
+use Rattle.thread_stacks.specs.Stacks.{ShownEntry, frame_count as shown_count}
 use Rattle.machine_state.specs.Shown.{IsProgram}
+use Rattle.machine_state.specs.shown_stacks.Shown.{ShowsStack}
+use Rattle.machine_state.proofs.shown_stacks.Laws.{counted}
 use Rattle.machine_state.specs.method_selection.Run.{RunsBody, IsRun, AreMethodsRun}
 use Rattle.waiting_circles.specs.Needs.{entered_of}
+
+-- as many frames as are kept
+pub count_is : (trees : Program) (p : LinkedProgram) (stack : List ShownEntry) (own : StackOf ℕ) → ShowsStack trees p stack own
+    → (count : ℕ) → count ≡ shown_count stack → count ≡ frame_count own
+count_is trees p stack own shows count e = e ∙ counted trees p stack own shows
 
 module _ (trees : Program) (frames t : ℕ) (world : WorldOf ℕ) (own : StackOf ℕ) where
   -- there is no room for it

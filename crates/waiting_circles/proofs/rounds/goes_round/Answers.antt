@@ -15,10 +15,10 @@ returns-in_default c = (
 pub loop-step-preserved : goal.loop-step-preserved
 loop-step-preserved c = goes_on c.args.nexts.now c.args.first c.loop-step.at c.loop-step.step c.in-Some.next c.loop-step.invariant (sym c.in-Some.ensures)
 
-pub returns-in-Some : goal.returns-in-Some
-returns-in-Some c =
+pub returns-in-Some-next_in : goal.returns-in-Some-next_in
+returns-in-Some-next_in c =
     let all : length c.args.nexts.now ≤ c.loop-step.step = omega (arith, c.loop-step-test.false) in (
-      λ h. goes_for_ever c.args.nexts.now c.args.first c.loop-step.at c.loop-step.step c.in-Some.field-0 c.loop-step.invariant all (sym c.in-Some.ensures),
+      λ h. goes_for_ever c.args.nexts.now c.args.first c.loop-step.at c.loop-step.step c.in-Some-next_in.field-0 c.loop-step.invariant all (sym c.in-Some-next_in.ensures),
       λ h. absurd (true≢false h),
     )
 

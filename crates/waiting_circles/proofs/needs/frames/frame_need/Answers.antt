@@ -1,7 +1,6 @@
 use Rattle.std.proofs.Common.{◌<◌, ◌≤◌, option_map, ap, subst, ◌∙◌}
 use Rattle.search_laws.specs.Waits.{MonitorOf}
-use Rattle.machine_threads.proofs.waiting_instructions.Enabled.{count_is}
-use Rattle.waiting_circles.proofs.needs.Framed.{full, room}
+use Rattle.waiting_circles.proofs.needs.Framed.{count_is, full, room}
 use Rattle.waiting_circles.proofs.needs.frames.frame_need.Goals as goal
 
 pub returns-then-frame_count-frames : goal.returns-then-frame_count-frames

@@ -1,7 +1,7 @@
 use Rattle.std.proofs.Common.{sym, subst}
 use Rattle.linked_code.specs.Linked.{offset_in}
 use Rattle.linked_code.specs.declared.instruction.LinkedInstruction.{LinkedInstruction}
-use Rattle.machine_threads.proofs.waiting_instructions.Instructed.{quick_of, static_calls, special_calls, virtual_calls, interface_calls}
+use Rattle.waiting_circles.proofs.needs.Linked.{quick_of, static_calls, special_calls, virtual_calls, interface_calls}
 use Rattle.waiting_circles.specs.Needs.{IsNeed, NeedsReady}
 use Rattle.std.specs.Prelude.{Some, None}
 use Rattle.waiting_circles.specs.declared.needs.kinds.Need.TheVariants as the
