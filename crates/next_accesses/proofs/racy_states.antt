@@ -2,3 +2,4 @@ pub mod Alike
 pub mod Places
 pub mod RaceAt
 pub mod Growing
+pub mod Kept

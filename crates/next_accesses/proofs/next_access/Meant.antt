@@ -27,7 +27,7 @@ use Rattle.run_laws.specs.soundness.Runs.{IsNoEventWrong}
 use Rattle.run_laws.specs.word_operands.Receivers.{Receiver, receiver_of, IsReceived, AreReceived}
 use Rattle.linked_code.specs.declared.program.LinkedProgram.{LinkedProgram}
 use Rattle.linked_code.specs.Numbers.{IsMethodAt}
-use Rattle.thread_stacks.specs.Stacks.{ShownFrame, ShownEntry, Invocation}
+use Rattle.thread_stacks.specs.Stacks.{ShownFrame, ShownEntry, Invocation, IsTopFrame}
 use Rattle.heap.specs.java_threads.Table.{thread_at as shown_thread}
 use Rattle.machine_state.specs.declared.state.Shared.{Shared}
 use Rattle.machine_state.specs.Shown.{IsProgram}
@@ -226,6 +226,11 @@ module _ (wrong : IsNoEventWrong) (receives : AreReceived) (reads : AreOperandsR
 
 -- ---- by the rule of a thread
 
+-- the frame on top, where there is one
+top_is : (stack : List ShownEntry) (shown : ShownFrame) (others : List ShownEntry) → stack ≡ Invocation shown ∷ others → (found : Option ShownFrame)
+    → IsTopFrame stack found → found ≡ Some shown
+top_is stack shown others e found h = subst (λ (s : List ShownEntry). IsTopFrame s found) e h
+
 module _ (meant : AreRulesMeant) (trees : Program) (p : LinkedProgram) (shared : Shared) (t : ℕ) (stack : List ShownEntry) (told : NextRule)
     (is : IsRule (shown_thread shared.threads.threads t) stack told) where
   means : slice_get shared.stacks.items t ≡ Some stack → (bounds : Bounds) (state : State) → (r : IsReached trees p bounds shared state)
@@ -233,19 +238,19 @@ module _ (meant : AreRulesMeant) (trees : Program) (p : LinkedProgram) (shared :
   means e bounds state r = meant trees p bounds r.inflated shared state r.program r.shown t stack e told is
 
   -- at an instruction, in the frame on top
-  pub top_told : told ≡ rule.Bytecode → (frame : ShownFrame) (others : List ShownEntry) → stack ≡ Invocation frame ∷ others → (access : Option Action)
+  pub top_told : told ≡ rule.Bytecode → (frame : ShownFrame) → IsTopFrame stack (Some frame) → (access : Option Action)
       → TellsFrame trees p shared t frame access → TellsStack trees p shared t stack access
-  top_told by frame others top access h e bounds state r =
+  top_told by frame top access h e bounds state r =
       let at : IsAtInstruction trees p bounds r.inflated t shared stack state = subst (MeansRule trees p bounds r.inflated t shared stack state) by (means e bounds state r) in
-      h bounds state r stack at (by_top (sym at.runs.is_stack ∙ top))
-    where
-      by_top : {a b : ShownFrame} {xs ys : List ShownEntry} → Invocation a ∷ xs ≡ Invocation b ∷ ys → a ≡ b
-      by_top e = cc
+      h bounds state r stack at (sym (same_Some frame at.runs.shown (top_is stack at.runs.shown at.runs.others at.runs.is_stack (Some frame) top)))
 
-  pub no_top : told ≡ rule.Bytecode → ((frame : ShownFrame) (others : List ShownEntry) → stack ≡ Invocation frame ∷ others → ⊥) → TellsStack trees p shared t stack None
-  no_top by none e bounds state r =
+  pub no_top : told ≡ rule.Bytecode → IsTopFrame stack None → TellsStack trees p shared t stack None
+  no_top by top e bounds state r =
       let at : IsAtInstruction trees p bounds r.inflated t shared stack state = subst (MeansRule trees p bounds r.inflated t shared stack state) by (means e bounds state r) in
-      absurd (none at.runs.shown at.runs.others at.runs.is_stack)
+      absurd (differs at.runs.shown (top_is stack at.runs.shown at.runs.others at.runs.is_stack None top))
+    where
+      differs : (frame : ShownFrame) → None ≡ Some frame → ⊥
+      differs frame e = cc
 
   none_at : (bounds : Bounds) (state : State) (m : Rule) → rule_of trees state t ≡ m → ((world : World) → accesses_of trees (record { thread = t; pick = 0 }) world m ≡ [])
       → AreAccesses trees bounds.frames state t None

@@ -151,8 +151,7 @@ module _ (trees : Program) (apart : AreApart (names_of trees)) (frames : ℕ) (s
           tells = subst (AreAccesses trees frames state t) told.is_told tells;
         }
 
-    pub none_racy : ((i : ℕ) (a : RunAction) → slice_get found i ≡ Some a → (j : ℕ) (b : RunAction) → slice_get found j ≡ Some b → do_conflict a b ≡ false)
-        → IsRacy trees frames state → ⊥
+    pub none_racy : list_any (λ a. list_any (do_conflict a) found) found ≡ false → IsRacy trees frames state → ⊥
     none_racy none racy =
         let t = passing (λ t. list_any (λ u. have_conflict trees (next_actions trees frames state t) (next_actions trees frames state u)) (counting 0 count)) (counting 0 count)
         (true_of (is_racy trees frames state) racy) in
@@ -179,7 +178,7 @@ module _ (trees : Program) (apart : AreApart (names_of trees)) (frames : ℕ) (s
             ∙ ap (λ (y : named.Action). (memory_order trees).conflict (in_event t 0 g.item) (in_event u 0 y)) two.named_so
             ∙ conflict_is
             in
-            false≢true (sym (none one.place (next_of t one.access) one.at two.place (next_of u two.access) two.at) ∙ told)
+            false≢true (sym none ∙ any_of (λ a. list_any (do_conflict a) found) found (next_of t one.access) one.place one.at (any_of (do_conflict (next_of t one.access)) found (next_of u two.access) two.place two.at told))
 
     pub race_if : (told : Option Race) → IsRaceIn found told → IsRaceIf trees frames state told
     race_if None h = none_racy h
