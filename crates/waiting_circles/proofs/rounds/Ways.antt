@@ -26,12 +26,11 @@ module _ (nexts : List (Option ℕ)) where
       → (rest : List ℕ) × IsRound nexts next rest
   round_on first next [] round e =
       ([], subst (λ n. IsRound nexts n []) (same_Some first next (sym round ∙ e)) round)
-  round_on first next (n ∷ others) round e =
-      (
-        others ++ first ∷ [],
-        subst (λ m. LeadsTo nexts m m (others ++ first ∷ [])) (same_Some n next (sym round.0 ∙ e))
+  round_on first next (n ∷ others) round e = (
+    others ++ first ∷ [],
+    subst (λ m. LeadsTo nexts m m (others ++ first ∷ [])) (same_Some n next (sym round.0 ∙ e))
         (leads_on first n n others round.1 round.0),
-      )
+  )
 
   -- a number in a round has a next one
   pub round_next : (first : ℕ) (others : List ℕ) → IsRound nexts first others → next_in nexts first ≡ None → ⊥
