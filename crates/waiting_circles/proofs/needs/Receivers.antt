@@ -25,7 +25,7 @@ use Rattle.machine_state.specs.linked_frames.Frames.{IsRunning}
 use Rattle.machine_instructions.specs.called_methods.Frames.{object_under}
 use Rattle.machine_instructions.specs.called_methods.Selected.{ChoosesVirtual, ChoosesInterface}
 use Rattle.machine_instructions.proofs.called_methods.Calling.{There, there}
-use Rattle.machine_instructions.proofs.called_methods.Receivers.{chosen_virtual, virtual_invoking, chosen_interface, interface_invoking}
+use Rattle.machine_instructions.proofs.called_methods.Receivers.{virtual_invoking, interface_invoking}
 use Rattle.waiting_circles.specs.declared.needs.kinds.Need.{Need as TheNeed}
 use Rattle.waiting_circles.specs.Needs.{IsNeed, NeedsInCall, entered_of, outcome_at}
 use Rattle.waiting_circles.proofs.needs.Entered.{null_enters, object_enters}

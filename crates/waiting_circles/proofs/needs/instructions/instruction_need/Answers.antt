@@ -1,4 +1,4 @@
-use Rattle.std.proofs.Common.{◌∷◌, Option, Some, None, sym, ap, subst, ◌∙◌}
+use Rattle.std.proofs.Common.{◌∷◌, Option, Some, sym, ap, subst, ◌∙◌}
 use Rattle.model.specs.Names.{Name}
 use Rattle.model.specs.Operands.{words}
 use Rattle.model.specs.State.{Invocation}
