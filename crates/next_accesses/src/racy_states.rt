@@ -80,7 +80,8 @@ fn writes(variable: Variable, action: Action) -> bool
 {
     match action {
         Action::Write {
-            variable: other, ..
+            variable: other,
+            ..
         } => is_same_variable(variable, other),
         _ => false,
     }
@@ -92,7 +93,8 @@ fn reads(variable: Variable, action: Action) -> bool
 {
     match action {
         Action::Read {
-            variable: other, ..
+            variable: other,
+            ..
         } => is_same_variable(variable, other),
         _ => false,
     }
