@@ -1,25 +1,32 @@
 -- Which kinds a state is of, by what is told of it.
-use Rattle.std.proofs.Common.{◌≡◌, ℕ, List, Bool, true, false, Option, Some, None, inl, inr, sym, ap, ◌∙◌, subst}
+use Rattle.std.proofs.Common.{◌≡◌, ℕ, List, Bool, true, false, Option, Some, None, inl, inr, map, sym, ap, ◌∙◌, subst}
 use Rattle.std.specs.Prelude.{IsTrue, IsFalse}
 use Rattle.std.specs.List.{list_any}
 use Rattle.std.proofs.lemmas.Bool.{false≢true, true≢false}
+use Rattle.model.specs.declared.report.EndState.{EndState}
 use Rattle.model.specs.Classes.{Program}
 use Rattle.model.specs.Meaning.{thread_ends}
-use Rattle.model.specs.Report.{ThreadEnd}
+use Rattle.model.specs.Report.{ThreadEnd, end_state_of}
 use Rattle.model.specs.State.{State}
 use Rattle.run_laws.specs.interleavings.Ends.{Outcome}
 use Rattle.data_races.specs.Races.{IsRacy}
 use Rattle.machine.specs.Machines.{MachineOf}
+use Rattle.waiting_circles.specs.Circles.{HasCircle}
 use Rattle.search.specs.declared.kinds.Kind.{Kind}
 use Rattle.search.specs.declared.kinds.Kind.TheVariants as kind
 use Rattle.search.specs.declared.kinds.Kinds.{Kinds}
 use Rattle.search.specs.declared.run_outcomes.outcomes.Outcome.{Outcome as TheOutcome}
 use Rattle.search.specs.run_outcomes.Outcomes.{told_by, is_stuck}
-use Rattle.search.specs.Kinds.{HasUncaught, HasCircle, IsStuck, IsDeadlocked}
+use Rattle.search.proofs.run_outcomes.Places.{any_of}
+use Rattle.search.specs.Kinds.{HasUncaught, IsStuck, IsDeadlocked}
 use Rattle.search.specs.Machines.{IsOutcomeOf}
 use Rattle.search.specs.StateKinds.{Tells, TellsState, TellsWith, AreKindsOf, is_stuck_if}
 
 -- ---- deadlocks
+
+pub stuck_if : (x : Option TheOutcome) (o : TheOutcome) → x ≡ Some o → (ends : List EndState) → ends ≡ o.threads.items → (b : Bool)
+    → b ≡ list_any (λ end. is_stuck (end_state_of end)) ends → b ≡ is_stuck_if x
+stuck_if x o is ends are b e = e ∙ (any_of is_stuck ends ∙ (ap (λ (l : List EndState). list_any is_stuck (map end_state_of l)) are ∙ ap is_stuck_if (sym is)))
 
 module _ (trees : Program) (frames : ℕ) (state : State) where
   stuck_by : (o : Option TheOutcome) → IsOutcomeOf trees frames state o → is_stuck_if o ≡ true → IsStuck trees frames state

@@ -32,7 +32,7 @@ module _ (files : Program) (frames : ℕ) (s : State) where
   uncaught_at t thread is thrown =
       let none : 0 + t ≡ t = omega arith in
       let end = ended_by_exception t thread.status thrown in
-      (t, (end.0, at_end files frames s 0 s.world.threads t thread is ∙ ap Some (ap (λ n. thread_end files frames s n thread.status) none ∙ end.1)))
+      (t, end.0, at_end files frames s 0 s.world.threads t thread is ∙ ap Some (ap (λ n. thread_end files frames s n thread.status) none ∙ end.1))
 
   -- a thread that has thrown, by its status
   record ThrownIn : Type 0 where
@@ -43,8 +43,8 @@ module _ (files : Program) (frames : ℕ) (s : State) where
 
   thrown_in : HasUncaught files frames s → ThrownIn
   thrown_in uncaught =
-      let end = end_at files frames s 0 s.world.threads uncaught.0 (Threw uncaught.1.0) uncaught.1.1 in
-      let how = thrown_of files frames s (0 + uncaught.0) (end.0).status uncaught.1.0 end.1.1 in
+      let end = end_at files frames s 0 s.world.threads uncaught.0 (Threw uncaught.1) uncaught.2 in
+      let how = thrown_of files frames s (0 + uncaught.0) (end.0).status uncaught.1 end.1.1 in
       record { t = uncaught.0; thread = end.0; is = end.1.0; thrown = ap has_thrown how.status_is }
 
 -- ---- a machine

@@ -202,7 +202,7 @@ module _ (trees : Program) (limits : Limits) (goal : Goal) (walk : Walk) (seen :
         only : (k : Kind) → IsTrue (is_told seen.kinds k) ⊎ IsTrue (is_told kinds k) → IsShown trees limits.frames k
         only k (inl e) = visited.kinds_are.only k e
         only k (inr e) =
-            ((done own is_own).run.lead.state, ((own, reached own is_own), ((here own is_own).kinds_are k).0 e))
+            ((done own is_own).run.lead.state, (own, reached own is_own), ((here own is_own).kinds_are k).0 e)
 
     pub visited_next : AreAllMet walk.states number → IsSeenOr goal o kinds false seen new → HasVisited trees limits goal walk.states new (suc number)
     visited_next met listed = record {

@@ -1,5 +1,5 @@
 -- Kinds of states that runs come to, whether they end or not, and what a search is to find (own; JLS 11.3, 17).
-use Rattle.std.specs.Prelude.{◌⊎◌, ℕ, List, Bool, true, false, ◌||◌, IsTrue, IsFalse}
+use Rattle.std.specs.Prelude.{◌⊎◌, ℕ, Bool, true, false, ◌||◌, IsTrue, IsFalse}
 use Rattle.std.specs.List.{list_any}
 use Rattle.model.specs.Classes.{Program}
 use Rattle.model.specs.Meaning.{thread_ends}
@@ -9,7 +9,7 @@ use Rattle.model.specs.State.{State}
 use Rattle.data_races.specs.Races.{IsRacy}
 use Rattle.search_laws.specs.Ends.{HasThrown}
 use Rattle.search_laws.specs.KeptStates.{IsReached}
-use Rattle.search_laws.specs.Waits.{IsCircle}
+use Rattle.waiting_circles.specs.Circles.{HasCircle}
 use Rattle.search.specs.declared.kinds.Goal.{Goal}
 use Rattle.search.specs.declared.kinds.Goal.TheVariants as the_goal
 use Rattle.search.specs.declared.kinds.Kind.{Kind}
@@ -29,11 +29,7 @@ HasUncaught trees frames state = (t : ℕ) × (class : Name) × HasThrown trees 
 abbrev pub IsStuck : Program → ℕ → State → Type 0
 IsStuck trees frames state = IsTrue (is_quiet trees frames state) × IsTrue (list_any is_stuck (thread_ends trees frames state))
 
--- threads wait in a circle for monitors and classes that they hold
-abbrev pub HasCircle : Program → ℕ → State → Type 0
-HasCircle trees frames state = (t : ℕ) × (threads : List ℕ) × IsCircle trees frames t threads state
-
--- the one or the other
+-- that, or threads wait in a circle for monitors and classes that they hold
 abbrev pub IsDeadlocked : Program → ℕ → State → Type 0
 IsDeadlocked trees frames state = IsStuck trees frames state ⊎ HasCircle trees frames state
 

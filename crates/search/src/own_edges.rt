@@ -1,6 +1,7 @@
 //! Whether class files name methods whose edges of happens-before are this machine's own.
 
 ghost use Rattle.std.specs.Prelude.{◌≡◌, false, slice_get};
+ghost use Rattle.std.specs.List.{list_any};
 ghost use Rattle.std.specs.Option.{option_map_or};
 ghost use Rattle.constant_pool.specs.View.{entry_of};
 ghost use Rattle.search.specs.OwnEdges as spec;
@@ -34,14 +35,18 @@ fn is_own_edge(pool: &Pool, constant: &Constant) -> bool
     }
 }
 
+/// Whether one of the constants of a pool is such one.
+fn any_is_own_edge(pool: &Pool, constants: &[Constant]) -> bool
+    ensures { result ≡ list_any (λ c. spec.is_own_edge pool.now (entry_of c)) constants.now }
+{
+    constants.iter().any(|constant| is_own_edge(pool, constant))
+}
+
 /// Whether a class file has such a constant.
 fn names_own_edge(file: &ClassFile) -> bool
     ensures { result ≡ spec.names_own_edge (file_of file.now) }
 {
-    let pool = &file.pool;
-    pool.constants()
-        .iter()
-        .any(|constant| is_own_edge(pool, constant))
+    any_is_own_edge(&file.pool, file.pool.constants())
 }
 
 /// Whether the class file of a number has, if there is one.

@@ -16,7 +16,7 @@ use crate::visiting::{Asked, Seen, Visit, visit_state};
 use linked_code::LinkedProgram;
 use linker::Linked;
 use model::Limits;
-use next_accesses::AccessTables;
+use next_accesses::access_tables::AccessTables;
 use racing_threads::lasting_races::races_are_told_by_words;
 use schedule::Schedule;
 use search_laws::kept_states::schedules_are_complete;

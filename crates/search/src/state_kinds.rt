@@ -10,9 +10,10 @@ use crate::kinds::Kinds;
 use crate::run_outcomes::{Outcome, any_is_stuck};
 use heap::java_threads::{ThreadStatus, Threads};
 use machine::Machine;
-use next_accesses::{AccessTables, is_racy};
+use next_accesses::access_tables::AccessTables;
+use next_accesses::racy_states::is_racy;
 use std::alloc::{AllocError, Global};
-use waiting_circles::has_circle;
+use waiting_circles::circles::has_circle;
 
 /// Whether a thread ended with an exception.
 fn has_thrown(status: ThreadStatus) -> bool

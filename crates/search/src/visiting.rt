@@ -11,7 +11,7 @@ use crate::run_outcomes::{Outcome, Outcomes};
 use crate::state_kinds::kinds_at;
 use crate::states::Walk;
 use linker::Linked;
-use next_accesses::AccessTables;
+use next_accesses::access_tables::AccessTables;
 use schedule::Schedule;
 use std::alloc::{AllocError, Global};
 

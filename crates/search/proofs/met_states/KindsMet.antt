@@ -30,10 +30,11 @@ use Rattle.search_laws.specs.Waits.{AreCirclesMet}
 use Rattle.search_laws.proofs.Verdicts.{reached_typed}
 use Rattle.racing_threads.specs.Racing.{are_racing}
 use Rattle.racing_threads.specs.lasting_races.Lasting.{AreRacesTold, DoRacesLast}
+use Rattle.waiting_circles.specs.Circles.{HasCircle}
 use Rattle.search.specs.declared.kinds.Kind.{Kind}
 use Rattle.search.specs.declared.kinds.Kind.TheVariants as kind
 use Rattle.search.specs.run_outcomes.Outcomes.{is_stuck}
-use Rattle.search.specs.Kinds.{Shows, HasUncaught, HasCircle, IsStuck, IsShown}
+use Rattle.search.specs.Kinds.{Shows, HasUncaught, IsStuck, IsShown}
 use Rattle.search.specs.met_states.Met.{IsKindMet, AreKindsMet}
 
 -- ---- lists
@@ -99,8 +100,8 @@ module _ (trees : Program) (frames : ℕ) (state : State) (typed : IsWellTyped t
   racy_by : (t u : ℕ) → are_racing trees frames state t u ≡ true → IsRacy trees frames state
   racy_by t u race =
       let n = length state.world.threads in
-      any_at (λ t. list_any (λ u. are_racing trees frames state t u) (counting 0 n)) 0 n t (omega arith) (omega (arith, there t u race))
-      (any_at (λ u. are_racing trees frames state t u) 0 n u (omega arith) (omega (arith, other_there t u race)) race)
+      any_at (λ v. list_any (λ w. are_racing trees frames state v w) (counting 0 n)) 0 n t (omega arith) (omega (arith, there t u race))
+      (any_at (λ w. are_racing trees frames state t w) 0 n u (omega arith) (omega (arith, other_there t u race)) race)
 
 -- which two race
 racing_of : (trees : Program) (frames : ℕ) (state : State) → IsRacy trees frames state → (t : ℕ) × (u : ℕ) × (are_racing trees frames state t u ≡ true)
@@ -108,7 +109,7 @@ racing_of trees frames state racy =
     let n = length state.world.threads in
     let one = some_of (λ t. list_any (λ u. are_racing trees frames state t u) (counting 0 n)) (counting 0 n) racy in
     let other = some_of (λ u. are_racing trees frames state one.0 u) (counting 0 n) one.1 in
-    (one.0, (other.0, other.1))
+    (one.0, other.0, other.1)
 
 -- ---- states of schedules
 
@@ -126,10 +127,10 @@ module _ (trees : Program) (frames : ℕ) (schedules : List (List Event)) where
       by None is e = absurd (none-some state e)
       by (Some schedule) is e = record { schedule = schedule; has = (node, is); reached = e }
 
-  met_by : (kind : Kind) → IsMet (graph_of trees frames schedules) (Shows trees frames kind) → IsKindMet trees frames schedules kind
-  met_by kind met =
-      let led = led_by met.0 met.1.0 met.1.1.0 in
-      record { schedule = led.schedule; has = led.has; state = met.1.0; reached = led.reached; shows = met.1.1.1 }
+  met_by : (k : Kind) → IsMet (graph_of trees frames schedules) (Shows trees frames k) → IsKindMet trees frames schedules k
+  met_by k met =
+      let led = led_by met.0 met.1 met.2.0 in
+      record { schedule = led.schedule; has = led.has; state = met.1; reached = led.reached; shows = met.2.1 }
 
 -- ---- each kind
 
@@ -145,19 +146,19 @@ module _ (are_whole : AreSchedulesWhole) (complete : AreSchedulesComplete) (exce
   race_met : (state : State) → IsReached trees frames state → IsRacy trees frames state → IsMet graph (Shows trees frames kind.Race)
   race_met state reached racy =
       let two = racing_of trees frames state racy in
-      let met = conflicts files trees frames (are_racing trees frames) graph both.0 (last files trees accepted frames) state two.0 two.1.0 reached two.1.1 in
-      let led = led_by trees frames schedules met.0 met.1.0 met.1.1.0 in
-      (met.0, (met.1.0, (met.1.1.0, racy_by trees frames met.1.0 (reached_typed files trees accepted frames met.1.0 (led.schedule, led.reached)) two.0 two.1.0 met.1.1.1)))
+      let met = conflicts files trees frames (are_racing trees frames) graph both.0 (last files trees accepted frames) state two.0 two.1 reached two.2 in
+      let led = led_by trees frames schedules met.0 met.1 met.2.0 in
+      (met.0, met.1, (met.2.0, racy_by trees frames met.1 (reached_typed files trees accepted frames met.1 (led.schedule, led.reached)) two.0 two.1 met.2.1))
 
   uncaught_met : (state : State) → IsReached trees frames state → HasUncaught trees frames state → IsMet graph (Shows trees frames kind.Uncaught)
   uncaught_met state reached uncaught =
-      let met = exceptions files trees frames (are_racing trees frames) graph both.0 state uncaught.0 uncaught.1.0 reached uncaught.1.1 in
-      (met.0, (met.1.0, (met.1.1.0, (uncaught.0, (uncaught.1.0, met.1.1.1)))))
+      let met = exceptions files trees frames (are_racing trees frames) graph both.0 state uncaught.0 uncaught.1 reached uncaught.2 in
+      (met.0, met.1, (met.2.0, (uncaught.0, uncaught.1, met.2.1)))
 
   circle_met : (state : State) → IsReached trees frames state → HasCircle trees frames state → IsMet graph (Shows trees frames kind.Deadlock)
   circle_met state reached circle =
-      let met = circles files trees frames (are_racing trees frames) graph both.0 circle.0 circle.1.0 state reached circle.1.1 in
-      (met.0, (met.1.0, (met.1.1.0, inr (circle.0, (circle.1.0, met.1.1.1)))))
+      let met = circles files trees frames (are_racing trees frames) graph both.0 circle.first circle.threads state reached circle.is in
+      (met.0, met.1, (met.2.0, inr (record { first = circle.first; threads = circle.threads; is = met.2.1 })))
 
   -- a state in which no thread may step has the outcome of one that is kept
   stuck_met : (state : State) → IsReached trees frames state → IsStuck trees frames state → IsMet graph (Shows trees frames kind.Deadlock)
@@ -165,17 +166,17 @@ module _ (are_whole : AreSchedulesWhole) (complete : AreSchedulesComplete) (exce
       let all = complete files trees accepted frames (are_racing trees frames) (told files trees accepted frames) schedules outcomes whole in
       let has = all.listed reached.0 (outcome_of trees frames state) (record { state = state; reached = reached.1; quiet = stuck.0; outcome_is = refl }) in
       let met = both.1.only (outcome_of trees frames state) has in
-      let ends : thread_ends trees frames state ≡ thread_ends trees frames met.1.0 = sym (ap (λ (o : Outcome). o.ends) met.1.1.1.1) in
-      (met.0, (met.1.0, (met.1.1.0, inl (met.1.1.1.0, subst (λ (l : List ThreadEnd). IsTrue (list_any is_stuck l)) ends stuck.1))))
+      let ends : thread_ends trees frames state ≡ thread_ends trees frames met.1 = sym (ap (λ (o : Outcome). o.ends) met.2.1.1) in
+      (met.0, met.1, (met.2.0, inl (met.2.1.0, subst (λ (l : List ThreadEnd). IsTrue (list_any is_stuck l)) ends stuck.1)))
 
-  kind_met : (kind : Kind) (state : State) → IsReached trees frames state → Shows trees frames kind state → IsMet graph (Shows trees frames kind)
+  kind_met : (k : Kind) (state : State) → IsReached trees frames state → Shows trees frames k state → IsMet graph (Shows trees frames k)
   kind_met kind.Race state reached shows = race_met state reached shows
   kind_met kind.Uncaught state reached shows = uncaught_met state reached shows
   kind_met kind.Deadlock state reached (inl stuck) = stuck_met state reached stuck
   kind_met kind.Deadlock state reached (inr circle) = circle_met state reached circle
 
-  pub kinds_met : (kind : Kind) → IsShown trees frames kind → IsKindMet trees frames schedules kind
-  kinds_met kind shown = met_by trees frames schedules kind (kind_met kind shown.0 shown.1.0 shown.1.1)
+  pub kinds_met : (k : Kind) → IsShown trees frames k → IsKindMet trees frames schedules k
+  kinds_met k shown = met_by trees frames schedules k (kind_met k shown.0 shown.1 shown.2)
 
 pub met : AreSchedulesWhole → AreSchedulesComplete → AreExceptionsMet → AreCirclesMet → AreConflictsMet → AreRacesTold → DoRacesLast → AreKindsMet
 met are_whole complete exceptions circles conflicts told last files trees accepted frames schedules outcomes whole =

@@ -7,4 +7,5 @@ returns-then-is_stuck c = deadlocked c.args.machine.now c.args.outcome.now (sym 
 
 pub returns : goal.returns
 returns c = λ trees.
-    deadlocked_by c.args.machine.now c.args.outcome.now (sym c.is_stuck.ensures ∙ c.if-is_stuck.false) c.in_ok-is_circle.is_circle trees (c.in_ok-is_circle.ensures trees)
+    deadlocked_by c.args.machine.now c.args.outcome.now (sym c.is_stuck.ensures ∙ c.if-is_stuck.false) c.in_ok-is_circle.is_circle trees
+    (λ files events state done reached. c.in_ok-is_circle.ensures files trees events state done reached)
