@@ -50,7 +50,8 @@ fn push_kinds(text: &mut Vec<u8>, kinds: Kinds) -> Result<(), AllocError>
 {
     push_kind(text, kinds.race, b"kind race")?;
     push_kind(text, kinds.uncaught, b"kind uncaught")?;
-    push_kind(text, kinds.deadlock, b"kind deadlock")
+    push_kind(text, kinds.deadlock, b"kind deadlock")?;
+    Ok(())
 }
 
 /// The report of a run, or outcomes and kinds.
