@@ -8,11 +8,11 @@ use Rattle.model.specs.Devices.{AppendsFront}
 use Rattle.model.specs.Schedule.{events_of}
 use Rattle.schedule.specs.Files.{Recording}
 use Rattle.schedule.specs.Joined.{RecordedFile}
-use Rattle.data_races.specs.OwnEdges.{names_own_edges}
 use Rattle.command_line.specs.Choices.{AreChosen}
 use Rattle.command_line.specs.declared.options.LimitOptions.{LimitOptions}
 use Rattle.command_line.specs.declared.options.Search.{Search}
 use Rattle.search.specs.declared.kinds.Goal.{Goal}
+use Rattle.search.specs.OwnEdges.{names_own_edges}
 use Rattle.search.specs.search_reports.Answers.{Answers}
 use Rattle.search.specs.search_reports.Reports.{search_text}
 use Rattle.search.specs.declared.search_reports.answers.Answer.{Answer}

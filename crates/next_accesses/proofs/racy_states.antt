@@ -1,4 +1,5 @@
 pub mod Alike
 pub mod Places
-pub mod Racing
+pub mod RaceAt
 pub mod Growing
+pub mod Kept

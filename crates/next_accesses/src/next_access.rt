@@ -19,12 +19,16 @@ ghost use Rattle.next_accesses.specs.next_access.Next.{TellsFrame, TellsNext, Te
 use crate::access_conditions::goes_on;
 use crate::access_tables::AccessTables;
 use crate::accesses::access_of;
+use crate::read_operands::operands_are_read;
 use linked_code::{LinkedProgram, MethodBody};
 use machine_state::Shared;
+use machine_state::linked_frames::tops_are_shown;
 use machine_state::method_selection::method_at;
 use model::built_in::NO_OFFSET;
 use race_places::run_actions::Action;
-use thread_rules::next_rules::{NextRule, next_rule};
+use run_laws::soundness::no_event_is_wrong;
+use run_laws::word_operands::receivers_fit;
+use thread_rules::next_rules::{NextRule, next_rule, rules_are_meant};
 use thread_stacks::{Frame, ThreadStack};
 
 /// The offsets at which the instructions of a method stand, by their places.
@@ -60,6 +64,10 @@ fn access_on(
 ) -> Option<Action>
     ensures { TellsFrame tables.now.linked.now program.now shared.now thread (shown_frame frame.now) result }
 {
+    no_event_is_wrong();
+    receivers_fit();
+    operands_are_read();
+    tops_are_shown();
     let offset = offset_of(program, frame.method, frame.place);
     let instruction = tables.instruction_at(frame.method, offset)?;
     let field = tables.field_named(frame.method, offset, instruction);
@@ -80,6 +88,7 @@ fn access_with(
 ) -> Option<Action>
     ensures { TellsStack tables.now.linked.now program.now shared.now thread stack.now result }
 {
+    rules_are_meant();
     match next_rule(&shared.threads, stack, thread) {
         NextRule::Bytecode => match stack.frame() {
             Some(frame) => access_on(tables, program, shared, thread, &frame),

@@ -35,7 +35,7 @@ module _ (files : Program) (site : Site) (ops : List Value) (operands : List ℕ
     name_is = ap (λ (o : Option Member). unwrap_or o no_member) is.at
 
     there : IsTrue ((names_of files).has_field field.class field.field)
-    there = subst (λ (o : Option Member). IsTrue (is_some o)) (sym is.at) tt
+    there = subst (λ (o : Option Member). IsTrue (is_some o)) (sym is.at) refl
 
     volatile_is : field.is_volatile ≡ declares_volatile files ((names_of files).field field.class field.field)
     volatile_is = is.is_volatile ∙ ap (declares_volatile files) (sym name_is)

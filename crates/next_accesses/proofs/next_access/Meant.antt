@@ -1,6 +1,6 @@
 -- What is told of a thread is what its next event reads or writes.
 use Rattle.std.proofs.Common.{◌≡◌, refl, sym, ap, subst, ◌∙◌, ℕ, zero, suc, List, [], ◌∷◌, map, Bool, true, false, if◌then◌else◌, Option, Some, None}
-use Rattle.std.specs.Prelude.{IsFalse, ◌⊎◌, slice_get}
+use Rattle.std.specs.Prelude.{IsFalse, ◌&&◌, ◌⊎◌, slice_get}
 use Rattle.std.specs.Option.{option_map, option_map_or, option_and_then, option_to_list}
 use Rattle.std.proofs.Common.{inl, inr}
 use Rattle.std.proofs.lemmas.Option.{same_Some}
@@ -16,7 +16,7 @@ use Rattle.model.specs.Lookup.{find_field}
 use Rattle.model.specs.LimitStands.{Bounds}
 use Rattle.model.specs.Operands.{Slots, values, word_of}
 use Rattle.model.specs.State as state
-use Rattle.model.specs.State.{types_of, StackOf, State}
+use Rattle.model.specs.State.{types_of, StackOf, World, State}
 use Rattle.model.specs.Worlds.{thread_at}
 use Rattle.model.specs.Sites.{MeaningOf, Site, site_with}
 use Rattle.model.specs.Meanings.{meaning_of}
@@ -27,7 +27,7 @@ use Rattle.run_laws.specs.soundness.Runs.{IsNoEventWrong}
 use Rattle.run_laws.specs.word_operands.Receivers.{Receiver, receiver_of, IsReceived, AreReceived}
 use Rattle.linked_code.specs.declared.program.LinkedProgram.{LinkedProgram}
 use Rattle.linked_code.specs.Numbers.{IsMethodAt}
-use Rattle.thread_stacks.specs.Stacks.{ShownFrame, ShownEntry, Invocation}
+use Rattle.thread_stacks.specs.Stacks.{ShownFrame, ShownEntry, Invocation, IsTopFrame}
 use Rattle.heap.specs.java_threads.Table.{thread_at as shown_thread}
 use Rattle.machine_state.specs.declared.state.Shared.{Shared}
 use Rattle.machine_state.specs.Shown.{IsProgram}
@@ -180,6 +180,9 @@ module _ (wrong : IsNoEventWrong) (receives : AreReceived) (reads : AreOperandsR
         let is = h trees site (operands_of instruction) of_field (subst (λ (ns : List ℕ). ReadsAt (operands_of instruction) ns site.instr) operands_are read) in
         record { are = told_so told access is.are ∙ sym (seen passes); right = right_so told access is.right }
 
+    pub silent : told ≡ false → AreAccesses trees bounds.frames state t None
+    silent e = record { are = sym (seen passes ∙ ap (λ b. only_if b accesses) e); right = tt }
+
   -- by the instruction that was looked up
   pub frame_told : (place : ℕ) → place ≡ offset_at p frame.method frame.place → (i : Instr) → site.instr ≡ i → (field : Option NamedField)
       → IsFieldNamed trees frame.method place i field → (told : Bool) → GoesOn p shared t frame.operands i field told → (access : Option Action)
@@ -188,6 +191,13 @@ module _ (wrong : IsNoEventWrong) (receives : AreReceived) (reads : AreOperandsR
       let of_field : IsFieldOf trees site i field = named_so field i is (subst (λ (n : ℕ). IsFieldNamed trees frame.method n i field) (e ∙ sym offset_is) names) in
       tells field told (subst (λ (x : Instr). GoesOn p shared t frame.operands x field told) (sym is) goes) (subst (λ (x : Instr). IsFieldOf trees site x field) (sym is) of_field)
       access (subst (λ (x : Instr). TellsAccess frame.operands x field access) (sym is) h)
+
+  pub frame_silent : (place : ℕ) → place ≡ offset_at p frame.method frame.place → (i : Instr) → site.instr ≡ i → (field : Option NamedField)
+      → IsFieldNamed trees frame.method place i field → (told : Bool) → GoesOn p shared t frame.operands i field told → told ≡ false
+      → AreAccesses trees bounds.frames state t None
+  frame_silent place e i is field names told goes not_so =
+      let of_field : IsFieldOf trees site i field = named_so field i is (subst (λ (n : ℕ). IsFieldNamed trees frame.method n i field) (e ∙ sym offset_is) names) in
+      silent field told (subst (λ (x : Instr). GoesOn p shared t frame.operands x field told) (sym is) goes) (subst (λ (x : Instr). IsFieldOf trees site x field) (sym is) of_field) not_so
 
 -- ---- what a function tells of a frame
 
@@ -209,10 +219,17 @@ module _ (wrong : IsNoEventWrong) (receives : AreReceived) (reads : AreOperandsR
     pub goes_told : (access : Option Action) → TellsAccess frame.operands i field access → told ≡ true → TellsFrame trees p shared t frame access
     goes_told access h e = subst (λ b. TellsFrame trees p shared t frame (if b then access else None)) e (told_with access h)
 
-    pub stays_told : (access : Option Action) → TellsAccess frame.operands i field access → told ≡ false → TellsFrame trees p shared t frame None
-    stays_told access h e = subst (λ b. TellsFrame trees p shared t frame (if b then access else None)) e (told_with access h)
+    pub stays_told : told ≡ false → TellsFrame trees p shared t frame None
+    stays_told e bounds state r stack at top =
+        let is = same_Some _ _ (sym (instr_is wrong receives reads tops trees p shared t frame bounds state r stack at top (Some i) place place_is looked)) in
+        frame_silent wrong receives reads tops trees p shared t frame bounds state r stack at top place place_is i is field names told goes e
 
 -- ---- by the rule of a thread
+
+-- the frame on top, where there is one
+top_is : (stack : List ShownEntry) (shown : ShownFrame) (others : List ShownEntry) → stack ≡ Invocation shown ∷ others → (found : Option ShownFrame)
+    → IsTopFrame stack found → found ≡ Some shown
+top_is stack shown others e found h = subst (λ (s : List ShownEntry). IsTopFrame s found) e h
 
 module _ (meant : AreRulesMeant) (trees : Program) (p : LinkedProgram) (shared : Shared) (t : ℕ) (stack : List ShownEntry) (told : NextRule)
     (is : IsRule (shown_thread shared.threads.threads t) stack told) where
@@ -221,21 +238,21 @@ module _ (meant : AreRulesMeant) (trees : Program) (p : LinkedProgram) (shared :
   means e bounds state r = meant trees p bounds r.inflated shared state r.program r.shown t stack e told is
 
   -- at an instruction, in the frame on top
-  pub top_told : told ≡ rule.Bytecode → (frame : ShownFrame) (others : List ShownEntry) → stack ≡ Invocation frame ∷ others → (access : Option Action)
+  pub top_told : told ≡ rule.Bytecode → (frame : ShownFrame) → IsTopFrame stack (Some frame) → (access : Option Action)
       → TellsFrame trees p shared t frame access → TellsStack trees p shared t stack access
-  top_told by frame others top access h e bounds state r =
+  top_told by frame top access h e bounds state r =
       let at : IsAtInstruction trees p bounds r.inflated t shared stack state = subst (MeansRule trees p bounds r.inflated t shared stack state) by (means e bounds state r) in
-      h bounds state r stack at (by_top (sym at.runs.is_stack ∙ top))
+      h bounds state r stack at (sym (same_Some frame at.runs.shown (top_is stack at.runs.shown at.runs.others at.runs.is_stack (Some frame) top)))
+
+  pub no_top : told ≡ rule.Bytecode → IsTopFrame stack None → TellsStack trees p shared t stack None
+  no_top by top e bounds state r =
+      let at : IsAtInstruction trees p bounds r.inflated t shared stack state = subst (MeansRule trees p bounds r.inflated t shared stack state) by (means e bounds state r) in
+      absurd (differs at.runs.shown (top_is stack at.runs.shown at.runs.others at.runs.is_stack None top))
     where
-      by_top : {a b : ShownFrame} {xs ys : List ShownEntry} → Invocation a ∷ xs ≡ Invocation b ∷ ys → a ≡ b
-      by_top e = cc
+      differs : (frame : ShownFrame) → None ≡ Some frame → ⊥
+      differs frame e = cc
 
-  pub no_top : told ≡ rule.Bytecode → ((frame : ShownFrame) (others : List ShownEntry) → stack ≡ Invocation frame ∷ others → ⊥) → TellsStack trees p shared t stack None
-  no_top by none e bounds state r =
-      let at : IsAtInstruction trees p bounds r.inflated t shared stack state = subst (MeansRule trees p bounds r.inflated t shared stack state) by (means e bounds state r) in
-      absurd (none at.runs.shown at.runs.others at.runs.is_stack)
-
-  none_at : (bounds : Bounds) (state : State) (m : Rule) → rule_of trees state t ≡ m → ((world : _) → accesses_of trees (record { thread = t; pick = 0 }) world m ≡ [])
+  none_at : (bounds : Bounds) (state : State) (m : Rule) → rule_of trees state t ≡ m → ((world : World) → accesses_of trees (record { thread = t; pick = 0 }) world m ≡ [])
       → AreAccesses trees bounds.frames state t None
   none_at bounds state m e none = record { are = sym (none_of_rule trees bounds.frames state t m e none); right = tt }
 

@@ -29,11 +29,12 @@ use Rattle.next_accesses.specs.next_access.Next.{is_access}
 abbrev reads_of : List Action → List Action
 reads_of xs = filter is_access xs
 
-drops : (xs ys : List Action) → reads_of xs ≡ [] → reads_of (xs ++ ys) ≡ reads_of ys
-drops xs ys e = filter-append is_access xs ys ∙ ap (λ l. l ++ reads_of ys) e
+-- of two parts one alone has any
+drops : (xs ys all : List Action) → reads_of xs ≡ [] → reads_of ys ≡ all → reads_of (xs ++ ys) ≡ all
+drops xs ys all e g = filter-append is_access xs ys ∙ ap (λ l. l ++ reads_of ys) e ∙ g
 
-keeps : (xs ys : List Action) → reads_of xs ≡ xs → reads_of ys ≡ [] → reads_of (xs ++ ys) ≡ xs
-keeps xs ys e g = filter-append is_access xs ys ∙ ap (λ l. l ++ reads_of ys) e ∙ ap (λ l. xs ++ l) g ∙ append-nil xs
+keeps : (xs ys all : List Action) → reads_of xs ≡ all → reads_of ys ≡ [] → reads_of (xs ++ ys) ≡ all
+keeps xs ys all e g = filter-append is_access xs ys ∙ ap (λ l. l ++ reads_of ys) e ∙ ap (λ l. all ++ l) g ∙ append-nil all
 
 none_mapped : {A : Type 0} (f : A → Action) (xs : List A) → ((x : A) → is_access (f x) ≡ false) → reads_of (map f xs) ≡ []
 none_mapped f [] h = refl
@@ -72,7 +73,7 @@ none_status world u = none_either (thread_at world u).interrupted (FindInterrupt
 
 none_join : (world : World) (t u : ℕ) → reads_of (found_by_join world t u) ≡ []
 none_join world t u =
-    none_either (is_over world u) (FindFinished u ∷ []) (found_own world t ++ FindStarted u ∷ []) refl (drops (found_own world t) (FindStarted u ∷ []) (none_own world t))
+    none_either (is_over world u) (FindFinished u ∷ []) (found_own world t ++ FindStarted u ∷ []) refl (drops (found_own world t) (FindStarted u ∷ []) [] (none_own world t) refl)
 
 none_on : (world : World) (t object : ℕ) (m : BuiltInMethod) → reads_of (found_on world t object m) ≡ []
 none_on world t object ObjectWait = none_if (is_owner world t object) (found_own world t) (none_own world t)
@@ -110,7 +111,7 @@ none_cleared t old new = none_if ((thread_at old t).interrupted && not (thread_a
 none_ended : (t : ℕ) (old new : World) → reads_of (end_actions t old new) ≡ []
 none_ended t old new =
     let woken = besides (waiting old) (waiting new) in
-    none_if (is_over new t) (map Wake woken ++ Finish t ∷ []) (drops (map Wake woken) (Finish t ∷ []) (none_mapped Wake woken (λ u. refl)))
+    none_if (is_over new t) (map Wake woken ++ Finish t ∷ []) (drops (map Wake woken) (Finish t ∷ []) [] (none_mapped Wake woken (λ u. refl)) refl)
 
 -- ---- accesses
 
@@ -162,13 +163,22 @@ accesses_alone files event old r new =
     let clears = clear_actions event.thread old new in
     let ends = map FinishInitialisation (finished_classes old new) in
     let last = end_actions event.thread old new in
-    drops class _ (none_class old (needed_class files event.thread r))
-    ∙ drops found _ (none_found files event old r)
-    ∙ drops locks _ (none_mapped Lock _ (λ o. refl))
-    ∙ keeps accesses _ (all_of files event old r)
-    (drops unlocks _ (none_mapped Unlock _ (λ o. refl))
-    ∙ drops starts _ (none_mapped Start _ (λ o. refl))
-    ∙ drops interrupts _ (none_interrupts files event old r)
-    ∙ drops clears _ (none_cleared event.thread old new)
-    ∙ drops ends _ (none_mapped FinishInitialisation _ (λ o. refl))
-    ∙ none_ended event.thread old new)
+    let to_found = class ++ found in
+    let to_locks = to_found ++ locks in
+    let to_accesses = to_locks ++ accesses in
+    let to_unlocks = to_accesses ++ unlocks in
+    let to_starts = to_unlocks ++ starts in
+    let to_interrupts = to_starts ++ interrupts in
+    let to_clears = to_interrupts ++ clears in
+    let to_ends = to_clears ++ ends in
+    let none_before : reads_of to_locks ≡ [] =
+    drops to_found locks [] (drops class found [] (none_class old (needed_class files event.thread r)) (none_found files event old r))
+    (none_mapped Lock (besides (owned event.thread new) (owned event.thread old)) (λ o. refl))
+    in
+    let so_far : reads_of to_accesses ≡ accesses = drops to_locks accesses accesses none_before (all_of files event old r) in
+    let to_unlocks_are = keeps to_accesses unlocks accesses so_far (none_mapped Unlock (besides (owned event.thread old) (owned event.thread new)) (λ o. refl)) in
+    let to_starts_are = keeps to_unlocks starts accesses to_unlocks_are (none_mapped Start (started old new) (λ o. refl)) in
+    let to_interrupts_are = keeps to_starts interrupts accesses to_starts_are (none_interrupts files event old r) in
+    let to_clears_are = keeps to_interrupts clears accesses to_interrupts_are (none_cleared event.thread old new) in
+    let to_ends_are = keeps to_clears ends accesses to_clears_are (none_mapped FinishInitialisation (finished_classes old new) (λ o. refl)) in
+    keeps to_ends last accesses to_ends_are (none_ended event.thread old new)

@@ -1,5 +1,5 @@
 -- The conditions on the words of a machine are those of the instruction over values.
-use Rattle.std.proofs.Common.{◌≡◌, ℕ, zero, suc, List, [], ◌∷◌, length, take, map, Bool, true, false, nat_lt, Option, Some, None, if◌then◌else◌, refl, sym, ap, subst, ◌∙◌}
+use Rattle.std.proofs.Common.{◌≡◌, ℕ, zero, suc, ◌+◌, List, [], ◌∷◌, length, take, map, Bool, true, false, nat_lt, Option, Some, None, if◌then◌else◌, refl, sym, ap, subst, ◌∙◌}
 use Rattle.std.specs.Prelude.{IsTrue, ◌&&◌, ◌⊎◌, slice_get, slice_index_or}
 use Rattle.std.specs.Option.{option_map, option_map_or, option_and_then}
 use Rattle.std.proofs.Common.{inl, inr}
@@ -25,7 +25,7 @@ use Rattle.model.specs.ReferenceTypes.{PrimitiveArray, ReferenceArray, Char, Sho
 use Rattle.model.specs.Types.{VerificationType, Want, AReference, AByteArray, value_meets}
 use Rattle.model.specs.Operands.{Slots, values, words, over_values, under, word_of, word_reference}
 use Rattle.model.specs.State.{ObjectOf, Instance, Primitives, References, types_of, World, WorldOf}
-use Rattle.model.specs.Outcomes.{OutcomeOf, Goes, not_null}
+use Rattle.model.specs.Outcomes.{Cost, OutcomeOf, Goes, not_null}
 use Rattle.model.specs.ClassInitialisation.{look_at, look_by, status_of}
 use Rattle.model.specs.Worlds.{object_at, elements_of, no_object}
 use Rattle.model.specs.Sites.{MeaningOf, Site, site_with, operand, referent, int_operand}
@@ -86,22 +86,21 @@ tested test None e = absurd (false≢true e)
 tested test (Some x) e = record { item = x; at = refl; passes = e }
 
 true_is : (b : Bool) → IsTrue b → b ≡ true
-true_is true h = refl
-true_is false h = absurd h
+true_is b h = h
 
 array_is : (kind : ArrayKind) (o : ObjectOf ℕ) → is_array_of kind o ≡ true → is_array o ≡ true
 array_is kind (Instance class fields) e = absurd (false≢true e)
 array_is kind (Primitives of elements) e = refl
 array_is kind (References of elements) e = refl
 
-index_goes : (b : Bool) (x : OutcomeOf Value) → goes_on x ≡ true → goes_on (at_index b x) ≡ b
-index_goes true x e = e
-index_goes false x e = refl
+index_goes : (b : Bool) (cost : Cost) (after : World) (slots : Slots Value) (to : ℕ) → goes_on (at_index b (Goes cost after slots to)) ≡ b
+index_goes true cost after slots to = refl
+index_goes false cost after slots to = refl
 
-storable_goes : (a b : Bool) (x : OutcomeOf Value) → goes_on x ≡ true → goes_on (at_index a (if_storable b x)) ≡ (a && b)
-storable_goes true true x e = e
-storable_goes true false x e = refl
-storable_goes false b x e = refl
+storable_goes : (a b : Bool) (cost : Cost) (after : World) (slots : Slots Value) (to : ℕ) → goes_on (at_index a (if_storable b (Goes cost after slots to))) ≡ (a && b)
+storable_goes true true cost after slots to = refl
+storable_goes true false cost after slots to = refl
+storable_goes false b cost after slots to = refl
 
 -- System.out is found
 out_found : (files : Program) → find_field files system_out ≡ Some system_out
@@ -274,27 +273,21 @@ module _ (files : Program) (p : LinkedProgram) (bounds : Bounds) (shared : Share
         let named = some_from (field_meaning values files (site_of (instr.Field access.GetStatic index)).next access.GetStatic) (field_at code.pool index) m means in
         by named.0 named.1 (member_eq named.0 system_out) refl named.2
       where
-        abbrev i : Instr
-        i = instr.Field access.GetStatic index
-
-        abbrev next : ℕ
-        next = (site_of i).next
-
         by : (named : Member) → field_at code.pool index ≡ Some named → (b : Bool) → member_eq named system_out ≡ b
-            → (if b then Some (system_out_meaning values next) else option_and_then (if_field is_static_field files (get_static_of values files next)) (find_field files named)) ≡ Some m
-            → Claim (site_of i) m
+            → (if b then Some (system_out_meaning values (offset + size)) else option_and_then (if_field is_static_field files (get_static_of values files (offset + size))) (find_field files named)) ≡ Some m
+            → Claim (site_of (instr.Field access.GetStatic index)) m
         by named names true out e =
-            let x = system_out_meaning values next in
+            let x = system_out_meaning values (offset + size) in
             let is_out : named ≡ system_out = members_same named system_out out in
-            as_meant i x m (same_Some x m e)
+            as_meant (instr.Field access.GetStatic index) x m (same_Some x m e)
             (λ told given. static_told access.GetStatic index named names x refl refl
             (λ member found. ap (λ (o : Member). Some o.class) (same_Some system_out member (sym (out_found files) ∙ ap (find_field files) (sym is_out) ∙ found)))
             given.of_field told (ready_for told field given.goes))
         by named names false other e =
-            let found = some_from (if_field is_static_field files (get_static_of values files next)) (find_field files named) m e in
-            let x = get_static_of values files next found.0 in
+            let found = some_from (if_field is_static_field files (get_static_of values files (offset + size))) (find_field files named) m e in
+            let x = get_static_of values files (offset + size) found.0 in
             let is = of_if (option_map_or is_static_field (field_of files found.0) false) x m found.2 in
-            as_meant i x m is.1
+            as_meant (instr.Field access.GetStatic index) x m is.1
             (λ told given. static_told access.GetStatic index named names x refl refl
             (λ member same. ap (λ (o : Member). Some o.class) (same_Some found.0 member (sym found.1 ∙ same)))
             given.of_field told (ready_for told field given.goes))
@@ -357,7 +350,7 @@ module _ (files : Program) (p : LinkedProgram) (bounds : Bounds) (shared : Share
         record {
           is =
               by_array (referent values ops 1) told _ (λ r. Read (Element r index))
-              (λ r e. given.goes ∙ has_it kind 0 r ops (given.received _ refl) (sym given.reads.0 ∙ e) given.reads.1 ∙ sym (index_goes (in_range world r index) _ refl));
+              (λ r e. given.goes ∙ has_it kind 0 r ops (given.received _ refl) (sym given.reads.0 ∙ e) given.reads.1 ∙ sym (index_goes (in_range world r index) _ _ _ _));
           may = refl;
         }
         )
@@ -383,7 +376,7 @@ module _ (files : Program) (p : LinkedProgram) (bounds : Bounds) (shared : Share
               ∙ ap (λ b. has_element shared.heap.objects operands 1 && b) (always given.goes.0 given.goes.1)
               ∙ and_true (has_element shared.heap.objects operands 1)
               ∙ has_it kind 1 r ops (given.received _ refl) (sym given.reads.0 ∙ e) given.reads.1
-              ∙ sym (index_goes (in_range world r index) _ refl));
+              ∙ sym (index_goes (in_range world r index) _ _ _ _));
           may = refl;
         }
         )
@@ -422,7 +415,7 @@ module _ (files : Program) (p : LinkedProgram) (bounds : Bounds) (shared : Share
               given.goes.2
               ∙ ap (λ b. has_element shared.heap.objects operands 1 && b) held
               ∙ ap (λ b. b && may_stand_in values files world (object_at world r) (operand values ops 0)) (has_it array_kind.Reference 1 r ops (given.received _ refl) under_is given.reads.1)
-              ∙ sym (storable_goes (in_range world r index) (may_stand_in values files world (object_at world r) (operand values ops 0)) _ refl));
+              ∙ sym (storable_goes (in_range world r index) (may_stand_in values files world (object_at world r) (operand values ops 0)) _ _ _ _));
           may = refl;
         }
         )

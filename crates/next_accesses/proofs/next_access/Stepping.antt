@@ -3,13 +3,14 @@ use Rattle.std.proofs.Common.{◌≡◌, refl, sym, ap, subst, ◌∙◌, ℕ, L
 use Rattle.std.specs.Prelude.{Option, Some, None, IsFalse, if◌then◌else◌, ◌&&◌}
 use Rattle.std.specs.Option.{option_and_then, option_map_or}
 use Rattle.std.specs.List.{filter}
+use Rattle.std.proofs.lemmas.Bool.{true≢false}
 use Rattle.model.specs.declared.event.Event.{Event}
 use Rattle.model.specs.declared.value.Value.{Value}
 use Rattle.model.specs.Names.{Name}
 use Rattle.model.specs.Classes.{Program}
 use Rattle.model.specs.Operands.{Slots, values, under}
 use Rattle.model.specs.State as state
-use Rattle.model.specs.State.{types_of, StackOf, State}
+use Rattle.model.specs.State.{types_of, StackOf, World, State}
 use Rattle.model.specs.Outcomes.{Cost, OutcomeOf, Goes, Raises, Throws, Interrupts, Calls, Returns, Waits}
 use Rattle.model.specs.Worlds.{thread_at}
 use Rattle.model.specs.ClassInitialisation.{Look, IsReady, IsNew, IsHeld, HasFailed, look_by, look_at, status_of}
@@ -67,7 +68,7 @@ module _ (files : Program) (frames : ℕ) (s : State) (t : ℕ) (instruction : I
       by : (b : Bool) → does_find ≡ b → does_find ≡ true
       by true e = e
       by false e =
-          absurd (subst (λ (x : SteppedOf State). IsFalse (is_wrong x)) (stepped_at ∙ ap (λ b. whole (if b then enabled_if may then_done else unpicked event WrongKind)) e) right)
+          absurd (true≢false (subst (λ (x : SteppedOf State). IsFalse (is_wrong x)) (stepped_at ∙ ap (λ b. whole (if b then enabled_if may then_done else unpicked event WrongKind)) e) right))
 
   ready_look : (look : Look) (class : Name) (p : SteppedOf (PartOf Value)) → is_ready look ≡ true → needing values files t class look s.world own p ≡ p
   ready_look IsReady class p r = refl
@@ -116,7 +117,7 @@ module _ (files : Program) (frames : ℕ) (s : State) (t : ℕ) (instruction : I
     abbrev does_so : Bool
     does_so = is_done t s.world instruction && goes_on (outcome_at event s.world instruction)
 
-    after : State → List Action
+    abbrev after : State → List Action
     after next = actions_to files event s.world (rule_of files s t) next.world
 
     after_is : (next : State) → filter is_access (after next) ≡ accesses_of files event s.world (Does instruction)
@@ -160,7 +161,7 @@ module _ (files : Program) (frames : ℕ) (s : State) (t : ℕ) where
   abbrev its_event : Event
   its_event = record { thread = t; pick = 0 }
 
-  pub none_of_rule : (r : Rule) → rule_of files s t ≡ r → ((world : _) → accesses_of files its_event world r ≡ []) → accesses_next files frames s t ≡ []
+  pub none_of_rule : (r : Rule) → rule_of files s t ≡ r → ((world : World) → accesses_of files its_event world r ≡ []) → accesses_next files frames s t ≡ []
   none_of_rule r e none = by (next_by (stepped values files frames s its_event))
     where
       by : (o : Option State) → filter is_access (option_map_or (λ (next : State). actions_to files its_event s.world (rule_of files s t) next.world) o []) ≡ []

@@ -28,21 +28,21 @@ pub record Passing {A : Type 0} (p : A → Bool) (xs : List A) : Type 0 where
 
 pub passing : {A : Type 0} (p : A → Bool) (xs : List A) → list_any p xs ≡ true → Passing p xs
 passing p [] e = absurd (false≢true e)
-passing p (x ∷ xs) e = by (p x) refl e
+passing p (x ∷ xs) e = by (passing p xs) (p x) refl e
   where
-    by : (b : Bool) → p x ≡ b → (b || list_any p xs) ≡ true → Passing p (x ∷ xs)
-    by true h e = record { item = x; is_in = record { place = 0; at = refl }; passes = h }
-    by false h e = let f = passing p xs e in record { item = f.item; is_in = behind x xs f.item f.is_in; passes = f.passes }
+    by : (list_any p xs ≡ true → Passing p xs) → (b : Bool) → p x ≡ b → (b || list_any p xs) ≡ true → Passing p (x ∷ xs)
+    by rest true h e = record { item = x; is_in = record { place = 0; at = refl }; passes = h }
+    by rest false h e = let f = rest e in record { item = f.item; is_in = behind x xs f.item f.is_in; passes = f.passes }
 
 -- ---- maps
 
+mapped_at : {A B : Type 0} (f : A → B) (xs : List A) (x : A) (k : ℕ) → slice_get xs k ≡ Some x → slice_get (map f xs) k ≡ Some (f x)
+mapped_at f [] x k e = absurd cc
+mapped_at f (y ∷ ys) x zero e = ap (λ z. Some (f z)) (same_Some y x e)
+mapped_at f (y ∷ ys) x (suc k) e = mapped_at f ys x k e
+
 pub mapped : {A B : Type 0} (f : A → B) (xs : List A) (x : A) → IsIn xs x → IsIn (map f xs) (f x)
-mapped f xs x h = record { place = h.place; at = by xs h.place h.at }
-  where
-    by : (ys : List _) (k : ℕ) → slice_get ys k ≡ Some x → slice_get (map f ys) k ≡ Some (f x)
-    by [] k e = absurd cc
-    by (y ∷ ys) zero e = ap (λ z. Some (f z)) (same_Some y x e)
-    by (y ∷ ys) (suc k) e = by ys k e
+mapped f xs x h = record { place = h.place; at = mapped_at f xs x h.place h.at }
 
 pub record MappedFrom {A B : Type 0} (f : A → B) (xs : List A) (y : B) : Type 0 where
   pub item : A
@@ -69,12 +69,13 @@ kept p (y ∷ xs) x (suc k) e h = by (p y) (kept p xs x k e h)
 
 pub kept_from : {A : Type 0} (p : A → Bool) (xs : List A) (x : A) (k : ℕ) → slice_get (filter p xs) k ≡ Some x → IsIn xs x
 kept_from p [] x k e = absurd cc
-kept_from p (y ∷ xs) x k e = by (p y) k e
+kept_from p (y ∷ xs) x k e = by (kept_from p xs x) (p y) k e
   where
-    by : (b : Bool) (k : ℕ) → slice_get (if b then y ∷ filter p xs else filter p xs) k ≡ Some x → IsIn (y ∷ xs) x
-    by true zero e = record { place = 0; at = e }
-    by true (suc k) e = behind y xs x (kept_from p xs x k e)
-    by false k e = behind y xs x (kept_from p xs x k e)
+    by : ((k : ℕ) → slice_get (filter p xs) k ≡ Some x → IsIn xs x) → (b : Bool) (k : ℕ)
+        → slice_get (if b then y ∷ filter p xs else filter p xs) k ≡ Some x → IsIn (y ∷ xs) x
+    by rest true zero e = record { place = 0; at = e }
+    by rest true (suc k) e = behind y xs x (rest k e)
+    by rest false k e = behind y xs x (rest k e)
 
 -- ---- an optional item
 
@@ -88,12 +89,18 @@ only_one (Some y) x (suc k) e = absurd cc
 
 -- ---- numbers from one on
 
-pub counted : (from n k : ℕ) → k < n → slice_get (counting from n) k ≡ Some (from + k)
+counted : (from n k : ℕ) → k < n → slice_get (counting from n) k ≡ Some (from + k)
 counted from zero k h = absurd (omega (arith, h))
 counted from (suc n) zero h = ap (λ (x : ℕ). Some x) (omega arith)
 counted from (suc n) (suc k) h = counted (suc from) n k (omega (arith, h)) ∙ ap (λ (x : ℕ). Some x) (omega arith)
 
-pub counted_below : (from n k x : ℕ) → slice_get (counting from n) k ≡ Some x → x < from + n
+counted_below : (from n k x : ℕ) → slice_get (counting from n) k ≡ Some x → x < from + n
 counted_below from zero k x e = absurd cc
 counted_below from (suc n) zero x e = let is : from ≡ x = same_Some from x e in omega (arith, is)
 counted_below from (suc n) (suc k) x e = let h = counted_below (suc from) n k x e in omega (arith, h)
+
+pub counted_at : (n k : ℕ) → k < n → slice_get (counting 0 n) k ≡ Some k
+counted_at n k h = counted 0 n k h ∙ ap (λ (x : ℕ). Some x) (omega arith)
+
+pub counted_within : (n k x : ℕ) → slice_get (counting 0 n) k ≡ Some x → x < n
+counted_within n k x e = let h = counted_below 0 n k x e in omega (arith, h)

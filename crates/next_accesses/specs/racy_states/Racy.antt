@@ -1,5 +1,6 @@
 -- Races of states (JLS 17.4.5), by the words of a machine.
 use Rattle.std.specs.Prelude.{◌≡◌, ◌<◌, ℕ, List, Option, Some, None, Bool, true, false, IsTrue, IsFalse, ⊤, not, ◌&&◌, ◌||◌, ◌==◌, slice_get}
+use Rattle.std.specs.List.{list_any}
 use Rattle.model.specs.declared.event.Event.{Event}
 use Rattle.model.specs.Classes.{Program}
 use Rattle.model.specs.Run.{run}
@@ -45,7 +46,7 @@ do_conflict a b = not (a.thread == b.thread) && conflict a.action b.action
 
 -- one of these conflicts with an action, or none does
 abbrev pub IsConflictIn : RunAction → List RunAction → Option RunAction → Type 0
-IsConflictIn a others None = (k : ℕ) (b : RunAction) → slice_get others k ≡ Some b → do_conflict a b ≡ false
+IsConflictIn a others None = list_any (do_conflict a) others ≡ false
 IsConflictIn a others (Some b) = (k : ℕ) × (slice_get others k ≡ Some b) × (do_conflict a b ≡ true)
 
 -- two of these conflict
@@ -61,7 +62,7 @@ pub record IsRaceOf (actions : List RunAction) (race : Race) : Type 0 where
 
 -- or no two do
 abbrev pub IsRaceIn : List RunAction → Option Race → Type 0
-IsRaceIn actions None = (i : ℕ) (a : RunAction) → slice_get actions i ≡ Some a → (j : ℕ) (b : RunAction) → slice_get actions j ≡ Some b → do_conflict a b ≡ false
+IsRaceIn actions None = list_any (λ a. list_any (do_conflict a) actions) actions ≡ false
 IsRaceIn actions (Some race) = IsRaceOf actions race
 
 -- ---- what the next events of the first threads read and write, of so many

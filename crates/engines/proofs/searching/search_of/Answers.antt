@@ -3,7 +3,7 @@ use Rattle.std.specs.Arc.{arc_value}
 use Rattle.std.proofs.lemmas.List.{length-map}
 use Rattle.model.specs.Classes.{Program}
 use Rattle.machine.specs.Machines.{IsProgramOf}
-use Rattle.data_races.specs.OwnEdges.{names_own_edges}
+use Rattle.search.specs.OwnEdges.{names_own_edges}
 use Rattle.search.specs.search_reports.Answers.{Answers}
 use Rattle.search.specs.search_reports.Reports.{search_text}
 use Rattle.std.specs.Option.{option_map}

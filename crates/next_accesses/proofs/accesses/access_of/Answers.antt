@@ -19,7 +19,7 @@ returns-in-LoadElement c =
 pub returns-in-StoreElement : goal.returns-in-StoreElement
 returns-in-StoreElement c =
     store_told (shown_frame c.args.frame.now).operands c.args.instruction _ c.in-StoreElement.is c.args.field c.write.result
-    (c.write.ensures ∙ ap (write_of false) c.element.ensures)
+    (c.write.ensures ∙ ap (write_of false) c.element-in-StoreElement.ensures)
 
 pub returns-in_default : goal.returns-in_default
 returns-in_default c =

@@ -3,7 +3,7 @@ use Rattle.std.proofs.Common.{◌≡◌, ℕ, ◌<◌, List, [], ◌∷◌, Bool
 use Rattle.std.specs.Prelude.{IsTrue, IsFalse, not, ◌&&◌, ◌||◌, ◌==◌, slice_get, is_some}
 use Rattle.std.specs.Option.{option_to_list}
 use Rattle.std.specs.List.{list_any, filter}
-use Rattle.std.proofs.lemmas.Bool.{and_parts, false≢true}
+use Rattle.std.proofs.lemmas.Bool.{and_parts, false≢true, true≢false}
 use Rattle.std.proofs.lemmas.Option.{same_Some}
 use Rattle.model.specs.declared.event.Event.{Event}
 use Rattle.model.specs.Classes.{Program}
@@ -30,15 +30,13 @@ use Rattle.next_accesses.specs.declared.racy_states.Race.{Race}
 use Rattle.next_accesses.specs.next_access.Next.{IsReached, is_access, accesses_next, AreAccesses}
 use Rattle.next_accesses.specs.racy_states.Racy.{conflict, do_conflict, IsRaceIn, IsRaceOf, next_of, IsAmong, IsFound, AreNext, TellsState, IsRaceAt, IsRaceIf, TellsRace}
 use Rattle.next_accesses.proofs.racy_states.Alike.{conflicts_alike}
-use Rattle.next_accesses.proofs.racy_states.Places.{IsIn, any_of, Passing, passing, mapped, MappedFrom, mapped_from, kept, kept_from, only_one, counted, counted_below}
+use Rattle.next_accesses.proofs.racy_states.Places.{IsIn, any_of, Passing, passing, mapped, MappedFrom, mapped_from, kept, kept_from, only_one, counted_at, counted_within}
 
 true_of : (b : Bool) → IsTrue b → b ≡ true
-true_of true h = refl
-true_of false h = absurd h
+true_of b h = h
 
 is_true : (b : Bool) → b ≡ true → IsTrue b
-is_true true e = tt
-is_true false e = absurd (false≢true e)
+is_true b e = e
 
 -- only accesses conflict
 first_accesses : (files : Program) (x y : named.Action) → named.conflicts files x y ≡ true → is_access x ≡ true
@@ -93,8 +91,8 @@ module _ (trees : Program) (apart : AreApart (names_of trees)) (frames : ℕ) (s
       in
       is_true (is_racy trees frames state)
       (any_of (λ t. list_any (λ u. have_conflict trees (next_actions trees frames state t) (next_actions trees frames state u)) (counting 0 count)) (counting 0 count)
-      a.thread a.thread (counted 0 count a.thread below)
-      (any_of (λ u. have_conflict trees these (next_actions trees frames state u)) (counting 0 count) b.thread b.thread (counted 0 count b.thread other_below) meets))
+      a.thread a.thread (counted_at count a.thread below)
+      (any_of (λ u. have_conflict trees these (next_actions trees frames state u)) (counting 0 count) b.thread b.thread (counted_at count b.thread other_below) meets))
 
   -- an access of a thread is what is told of it
   record Told (t : ℕ) (x : named.Action) (told : Option Action) : Type 0 where
@@ -153,15 +151,14 @@ module _ (trees : Program) (apart : AreApart (names_of trees)) (frames : ℕ) (s
           tells = subst (AreAccesses trees frames state t) told.is_told tells;
         }
 
-    pub none_racy : ((i : ℕ) (a : RunAction) → slice_get found i ≡ Some a → (j : ℕ) (b : RunAction) → slice_get found j ≡ Some b → do_conflict a b ≡ false)
-        → IsRacy trees frames state → ⊥
+    pub none_racy : list_any (λ a. list_any (do_conflict a) found) found ≡ false → IsRacy trees frames state → ⊥
     none_racy none racy =
         let t = passing (λ t. list_any (λ u. have_conflict trees (next_actions trees frames state t) (next_actions trees frames state u)) (counting 0 count)) (counting 0 count)
         (true_of (is_racy trees frames state) racy) in
         let u = passing (λ u. have_conflict trees (next_actions trees frames state t.item) (next_actions trees frames state u)) (counting 0 count) t.passes in
         let a = passing (λ c. list_any (λ d. (memory_order trees).conflict c d) (next_actions trees frames state u.item)) (next_actions trees frames state t.item) u.passes in
         let b = passing (λ d. (memory_order trees).conflict a.item d) (next_actions trees frames state u.item) a.passes in
-        by t.item u.item (counted_below 0 count t.is_in.place t.item t.is_in.at) (counted_below 0 count u.is_in.place u.item u.is_in.at) a.item b.item
+        by t.item u.item (counted_within count t.is_in.place t.item t.is_in.at) (counted_within count u.is_in.place u.item u.is_in.at) a.item b.item
         (mapped_from (in_event t.item 0) _ a.item a.is_in.place a.is_in.at) (mapped_from (in_event u.item 0) _ b.item b.is_in.place b.is_in.at) b.passes
       where
         by : (t u : ℕ) → t < count → u < count → (a b : ActionOfRun)
@@ -181,7 +178,7 @@ module _ (trees : Program) (apart : AreApart (names_of trees)) (frames : ℕ) (s
             ∙ ap (λ (y : named.Action). (memory_order trees).conflict (in_event t 0 g.item) (in_event u 0 y)) two.named_so
             ∙ conflict_is
             in
-            false≢true (sym (none one.place (next_of t one.access) one.at two.place (next_of u two.access) two.at) ∙ told)
+            false≢true (sym none ∙ any_of (λ a. list_any (do_conflict a) found) found (next_of t one.access) one.place one.at (any_of (do_conflict (next_of t one.access)) found (next_of u two.access) two.place two.at told))
 
     pub race_if : (told : Option Race) → IsRaceIn found told → IsRaceIf trees frames state told
     race_if None h = none_racy h
@@ -217,5 +214,5 @@ racy_told trees m told h answer is files events state done e =
   where
     by : (told : Option Race) → IsRaceIf trees m.limits.frames state told
         → (IsTrue (is_some told) → IsRacy trees m.limits.frames state) × (IsFalse (is_some told) → IsRacy trees m.limits.frames state → ⊥)
-    by None h = (λ t. absurd t, λ f. h)
-    by (Some race) h = (λ t. h.racy, λ f r. f)
+    by None h = (λ t. absurd (false≢true t), λ f. h)
+    by (Some race) h = (λ t. h.racy, λ f r. true≢false f)
