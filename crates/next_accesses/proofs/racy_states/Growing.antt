@@ -81,6 +81,11 @@ module _ (trees : Program) (p : LinkedProgram) (shared : Shared) where
             subst (IsFound trees p shared (found ++ next_of t a ∷ [])) (sym g)
             (record { told = Some a; tells = tells; among = last_at found (next_of t a) })
 
-    pub one_more : (told : Option Action) → TellsNext trees p shared t told → (new : List RunAction) → new ≡ with_next t told found → AreNext trees p shared (suc t) new
-    one_more None tells new is = subst (AreNext trees p shared (suc t)) (sym is) (one_without tells)
-    one_more (Some a) tells new is = subst (AreNext trees p shared (suc t)) (sym is) (one_with a tells)
+    one_after : (told : Option Action) → TellsNext trees p shared t told → (new : List RunAction) → new ≡ with_next t told found → AreNext trees p shared (suc t) new
+    one_after None tells new is = subst (AreNext trees p shared (suc t)) (sym is) (one_without tells)
+    one_after (Some a) tells new is = subst (AreNext trees p shared (suc t)) (sym is) (one_with a tells)
+
+    pub one_more : (told : Option Action) → TellsNext trees p shared t told → (new : List RunAction) → new ≡ with_next t told found → AreNext trees p shared (t + 1) new
+    one_more told tells new is =
+        let same : suc t ≡ t + 1 = omega arith in
+        subst (λ (n : ℕ). AreNext trees p shared n new) same (one_after told tells new is)
