@@ -11,7 +11,7 @@
 //!
 //! - `next_access-null-has-an-access`: an instruction that throws does its access; refused by `access_on`.
 
-ghost use Rattle.std.specs.Prelude.{◌≡◌};
+ghost use Rattle.std.specs.Prelude.{◌≡◌, option_map, slice_get};
 ghost use Rattle.thread_stacks.specs.Stacks.{shown_frame};
 ghost use Rattle.machine_state.specs.shown_stacks.Shown.{offset_at, starts_of as starts_in};
 ghost use Rattle.next_accesses.specs.next_access.Next.{TellsFrame, TellsNext, TellsStack};
@@ -98,6 +98,13 @@ fn access_with(
     }
 }
 
+/// The stack of a thread, if there is such a thread.
+fn stack_of(shared: &Shared, thread: u16) -> Option<&ThreadStack>
+    ensures { option_map (λ s. s.now) result ≡ slice_get shared.now.stacks.items thread }
+{
+    shared.stacks.get(usize::from(thread))
+}
+
 /// What the next event of a thread reads or writes, if it does.
 pub fn next_access(
     tables: &AccessTables<'_>,
@@ -107,7 +114,7 @@ pub fn next_access(
 ) -> Option<Action>
     ensures { TellsNext tables.now.linked.now program.now shared.now thread result }
 {
-    match shared.stacks.get(usize::from(thread)) {
+    match stack_of(shared, thread) {
         Some(stack) => access_with(tables, program, shared, thread, stack),
         None => None,
     }

@@ -16,7 +16,7 @@
 //! - `racy_states-volatile-races`: accesses of volatile variables conflict; refused by `conflict`.
 //! - `racy_states-reads-race`: two reads conflict; refused by `conflict`.
 
-ghost use Rattle.std.specs.Prelude.{◌≡◌, IfOk};
+ghost use Rattle.std.specs.Prelude.{◌≡◌, IfOk, OnOk};
 ghost use Rattle.data_races.specs.Races.{IsRacy};
 ghost use Rattle.next_accesses.specs.racy_states.Racy.{AreNext, IsConflictIn, IsRaceIn, TellsRace, TellsState};
 ghost use Rattle.next_accesses.specs.racy_states.Racy as racy;
@@ -80,7 +80,8 @@ fn writes(variable: Variable, action: Action) -> bool
 {
     match action {
         Action::Write {
-            variable: other, ..
+            variable: other,
+            ..
         } => is_same_variable(variable, other),
         _ => false,
     }
@@ -92,7 +93,8 @@ fn reads(variable: Variable, action: Action) -> bool
 {
     match action {
         Action::Read {
-            variable: other, ..
+            variable: other,
+            ..
         } => is_same_variable(variable, other),
         _ => false,
     }
@@ -146,6 +148,24 @@ fn race_among(actions: &[RunAction]) -> Option<Race>
     None
 }
 
+/// Adds what the next event of a thread reads or writes, if it does.
+fn add_next(
+    found: &mut Vec<RunAction>,
+    thread: u16,
+    action: Option<Action>,
+) -> Result<(), AllocError>
+    ensures { OnOk result (found.new.items ≡ racy.with_next thread action found.old.items) }
+{
+    if let Some(action) = action {
+        found.push(RunAction {
+            thread,
+            event: 0,
+            action,
+        })?;
+    }
+    Ok(())
+}
+
 /// What the next events of the first threads read and write, of so many threads. The only error is a want of memory.
 fn next_accesses(
     alloc: Global,
@@ -158,13 +178,8 @@ fn next_accesses(
 {
     let mut found = Vec::new(alloc);
     'threads: for thread in 0..threads {
-        if let Some(action) = next_access(tables, program, shared, thread) {
-            found.push(RunAction {
-                thread,
-                event: 0,
-                action,
-            })?;
-        }
+        let action = next_access(tables, program, shared, thread);
+        add_next(&mut found, thread, action)?;
     }
     Ok(found)
 }

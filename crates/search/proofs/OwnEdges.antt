@@ -36,4 +36,4 @@ none_more files i lt none = by (slice_get files i) refl
         list_any_more names_own_edge files i f lt ∙ (ap (λ b. b || names_own_edge (get_or files i f)) none ∙ (ap names_own_edge (get_or_from_slice_get files i f f is) ∙ e))
 
 pub none_does : (files : Program) (i : ℕ) → length files ≤ i → DoNone files i → names_own_edges files ≡ false
-none_does files i le none = sym (ap (list_any names_own_edge) (take_all files i le)) ∙ none
+none_does files i le none = sym (ap (list_any names_own_edge) (take_all i files le)) ∙ none

@@ -49,11 +49,13 @@ module _ (m : MachineOf) (o : Option TheOutcome) where
 
   pub deadlocked_by : is_stuck_if o ≡ false → (told : Bool) → (trees : Program) → TellsState trees m HasCircle told → TellDeadlock trees told
   deadlocked_by stuck told trees tells files events state done reached is =
-      let circle = tells files events state done reached in
-      (λ e. inr (circle.0 e), λ e deadlock. elim deadlock [
-        | inl s ↦ not_stuck trees m.limits.frames state o is stuck s
-        | inr c ↦ circle.1 e c
-      ])
+      let circle = tells files events state done reached in (
+        λ e. inr (circle.0 e),
+        λ e deadlock. elim deadlock [
+          | inl s ↦ not_stuck trees m.limits.frames state o is stuck s
+          | inr c ↦ circle.1 e c
+        ],
+      )
 
 -- ---- all kinds
 

@@ -65,17 +65,19 @@ module _ (m : MachineOf) where
       → TellsState trees m HasUncaught true
   tells_uncaught t lt thrown trees files events s done reached =
       let threads = m.shared.threads.threads in
-      let is : slice_get threads t ≡ Some (thread_at threads t) = slice_get-get_or threads t (new_thread 0) lt in
-      (λ e. uncaught_at trees m.limits.frames s t (thread_at threads t) (ap (λ (l : List Thread). slice_get l t) (sym (threads_same m files trees events s done reached)) ∙ is) thrown,
-       λ e. absurd (true≢false e))
+      let is : slice_get threads t ≡ Some (thread_at threads t) = slice_get-get_or threads t (new_thread 0) lt in (
+        λ e. uncaught_at trees m.limits.frames s t (thread_at threads t) (ap (λ (l : List Thread). slice_get l t) (sym (threads_same m files trees events s done reached)) ∙ is) thrown,
+        λ e. absurd (true≢false e),
+      )
 
   pub tells_none_uncaught : ((t : ℕ) → t < length m.shared.threads.threads → HasThrownAt m.shared.threads.threads t false) → (trees : Program)
       → TellsState trees m HasUncaught false
-  tells_none_uncaught none trees files events s done reached =
-      (λ e. absurd (false≢true e),
-       λ e uncaught.
-           let threads = m.shared.threads.threads in
-           let one = thrown_in trees m.limits.frames s uncaught in
-           let is : slice_get threads one.t ≡ Some one.thread = ap (λ (l : List Thread). slice_get l one.t) (threads_same m files trees events s done reached) ∙ one.is in
-           let own : thread_at threads one.t ≡ one.thread = get_or_from_slice_get threads one.t one.thread (new_thread 0) is in
-           true≢false (sym one.thrown ∙ (ap (λ (th : Thread). has_thrown th.status) (sym own) ∙ none one.t (slice_get_within threads one.t one.thread is))))
+  tells_none_uncaught none trees files events s done reached = (
+    λ e. absurd (false≢true e),
+    λ e uncaught.
+        let threads = m.shared.threads.threads in
+        let one = thrown_in trees m.limits.frames s uncaught in
+        let is : slice_get threads one.t ≡ Some one.thread = ap (λ (l : List Thread). slice_get l one.t) (threads_same m files trees events s done reached) ∙ one.is in
+        let own : thread_at threads one.t ≡ one.thread = get_or_from_slice_get threads one.t one.thread (new_thread 0) is in
+        true≢false (sym one.thrown ∙ (ap (λ (th : Thread). has_thrown th.status) (sym own) ∙ none one.t (slice_get_within threads one.t one.thread is))),
+  )

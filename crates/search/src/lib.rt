@@ -5,20 +5,21 @@
 //!
 //! - `search`, memory aside, for the linked program of all accepted files (`IsProgramOf`), limits and numbers of
 //!   states: *Found* is a schedule, in entries that are joined, at none of whose events a limit stood. They lead to a
-//!   state in which no thread may step, with an outcome that is wanted, or to a state of a kind that is to be found, where
-//!   threads may go on (`IsRunFor`). *Complete* has the outcomes of all runs that end, and no other; and exactly those
-//!   kinds of which a run, ending or not, comes to a state (`AreAllKinds`); none of them is to be found. *GaveUp* comes
-//!   only where as many states were met as may be, or some run can't be gone on with, or where the progress said that
-//!   the search is over (`Says`, `GivesUp`, `may_stop` of `Progress`).
+//!   state in which no thread may step, with an outcome that is wanted, or to a state of a kind that is to be found,
+//!   where threads may go on (`IsRunFor`). *Complete* has the outcomes of all runs that end, and no other; and exactly
+//!   those kinds of which a run, ending or not, comes to a state (`AreAllKinds`); none of them is to be found. *GaveUp*
+//!   comes only where as many states were met as may be, or some run can't be gone on with, or where the progress said
+//!   that the search is over (`Says`, `GivesUp`, `may_stop` of `Progress`).
 //! - A state is of the kind *race* where the next events of two threads, each enabled, do conflicting accesses
-//!   (`IsRacy`); *uncaught* where a thread has ended with an exception that nothing caught; *deadlock* where no thread may
-//!   step and one waits for ever, or where threads wait in a circle for monitors and classes that they hold (`Shows`).
+//!   (`IsRacy`); *uncaught* where a thread has ended with an exception that nothing caught; *deadlock* where no thread
+//!   may step and one waits for ever, or where threads wait in a circle for monitors and classes that they hold
+//!   (`Shows`).
 //! - The number of states that is told is at most the number that may be met, if that is at least 1 (`few`); of
 //!   *Complete* it is that of schedules among which the search is whole (`HasMetAll`). `states_within` is a 128th of
 //!   the bytes.
 //! - A state is kept behind each event of a kept one, and behind those events of the same thread that come next, are
-//!   alone and in no race (`IsNextMet`, by the law of `search_laws`): local ones, and those that `alone_events` tells of.
-//!   So the number of states says how many were kept, and nothing of the states between.
+//!   alone and in no race (`IsNextMet`, by the law of `search_laws`): local ones, and those that `alone_events` tells
+//!   of. So the number of states says how many were kept, and nothing of the states between.
 //! - `GivesUp`: as many states were met as may be (`most`), or some run leads to a state with an enabled event that a
 //!   limit forbids, or a thread may pick the last of 65,535 that wait. An outcome is what was printed, and how each
 //!   thread stands. A program in which a thread waits for a flag in a loop can be *Complete* though one of its runs

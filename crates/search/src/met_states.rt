@@ -8,8 +8,8 @@
 //!   pick is not enabled, no higher one leads anywhere; nor does an event of a thread that isn't there. A state from
 //!   which an event leads on is not quiet. What is met stays so. Where the events of all schedules are met, and the
 //!   outcomes of those that end are listed, the search is whole (`searches_are_whole`, with `IsWhole` of `Schedules`).
-//! - Where a search is whole, and past events that are in no race, each kind of states that a run comes to is one of the
-//!   state of some schedule that is kept (`kinds_are_met`).
+//! - Where a search is whole, past events that are alone and in no race, each kind of states that a run comes to is one
+//!   of the state of some schedule that is kept (`kinds_are_met`).
 
 ghost use Rattle.search.specs.met_states.Met.{AreAlikeStatesMet, AreKindsMet, AreNewStatesMet, AreHigherPicksLeft, AreOtherThreadsLeft, AreMovingStatesNotQuiet, AreMetStatesKept, AreSearchesWhole};
 

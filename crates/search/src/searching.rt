@@ -26,8 +26,8 @@ use std::sync::Arc;
 /// What a search answers.
 #[derive(Drop)]
 pub enum Verdict {
-    /// A schedule of a run that ends with a wanted outcome, or comes to a state of a kind that is to be found, in as few
-    /// entries as its events can have.
+    /// A schedule of a run that ends with a wanted outcome, or comes to a state of a kind that is to be found, in as
+    /// few entries as its events can have.
     Found(Schedule),
     /// The outcomes of all runs that end, and the kinds of the states that any run comes to. None is to be found.
     Complete(Outcomes, Kinds),

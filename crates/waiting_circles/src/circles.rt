@@ -34,13 +34,7 @@ fn awaited_thread(
         return None;
     };
     match holder(shared, need) {
-        Some(other) => {
-            if other == thread {
-                None
-            } else {
-                Some(other)
-            }
-        }
+        Some(other) => { if other == thread { None } else { Some(other) } }
         None => None,
     }
 }

@@ -62,4 +62,3 @@ store_tested p objects r word answer component is tests files trees linkable lin
     at (o ∷ os) [] h k t = absurd h
     at (o ∷ os) (m ∷ ms) h zero t = by o.kind m h.0.kind t
     at (o ∷ os) (m ∷ ms) h (suc k) t = at os ms h.1 k t
-

@@ -203,11 +203,14 @@ module _ (wrong : IsNoEventWrong) (receives : AreReceived) (reads : AreOperandsR
 
 module _ (wrong : IsNoEventWrong) (receives : AreReceived) (reads : AreOperandsRead) (tops : AreTopsShown) (trees : Program) (p : LinkedProgram)
     (shared : Shared) (t : ℕ) (frame : ShownFrame) (place : ℕ) (place_is : place ≡ offset_at p frame.method frame.place) where
-  pub no_instruction : IsInstructionAt trees frame.method place None → TellsFrame trees p shared t frame None
+  no_instruction : IsInstructionAt trees frame.method place None → TellsFrame trees p shared t frame None
   no_instruction h bounds state r stack at top = absurd (differs _ (instr_is wrong receives reads tops trees p shared t frame bounds state r stack at top None place place_is h))
     where
       differs : (i : Instr) → None ≡ Some i → ⊥
       differs i e = cc
+
+  pub no_instruction_told : IsInstructionAt trees frame.method place None → (told : Option Action) → told ≡ None → TellsFrame trees p shared t frame told
+  no_instruction_told h told e = subst (TellsFrame trees p shared t frame) (sym e) (no_instruction h)
 
   module _ (i : Instr) (looked : IsInstructionAt trees frame.method place (Some i)) (field : Option NamedField) (names : IsFieldNamed trees frame.method place i field)
       (told : Bool) (goes : GoesOn p shared t frame.operands i field told) where

@@ -9,7 +9,7 @@ use Rattle.machine_state.specs.declared.state.Shared.{Shared}
 use Rattle.race_places.specs.declared.run_actions.Action.{Action}
 use Rattle.race_places.specs.declared.run_actions.RunAction.{RunAction}
 use Rattle.next_accesses.specs.next_access.Next.{TellsNext}
-use Rattle.next_accesses.specs.racy_states.Racy.{next_of, IsAmong, IsFound, AreNext}
+use Rattle.next_accesses.specs.racy_states.Racy.{next_of, with_next, IsAmong, IsFound, AreNext}
 
 -- an item of a list with one more
 last_or : {A : Type 0} (xs : List A) (x y : A) (k : ℕ) → slice_get (xs ++ x ∷ []) k ≡ Some y → (slice_get xs k ≡ Some y) ⊎ (x ≡ y)
@@ -80,3 +80,12 @@ module _ (trees : Program) (p : LinkedProgram) (shared : Shared) where
         by u (inr g) =
             subst (IsFound trees p shared (found ++ next_of t a ∷ [])) (sym g)
             (record { told = Some a; tells = tells; among = last_at found (next_of t a) })
+
+    one_after : (told : Option Action) → TellsNext trees p shared t told → (new : List RunAction) → new ≡ with_next t told found → AreNext trees p shared (suc t) new
+    one_after None tells new is = subst (AreNext trees p shared (suc t)) (sym is) (one_without tells)
+    one_after (Some a) tells new is = subst (AreNext trees p shared (suc t)) (sym is) (one_with a tells)
+
+    pub one_more : (told : Option Action) → TellsNext trees p shared t told → (new : List RunAction) → new ≡ with_next t told found → AreNext trees p shared (t + 1) new
+    one_more told tells new is =
+        let same : suc t ≡ t + 1 = omega arith in
+        subst (λ (n : ℕ). AreNext trees p shared n new) same (one_after told tells new is)

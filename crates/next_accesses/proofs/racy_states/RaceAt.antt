@@ -208,6 +208,15 @@ race_told trees apart m found threads count next told h files events state done 
     race_if trees apart m.limits.frames state m.program m.shared (bounds_of m.limits) refl reached found threads
     (count ∙ ap (λ (ts : List Thread). length ts) reached.shown.represents.world_is.threads) next told h
 
+-- by what functions answered of a machine
+pub race_of_machine : (trees : Program) → AreApart (names_of trees) → (m : MachineOf) (p : LinkedProgram) → p ≡ m.program → (shared : Shared) → shared ≡ m.shared
+    → (threads : ℕ) → threads ≡ length shared.threads.threads → (found : List RunAction) → AreNext trees p shared threads found
+    → (actions : List RunAction) → actions ≡ found → (told : Option Race) → IsRaceIn actions told → TellsRace trees m told
+race_of_machine trees apart m p e shared f threads count found next actions g told h =
+    race_told trees apart m found threads (count ∙ ap (λ (s : Shared). length s.threads.threads) f)
+    (subst (λ (s : Shared). AreNext trees m.program s threads found) f (subst (λ (q : LinkedProgram). AreNext trees q shared threads found) e next)) told
+    (subst (λ (xs : List RunAction). IsRaceIn xs told) g h)
+
 pub racy_told : (trees : Program) (m : MachineOf) (told : Option Race) → TellsRace trees m told → (answer : Bool) → answer ≡ is_some told → TellsState trees m IsRacy answer
 racy_told trees m told h answer is files events state done e =
     subst (λ b. (IsTrue b → IsRacy trees m.limits.frames state) × (IsFalse b → IsRacy trees m.limits.frames state → ⊥)) (sym is) (by told (h files events state done e))

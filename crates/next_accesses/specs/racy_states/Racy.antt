@@ -1,5 +1,5 @@
 -- Races of states (JLS 17.4.5), by the words of a machine.
-use Rattle.std.specs.Prelude.{◌≡◌, ◌<◌, ℕ, List, Option, Some, None, Bool, true, false, IsTrue, IsFalse, ⊤, not, ◌&&◌, ◌||◌, ◌==◌, slice_get}
+use Rattle.std.specs.Prelude.{◌≡◌, ◌<◌, ℕ, List, [], ◌∷◌, ◌++◌, Option, Some, None, Bool, true, false, IsTrue, IsFalse, ⊤, not, ◌&&◌, ◌||◌, ◌==◌, slice_get}
 use Rattle.std.specs.List.{list_any}
 use Rattle.model.specs.declared.event.Event.{Event}
 use Rattle.model.specs.Classes.{Program}
@@ -69,6 +69,10 @@ IsRaceIn actions (Some race) = IsRaceOf actions race
 
 abbrev pub next_of : (t : ℕ) → Action → RunAction
 next_of t a = record { thread = t; event = 0; action = a }
+
+abbrev pub with_next : (t : ℕ) → Option Action → List RunAction → List RunAction
+with_next t None found = found
+with_next t (Some a) found = found ++ next_of t a ∷ []
 
 abbrev pub IsAmong : List RunAction → (t : ℕ) → Option Action → Type 0
 IsAmong found t None = ⊤

@@ -14,9 +14,9 @@ use std::alloc::{AllocError, Global};
 /// What a search answers.
 #[derive(Drop)]
 pub enum Answer {
-    /// A schedule of a run that ends with a wanted outcome, or comes to a state of a kind that is to be found, in as few
-    /// entries as its events can have; the report of the run; and its end: `Quiet`, or `Schedule` where a thread may go
-    /// on.
+    /// A schedule of a run that ends with a wanted outcome, or comes to a state of a kind that is to be found, in as
+    /// few entries as its events can have; the report of the run; and its end: `Quiet`, or `Schedule` where a thread may
+    /// go on.
     Found(Schedule, Report, End),
     /// The outcomes of all runs that end, and the kinds of the states that any run comes to. None is to be found.
     Complete(Outcomes, Kinds),
@@ -50,7 +50,8 @@ fn push_kinds(text: &mut Vec<u8>, kinds: Kinds) -> Result<(), AllocError>
 {
     push_kind(text, kinds.race, b"kind race")?;
     push_kind(text, kinds.uncaught, b"kind uncaught")?;
-    push_kind(text, kinds.deadlock, b"kind deadlock")
+    push_kind(text, kinds.deadlock, b"kind deadlock")?;
+    Ok(())
 }
 
 /// The report of a run, or outcomes and kinds.

@@ -77,7 +77,15 @@ pub fn search_report<P: Progress>(
     ensures few { IfOk result (λ r. 1 ≤ most → r.states ≤ most) }
 {
     let searched_program = Arc::try_clone(&program)?;
-    let searched = search(alloc, progress, linked, searched_program, limits, goal, most)?;
+    let searched = search(
+        alloc,
+        progress,
+        linked,
+        searched_program,
+        limits,
+        goal,
+        most,
+    )?;
     let states = searched.states;
     let answer = answer_to(alloc, linked.set(), program, limits, searched.verdict)?;
     Ok(SearchReport {

@@ -15,7 +15,7 @@ use Rattle.linked_code.specs.declared.program.LinkedProgram.{LinkedProgram}
 use Rattle.machine_state.specs.declared.state.Shared.{Shared}
 use Rattle.waiting_circles.specs.declared.needs.kinds.Need.{Need as TheNeed}
 use Rattle.waiting_circles.specs.declared.needs.kinds.Need.TheVariants as the
-use Rattle.waiting_circles.specs.Circles.{Awaits, IsAwaited, AwaitsNext, AreAwaited}
+use Rattle.waiting_circles.specs.Circles.{IsAwaited, AwaitsNext, AreAwaited}
 use Rattle.waiting_circles.specs.Holders.{IsHeldOnlyBy}
 use Rattle.waiting_circles.specs.Needs.{IsNeed}
 use Rattle.waiting_circles.specs.Rounds.{next_in}

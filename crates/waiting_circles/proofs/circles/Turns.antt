@@ -1,11 +1,9 @@
 -- Rounds of threads are circles of the state that a machine shows.
-use Rattle.std.proofs.Common.{◌≡◌, ℕ, List, [], ◌∷◌, Option, Some, Bool, sym, subst, ◌∙◌}
+use Rattle.std.proofs.Common.{◌≡◌, ℕ, List, [], ◌∷◌, Option, Bool, sym, subst, ◌∙◌}
 use Rattle.std.specs.Prelude.{IsTrue, IsFalse}
 use Rattle.std.proofs.lemmas.Option.{same_Some}
-use Rattle.model.specs.declared.event.Event.{Event}
 use Rattle.model.specs.Classes.{Program}
 use Rattle.model.specs.LimitStands.{bounds_of}
-use Rattle.model.specs.Run.{run}
 use Rattle.model.specs.State.{State, StateOf}
 use Rattle.model.specs.WellTyped.{IsWellTyped}
 use Rattle.model.specs.Words.{words_of}
@@ -16,7 +14,6 @@ use Rattle.search_laws.proofs.NeedsByWords.{need_by_words}
 use Rattle.linked_code.specs.declared.program.LinkedProgram.{LinkedProgram}
 use Rattle.machine_state.specs.declared.state.Shared.{Shared}
 use Rattle.machine.specs.Machines.{MachineOf}
-use Rattle.machine.specs.schedule_runs.Done.{HasDone}
 use Rattle.waiting_circles.specs.Circles.{Awaits, IsAwaited, AreAwaited, HasCircle, TellsCircle}
 use Rattle.waiting_circles.specs.Holders.{Holds}
 use Rattle.waiting_circles.specs.Rounds.{next_in, LeadsTo, HasRound, TellsRound}

@@ -1,5 +1,5 @@
 -- Who holds what is needed.
-use Rattle.std.proofs.Common.{◌≡◌, ℕ, Option, Some, None, refl, sym, ap, ◌∙◌, eq-eqb}
+use Rattle.std.proofs.Common.{◌≡◌, ℕ, Option, Some, refl, sym, ap, ◌∙◌, eq-eqb}
 use Rattle.model.specs.ClassInitialisation.{status_of}
 use Rattle.model.specs.Monitors.{owns, monitor_at}
 use Rattle.model.specs.Names.{Name}

@@ -1,5 +1,5 @@
 -- What a thread needs that begins.
-use Rattle.std.proofs.Common.{◌≡◌, ℕ, zero, suc, List, [], ◌∷◌, Option, Some, None, if◌then◌else◌, refl, sym, ap, subst, ◌∙◌}
+use Rattle.std.proofs.Common.{◌≡◌, ℕ, zero, suc, [], Option, Some, None, if◌then◌else◌, refl, sym, ap, subst, ◌∙◌}
 use Rattle.std.specs.Prelude.{slice_get}
 use Rattle.std.specs.Option.{option_and_then}
 use Rattle.std.proofs.lemmas.Option.{same_Some}
@@ -7,7 +7,6 @@ use Rattle.model.specs.Classes.{Program, Body, body_of}
 use Rattle.model.specs.Frames.{entered_by}
 use Rattle.model.specs.Lookup.{select}
 use Rattle.model.specs.Names.{Member, main_of, thread_run}
-use Rattle.model.specs.Opening.{class_reference}
 use Rattle.model.specs.Operands.{words}
 use Rattle.model.specs.State.{WorldOf}
 use Rattle.model.specs.Step.{initial_class}
@@ -17,7 +16,6 @@ use Rattle.linked_code.specs.Methods.{IsLinkedMethod}
 use Rattle.linked_code.specs.declared.method.LinkedMethod.{LinkedMethod}
 use Rattle.linked_code.specs.declared.program.LinkedProgram.{LinkedProgram}
 use Rattle.thread_stacks.specs.declared.entry.Callee.{Callee}
-use Rattle.machine_state.specs.Shown.{IsProgram}
 use Rattle.machine_state.specs.method_selection.Rows.{AreMethodsRead}
 use Rattle.machine_instructions.specs.called_methods.Selected.{IsClassObject}
 use Rattle.machine_threads.specs.thread_begins.Runs.{IsRunOf}

@@ -6,9 +6,8 @@ use Rattle.model.specs.Names.{Name}
 use Rattle.model.specs.Operands.{words}
 use Rattle.model.specs.State.{Phase, Super, End, Initialisation, StackOf, WorldOf}
 use Rattle.data_races.specs.EventActions.{needed_before}
-use Rattle.search_laws.specs.Waits.{Need, ClassOf, look_need, class_need, stack_need}
+use Rattle.search_laws.specs.Waits.{Need, look_need, class_need, stack_need}
 use Rattle.linked_code.specs.Numbers.{IsClassAt, IsClassIf}
-use Rattle.waiting_circles.specs.declared.needs.kinds.Need.{Need as TheNeed}
 use Rattle.waiting_circles.specs.declared.needs.kinds.Need.TheVariants as the
 use Rattle.waiting_circles.specs.Needs.{IsNeed}
 

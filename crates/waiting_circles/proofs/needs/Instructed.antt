@@ -1,6 +1,6 @@
 -- What an instruction needs whose class is ready: monitorenter the monitor of the object on top, and any other one what its frame
 -- needs.
-use Rattle.std.proofs.Common.{◌≡◌, ℕ, zero, suc, List, [], ◌∷◌, take, Option, Some, None, Bool, true, false, option_map, refl, sym, ap, ◌∙◌}
+use Rattle.std.proofs.Common.{◌≡◌, ℕ, List, [], ◌∷◌, take, Option, Some, None, false, option_map, refl, sym, ap, ◌∙◌}
 use Rattle.std.specs.Prelude.{slice_index_or}
 use Rattle.std.proofs.lemmas.Bool.{true≢false}
 use Rattle.std.proofs.lemmas.Option.{same_Some}
@@ -21,7 +21,6 @@ use Rattle.model.specs.State.{Invocation, FrameOf, StackOf, StateOf, WorldOf}
 use Rattle.model.specs.Step.{ops_of}
 use Rattle.search_laws.specs.Waits.{Need, MonitorOf, callee_entered, frame_need, instruction_need}
 use Rattle.linked_code.specs.declared.instruction.LinkedInstruction.{LinkedInstruction}
-use Rattle.linked_code.specs.declared.instruction.LinkedInstruction.TheVariants as linked
 use Rattle.linked_code.specs.declared.method.LinkedCode.{LinkedCode}
 use Rattle.linked_code.specs.declared.program.LinkedProgram.{LinkedProgram}
 use Rattle.thread_stacks.specs.Stacks.{ShownEntry}

@@ -15,7 +15,7 @@ use Rattle.model.specs.Worlds.{no_object, object_at, class_of_object}
 use Rattle.run_laws.specs.word_operands.Operands.{word_meets}
 use Rattle.run_laws.specs.word_operands.Receivers.{is_null_or}
 use Rattle.run_laws.proofs.word_operands.Objects.{of_objects}
-use Rattle.search_laws.specs.Waits.{frame_need}
+use Rattle.search_laws.specs.Waits.{callee_entered, frame_need}
 use Rattle.linked_code.specs.declared.instruction.LinkedInstruction.TheVariants as linked
 use Rattle.linked_code.specs.declared.method.LinkedCode.{LinkedCode}
 use Rattle.linked_code.specs.declared.program.LinkedProgram.{LinkedProgram}
@@ -25,10 +25,10 @@ use Rattle.machine_state.specs.linked_frames.Frames.{IsRunning}
 use Rattle.machine_instructions.specs.called_methods.Frames.{object_under}
 use Rattle.machine_instructions.specs.called_methods.Selected.{ChoosesVirtual, ChoosesInterface}
 use Rattle.machine_instructions.proofs.called_methods.Calling.{There, there}
-use Rattle.machine_instructions.proofs.called_methods.Receivers.{chosen_virtual, virtual_invoking, chosen_interface, interface_invoking}
+use Rattle.machine_instructions.proofs.called_methods.Receivers.{virtual_invoking, interface_invoking}
 use Rattle.waiting_circles.specs.declared.needs.kinds.Need.{Need as TheNeed}
-use Rattle.waiting_circles.specs.Needs.{IsNeed, NeedsInCall, entered_of}
-use Rattle.waiting_circles.proofs.needs.Entered.{enters_at, null_enters, object_enters}
+use Rattle.waiting_circles.specs.Needs.{IsNeed, NeedsInCall, entered_of, outcome_at}
+use Rattle.waiting_circles.proofs.needs.Entered.{null_enters, object_enters}
 use Rattle.waiting_circles.proofs.needs.Framed.{none_needed}
 
 module _ (trees : Program) (p : LinkedProgram) (bounds : Bounds) (inflated : List ℕ) (t : ℕ) (old : Shared) (from : List ShownEntry)
@@ -38,7 +38,7 @@ module _ (trees : Program) (p : LinkedProgram) (bounds : Bounds) (inflated : Lis
   needs result entered = IsNeed trees result (frame_need words trees frames t state.world (Invocation frame ∷ rest) entered)
 
   abbrev entered : Option ℕ
-  entered = enters_at trees p bounds inflated t old from state frame rest code site meaning
+  entered = callee_entered (outcome_at t state.world frame meaning)
 
   -- ---- invokevirtual
 

@@ -10,7 +10,7 @@ use Rattle.model.specs.State as model
 use Rattle.model.specs.State.{Running, FrameOf, StackOf, StateOf, Thread}
 use Rattle.model.specs.Step.{thread_at}
 use Rattle.heap.specs.java_threads.Table.{thread_at as row_at}
-use Rattle.search_laws.specs.Waits.{Need, meant_need, site_need, body_need, stack_need, going_need, status_need, next_need}
+use Rattle.search_laws.specs.Waits.{meant_need, site_need, body_need, stack_need, going_need, status_need}
 use Rattle.linked_code.specs.Numbers.{IsClassAt}
 use Rattle.linked_code.specs.declared.instruction.LinkedInstruction.{LinkedInstruction}
 use Rattle.linked_code.specs.declared.method.LinkedCode.{LinkedCode}

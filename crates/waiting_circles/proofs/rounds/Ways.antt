@@ -1,6 +1,5 @@
 -- Ways from number to number: one with more steps than there are numbers has been somewhere twice.
-use Rattle.std.proofs.Common.{◌≡◌, ◌<◌, ◌≤◌, ◌+◌, ◌⊎◌, inl, inr, ℕ, zero, suc, List, [], ◌∷◌, ◌++◌, length, Option, Some, None, Bool, true, false, ◌||◌, eqb, refl, sym, ap, subst, ◌∙◌, arith}
-use Rattle.std.specs.Prelude.{slice_get}
+use Rattle.std.proofs.Common.{◌≡◌, ◌<◌, ◌≤◌, ◌+◌, ◌⊎◌, inl, inr, ℕ, zero, suc, List, [], ◌∷◌, ◌++◌, length, Option, Some, None, Bool, true, false, ◌||◌, eqb, refl, sym, subst, ◌∙◌, arith}
 use Rattle.std.specs.List.{AllByRecursion, IsDistinct, list_any}
 use Rattle.std.proofs.lemmas.Bool.{eqb-true}
 use Rattle.std.proofs.lemmas.Map.Steps.{length-le_from_distinct_below}
@@ -26,12 +25,11 @@ module _ (nexts : List (Option ℕ)) where
       → (rest : List ℕ) × IsRound nexts next rest
   round_on first next [] round e =
       ([], subst (λ n. IsRound nexts n []) (same_Some first next (sym round ∙ e)) round)
-  round_on first next (n ∷ others) round e =
-      (
-        others ++ first ∷ [],
-        subst (λ m. LeadsTo nexts m m (others ++ first ∷ [])) (same_Some n next (sym round.0 ∙ e))
+  round_on first next (n ∷ others) round e = (
+    others ++ first ∷ [],
+    subst (λ m. LeadsTo nexts m m (others ++ first ∷ [])) (same_Some n next (sym round.0 ∙ e))
         (leads_on first n n others round.1 round.0),
-      )
+  )
 
   -- a number in a round has a next one
   pub round_next : (first : ℕ) (others : List ℕ) → IsRound nexts first others → next_in nexts first ≡ None → ⊥

@@ -10,11 +10,7 @@ use thread_stacks::ThreadStack;
 
 /// What a new frame needs over a stack, by the object whose monitor it enters. Where the stack has as many frames as
 /// it may have, a StackOverflowError is raised instead (JVMS 2.5.2).
-pub(crate) fn frame_need(
-    stack: &ThreadStack,
-    entered: Option<u32>,
-    frames: usize,
-) -> Option<Need>
+pub(crate) fn frame_need(stack: &ThreadStack, entered: Option<u32>, frames: usize) -> Option<Need>
     ensures { NeedsInFrame stack.now entered frames result }
 {
     if stack.frame_count() >= frames {

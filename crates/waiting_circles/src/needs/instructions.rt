@@ -28,7 +28,9 @@ fn ready_need(
             Some(object) => Some(Need::Monitor(object)),
             None => None,
         },
-        LinkedInstruction::InvokeStatic { method, .. } => static_need(stack, program, method, frames),
+        LinkedInstruction::InvokeStatic { method, .. } => static_need(
+            stack, program, method, frames,
+        ),
         LinkedInstruction::InvokeSpecial { parameters, method } => {
             special_need(stack, program, parameters, method, frames)
         }

@@ -78,7 +78,12 @@ fn stack_of(shared: &Shared, thread: u16) -> Option<&ThreadStack>
 
 /// What the next event of a thread needs, where a stack has at most so many frames. One that is not there needs
 /// nothing.
-pub fn next_need(shared: &Shared, program: &LinkedProgram, thread: u16, frames: usize) -> Option<Need>
+pub fn next_need(
+    shared: &Shared,
+    program: &LinkedProgram,
+    thread: u16,
+    frames: usize,
+) -> Option<Need>
     ensures { NeedsNext program.now shared.now thread frames result }
 {
     match stack_of(shared, thread) {

@@ -1,4 +1,4 @@
-use Rattle.std.proofs.Common.{◌<◌, ◌≤◌, [], option_map, ap, ◌∙◌, arith}
+use Rattle.std.proofs.Common.{[], option_map, ap, ◌∙◌, arith}
 use Rattle.search_laws.specs.Waits.{MonitorOf}
 use Rattle.waiting_circles.proofs.needs.Framed.{full, room}
 use Rattle.waiting_circles.proofs.needs.begins.first_need.Goals as goal

@@ -1,4 +1,4 @@
-use Rattle.std.proofs.Common.{[], sym, ap, subst, ◌∙◌}
+use Rattle.std.proofs.Common.{sym, ap, subst, ◌∙◌}
 use Rattle.machine_threads.proofs.thread_begins.Starting.{object_is, instance}
 use Rattle.waiting_circles.specs.Needs.{IsNeed}
 use Rattle.waiting_circles.proofs.needs.Begun.{begins_run, run_selected, selected, runs_callee, runs_none}

@@ -1,4 +1,4 @@
-use Rattle.std.proofs.Common.{◌≡◌, Some, None, sym, subst}
+use Rattle.std.proofs.Common.{sym, subst}
 use Rattle.linked_code.specs.declared.instruction.LinkedInstruction.{LinkedInstruction}
 use Rattle.std.proofs.lemmas.Option.{same_Some, none-some}
 use Rattle.machine_state.specs.linked_frames.Frames.{IsRunning}

@@ -1,4 +1,4 @@
-use Rattle.std.proofs.Common.{◌∷◌, Option, Some, None, sym, ap, subst, ◌∙◌}
+use Rattle.std.proofs.Common.{◌∷◌, Option, Some, sym, ap, subst, ◌∙◌}
 use Rattle.model.specs.Names.{Name}
 use Rattle.model.specs.Operands.{words}
 use Rattle.model.specs.State.{Invocation}
@@ -24,9 +24,9 @@ returns-in-Ready c = λ trees bounds inflated state frame rest code site meaning
     let next = instruction_need words trees c.args.frames t state.world (Invocation frame ∷ rest) site.instr (ops_of words meaning frame.place.slots) (outcome_at t state.world frame meaning) in
     let needs = c.in-Some.ensures trees c.args.program.now (offset_in code.starts.items) code.instructions.items site is.shown.place meaning is.stands.linked is.stands.at.means in
     let look = c.in-Ready.ensures trees c.args.program.now bounds state.world is.program is.lent.represents needs.0 needs.2 in
-    subst (IsNeed trees c.ready_need.result)
+    subst (IsNeed trees c.ready_need-in-Ready.result)
     (sym (ap (λ (o : Option Name). class_need words trees c.args.frames t state.world o next) needs.1 ∙ ready_class trees c.args.frames t state.world next needs.0 look))
-    (c.ready_need.ensures trees bounds inflated t state frame rest code site meaning is)
+    (c.ready_need-in-Ready.ensures trees bounds inflated t state frame rest code site meaning is)
 
 pub returns-in-Held : goal.returns-in-Held
 returns-in-Held c = λ trees bounds inflated state frame rest code site meaning is.
