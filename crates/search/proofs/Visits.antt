@@ -94,6 +94,7 @@ module _ (trees : Program) (limits : Limits) (goal : Goal) (walk : Walk) (seen :
   own = get_or walk.states.schedules number []
 
   is_own : IsSchedule walk.states number own
+  unfolding own
   is_own = slice_get-get_or walk.states.schedules number [] lt
 
   -- ---- it is to be found

@@ -112,7 +112,8 @@ fn is_found_at(asked: &Asked<'_>, seen: &mut Seen, walk: &Walk) -> Result<bool, 
 {
     let outcome = outcome_at(asked, walk)?;
     let kinds = kinds_at(asked.alloc, &asked.tables, &walk.machine, &outcome)?;
-    is_found(asked, seen, outcome, kinds)
+    let found = is_found(asked, seen, outcome, kinds)?;
+    Ok(found)
 }
 
 /// Visits the state of a number, all below which have been visited. The only error is a want of memory.

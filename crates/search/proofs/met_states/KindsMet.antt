@@ -42,11 +42,11 @@ use Rattle.search.specs.met_states.Met.{IsKindMet, AreKindsMet}
 -- one that passes
 some_of : {A : Type 0} (p : A → Bool) (xs : List A) → list_any p xs ≡ true → (x : A) × (p x ≡ true)
 some_of p [] e = absurd (false≢true e)
-some_of p (x ∷ xs) e = by (p x) refl e
+some_of {A = A} p (x ∷ xs) e = by (p x) refl e (some_of p xs)
   where
-    by : (b : Bool) → p x ≡ b → (b || list_any p xs) ≡ true → (y : A) × (p y ≡ true)
-    by true is e = (x, is)
-    by false is e = some_of p xs e
+    by : (b : Bool) → p x ≡ b → (b || list_any p xs) ≡ true → (list_any p xs ≡ true → (y : A) × (p y ≡ true)) → (y : A) × (p y ≡ true)
+    by true is e others = (x, is)
+    by false is e others = others e
 
 -- none passes a test that fails
 never_any : {A : Type 0} (xs : List A) → list_any (λ x. false) xs ≡ false
@@ -59,17 +59,14 @@ or_right false b e = e
 
 any_at : (p : ℕ → Bool) (k n t : ℕ) → k ≤ t → t < k + n → p t ≡ true → list_any p (counting k n) ≡ true
 any_at p k zero t le lt on = absurd (omega (arith, le, lt))
-any_at p k (suc n) t le lt on = by (k == t) refl
+any_at p k (suc n) t le lt on = by (k == t) refl (λ more. any_at p (suc k) n t more (omega (arith, lt)) on)
   where
-    rest : suc k ≤ t → list_any p (counting (suc k) n) ≡ true
-    rest more = any_at p (suc k) n t more (omega (arith, lt)) on
+    past : (k ≡ t → ⊥) → suc k ≤ t
+    past ne = omega (arith, ne, le)
 
-    by : (b : Bool) → (k == t) ≡ b → (p k || list_any p (counting (suc k) n)) ≡ true
-    by true e = ap (λ b. b || list_any p (counting (suc k) n)) (ap p (eqb-true k t e) ∙ on)
-    by false e = or_right (p k) (list_any p (counting (suc k) n)) (rest (past (λ q. false≢true (sym e ∙ eq-eqb k t q))))
-      where
-        past : (k ≡ t → ⊥) → suc k ≤ t
-        past ne = omega (arith, ne, le)
+    by : (b : Bool) → (k == t) ≡ b → (suc k ≤ t → list_any p (counting (suc k) n) ≡ true) → (p k || list_any p (counting (suc k) n)) ≡ true
+    by true e rest = ap (λ b. b || list_any p (counting (suc k) n)) (ap p (eqb-true k t e) ∙ on)
+    by false e rest = or_right (p k) (list_any p (counting (suc k) n)) (rest (past (λ q. false≢true (sym e ∙ eq-eqb k t q))))
 
 -- ---- threads that race are there
 

@@ -27,7 +27,7 @@ returns-in-GaveUp-clause-says g c =
     inr (gave_up_by c.args.asked.now.linked.now c.args.walk.states.limits c.args.asked.now.goal.now c.states.walk.states c.states.seen c.states.number c.states.invariant.0 c.args.asked.now.most
     c.in_ok-visit.visit c.in_ok-visit.further.states c.visit_state.new.seen c.in_ok-visit.ensures.visits c.in-GaveUp.is)
 
-pub returns-then-len-most-clause-says : goal.returns-then-len-most-clause-says
-returns-then-len-most-clause-says g c =
+pub returns-then-len-asked-clause-says : goal.returns-then-len-asked-clause-says
+returns-then-len-asked-clause-says g c =
     complete c.args.asked.now.linked.now c.args.walk.states.limits c.args.asked.now.goal.now c.states.walk.states c.states.seen c.states.number c.states.invariant.0 (omega arith)
     c.searches_are_whole.ensures.holds c.schedules_are_complete.ensures.holds c.races_are_told_by_words.ensures.holds c.kinds_are_met.ensures.holds
