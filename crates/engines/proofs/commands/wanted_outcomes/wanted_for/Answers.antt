@@ -1,4 +1,4 @@
-use Rattle.std.proofs.Common.{Some, string_bytes, subst, sym}
+use Rattle.std.proofs.Common.{Some, subst, sym}
 use Rattle.std.proofs.lemmas.Result.{IfOk-weaker}
 use Rattle.engines.specs.Goals.{IsAskedFor, IsPrinted, IsPrintedOther}
 use Rattle.engines.proofs.commands.wanted_outcomes.wanted_for.Goals as goal
