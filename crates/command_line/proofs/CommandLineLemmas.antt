@@ -257,3 +257,9 @@ pub no_version_behind : (rows : List Row) → ((version : Option ℕ) → IsReco
 no_version_behind rows none None are =
     none None (record { number = subst (λ t. IsNumber 1 3 t None) (sym are.2) tt; recording = λ _. refl })
 no_version_behind rows none (Some then_run) are = none then_run.as_version are.1.version
+
+-- where something is recorded, there is one
+pub no_record_behind : (rows : List Row) → is_set (first_of (codes "then-run") rows) ≡ false → (first_of (codes "record") rows ≡ None → ⊥)
+    → (then_run : Option ThenRun) → IsThenRun rows then_run → ⊥
+no_record_behind rows off recorded None are = recorded are.1
+no_record_behind rows off recorded (Some then_run) are = let bad : false ≡ true = sym off ∙ are.0 in absurd cc

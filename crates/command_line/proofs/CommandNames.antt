@@ -1,5 +1,5 @@
 -- Which commands a subcommand spells, by its name.
-use Rattle.std.proofs.Common.{◌≡◌, ◌∙◌, List, Some, ap, codes, false, refl, sym, true}
+use Rattle.std.proofs.Common.{◌≡◌, ◌∙◌, List, None, Some, ap, codes, false, refl, sym, true}
 use Rattle.std.proofs.lemmas.Bool.{true≢false}
 use Rattle.std.specs.Str.{bytes_eq}
 use Rattle.clap.specs.Words.{HasMatchesOf, Row, Text, subcommand_name_of}
@@ -113,18 +113,22 @@ only_schedule rows none no_places (commands.Disasm _) named are = elim (other_na
 only_schedule rows none no_places (commands.Schedule schedule) named are = none schedule are
 only_schedule rows none no_places (commands.Places places) named are = no_places places are
 
+-- no command has another name
+pub none_named : (rows : List Row) (name : Text) → (name ≡ codes "run" → ⊥) → (name ≡ codes "replay" → ⊥) → (name ≡ codes "trace" → ⊥) → (name ≡ codes "search" → ⊥)
+    → (name ≡ codes "shrink" → ⊥) → (name ≡ codes "verify" → ⊥) → (name ≡ codes "disasm" → ⊥) → (name ≡ codes "schedule" → ⊥)
+    → (command : Command) → name_of command ≡ name → AreValuesOf rows command → ⊥
+none_named rows name no_run no_replay no_trace no_search no_shrink no_verify no_disasm no_schedule (commands.Run run) named are = no_run (sym named)
+none_named rows name no_run no_replay no_trace no_search no_shrink no_verify no_disasm no_schedule (commands.Replay replay) named are = no_replay (sym named)
+none_named rows name no_run no_replay no_trace no_search no_shrink no_verify no_disasm no_schedule (commands.Trace trace) named are = no_trace (sym named)
+none_named rows name no_run no_replay no_trace no_search no_shrink no_verify no_disasm no_schedule (commands.Search search) named are = no_search (sym named)
+none_named rows name no_run no_replay no_trace no_search no_shrink no_verify no_disasm no_schedule (commands.Shrink shrink) named are = no_shrink (sym named)
+none_named rows name no_run no_replay no_trace no_search no_shrink no_verify no_disasm no_schedule (commands.Verify verify) named are = no_verify (sym named)
+none_named rows name no_run no_replay no_trace no_search no_shrink no_verify no_disasm no_schedule (commands.Disasm disasm) named are = no_disasm (sym named)
+none_named rows name no_run no_replay no_trace no_search no_shrink no_verify no_disasm no_schedule (commands.Schedule schedule) named are = no_schedule (sym named)
+none_named rows name no_run no_replay no_trace no_search no_shrink no_verify no_disasm no_schedule (commands.Places places) named are = no_schedule (sym named)
+
 -- where no subcommand is met, the words spell no command
-pub spells_none : (matches : ArgMatches) (words : List Text) → HasMatchesOf jvm words matches
-    → (subcommand_name_of matches ≡ Some (codes "run") → ⊥) → (subcommand_name_of matches ≡ Some (codes "replay") → ⊥)
-    → (subcommand_name_of matches ≡ Some (codes "trace") → ⊥) → (subcommand_name_of matches ≡ Some (codes "search") → ⊥)
-    → (subcommand_name_of matches ≡ Some (codes "shrink") → ⊥) → (subcommand_name_of matches ≡ Some (codes "verify") → ⊥)
-    → (subcommand_name_of matches ≡ Some (codes "disasm") → ⊥) → (subcommand_name_of matches ≡ Some (codes "schedule") → ⊥) → (command : Command) → Spells words command → ⊥
-spells_none matches words has no_run no_replay no_trace no_search no_shrink no_verify no_disasm no_schedule (commands.Run run) spelled = no_run (name_met matches words (codes "run") spelled.0 has spelled.1)
-spells_none matches words has no_run no_replay no_trace no_search no_shrink no_verify no_disasm no_schedule (commands.Replay replay) spelled = no_replay (name_met matches words (codes "replay") spelled.0 has spelled.1)
-spells_none matches words has no_run no_replay no_trace no_search no_shrink no_verify no_disasm no_schedule (commands.Trace trace) spelled = no_trace (name_met matches words (codes "trace") spelled.0 has spelled.1)
-spells_none matches words has no_run no_replay no_trace no_search no_shrink no_verify no_disasm no_schedule (commands.Search search) spelled = no_search (name_met matches words (codes "search") spelled.0 has spelled.1)
-spells_none matches words has no_run no_replay no_trace no_search no_shrink no_verify no_disasm no_schedule (commands.Shrink shrink) spelled = no_shrink (name_met matches words (codes "shrink") spelled.0 has spelled.1)
-spells_none matches words has no_run no_replay no_trace no_search no_shrink no_verify no_disasm no_schedule (commands.Verify verify) spelled = no_verify (name_met matches words (codes "verify") spelled.0 has spelled.1)
-spells_none matches words has no_run no_replay no_trace no_search no_shrink no_verify no_disasm no_schedule (commands.Disasm disasm) spelled = no_disasm (name_met matches words (codes "disasm") spelled.0 has spelled.1)
-spells_none matches words has no_run no_replay no_trace no_search no_shrink no_verify no_disasm no_schedule (commands.Schedule schedule) spelled = no_schedule (name_met matches words (codes "schedule") spelled.0 has spelled.1)
-spells_none matches words has no_run no_replay no_trace no_search no_shrink no_verify no_disasm no_schedule (commands.Places places) spelled = no_schedule (name_met matches words (codes "schedule") spelled.0 has spelled.1)
+pub spells_none : (matches : ArgMatches) (words : List Text) → HasMatchesOf jvm words matches → subcommand_name_of matches ≡ None
+    → (command : Command) → Spells words command → ⊥
+spells_none matches words has none command spelled =
+    let bad : None ≡ Some (name_of command) = sym none ∙ name_met matches words (name_of command) spelled.0 has spelled.1 in cc

@@ -5,4 +5,5 @@ pub mod GoalLemmas
 pub mod ParserLemmas
 pub mod PathLemmas
 pub mod PolicyLemmas
+pub mod ProgramLemmas
 mod SweepLemmas

@@ -6,7 +6,7 @@ use Rattle.std.specs.Option.{option_map, option_map_or}
 use Rattle.std.specs.Str.{bytes_eq}
 use Rattle.std.specs.Str.Parse.{IsNumeral, digits_value}
 use Rattle.model.specs.BuiltInNumbers.{most_threads}
-use Rattle.clap.specs.Words.{App, IsAmong, Row, Rule, Shape, Text, all_of, fault_of, first_of, kind_of, new_app, new_rule, subcommand_of, takes, with_rule, with_subcommand}
+use Rattle.clap.specs.Words.{App, IsAmong, Row, Rule, Shape, Text, all_of, app_of, fault_of, first_of, kind_of, new_app, new_rule, subcommand_of, takes, with_rule, with_subcommand}
 use Rattle.clap.specs.declared.error.Error.{Error}
 use Rattle.clap.specs.declared.error.kind.ErrorKind.{ErrorKind}
 use Rattle.clap.specs.declared.error.kind.ErrorKind.TheVariants as errors
@@ -14,9 +14,9 @@ use Rattle.clap.specs.declared.builder.command.Command as parser
 use Rattle.clap.specs.declared.builder.command.Command.TheViews.{out-Command}
 use Rattle.clap.specs.declared.builder.ArgAction.TheVariants.{Set, SetTrue, Append}
 use Rattle.clap.specs.declared.builder.value_parser.ValueParser.TheVariants.{Unsigned}
-use Rattle.command_line.specs.Goals.{IsGoal}
+use Rattle.command_line.specs.Goals.{IsGoal, IsSearchGoal}
 use Rattle.command_line.specs.Numerals.{IsNumeralWithin}
-use Rattle.command_line.specs.Paths.{IsApart, IsGoalApart}
+use Rattle.command_line.specs.Paths.{IsApart, IsGoalApart, IsSearchGoalApart}
 use Rattle.command_line.specs.Policies.{GoTogether, IsPolicy}
 use Rattle.command_line.specs.Sweeps.{IsSweep}
 use Rattle.command_line.specs.declared.usage.Usage.{Usage}
@@ -193,16 +193,22 @@ jvm_verify = with_files (with_rule (with_rule (with_rule (new_app (codes "verify
 abbrev pub jvm_disasm : App
 jvm_disasm = with_files (with_rule (new_app (codes "disasm")) (flag (codes "names"))) class_files
 
--- a schedule as text; with `--write` a file of a text; and with `--places` a text with places, of a schedule of class files
-abbrev pub with_schedule_options : App → App
-with_schedule_options app = with_rule (with_rule (with_rule (with_rule (with_rule (with_rule (with_rule app
-    (flag (codes "write")))
-    version_option)
+-- a schedule as text; with `--write` a file of a text
+abbrev pub with_made_file : App → App
+with_made_file app = with_rule (with_rule app (flag (codes "write"))) version_option
+
+-- with `--places` a text with places, of a schedule of class files
+abbrev pub with_places : App → App
+with_places app = with_rule (with_rule (with_rule (with_rule (with_rule app
     (flag (codes "places")))
     (path_option (codes "schedule")))
     (flag (codes "any-files")))
     main_option)
     alone_flag
+
+-- the options of `schedule`
+abbrev pub with_schedule_options : App → App
+with_schedule_options app = with_places (with_made_file app)
 
 abbrev pub jvm_schedule : App
 jvm_schedule = with_files (with_schedule_options (new_app (codes "schedule"))) class_files
@@ -211,9 +217,9 @@ jvm_schedule = with_files (with_schedule_options (new_app (codes "schedule"))) c
 abbrev pub with_version : Shape → Shape
 with_version shape = record shape { has_version = true; subcommand_required = true }
 
-abbrev pub jvm : App
-jvm = with_subcommand (with_subcommand (with_subcommand (with_subcommand (with_subcommand (with_subcommand (with_subcommand (with_subcommand
-    (record (new_app (codes "jvm")) { top = with_version (new_app (codes "jvm")).top })
+-- all subcommands
+abbrev pub with_subcommands : App → App
+with_subcommands app = with_subcommand (with_subcommand (with_subcommand (with_subcommand (with_subcommand (with_subcommand (with_subcommand (with_subcommand app
     jvm_run.top)
     jvm_replay.top)
     jvm_trace.top)
@@ -223,9 +229,16 @@ jvm = with_subcommand (with_subcommand (with_subcommand (with_subcommand (with_s
     jvm_disasm.top)
     jvm_schedule.top
 
+abbrev pub jvm : App
+jvm = with_subcommands (record (new_app (codes "jvm")) { top = with_version (new_app (codes "jvm")).top })
+
 -- no argument of the parser is one of its subcommands' too
 abbrev pub IsLocal : parser.Command → Type 0
 IsLocal command = (out-Command command).has_globals ≡ false
+
+-- the parser is of this command, and none of its arguments is its subcommands' too
+abbrev pub IsParser : parser.Command → App → Type 0
+IsParser command app = (app_of command ≡ app) × IsLocal command
 
 -- the number of an option, where it is there: digits alone spell it
 abbrev pub IsNumber : ℕ → ℕ → Option Text → Option ℕ → Type 0
@@ -352,7 +365,7 @@ pub record AreTraceValues (rows : List Row) (trace : Trace) : Type 0 where
 
 -- the values that the words give to `jvm search`
 pub record AreSearchValues (rows : List Row) (search : Search) : Type 0 where
-  pub goal : IsGoal (first_of (codes "for") rows) search.goal
+  pub goal : IsSearchGoal (first_of (codes "for") rows) search.goal
   pub states : IsNumber 0 4294967295 (first_of (codes "states") rows) search.states
   pub memory : IsNumber 0 4294967295 (first_of (codes "memory") rows) search.memory
   pub seconds : IsNumber 1 4294967295 (first_of (codes "seconds") rows) search.seconds
@@ -361,7 +374,7 @@ pub record AreSearchValues (rows : List Row) (search : Search) : Type 0 where
   pub limits : AreLimitNumbers rows search.limits
   pub main : first_of (codes "main") rows ≡ option_map string_bytes search.main
   pub files : all_of (codes "files") rows ≡ Some (map string_bytes search.files.items)
-  pub other_text : IsGoalApart (first_of (codes "record") rows) search.goal
+  pub other_text : IsSearchGoalApart (first_of (codes "record") rows) search.goal
   pub other_files : All (IsApart (first_of (codes "record") rows)) (map string_bytes search.files.items)
   pub explain : search.explain ≡ is_set (first_of (codes "explain") rows)
   pub quiet : search.quiet ≡ is_set (first_of (codes "quiet") rows)

@@ -4,4 +4,5 @@ pub mod Goals
 pub mod Numerals
 pub mod Paths
 pub mod Policies
+pub mod Programs
 pub mod Sweeps

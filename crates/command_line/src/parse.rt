@@ -3,7 +3,7 @@
 ghost use Rattle.std.specs.Prelude.{◌≡◌, ◌⊎◌, List, codes, map, string_bytes, IfOk, IfErr, MatchOption};
 ghost use Rattle.clap.specs.Words.{HasMatchesOf, first_of, found_of, kind_of, rows_of, Text};
 ghost use Rattle.clap.specs.declared.error.kind.ErrorKind.TheVariants.{UnknownArgument as unknown_argument};
-ghost use Rattle.command_line.specs.CommandLine.{AreDisasmValues, AreRunNumbers, AreRunValues, AreSearchValues, AreShrinkValues, AreTraceValues, AreValues, AreVerifyValues, Asks, Fails, IsRequiredGoal, IsThenRun, IsTraceForm, Refuses, Spells, UnlessSweep, jvm, usage_of};
+ghost use Rattle.command_line.specs.CommandLine.{AreDisasmValues, AreRunNumbers, AreRunValues, AreSearchValues, AreShrinkValues, AreTraceValues, AreValues, AreValuesOf, AreVerifyValues, Asks, Fails, IsRequiredGoal, IsThenRun, IsTraceForm, Refuses, Spells, UnlessSweep, jvm, name_of, usage_of};
 ghost use Rattle.command_line.specs.Policies.{GoTogether};
 
 use crate::numbers::{
@@ -15,14 +15,16 @@ use crate::options::{
     Disasm, Goal, Replay, Run, Search, Shrink, ThenRun, Trace, TraceForm, Verify,
 };
 use crate::parsers::program;
-use crate::paths::{check_file, check_files, check_goal};
+use crate::paths::{check_file, check_goal, check_search_goal};
+use crate::program_options::{apart_program_of, program_options_of};
 use crate::run_arguments::{policy_of, seed_of};
 use crate::run_options::{Clash, RunOptions};
 use crate::schedule_arguments::listed_of;
 use crate::sweep_arguments::{SEEDS, follow_of, sweep_of};
 use crate::usage::Usage;
 use crate::values::{
-    files_of, goal_of, is_set, limits_of, missing, path_of, recorded_version_of, required_path_of,
+    check_beside, files_of, goal_of, is_set, missing, path_of, recorded_version_of, recording_of,
+    required_path_of, search_goal_of,
 };
 use clap::ArgMatches;
 use clap::error::ErrorKind;
@@ -42,30 +44,33 @@ fn command_of(alloc: Global, matches: &ArgMatches<'_>) -> Result<options::Comman
     ensures spelled { (words : List Text) → HasMatchesOf jvm words matches.now → IfOk result (Spells words) }
     ensures refused { (words : List Text) → HasMatchesOf jvm words matches.now → IfErr result (Fails words) }
 {
-    if let Some(run) = matches.subcommand_matches("run") {
-        return Ok(options::Command::Run(run_of(alloc, run)?));
-    }
-    if let Some(replay) = matches.subcommand_matches("replay") {
-        return Ok(options::Command::Replay(replay_of(alloc, replay)?));
-    }
-    if let Some(trace) = matches.subcommand_matches("trace") {
-        return Ok(options::Command::Trace(trace_of(alloc, trace)?));
-    }
-    if let Some(search) = matches.subcommand_matches("search") {
-        return Ok(options::Command::Search(search_of(alloc, search)?));
-    }
-    if let Some(shrink) = matches.subcommand_matches("shrink") {
-        return Ok(options::Command::Shrink(shrink_of(alloc, shrink)?));
-    }
-    if let Some(verify) = matches.subcommand_matches("verify") {
-        return Ok(options::Command::Verify(verify_of(alloc, verify)?));
-    }
-    if let Some(disasm) = matches.subcommand_matches("disasm") {
-        return Ok(options::Command::Disasm(disasm_of(alloc, disasm)?));
-    }
-    match matches.subcommand_matches("schedule") {
-        Some(schedule) => listed_of(alloc, schedule),
+    match matches.subcommand() {
+        Some((name, found)) => named_command_of(alloc, name, found),
         None => Err(missing(alloc, "a subcommand is missing")),
+    }
+}
+
+/// The command of this name that has these matches.
+fn named_command_of(
+    alloc: Global,
+    name: &str,
+    matches: &ArgMatches<'_>,
+) -> Result<options::Command, Usage>
+    ensures values { IfOk result (λ command. (name_of command ≡ name.now)
+        × AreValuesOf (rows_of (found_of matches.now)) command) }
+    ensures none { IfErr result (λ usage. Refuses usage ((command : _) → name_of command ≡ name.now
+        → AreValuesOf (rows_of (found_of matches.now)) command → ⊥)) }
+{
+    match name {
+        "run" => Ok(options::Command::Run(run_of(alloc, matches)?)),
+        "replay" => Ok(options::Command::Replay(replay_of(alloc, matches)?)),
+        "trace" => Ok(options::Command::Trace(trace_of(alloc, matches)?)),
+        "search" => Ok(options::Command::Search(search_of(alloc, matches)?)),
+        "shrink" => Ok(options::Command::Shrink(shrink_of(alloc, matches)?)),
+        "verify" => Ok(options::Command::Verify(verify_of(alloc, matches)?)),
+        "disasm" => Ok(options::Command::Disasm(disasm_of(alloc, matches)?)),
+        "schedule" => listed_of(alloc, matches),
+        _ => Err(missing(alloc, "there is no such subcommand")),
     }
 }
 
@@ -100,25 +105,21 @@ fn run_of(alloc: Global, matches: &ArgMatches<'_>) -> Result<Run, Usage>
     let options = run_options_of(alloc, matches)?;
     let seconds = SECONDS.number(alloc, matches)?;
     let sweep = sweep_of(alloc, matches)?;
-    let record = path_of(alloc, matches, "record")?;
-    let as_version = recorded_version_of(alloc, matches)?;
-    let limits = limits_of(alloc, matches)?;
-    let main = path_of(alloc, matches, "main")?;
-    let files = files_of(alloc, matches)?;
-    check_files(alloc, matches, &files)?;
+    let recording = recording_of(alloc, matches)?;
+    let program = apart_program_of(alloc, matches)?;
     let follow = follow_of(alloc, matches)?;
     Ok(Run {
         options,
         seconds,
         sweep,
-        record,
-        as_version,
-        limits,
-        main,
-        files,
-        explain: is_set(matches, "explain"),
-        quiet: is_set(matches, "quiet"),
-        files_alone: is_set(matches, "files-alone"),
+        record: recording.record,
+        as_version: recording.as_version,
+        limits: program.limits,
+        main: program.main,
+        files: program.files,
+        explain: program.explain,
+        quiet: program.quiet,
+        files_alone: program.files_alone,
         follow,
     })
 }
@@ -131,22 +132,19 @@ fn replay_of(alloc: Global, matches: &ArgMatches<'_>) -> Result<Replay, Usage>
     let schedule = required_path_of(alloc, matches, "schedule")?;
     let then_run = then_run_of(alloc, matches)?;
     let budget = WHOLE_BUDGET.number(alloc, matches)?;
-    let limits = limits_of(alloc, matches)?;
-    let main = path_of(alloc, matches, "main")?;
-    let files = files_of(alloc, matches)?;
+    let program = apart_program_of(alloc, matches)?;
     check_file(alloc, matches, schedule.as_str())?;
-    check_files(alloc, matches, &files)?;
     Ok(Replay {
         schedule,
+        any_files: is_set(matches, "any-files"),
         then_run,
         budget,
-        limits,
-        main,
-        files,
-        explain: is_set(matches, "explain"),
-        quiet: is_set(matches, "quiet"),
-        any_files: is_set(matches, "any-files"),
-        files_alone: is_set(matches, "files-alone"),
+        limits: program.limits,
+        main: program.main,
+        files: program.files,
+        explain: program.explain,
+        quiet: program.quiet,
+        files_alone: program.files_alone,
         follow: is_set(matches, "follow"),
     })
 }
@@ -161,23 +159,21 @@ fn trace_of(alloc: Global, matches: &ArgMatches<'_>) -> Result<Trace, Usage>
     let to = TO.number(alloc, matches)?;
     let only = ONLY.numbers(alloc, matches)?;
     let form = form_of(alloc, matches)?;
-    let limits = limits_of(alloc, matches)?;
-    let main = path_of(alloc, matches, "main")?;
-    let files = files_of(alloc, matches)?;
+    let program = program_options_of(alloc, matches)?;
     Ok(Trace {
         schedule,
+        any_files: is_set(matches, "any-files"),
         from,
         to,
         only,
         form,
         summary: is_set(matches, "summary"),
-        limits,
-        main,
-        files,
-        explain: is_set(matches, "explain"),
-        quiet: is_set(matches, "quiet"),
-        any_files: is_set(matches, "any-files"),
-        files_alone: is_set(matches, "files-alone"),
+        limits: program.limits,
+        main: program.main,
+        files: program.files,
+        explain: program.explain,
+        quiet: program.quiet,
+        files_alone: program.files_alone,
     })
 }
 
@@ -186,30 +182,26 @@ fn search_of(alloc: Global, matches: &ArgMatches<'_>) -> Result<Search, Usage>
     ensures none { IfErr result (λ usage. Refuses usage ((search : _)
         → AreSearchValues (rows_of (found_of matches.now)) search → ⊥)) }
 {
-    let goal = goal_of(alloc, matches)?;
+    let goal = search_goal_of(alloc, matches)?;
     let states = STATES.number(alloc, matches)?;
     let memory = MEMORY.number(alloc, matches)?;
     let seconds = SECONDS.number(alloc, matches)?;
-    let record = path_of(alloc, matches, "record")?;
-    let as_version = recorded_version_of(alloc, matches)?;
-    let limits = limits_of(alloc, matches)?;
-    let main = path_of(alloc, matches, "main")?;
-    let files = files_of(alloc, matches)?;
-    check_goal(alloc, matches, &goal)?;
-    check_files(alloc, matches, &files)?;
+    let recording = recording_of(alloc, matches)?;
+    let program = apart_program_of(alloc, matches)?;
+    check_search_goal(alloc, matches, &goal)?;
     Ok(Search {
         goal,
         states,
         memory,
         seconds,
-        record,
-        as_version,
-        limits,
-        main,
-        files,
-        explain: is_set(matches, "explain"),
-        quiet: is_set(matches, "quiet"),
-        files_alone: is_set(matches, "files-alone"),
+        record: recording.record,
+        as_version: recording.as_version,
+        limits: program.limits,
+        main: program.main,
+        files: program.files,
+        explain: program.explain,
+        quiet: program.quiet,
+        files_alone: program.files_alone,
     })
 }
 
@@ -221,26 +213,22 @@ fn shrink_of(alloc: Global, matches: &ArgMatches<'_>) -> Result<Shrink, Usage>
     let goal = required_goal_of(alloc, matches)?;
     let schedule = required_path_of(alloc, matches, "schedule")?;
     let budget = WHOLE_BUDGET.number(alloc, matches)?;
-    let record = path_of(alloc, matches, "record")?;
-    let as_version = recorded_version_of(alloc, matches)?;
-    let limits = limits_of(alloc, matches)?;
-    let main = path_of(alloc, matches, "main")?;
-    let files = files_of(alloc, matches)?;
+    let recording = recording_of(alloc, matches)?;
+    let program = apart_program_of(alloc, matches)?;
     check_file(alloc, matches, schedule.as_str())?;
-    check_files(alloc, matches, &files)?;
     Ok(Shrink {
         goal,
         schedule,
         any_files: is_set(matches, "any-files"),
         budget,
-        record,
-        as_version,
-        limits,
-        main,
-        files,
-        explain: is_set(matches, "explain"),
-        quiet: is_set(matches, "quiet"),
-        files_alone: is_set(matches, "files-alone"),
+        record: recording.record,
+        as_version: recording.as_version,
+        limits: program.limits,
+        main: program.main,
+        files: program.files,
+        explain: program.explain,
+        quiet: program.quiet,
+        files_alone: program.files_alone,
     })
 }
 
@@ -315,18 +303,17 @@ fn then_run_of(alloc: Global, matches: &ArgMatches<'_>) -> Result<Option<ThenRun
     ensures none { IfErr result (λ usage. Refuses usage ((then_run : _)
         → IsThenRun (rows_of (found_of matches.now)) then_run → ⊥)) }
 {
-    let record = path_of(alloc, matches, "record")?;
     let as_version = recorded_version_of(alloc, matches)?;
     if is_set(matches, "then-run") {
         let budget = WHOLE_BUDGET.number(alloc, matches)?;
+        let record = path_of(alloc, matches, "record")?;
         Ok(Some(ThenRun {
             budget,
             record,
             as_version,
         }))
-    } else if record.is_some() {
-        Err(Usage::not_provided(alloc, "--then-run"))
     } else {
+        check_beside(alloc, matches, "record", "--then-run")?;
         Ok(None)
     }
 }

@@ -1,14 +1,19 @@
 //! The parsers of the command line.
 
-ghost use Rattle.std.specs.Prelude.{◌≡◌, codes, false, IfOk, IfErr};
-ghost use Rattle.clap.specs.Words.{App, app_of, kind_of, new_app, rule_of, with_subcommand};
+ghost use Rattle.std.specs.Prelude.{◌≡◌, false, IfOk, IfErr};
+ghost use Rattle.clap.specs.Words.{App, Rule, app_of, kind_of, new_app, rule_of, with_rule, with_subcommand};
 ghost use Rattle.clap.specs.declared.error.kind.ErrorKind.TheVariants.{OutOfMemory as no_memory};
-ghost use Rattle.command_line.specs.CommandLine.{IsLocal, class_files, flag, goal_option, jvm, jvm_disasm, jvm_replay, jvm_run, jvm_schedule, jvm_search, jvm_shrink, jvm_trace, jvm_verify, main_option, path_option, record_option, required_goal_option, schedule_option, with_files as over_files, with_follow as followed, with_limits as limited, with_main as started, with_program as programmed, alone_flag, with_record as recorded};
+ghost use Rattle.command_line.specs.CommandLine.{IsParser, class_files, jvm, jvm_disasm, jvm_replay, jvm_run, jvm_schedule, jvm_search, jvm_shrink, jvm_trace, jvm_verify};
+ghost use Rattle.command_line.specs.CommandLine as spec;
 
+use crate::arguments::{
+    alone_argument, any_files_argument, files_argument, flag_argument, goal_argument,
+    main_argument, path_argument, record_argument, required_goal_argument, schedule_argument,
+};
 use crate::help::{
-    ABOUT, AFTER, DISASM_PAGE, FILES_HELP, LISTED_HELP, RECORD_HELP, REPLAY_PAGE, RUN_PAGE,
-    RUN_RECORD_HELP, SCHEDULE_HELP, SCHEDULE_PAGE, SEARCH_PAGE, SHRINK_PAGE, TRACE_PAGE,
-    VERIFY_PAGE, VERSION,
+    ABOUT, AFTER, DISASM_PAGE, FILES_HELP, LISTED_HELP, OUTCOME_HELP, RECORD_HELP, REPLAY_PAGE,
+    RUN_PAGE, RUN_RECORD_HELP, SCHEDULE_HELP, SCHEDULE_PAGE, SEARCH_GOAL_HELP, SEARCH_PAGE,
+    SHRINK_PAGE, TRACE_PAGE, VERIFY_PAGE, VERSION,
 };
 use crate::numbers::{
     AS_VERSION, BUDGET, CELLS, FRAMES, FROM, MEMORY, MONITORS, OBJECTS, ONLY, QUANTUM, SECONDS,
@@ -16,7 +21,7 @@ use crate::numbers::{
 };
 use crate::run_arguments::{policy_argument, seed_argument};
 use crate::sweep_arguments::seeds_argument;
-use clap::{Arg, ArgAction};
+use clap::Arg;
 use std::alloc::{AllocError, Global};
 
 /// The parser of the command line.
@@ -29,6 +34,16 @@ pub(crate) fn program<'a>(alloc: Global) -> Result<clap::Command<'a>, clap::Erro
         .version(VERSION)
         .after_help(AFTER)
         .subcommand_required(true);
+    Ok(with_parsers(alloc, program)?)
+}
+
+/// The command with all subcommands.
+fn with_parsers<'a>(
+    alloc: Global,
+    program: clap::Command<'a>,
+) -> Result<clap::Command<'a>, AllocError>
+    ensures { IfOk result (λ whole. app_of whole ≡ spec.with_subcommands (app_of program.entry)) }
+{
     let program = with_parser(program, run_parser(alloc))?;
     let program = with_parser(program, replay_parser(alloc))?;
     let program = with_parser(program, trace_parser(alloc))?;
@@ -36,8 +51,7 @@ pub(crate) fn program<'a>(alloc: Global) -> Result<clap::Command<'a>, clap::Erro
     let program = with_parser(program, shrink_parser(alloc))?;
     let program = with_parser(program, verify_parser(alloc))?;
     let program = with_parser(program, disasm_parser(alloc))?;
-    let program = with_parser(program, schedule_parser(alloc))?;
-    Ok(program)
+    with_parser(program, schedule_parser(alloc))
 }
 
 /// The command with a subcommand, if there was memory for its parser.
@@ -45,7 +59,7 @@ fn with_parser<'a>(
     command: clap::Command<'a>,
     parser: Result<clap::Command<'a>, AllocError>,
 ) -> Result<clap::Command<'a>, AllocError>
-    ensures { (app : App) → IfOk parser.entry (λ p. (app_of p ≡ app) × IsLocal p)
+    ensures { (app : App) → IfOk parser.entry (λ p. IsParser p app)
         → IfOk result (λ whole. app_of whole ≡ with_subcommand (app_of command.entry) app.top) }
 {
     match parser {
@@ -56,8 +70,7 @@ fn with_parser<'a>(
 
 /// A subcommand by its name, with what it does in a line, and the page that its help ends with.
 fn titled<'a>(alloc: Global, name: &'a str, about: &'a str, page: &'a str) -> clap::Command<'a>
-    ensures app { app_of result ≡ new_app name.now }
-    ensures local { IsLocal result }
+    ensures { IsParser result (new_app name.now) }
 {
     clap::Command::new(alloc, name)
         .about(about)
@@ -65,382 +78,403 @@ fn titled<'a>(alloc: Global, name: &'a str, about: &'a str, page: &'a str) -> cl
 }
 
 fn run_parser<'a>(alloc: Global) -> Result<clap::Command<'a>, AllocError>
-    ensures { IfOk result (λ run. (app_of run ≡ jvm_run) × IsLocal run) }
+    ensures { IfOk result (λ run. IsParser run jvm_run) }
 {
-    let run = titled(
+    let run = Ok(titled(
         alloc,
         "run",
         "Runs class files, and may record the schedule",
         RUN_PAGE,
-    )
-    .arg(WORKERS.argument(alloc))?
-    .arg(BUDGET.argument(alloc))?
-    .arg(QUANTUM.argument(alloc))?
-    .arg(seed_argument(alloc))?
-    .arg(policy_argument(alloc))?
-    .arg(SECONDS.argument(alloc))?
-    .arg(seeds_argument(alloc))?
-    .arg(goal_argument(alloc))?;
-    let run = with_record(alloc, run, RUN_RECORD_HELP)?;
-    with_files(
-        alloc,
-        with_follow(alloc, run)?,
-        files_argument(alloc, FILES_HELP),
-    )
+    ));
+    let run = with_run_options(alloc, run);
+    let run = with_sweep_options(alloc, run);
+    let run = with_record(alloc, run, RUN_RECORD_HELP);
+    let run = with_follow(alloc, run);
+    with_files(alloc, run, FILES_HELP)
 }
 
 fn replay_parser<'a>(alloc: Global) -> Result<clap::Command<'a>, AllocError>
-    ensures { IfOk result (λ replay. (app_of replay ≡ jvm_replay) × IsLocal replay) }
+    ensures { IfOk result (λ replay. IsParser replay jvm_replay) }
 {
-    let replay = titled(
+    let replay = Ok(titled(
         alloc,
         "replay",
         "Runs class files under the schedule of a file, and may go on behind it",
         REPLAY_PAGE,
-    )
-    .arg(schedule_argument(alloc))?
-    .arg(any_files_argument(alloc))?
-    .arg(flag_argument(
-        alloc,
-        "then-run",
-        "Goes on where the schedule ends: the threads take turns",
-    ))?
-    .arg(WHOLE_BUDGET.argument(alloc))?;
-    let replay = with_record(alloc, replay, RECORD_HELP)?;
-    with_files(
-        alloc,
-        with_follow(alloc, replay)?,
-        files_argument(alloc, FILES_HELP),
-    )
+    ));
+    let replay = with_schedule(alloc, replay);
+    let replay = with_then_run(alloc, replay);
+    let replay = with_follow(alloc, replay);
+    with_files(alloc, replay, FILES_HELP)
 }
 
 fn trace_parser<'a>(alloc: Global) -> Result<clap::Command<'a>, AllocError>
-    ensures { IfOk result (λ trace. (app_of trace ≡ jvm_trace) × IsLocal trace) }
+    ensures { IfOk result (λ trace. IsParser trace jvm_trace) }
 {
-    let trace = titled(
+    let trace = Ok(titled(
         alloc,
         "trace",
         "Runs class files under the schedule of a file, and tells the run event by event",
         TRACE_PAGE,
-    )
-    .arg(schedule_argument(alloc))?
-    .arg(any_files_argument(alloc))?
-    .arg(FROM.argument(alloc))?
-    .arg(TO.argument(alloc))?
-    .arg(ONLY.list_argument(alloc))?
-    .arg(flag_argument(alloc, "columns", "Gives each thread a column of its own"))?
-    .arg(flag_argument(alloc, "json", "Tells each event as an object of JSON"))?
-    .arg(flag_argument(
-        alloc,
-        "summary",
-        "Tells a run of local instructions in one line",
-    ))?;
-    with_files(
-        alloc,
-        with_program(alloc, trace)?,
-        files_argument(alloc, FILES_HELP),
-    )
+    ));
+    let trace = with_schedule(alloc, trace);
+    let trace = with_window(alloc, trace);
+    let trace = with_form(alloc, trace);
+    let trace = with_program(alloc, trace);
+    with_files(alloc, trace, FILES_HELP)
 }
 
 fn search_parser<'a>(alloc: Global) -> Result<clap::Command<'a>, AllocError>
-    ensures { IfOk result (λ search. (app_of search ≡ jvm_search) × IsLocal search) }
+    ensures { IfOk result (λ search. IsParser search jvm_search) }
 {
-    let search = titled(
+    let search = Ok(titled(
         alloc,
         "search",
         "Searches all schedules of class files for what can come of them",
         SEARCH_PAGE,
-    )
-    .arg(goal_argument(alloc))?
-    .arg(STATES.argument(alloc))?
-    .arg(MEMORY.argument(alloc))?
-    .arg(SECONDS.argument(alloc))?;
-    let search = with_record(alloc, search, RECORD_HELP)?;
-    with_files(
-        alloc,
-        with_program(alloc, search)?,
-        files_argument(alloc, FILES_HELP),
-    )
+    ));
+    let search = with_search_options(alloc, search);
+    let search = with_program(alloc, search);
+    with_files(alloc, search, FILES_HELP)
 }
 
 fn shrink_parser<'a>(alloc: Global) -> Result<clap::Command<'a>, AllocError>
-    ensures { IfOk result (λ shrink. (app_of shrink ≡ jvm_shrink) × IsLocal shrink) }
+    ensures { IfOk result (λ shrink. IsParser shrink jvm_shrink) }
 {
-    let shrink = titled(
+    let shrink = Ok(titled(
         alloc,
         "shrink",
         "Looks for a schedule with fewer switches that has the same outcome",
         SHRINK_PAGE,
-    )
-    .arg(required_goal_argument(alloc))?
-    .arg(schedule_argument(alloc))?
-    .arg(any_files_argument(alloc))?
-    .arg(WHOLE_BUDGET.argument(alloc))?;
-    let shrink = with_record(alloc, shrink, RECORD_HELP)?;
-    with_files(
-        alloc,
-        with_program(alloc, shrink)?,
-        files_argument(alloc, FILES_HELP),
-    )
+    ));
+    let shrink = with_shrink_options(alloc, shrink);
+    let shrink = with_program(alloc, shrink);
+    with_files(alloc, shrink, FILES_HELP)
 }
 
 fn verify_parser<'a>(alloc: Global) -> Result<clap::Command<'a>, AllocError>
-    ensures { IfOk result (λ verify. (app_of verify ≡ jvm_verify) × IsLocal verify) }
+    ensures { IfOk result (λ verify. IsParser verify jvm_verify) }
 {
-    let library = flag_argument(alloc, "library", "No class has to have a main method");
-    let verify = titled(
+    let verify = Ok(titled(
         alloc,
         "verify",
         "Links and verifies class files",
         VERIFY_PAGE,
-    )
-    .arg(library)?
-    .arg(main_argument(alloc))?
-    .arg(alone_argument(alloc))?;
-    with_files(alloc, verify, files_argument(alloc, FILES_HELP))
+    ));
+    let verify = with_argument(
+        verify,
+        flag_argument(alloc, "library", "No class has to have a main method"),
+    );
+    let verify = with_argument(verify, main_argument(alloc));
+    let verify = with_argument(verify, alone_argument(alloc));
+    with_files(alloc, verify, FILES_HELP)
 }
 
 fn disasm_parser<'a>(alloc: Global) -> Result<clap::Command<'a>, AllocError>
-    ensures { IfOk result (λ disasm. (app_of disasm ≡ jvm_disasm) × IsLocal disasm) }
+    ensures { IfOk result (λ disasm. IsParser disasm jvm_disasm) }
 {
-    let names = flag_argument(
-        alloc,
-        "names",
-        "Adds names and line numbers, and tells instructions that are left out",
+    let disasm = Ok(titled(alloc, "disasm", "Lists class files", DISASM_PAGE));
+    let disasm = with_argument(
+        disasm,
+        flag_argument(
+            alloc,
+            "names",
+            "Adds names and line numbers, and tells instructions that are left out",
+        ),
     );
-    let disasm = titled(alloc, "disasm", "Lists class files", DISASM_PAGE).arg(names)?;
-    with_files(alloc, disasm, files_argument(alloc, LISTED_HELP))
+    with_files(alloc, disasm, LISTED_HELP)
 }
 
 fn schedule_parser<'a>(alloc: Global) -> Result<clap::Command<'a>, AllocError>
-    ensures { IfOk result (λ schedule. (app_of schedule ≡ jvm_schedule) × IsLocal schedule) }
+    ensures { IfOk result (λ schedule. IsParser schedule jvm_schedule) }
 {
-    let write = flag_argument(
-        alloc,
-        "write",
-        "Makes the schedule file of the text on standard input",
-    );
-    let places = flag_argument(
-        alloc,
-        "places",
-        "Prints a schedule of class files as a text with places",
-    );
-    let schedule = titled(
+    let schedule = Ok(titled(
         alloc,
         "schedule",
         "Prints a schedule file as text, or makes one of a text",
         SCHEDULE_PAGE,
+    ));
+    let schedule = with_made_file(alloc, schedule);
+    let schedule = with_places(alloc, schedule);
+    with_files(alloc, schedule, SCHEDULE_HELP)
+}
+
+/// The command with an argument, if there was memory for the command.
+fn with_argument<'a>(
+    command: Result<clap::Command<'a>, AllocError>,
+    argument: Arg<'a>,
+) -> Result<clap::Command<'a>, AllocError>
+    ensures { (app : App) (rule : Rule) → IfOk command.entry (λ made. IsParser made app)
+        → rule_of argument.entry ≡ rule → argument.entry.global ≡ false
+        → IfOk result (λ whole. IsParser whole (with_rule app rule)) }
+{
+    match command {
+        Ok(command) => command.arg(argument),
+        Err(error) => Err(error),
+    }
+}
+
+/// The command with the options by which threads get turns, and how long that goes on.
+fn with_run_options<'a>(
+    alloc: Global,
+    command: Result<clap::Command<'a>, AllocError>,
+) -> Result<clap::Command<'a>, AllocError>
+    ensures { (app : App) → IfOk command.entry (λ made. IsParser made app)
+        → IfOk result (λ whole. IsParser whole (spec.with_run_options app)) }
+{
+    let command = with_argument(command, WORKERS.argument(alloc));
+    let command = with_argument(command, BUDGET.argument(alloc));
+    let command = with_argument(command, QUANTUM.argument(alloc));
+    let command = with_argument(command, seed_argument(alloc));
+    let command = with_argument(command, policy_argument(alloc));
+    with_argument(command, SECONDS.argument(alloc))
+}
+
+/// The command with the options of a sweep over seeds.
+fn with_sweep_options<'a>(
+    alloc: Global,
+    command: Result<clap::Command<'a>, AllocError>,
+) -> Result<clap::Command<'a>, AllocError>
+    ensures { (app : App) → IfOk command.entry (λ made. IsParser made app)
+        → IfOk result (λ whole. IsParser whole (spec.with_sweep_options app)) }
+{
+    let command = with_argument(command, seeds_argument(alloc));
+    with_argument(command, goal_argument(alloc, OUTCOME_HELP))
+}
+
+/// The command with a schedule, and the flag that takes it for any class files.
+fn with_schedule<'a>(
+    alloc: Global,
+    command: Result<clap::Command<'a>, AllocError>,
+) -> Result<clap::Command<'a>, AllocError>
+    ensures { (app : App) → IfOk command.entry (λ made. IsParser made app)
+        → IfOk result (λ whole. IsParser whole (spec.with_schedule app)) }
+{
+    let command = with_argument(command, schedule_argument(alloc));
+    with_argument(command, any_files_argument(alloc))
+}
+
+/// The command with the options of a run that goes on behind its schedule.
+fn with_then_run<'a>(
+    alloc: Global,
+    command: Result<clap::Command<'a>, AllocError>,
+) -> Result<clap::Command<'a>, AllocError>
+    ensures { (app : App) → IfOk command.entry (λ made. IsParser made app)
+        → IfOk result (λ whole. IsParser whole (spec.with_then_run app)) }
+{
+    let command = with_argument(
+        command,
+        flag_argument(
+            alloc,
+            "then-run",
+            "Goes on where the schedule ends: the threads take turns",
+        ),
+    );
+    let command = with_argument(command, WHOLE_BUDGET.argument(alloc));
+    with_record(alloc, command, RECORD_HELP)
+}
+
+/// The command with the options that say which events are told.
+fn with_window<'a>(
+    alloc: Global,
+    command: Result<clap::Command<'a>, AllocError>,
+) -> Result<clap::Command<'a>, AllocError>
+    ensures { (app : App) → IfOk command.entry (λ made. IsParser made app)
+        → IfOk result (λ whole. IsParser whole (spec.with_window app)) }
+{
+    let command = with_argument(command, FROM.argument(alloc));
+    let command = with_argument(command, TO.argument(alloc));
+    with_argument(command, ONLY.list_argument(alloc))
+}
+
+/// The command with the flags that say in which form events are told.
+fn with_form<'a>(
+    alloc: Global,
+    command: Result<clap::Command<'a>, AllocError>,
+) -> Result<clap::Command<'a>, AllocError>
+    ensures { (app : App) → IfOk command.entry (λ made. IsParser made app)
+        → IfOk result (λ whole. IsParser whole (spec.with_form app)) }
+{
+    let command = with_argument(
+        command,
+        flag_argument(alloc, "columns", "Gives each thread a column of its own"),
+    );
+    let command = with_argument(
+        command,
+        flag_argument(alloc, "json", "Tells each event as an object of JSON"),
+    );
+    with_argument(
+        command,
+        flag_argument(
+            alloc,
+            "summary",
+            "Tells a run of local instructions in one line",
+        ),
     )
-    .arg(write)?
-    .arg(AS_VERSION.argument(alloc))?
-    .arg(places)?
-    .arg(path_argument(
-        alloc,
-        "schedule",
-        "The schedule of --places: a file, or its text, or '0*22 1'",
-    ))?
-    .arg(any_files_argument(alloc))?
-    .arg(main_argument(alloc))?
-    .arg(alone_argument(alloc))?;
-    with_files(alloc, schedule, files_argument(alloc, SCHEDULE_HELP))
 }
 
-/// The file of the schedule, which has to be there.
-fn schedule_argument<'a>(alloc: Global) -> Arg<'a>
-    ensures rule { rule_of result ≡ schedule_option }
-    ensures local { result.global ≡ false }
+/// The command with the options of a search.
+fn with_search_options<'a>(
+    alloc: Global,
+    command: Result<clap::Command<'a>, AllocError>,
+) -> Result<clap::Command<'a>, AllocError>
+    ensures { (app : App) → IfOk command.entry (λ made. IsParser made app)
+        → IfOk result (λ whole. IsParser whole (spec.with_search_options app)) }
 {
-    path_argument(
-        alloc,
-        "schedule",
-        "The schedule file, or its text, or '0*22 1'",
-    )
-    .required(true)
+    let command = with_argument(command, goal_argument(alloc, SEARCH_GOAL_HELP));
+    let command = with_argument(command, STATES.argument(alloc));
+    let command = with_argument(command, MEMORY.argument(alloc));
+    let command = with_argument(command, SECONDS.argument(alloc));
+    with_record(alloc, command, RECORD_HELP)
 }
 
-/// Whether the schedule is for any class files.
-fn any_files_argument<'a>(alloc: Global) -> Arg<'a>
-    ensures rule { rule_of result ≡ flag (codes "any-files") }
-    ensures local { result.global ≡ false }
+/// The command with the options by which a schedule is shrunk.
+fn with_shrink_options<'a>(
+    alloc: Global,
+    command: Result<clap::Command<'a>, AllocError>,
+) -> Result<clap::Command<'a>, AllocError>
+    ensures { (app : App) → IfOk command.entry (λ made. IsParser made app)
+        → IfOk result (λ whole. IsParser whole (spec.with_shrink_options app)) }
 {
-    flag_argument(
-        alloc,
-        "any-files",
-        "Takes any class files, whatever the schedule was recorded over",
-    )
+    let command = with_argument(command, required_goal_argument(alloc));
+    let command = with_schedule(alloc, command);
+    let command = with_argument(command, WHOLE_BUDGET.argument(alloc));
+    with_record(alloc, command, RECORD_HELP)
 }
 
-/// The file that a schedule is written to, or the folder for several.
-fn record_argument<'a>(alloc: Global, help: &'a str) -> Arg<'a>
-    ensures rule { rule_of result ≡ record_option }
-    ensures local { result.global ≡ false }
+/// The command with the options by which a schedule file is made of a text.
+fn with_made_file<'a>(
+    alloc: Global,
+    command: Result<clap::Command<'a>, AllocError>,
+) -> Result<clap::Command<'a>, AllocError>
+    ensures { (app : App) → IfOk command.entry (λ made. IsParser made app)
+        → IfOk result (λ whole. IsParser whole (spec.with_made_file app)) }
 {
-    path_argument(alloc, "record", help)
+    let command = with_argument(
+        command,
+        flag_argument(
+            alloc,
+            "write",
+            "Makes the schedule file of the text on standard input",
+        ),
+    );
+    with_argument(command, AS_VERSION.argument(alloc))
 }
 
-/// The class whose main is run.
-fn main_argument<'a>(alloc: Global) -> Arg<'a>
-    ensures rule { rule_of result ≡ main_option }
-    ensures local { result.global ≡ false }
+/// The command with the options of a text with places.
+fn with_places<'a>(
+    alloc: Global,
+    command: Result<clap::Command<'a>, AllocError>,
+) -> Result<clap::Command<'a>, AllocError>
+    ensures { (app : App) → IfOk command.entry (λ made. IsParser made app)
+        → IfOk result (λ whole. IsParser whole (spec.with_places app)) }
 {
-    Arg::new(alloc, "main")
-        .long("main")
-        .value_name("NAME")
-        .action(ArgAction::Set)
-        .help("The class whose main method is run, as bank.Main or bank/Main")
-}
-
-/// That no class is added from the library.
-fn alone_argument<'a>(alloc: Global) -> Arg<'a>
-    ensures rule { rule_of result ≡ alone_flag }
-    ensures local { result.global ≡ false }
-{
-    flag_argument(
-        alloc,
-        "files-alone",
-        "Adds no class of the library to the class files",
-    )
-}
-
-/// The outcome that is to be kept, which has to be there.
-fn required_goal_argument<'a>(alloc: Global) -> Arg<'a>
-    ensures rule { rule_of result ≡ required_goal_option }
-    ensures local { result.global ≡ false }
-{
-    goal_argument(alloc).required(true)
-}
-
-/// The outcome that is to be found, or to be kept.
-fn goal_argument<'a>(alloc: Global) -> Arg<'a>
-    ensures rule { rule_of result ≡ goal_option }
-    ensures local { result.global ≡ false }
-{
-    Arg::new(alloc, "for")
-        .long("for")
-        .value_name("OUTCOME")
-        .action(ArgAction::Set)
-        .help("The outcome: deadlock, uncaught, output=NUMBERS or differs=FILE")
-}
-
-/// The class files, one or more.
-fn files_argument<'a>(alloc: Global, help: &'a str) -> Arg<'a>
-    ensures rule { rule_of result ≡ class_files }
-    ensures local { result.global ≡ false }
-{
-    Arg::new(alloc, "files")
-        .value_name("FILE")
-        .required(true)
-        .num_args(1..)
-        .action(ArgAction::Append)
-        .help(help)
-}
-
-/// An option that takes the path of a file.
-fn path_argument<'a>(alloc: Global, name: &'a str, help: &'a str) -> Arg<'a>
-    ensures rule { rule_of result ≡ path_option name.now }
-    ensures local { result.global ≡ false }
-{
-    Arg::new(alloc, name)
-        .long(name)
-        .value_name("FILE")
-        .action(ArgAction::Set)
-        .help(help)
-}
-
-/// An option that is there or not.
-fn flag_argument<'a>(alloc: Global, name: &'a str, help: &'a str) -> Arg<'a>
-    ensures rule { rule_of result ≡ flag name.now }
-    ensures local { result.global ≡ false }
-{
-    Arg::new(alloc, name)
-        .long(name)
-        .action(ArgAction::SetTrue)
-        .help(help)
+    let command = with_argument(
+        command,
+        flag_argument(
+            alloc,
+            "places",
+            "Prints a schedule of class files as a text with places",
+        ),
+    );
+    let command = with_argument(
+        command,
+        path_argument(
+            alloc,
+            "schedule",
+            "The schedule of --places: a file, or its text, or '0*22 1'",
+        ),
+    );
+    let command = with_argument(command, any_files_argument(alloc));
+    let command = with_argument(command, main_argument(alloc));
+    with_argument(command, alone_argument(alloc))
 }
 
 /// The command with the options of the limits.
 fn with_limits<'a>(
     alloc: Global,
-    command: clap::Command<'a>,
+    command: Result<clap::Command<'a>, AllocError>,
 ) -> Result<clap::Command<'a>, AllocError>
-    ensures app { IfOk result (λ limits. app_of limits ≡ limited (app_of command.entry)) }
-    ensures local { IsLocal command.entry → IfOk result IsLocal }
+    ensures { (app : App) → IfOk command.entry (λ made. IsParser made app)
+        → IfOk result (λ whole. IsParser whole (spec.with_limits app)) }
 {
-    command
-        .arg(OBJECTS.argument(alloc))?
-        .arg(CELLS.argument(alloc))?
-        .arg(MONITORS.argument(alloc))?
-        .arg(THREADS.argument(alloc))?
-        .arg(FRAMES.argument(alloc))
+    let command = with_argument(command, OBJECTS.argument(alloc));
+    let command = with_argument(command, CELLS.argument(alloc));
+    let command = with_argument(command, MONITORS.argument(alloc));
+    let command = with_argument(command, THREADS.argument(alloc));
+    with_argument(command, FRAMES.argument(alloc))
 }
 
 /// The command with the options by which schedules are recorded.
 fn with_record<'a>(
     alloc: Global,
-    command: clap::Command<'a>,
+    command: Result<clap::Command<'a>, AllocError>,
     help: &'a str,
 ) -> Result<clap::Command<'a>, AllocError>
-    ensures app { IfOk result (λ whole. app_of whole ≡ recorded (app_of command.entry)) }
-    ensures local { IsLocal command.entry → IfOk result IsLocal }
+    ensures { (app : App) → IfOk command.entry (λ made. IsParser made app)
+        → IfOk result (λ whole. IsParser whole (spec.with_record app)) }
 {
-    command
-        .arg(record_argument(alloc, help))?
-        .arg(AS_VERSION.argument(alloc))
+    let command = with_argument(command, record_argument(alloc, help));
+    with_argument(command, AS_VERSION.argument(alloc))
 }
 
-/// The command with the options of the limits, and with the one that names the class whose main is run.
-fn with_main<'a>(alloc: Global, command: clap::Command<'a>) -> Result<clap::Command<'a>, AllocError>
-    ensures app { IfOk result (λ main. app_of main ≡ started (app_of command.entry)) }
-    ensures local { IsLocal command.entry → IfOk result IsLocal }
-{
-    with_limits(alloc, command)?.arg(main_argument(alloc))
-}
-
-/// The same command with the flag that leaves the library out.
+/// The command with the options of the limits, with the one that names the class whose main is run, and with the flag
+/// that leaves the library out.
 fn with_program<'a>(
     alloc: Global,
-    command: clap::Command<'a>,
+    command: Result<clap::Command<'a>, AllocError>,
 ) -> Result<clap::Command<'a>, AllocError>
-    ensures app { IfOk result (λ program. app_of program ≡ programmed (app_of command.entry)) }
-    ensures local { IsLocal command.entry → IfOk result IsLocal }
+    ensures { (app : App) → IfOk command.entry (λ made. IsParser made app)
+        → IfOk result (λ whole. IsParser whole (spec.with_program app)) }
 {
-    with_main(alloc, command)?.arg(alone_argument(alloc))
+    let command = with_limits(alloc, command);
+    let command = with_argument(command, main_argument(alloc));
+    with_argument(command, alone_argument(alloc))
 }
 
 /// The same command with the flag that has lines printed as soon as they can be.
 fn with_follow<'a>(
     alloc: Global,
-    command: clap::Command<'a>,
+    command: Result<clap::Command<'a>, AllocError>,
 ) -> Result<clap::Command<'a>, AllocError>
-    ensures app { IfOk result (λ whole. app_of whole ≡ followed (app_of command.entry)) }
-    ensures local { IsLocal command.entry → IfOk result IsLocal }
+    ensures { (app : App) → IfOk command.entry (λ made. IsParser made app)
+        → IfOk result (λ whole. IsParser whole (spec.with_follow app)) }
 {
-    with_program(alloc, command)?.arg(flag_argument(
-        alloc,
-        "follow",
-        "Prints each line as soon as the run prints it, not behind the run",
-    ))
+    let command = with_program(alloc, command);
+    with_argument(
+        command,
+        flag_argument(
+            alloc,
+            "follow",
+            "Prints each line as soon as the run prints it, not behind the run",
+        ),
+    )
 }
 
 /// The command with the flags that say how much standard error tells, and with files behind all options.
 fn with_files<'a>(
     alloc: Global,
-    command: clap::Command<'a>,
-    files: Arg<'a>,
+    command: Result<clap::Command<'a>, AllocError>,
+    help: &'a str,
 ) -> Result<clap::Command<'a>, AllocError>
-    ensures { IsLocal command.entry → files.entry.global ≡ false
-        → IfOk result (λ whole. (app_of whole ≡ over_files (app_of command.entry) (rule_of files.entry))
-        × IsLocal whole) }
+    ensures { (app : App) → IfOk command.entry (λ made. IsParser made app)
+        → IfOk result (λ whole. IsParser whole (spec.with_files app class_files)) }
 {
-    let explain = flag_argument(
-        alloc,
-        "explain",
-        "Tells what threads wait for, however long that takes",
+    let command = with_argument(
+        command,
+        flag_argument(
+            alloc,
+            "explain",
+            "Tells what threads wait for, however long that takes",
+        ),
     );
-    let quiet = flag_argument(
-        alloc,
-        "quiet",
-        "Adds no words on why files are refused or what threads wait for",
+    let command = with_argument(
+        command,
+        flag_argument(
+            alloc,
+            "quiet",
+            "Adds no words on why files are refused or what threads wait for",
+        ),
     );
-    command.arg(explain)?.arg(quiet)?.arg(files)
+    with_argument(command, files_argument(alloc, help))
 }

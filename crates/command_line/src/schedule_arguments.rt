@@ -8,7 +8,7 @@ use crate::numbers::AS_VERSION;
 use crate::options::{Command, Places, Schedule};
 use crate::sweep_arguments::check_alone;
 use crate::usage::Usage;
-use crate::values::{files_of, is_set, missing, no_version, path_of};
+use crate::values::{check_beside, files_of, is_set, missing, no_version, path_of};
 use clap::ArgMatches;
 use std::alloc::Global;
 
@@ -33,8 +33,8 @@ fn schedule_of(alloc: Global, matches: &ArgMatches<'_>) -> Result<Schedule, Usag
     ensures none { IfErr result (λ usage. Refuses usage ((schedule : _)
         → AreScheduleValues (rows_of (found_of matches.now)) schedule → ⊥)) }
 {
-    check_places(alloc, matches, "schedule")?;
-    check_places(alloc, matches, "main")?;
+    check_beside(alloc, matches, "schedule", "--places")?;
+    check_beside(alloc, matches, "main", "--places")?;
     check_places_flag(alloc, matches, "any-files")?;
     check_places_flag(alloc, matches, "files-alone")?;
     let file = one_file_of(alloc, matches)?;
@@ -101,18 +101,6 @@ fn placed_of(alloc: Global, matches: &ArgMatches<'_>) -> Result<String, Usage>
     match path_of(alloc, matches, "schedule")? {
         Some(path) => Ok(path),
         None => Err(Usage::not_provided(alloc, "--schedule <FILE>")),
-    }
-}
-
-/// Refuses an option that stands beside `--places` alone.
-fn check_places(alloc: Global, matches: &ArgMatches<'_>, name: &str) -> Result<(), Usage>
-    ensures ok { IfOk result (λ _. first_of name.now (rows_of (found_of matches.now)) ≡ None) }
-    ensures none { IfErr result (λ usage. Refuses usage
-        (first_of name.now (rows_of (found_of matches.now)) ≡ None → ⊥)) }
-{
-    match matches.get_str(name) {
-        Some(_) => Err(Usage::not_provided(alloc, "--places")),
-        None => Ok(()),
     }
 }
 

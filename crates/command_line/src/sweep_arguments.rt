@@ -9,7 +9,7 @@ ghost use Rattle.command_line.specs.Sweeps.{AreSeeds, IsSeedRange, IsSweep, IsSw
 use crate::run_arguments::{SEED, seed_by};
 use crate::sweep_options::{SeedRange, SweepOptions, SweepPolicy};
 use crate::usage::Usage;
-use crate::values::{goal_of, is_set};
+use crate::values::{check_beside, goal_of, is_set};
 use clap::{Arg, ArgAction, ArgMatches};
 use std::alloc::{AllocError, Global};
 
@@ -40,21 +40,9 @@ pub(crate) fn sweep_of(
     match matches.get_str(SEEDS) {
         Some(word) => Ok(Some(sweep_by(alloc, matches, word)?)),
         None => {
-            no_goal_of(alloc, matches)?;
+            check_beside(alloc, matches, "for", "--seeds <A..B>")?;
             Ok(None)
         }
-    }
-}
-
-/// Refuses an outcome to be found, where there is no sweep.
-fn no_goal_of(alloc: Global, matches: &ArgMatches<'_>) -> Result<(), Usage>
-    ensures ok { IfOk result (λ _. first_of (codes "for") (rows_of (found_of matches.now)) ≡ None) }
-    ensures none { IfErr result (λ usage. Refuses usage
-        (first_of (codes "for") (rows_of (found_of matches.now)) ≡ None → ⊥)) }
-{
-    match matches.get_str("for") {
-        Some(_) => Err(Usage::not_provided(alloc, "--seeds <A..B>")),
-        None => Ok(()),
     }
 }
 

@@ -4,11 +4,12 @@ ghost use Rattle.std.specs.Prelude.{◌≡◌, List, false, Some, codes, map, st
 ghost use Rattle.std.specs.Option.{option_map};
 ghost use Rattle.clap.specs.Words.{all_of, first_of, found_of, rows_of, Text};
 ghost use Rattle.command_line.specs.CommandLine.{AreLimitNumbers, Asks, IsRecordedVersion, Refuses, is_set as is_true};
-ghost use Rattle.command_line.specs.Goals.{IsGoal};
+ghost use Rattle.command_line.specs.Goals.{IsGoal, IsSearchGoal};
+ghost use Rattle.command_line.specs.Programs.{IsRecording};
 
-use crate::goal::goal_by;
+use crate::goal::{OUTCOMES, goal_by, search_goal_by};
 use crate::numbers::{AS_VERSION, CELLS, FRAMES, MONITORS, OBJECTS, THREADS};
-use crate::options::{Goal, LimitOptions};
+use crate::options::{Goal, LimitOptions, SearchGoal};
 use crate::parsers::program;
 use crate::usage::Usage;
 use clap::ArgMatches;
@@ -40,7 +41,22 @@ pub(crate) fn is_set(matches: &ArgMatches<'_>, flag: &str) -> bool
     }
 }
 
-/// The outcome that a search is to find, where one is asked for.
+/// What a search is to find, where something is asked for.
+pub(crate) fn search_goal_of(
+    alloc: Global,
+    matches: &ArgMatches<'_>,
+) -> Result<Option<SearchGoal>, Usage>
+    ensures goal { IfOk result (IsSearchGoal (first_of (codes "for") (rows_of (found_of matches.now)))) }
+    ensures none { IfErr result (λ usage. Refuses usage ((goal : _)
+        → IsSearchGoal (first_of (codes "for") (rows_of (found_of matches.now))) goal → ⊥)) }
+{
+    match matches.get_str("for") {
+        None => Ok(None),
+        Some(word) => Ok(Some(search_goal_by(alloc, word)?)),
+    }
+}
+
+/// The outcome of a run that is to be found, or to be kept, where one is asked for.
 pub(crate) fn goal_of(alloc: Global, matches: &ArgMatches<'_>) -> Result<Option<Goal>, Usage>
     ensures goal { IfOk result (IsGoal (first_of (codes "for") (rows_of (found_of matches.now)))) }
     ensures none { IfErr result (λ usage. Refuses usage ((goal : _)
@@ -48,7 +64,7 @@ pub(crate) fn goal_of(alloc: Global, matches: &ArgMatches<'_>) -> Result<Option<
 {
     match matches.get_str("for") {
         None => Ok(None),
-        Some(word) => Ok(Some(goal_by(alloc, word)?)),
+        Some(word) => Ok(Some(goal_by(alloc, word, OUTCOMES)?)),
     }
 }
 
@@ -121,6 +137,26 @@ fn copied(alloc: Global, texts: &[&str]) -> Result<Vec<String>, AllocError>
     Ok(copies)
 }
 
+/// Where the schedule of a run is recorded.
+#[derive(Drop)]
+pub(crate) struct Recording {
+    /// The path of the file that the schedule is written to, if any.
+    pub(crate) record: Option<String>,
+    /// The version that the schedule is written in at most, and `None` for any.
+    pub(crate) as_version: Option<u32>,
+}
+
+/// Where the schedule of a run is recorded, if it is.
+pub(crate) fn recording_of(alloc: Global, matches: &ArgMatches<'_>) -> Result<Recording, Usage>
+    ensures recording { IfOk result (IsRecording (rows_of (found_of matches.now))) }
+    ensures none { IfErr result (λ usage. Refuses usage ((version : _)
+        → IsRecordedVersion (rows_of (found_of matches.now)) version → ⊥)) }
+{
+    let as_version = recorded_version_of(alloc, matches)?;
+    let record = path_of(alloc, matches, "record")?;
+    Ok(Recording { record, as_version })
+}
+
 /// The version that a recorded schedule is of at most. `--as-version` stands beside `--record` alone.
 pub(crate) fn recorded_version_of(
     alloc: Global,
@@ -134,6 +170,23 @@ pub(crate) fn recorded_version_of(
     match matches.get_str("record") {
         Some(_) => Ok(version),
         None => no_version(alloc, version, "--record <FILE>"),
+    }
+}
+
+/// Refuses an option that stands beside another one alone, where that isn't there. As help tells it, this is its name.
+pub(crate) fn check_beside(
+    alloc: Global,
+    matches: &ArgMatches<'_>,
+    name: &str,
+    beside: &str,
+) -> Result<(), Usage>
+    ensures ok { IfOk result (λ _. first_of name.now (rows_of (found_of matches.now)) ≡ None) }
+    ensures none { IfErr result (λ usage. Refuses usage
+        (first_of name.now (rows_of (found_of matches.now)) ≡ None → ⊥)) }
+{
+    match matches.get_str(name) {
+        Some(_) => Err(Usage::not_provided(alloc, beside)),
+        None => Ok(()),
     }
 }
 

@@ -5,12 +5,15 @@ use Rattle.std.specs.Option.{option_and_then, option_map}
 use Rattle.std.specs.Io.KnownBytes.{Appends}
 use Rattle.model.specs.Devices.{AppendsFront}
 use Rattle.program_runs.specs.declared.traced_runs.window.Window.{Window}
+use Rattle.search.specs.declared.kinds.Goal.{Goal as SearchesFor}
 use Rattle.search.specs.declared.run_outcomes.wanted.Wanted.{Wanted}
 use Rattle.traces.specs.declared.form.Form.{Form}
 use Rattle.traces.specs.declared.form.Form.TheVariants as lines
 use Rattle.command_line.specs.CommandLine.{Asks, Fails, Refuses, Spells}
 use Rattle.command_line.specs.declared.options.Command.{Command}
 use Rattle.command_line.specs.declared.options.Command.TheVariants as commands
+use Rattle.command_line.specs.declared.options.Goal.{Goal}
+use Rattle.command_line.specs.declared.options.Goal.TheVariants as goals
 use Rattle.command_line.specs.declared.options.Replay.{Replay}
 use Rattle.command_line.specs.declared.options.Run.{Run}
 use Rattle.command_line.specs.declared.options.Schedule.{Schedule}
@@ -29,7 +32,7 @@ use Rattle.engines.specs.Handed.{AreHanded, IsUnread as IsUnreadFile, refused_na
 use Rattle.program_files.specs.Given.{AreGiven, IsUnable as IsUnableFor, IsUngiven, is_given}
 use Rattle.program_files.specs.Handed.{AreHandedOn, IsUnhanded}
 use Rattle.program_files.specs.declared.files_fault.FilesFault.{FilesFault}
-use Rattle.engines.specs.Goals.{IsAskedFor}
+use Rattle.engines.specs.Goals.{IsAskedFor, IsSearchedFor}
 use Rattle.engines.specs.Libraries.{IsUnacceptedLibrary, VerifiesLibrary}
 use Rattle.engines.specs.Listings.{AreClassFiles, IsUnlisted, IsUnnamed, Lists}
 use Rattle.engines.specs.Opening.{IsKeptBy}
@@ -132,12 +135,31 @@ abbrev pub IsReadIn : (folder : Option Path) → (files : List Path) → Type 0
 IsReadIn None files = ⊥
 IsReadIn (Some folder) files = has_outcome folder files ≡ true
 
--- what a command writes is none of these files, or may be one
+-- the path of the text behind `differs=`, if there is one
+abbrev pub goal_texts : Option Goal → List Path
+goal_texts (Some (goals.Differs path)) = string_bytes path ∷ []
+goal_texts goal = []
+
+-- that of a sweep
+abbrev pub sweep_texts : Command → List Path
+sweep_texts (commands.Run run) = unwrap_or (option_map (λ (sweep : SweepOptions). goal_texts sweep.goal) run.sweep) []
+sweep_texts (commands.Replay replay) = []
+sweep_texts (commands.Trace trace) = []
+sweep_texts (commands.Search search) = []
+sweep_texts (commands.Shrink shrink) = []
+sweep_texts (commands.Verify verify) = []
+sweep_texts (commands.Disasm disasm) = []
+sweep_texts (commands.Schedule schedule) = []
+sweep_texts (commands.Places places) = []
+
+-- what a command writes is none of these files, nor the text of a sweep; or it may be one
 abbrev pub IsUnread : Command → (files : List Path) → Type 0
-IsUnread command files = IsUnreadAt (record_path command) files × IsUnreadIn (outcome_folder command) files
+IsUnread command files =
+    IsUnreadAt (record_path command) files × IsUnreadIn (outcome_folder command) files × IsUnreadIn (outcome_folder command) (sweep_texts command)
 
 abbrev pub IsReadToo : Command → (files : List Path) → Type 0
-IsReadToo command files = IsReadAt (record_path command) files ⊎ IsReadIn (outcome_folder command) files
+IsReadToo command files =
+    IsReadAt (record_path command) files ⊎ IsReadIn (outcome_folder command) files ⊎ IsReadIn (outcome_folder command) (sweep_texts command)
 
 -- this is so of the files that a command hands on
 abbrev pub OfFiles : List LibraryFile → Held → Listed → Command → (List (Option (List ℕ)) → Type 0) → Type 0
@@ -257,17 +279,17 @@ IsTraceUndone held given lefts trace old new fault written = (window : Window) �
 -- ---- search
 
 pub record IsSearchDone (held : Held) (given : ℕ) (lefts : List (Option (List ℕ))) (search : Search) (text : List ℕ) (written : Written) (status : Status) : Type 0 where
-  pub want : Wanted
-  pub asked : IsAskedFor held search.goal want
+  pub goal : SearchesFor
+  pub asked : IsSearchedFor held search.goal goal
   pub file : Option (List ℕ)
-  pub searches : Searches (record_form given search.as_version) lefts search.limits want (is_some search.seconds) (most_states search) (is_some search.record) text file status
+  pub searches : Searches (record_form given search.as_version) lefts search.limits goal (is_some search.seconds) (most_states search) (is_some search.record) text file status
   pub recorded : written ≡ written_at search.record file
 
 pub record IsSearchUndone (held : Held) (given : ℕ) (lefts : List (Option (List ℕ))) (search : Search) (old new : Option (List ℕ)) (fault : Fault) (written : Written) : Type 0 where
-  pub want : Wanted
-  pub asked : IsAskedFor held search.goal want
+  pub goal : SearchesFor
+  pub asked : IsSearchedFor held search.goal goal
   pub file : Option (List ℕ)
-  pub unsearched : IsUnsearched (record_form given search.as_version) lefts search.limits want (is_some search.seconds) (most_states search) (is_some search.record) old new None file fault
+  pub unsearched : IsUnsearched (record_form given search.as_version) lefts search.limits goal (is_some search.seconds) (most_states search) (is_some search.record) old new None file fault
   pub recorded : (written ≡ None) ⊎ (written ≡ written_at search.record file)
 
 -- ---- verify and disasm

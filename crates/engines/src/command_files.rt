@@ -5,12 +5,13 @@ ghost use Rattle.std.specs.Option.{option_map};
 ghost use Rattle.program_files.specs.Folders.{FolderMayFail};
 ghost use Rattle.program_files.specs.declared.files_fault.FilesFault.TheVariants.{Device};
 ghost use Rattle.command_line.specs.CommandLine.{Refuses};
-ghost use Rattle.engines.specs.Commands.{AreFiles, AreVerified, HasNoFiles, IsReadAt, IsReadIn, IsReadToo, IsUnread, IsUnreadAt, IsUnreadIn, IsUnverified, outcome_folder, record_path};
+ghost use Rattle.engines.specs.Commands.{AreFiles, AreVerified, HasNoFiles, IsReadAt, IsReadIn, IsReadToo, IsUnread, IsUnreadAt, IsUnreadIn, IsUnverified, goal_texts, outcome_folder, record_path, sweep_texts};
 ghost use Rattle.engines.specs.OutcomeFiles.{has_outcome, lead_to_outcome, may_be_outcome};
 
-use command_line::{Command, Usage, Verify, is_absolute, steps_of};
+use command_line::{Command, Goal, Usage, Verify, is_absolute, steps_of};
 use program_files::{FilesFault, Folder, given_paths, handed_on, is_given};
 use std::alloc::{AllocError, Global};
+use std::slice;
 
 /// The paths of the class files that the words of a command stand for, in the order in which they are handed on.
 pub(crate) fn command_files<F: Folder>(
@@ -56,13 +57,15 @@ fn verified_files<F: Folder>(
     }
 }
 
-/// Refuses a file that is to be written, or that may be, and is one of these, which are read.
+/// Refuses a file that is to be written, or that may be, and is one of these, which are read, or the text that the
+/// outcomes of a sweep are compared with.
 pub(crate) fn check_record(alloc: Global, command: &Command, files: &[String]) -> Result<(), Usage>
     ensures apart { IfOk result (λ _. IsUnread command.now (map string_bytes files.now)) }
     ensures read { IfErr result (λ usage. Refuses usage (IsReadToo command.now (map string_bytes files.now))) }
 {
     check_path(alloc, record_path(command), files)?;
-    check_outcomes(alloc, outcome_folder(command), files)
+    check_outcomes(alloc, outcome_folder(command), files)?;
+    check_outcomes(alloc, outcome_folder(command), sweep_texts(command))
 }
 
 /// Refuses a file that is to be written and is one of these.
@@ -144,6 +147,36 @@ fn outcome_folder(command: &Command) -> Option<&str>
         | Command::Disasm(_)
         | Command::Schedule(_)
         | Command::Places(_) => None,
+    }
+}
+
+/// The path of the text that the outcomes of a sweep are compared with, if there is one.
+fn sweep_texts(command: &Command) -> &[String]
+    ensures { map string_bytes result.now ≡ sweep_texts command.now }
+{
+    match command {
+        Command::Run(options) => match &options.sweep {
+            Some(sweep) => goal_texts(&sweep.goal),
+            None => &[],
+        },
+        Command::Replay(_)
+        | Command::Trace(_)
+        | Command::Search(_)
+        | Command::Shrink(_)
+        | Command::Verify(_)
+        | Command::Disasm(_)
+        | Command::Schedule(_)
+        | Command::Places(_) => &[],
+    }
+}
+
+/// The path of the text behind `differs=`, if there is one.
+fn goal_texts(goal: &Option<Goal>) -> &[String]
+    ensures { map string_bytes result.now ≡ goal_texts goal.now }
+{
+    match goal {
+        Some(Goal::Differs(path)) => slice::from_ref(path),
+        Some(Goal::Deadlock) | Some(Goal::Uncaught) | Some(Goal::Output(_)) | None => &[],
     }
 }
 

@@ -14,7 +14,7 @@ use crate::fault::Fault;
 use crate::main_hints::add_mains;
 use crate::named_file::is_given_word;
 use crate::place_schedules::explain_place;
-use command_line::{Command, Goal, Usage, command};
+use command_line::{Command, Goal, SearchGoal, Usage, command};
 use explanations::refusal_explanations::{explain, explain_schedule, explain_text};
 use library_files::LibraryClass;
 use link_conditions::refusal::RefusalKind;
@@ -170,19 +170,44 @@ fn schedule_of(command: &Command) -> Option<&str> {
     }
 }
 
-/// The path of the file that is read before the class files, if one is.
-fn first_of(alloc: Global, command: &Command) -> Option<&str> {
+/// The outcome that a sweep or a shrink asks for, if there is one.
+fn goal_of(command: &Command) -> Option<&Goal> {
     match command {
-        Command::Search(options) => match &options.goal {
+        Command::Shrink(options) => Some(&options.goal),
+        Command::Run(options) => match &options.sweep {
+            Some(sweep) => sweep.goal.as_ref(),
+            None => None,
+        },
+        _ => None,
+    }
+}
+
+/// The path of the text behind `differs=`, if one is read.
+fn text_of(command: &Command) -> Option<&str> {
+    match command {
+        Command::Search(options) => searched_text(&options.goal),
+        _ => match goal_of(command) {
             Some(Goal::Differs(path)) => Some(path.as_str()),
             _ => None,
         },
+    }
+}
+
+/// The path of the text that a search compares with, if one is read.
+fn searched_text(goal: &Option<SearchGoal>) -> Option<&str> {
+    match goal {
+        Some(SearchGoal::Differs(path)) => Some(path.as_str()),
+        _ => None,
+    }
+}
+
+/// The path of the schedule that is read before the class files, if one is.
+fn first_of(alloc: Global, command: &Command) -> Option<&str> {
+    match schedule_of(command) {
         // it is a path, whatever it looks like
-        Command::Schedule(_) => schedule_of(command),
-        _ => match schedule_of(command) {
-            Some(word) if is_given_word(alloc, word.as_bytes()) => None,
-            other => other,
-        },
+        Some(word) if matches!(command, Command::Schedule(_)) => Some(word),
+        Some(word) if is_given_word(alloc, word.as_bytes()) => None,
+        other => other,
     }
 }
 
@@ -274,6 +299,11 @@ fn of_device<F: Folder>(
     if let Some(line) = of_streams(alloc, failures)? {
         return Ok(Some(line));
     }
+    if let Some(path) = text_of(command) {
+        if let Err(error) = folder.read(alloc, path) {
+            return line_with(alloc, path, &error);
+        }
+    }
     if let Some(path) = first_of(alloc, command) {
         if let Err(error) = folder.read(alloc, path) {
             return of_first(alloc, command, path, &error);
@@ -292,7 +322,7 @@ fn of_device<F: Folder>(
 /// Why the file can't be read that is read before the class files. Where a schedule could stand in place of its path,
 /// and the path has a mark of one, it is told that it is none.
 fn of_first(alloc: Global, command: &Command, path: &str, error: &io::Error) -> Told {
-    let may_be_word = !matches!(command, Command::Search(_) | Command::Schedule(_));
+    let may_be_word = !matches!(command, Command::Schedule(_));
     if may_be_word && (path.contains('*') || path.contains('@')) {
         let line = format!(in alloc; "{path}: {error}; nor is this word a schedule")?;
         return Ok(Some(line.into_bytes()));

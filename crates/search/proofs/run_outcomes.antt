@@ -1,4 +1,4 @@
 mod Orders
 mod Lists
-mod Places
+pub mod Places
 pub mod SameLaws

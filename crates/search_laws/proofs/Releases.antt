@@ -1,11 +1,10 @@
 -- An event by which a thread leaves a monitor, and runs on, is alone.
-use Rattle.std.proofs.Common.{◌≡◌, ◌≤◌, ℕ, suc, List, [], ◌∷◌, length, Bool, true, false, ◌==◌, if◌then◌else◌, Option, Some, None, refl, sym, ap, ◌∙◌, subst, arith}
+use Rattle.std.proofs.Common.{◌≡◌, ◌≤◌, ℕ, List, [], ◌∷◌, length, Bool, true, false, if◌then◌else◌, Option, Some, None, refl, sym, ap, ◌∙◌, subst, arith}
 use Rattle.std.specs.Prelude.{nat_lt, slice_get, slice_set, replicate}
 use Rattle.std.specs.Option.{option_map_or, option_and_then}
 use Rattle.std.proofs.lemmas.Bool.{false≢true, eqb-true}
 use Rattle.std.proofs.lemmas.Bool.Decides.{Decides-ltb}
 use Rattle.std.proofs.lemmas.Option.{same_Some, none-some}
-use Rattle.model.specs.declared.event.Event.{Event}
 use Rattle.model.specs.declared.instr.Instr.{Instr}
 use Rattle.model.specs.declared.instr.Instr.TheVariants as instr
 use Rattle.model.specs.declared.value.Value.{Value}
@@ -13,28 +12,27 @@ use Rattle.model.specs.Accepted.{IsAccepted}
 use Rattle.model.specs.Classes.{Program, Body, body_of}
 use Rattle.model.specs.ClassInitialisation.{Look, IsReady, IsNew, IsHeld, HasFailed, look_by, status_of}
 use Rattle.model.specs.Meanings.{meaning_of}
-use Rattle.model.specs.Monitors.{owns, monitor_at}
+use Rattle.model.specs.Monitors.{owns}
 use Rattle.model.specs.Names.{Name}
 use Rattle.model.specs.Operands.{values, under}
 use Rattle.model.specs.Outcomes.{NoClassDefFound, IllegalMonitorState, Cost, OutcomeOf, Goes, Raises, Throws, Interrupts, Calls, Returns as ReturnsTo, Waits}
 use Rattle.model.specs.Sites.{MeaningOf, Site, site_at}
-use Rattle.model.specs.State.{types_of, Instance, Thread, Running, Frame, StackEntryOf, Invocation, Initialisation, StackOf, World, State}
-use Rattle.model.specs.Step.{SteppedOf, NotEnabled, WrongKind, Next, PartOf, part, on_to, raised, end_of, next_by, enabled_if, unpicked, ops_of, done, needing, needing_class, returned, leaving, become, bytecode_by, bytecode_in, going_event, thread_event, stepped, step}
+use Rattle.model.specs.State.{types_of, Instance, Thread, Running, Frame, StackEntryOf, Invocation, StackOf, World, State}
+use Rattle.model.specs.Step.{SteppedOf, NotEnabled, WrongKind, Next, PartOf, on_to, raised, end_of, next_by, enabled_if, unpicked, ops_of, done, needing, needing_class, returned, leaving, become, bytecode_by, bytecode_in, going_event, thread_event, stepped, step}
 use Rattle.model.specs.Outcomes.{exception_class}
 use Rattle.model.specs.Worlds.{thread_at, is_owner, with_exit, allocated}
 use Rattle.model.specs.WellTyped.{IsWellTyped}
 use Rattle.run_laws.proofs.typed_runs.Settled.{thread_there}
 use Rattle.run_laws.proofs.typed_runs.Threads.{get_set_at}
 use Rattle.run_laws.proofs.laws.Operations.{OfMeaning}
-use Rattle.monitor_laws.specs.owners.Owners.{is_meant, KeepsOwners, entered_in, monitor_operand, meant_by, meant_with, meant_at, meant_in, meant_running, meant_before, meant, AreOwnersKeptBy}
-use Rattle.search_laws.specs.Alone.{passing, next_event, IsAlone, HaveSameWords}
+use Rattle.monitor_laws.specs.owners.Owners.{is_meant, entered_in, monitor_operand, meant_by, meant_with, meant_at, meant_in, meant_running, meant_before, meant, AreOwnersKeptBy}
+use Rattle.search_laws.specs.Alone.{next_event}
 use Rattle.search_laws.specs.KeptStates.{IsReached}
 use Rattle.search_laws.specs.OwnedMonitors.{IsAt, IsToUse, Exits, Enters, Returns}
-use Rattle.search_laws.specs.OwnEvents.{IsFreeOf}
 use Rattle.search_laws.specs.Releases.{IsRelease, AreReleasesAlone}
 use Rattle.search_laws.proofs.Events.{IsDone, done_of}
 use Rattle.search_laws.proofs.Leaving.{thread_set, Told, IsTold, all_told}
-use Rattle.search_laws.proofs.Moves.{get_front, left_of, none_left, returned_many}
+use Rattle.search_laws.proofs.Moves.{get_front, left_of, none_left}
 use Rattle.search_laws.proofs.OwnedMonitors.{owned_monitors_alone}
 use Rattle.search_laws.proofs.Verdicts.{reached_typed}
 
@@ -138,9 +136,8 @@ module _ (files : Program) (frames t : ℕ) (state : State) (thread : Thread) (i
 
 -- ---- the event of the thread
 
-module _ (owners : AreOwnersKeptBy values) (files : List (List ℕ)) (trees : Program) (accepted : IsAccepted files trees) (frames : ℕ) (conflict : State → ℕ → ℕ → Bool)
-    (state next : State) (reached : IsReached trees frames state) (t r : ℕ) (m : IsRelease state t r next) (free : IsFreeOf trees frames conflict state t)
-    (e : step trees frames state (next_event t) ≡ Some next) where
+module _ (owners : AreOwnersKeptBy values) (files : List (List ℕ)) (trees : Program) (accepted : IsAccepted files trees) (frames : ℕ)
+    (state next : State) (reached : IsReached trees frames state) (t r : ℕ) (m : IsRelease state t r next) (e : step trees frames state (next_event t) ≡ Some next) where
   abbrev d : IsDone trees frames state (next_event t) next
   d = done_of trees frames state (next_event t) next e
 
@@ -302,11 +299,11 @@ module _ (owners : AreOwnersKeptBy values) (files : List (List ℕ)) (trees : Pr
   by_body None b c q = not_some r q
   by_body (Some body) b c q = by_site body b (site_at m.frame.method body m.frame.place.offset) refl c q
 
-  alone : IsAlone trees frames (passing conflict) (HaveSameWords trees) state t next
-  alone =
-      owned_monitors_alone files trees accepted frames conflict state next reached t r m.owned
-      (by_body (body_of trees m.frame.method) refl came meant_running_is) free e
+  -- so the event is one on the monitor that is left
+  pub to_use : IsToUse trees state t r
+  to_use = by_body (body_of trees m.frame.method) refl came meant_running_is
 
 pub releases_alone : AreOwnersKeptBy values → AreReleasesAlone
 releases_alone owners files trees accepted frames conflict state next reached t r m free e =
-    alone owners files trees accepted frames conflict state next reached t r m free e
+    owned_monitors_alone files trees accepted frames conflict state next reached t r m.owned
+    (to_use owners files trees accepted frames state next reached t r m e) free e

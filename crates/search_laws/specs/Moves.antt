@@ -1,5 +1,5 @@
 -- Calls and returns, told by what an event did to the stack of its thread (JVMS 2.6.4, 2.6.5).
-use Rattle.std.specs.Prelude.{◌≡◌, ℕ, suc, List, [], ◌∷◌, Some, None, Bool, length, slice_get}
+use Rattle.std.specs.Prelude.{◌≡◌, ℕ, suc, List, ◌∷◌, Some, None, Bool, length, slice_get}
 use Rattle.model.specs.declared.value.Value.{Value}
 use Rattle.model.specs.Accepted.{IsAccepted}
 use Rattle.model.specs.Classes.{Program}

@@ -1,11 +1,10 @@
-use Rattle.std.proofs.lemmas.Result.{err_from_is_err_and}
-use Rattle.command_line.proofs.CommandLineLemmas.{refuses_more}
+use Rattle.command_line.proofs.ProgramLemmas.{handed_on}
 use Rattle.command_line.proofs.parse.disasm_of.Goals as goal
 
 pub returns-in_err-files-clause-none : goal.returns-in_err-files-clause-none
 returns-in_err-files-clause-none c =
-    let p = err_from_is_err_and c.from_residual.result c.from_residual.ensures.1 in
-    rw (p.1, p.2) (refuses_more c.in_err-files.field-0.0 _ _ (λ none disasm are. none _ are.files) c.in_err-files.ensures.none)
+    handed_on c.from_residual.result c.in_err-files.field-0.0 _ _ c.from_residual.ensures.1 c.in_err-files.ensures.none
+    (λ none disasm are. none _ are.files)
 
 pub returns-clause-values : goal.returns-clause-values
 returns-clause-values c = record {

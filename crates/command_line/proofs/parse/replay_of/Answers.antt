@@ -1,47 +1,51 @@
 use Rattle.std.proofs.Common.{codes, subst, sym}
-use Rattle.std.proofs.lemmas.Result.{err_from_is_err_and}
 use Rattle.clap.specs.Words.{first_of, found_of, rows_of}
 use Rattle.command_line.specs.Paths.{IsApart}
-use Rattle.command_line.proofs.CommandLineLemmas.{refuses_more}
-use Rattle.command_line.proofs.PathLemmas.{files_other, files_others, none_other}
+use Rattle.command_line.proofs.PathLemmas.{none_other}
+use Rattle.command_line.proofs.ProgramLemmas.{handed_on, no_replay}
 use Rattle.command_line.proofs.parse.replay_of.Goals as goal
 
 pub returns-in_err-schedule-clause-none : goal.returns-in_err-schedule-clause-none
 returns-in_err-schedule-clause-none c =
-    let p = err_from_is_err_and c.from_residual.result c.from_residual.ensures.1 in
-    rw (p.1, p.2) (refuses_more c.in_err-schedule.field-0.0 _ _ (λ none replay are. none _ are.schedule) c.in_err-schedule.ensures.none)
+    handed_on c.from_residual.result c.in_err-schedule.field-0.0 _ _ c.from_residual.ensures.1 c.in_err-schedule.ensures.none
+    (λ none replay are. none _ are.schedule)
+
+pub returns-in_err-then_run-clause-none : goal.returns-in_err-then_run-clause-none
+returns-in_err-then_run-clause-none c =
+    handed_on c.from_residual-in_err-then_run.result c.in_err-then_run.field-0.0 _ _ c.from_residual-in_err-then_run.ensures.1 c.in_err-then_run.ensures.none
+    (λ none replay are. none replay.then_run are.then_run)
+
+pub returns-in_err-budget-clause-none : goal.returns-in_err-budget-clause-none
+returns-in_err-budget-clause-none c =
+    handed_on c.from_residual-in_err-budget.result c.in_err-budget.field-0.0 _ _ c.from_residual-in_err-budget.ensures.1 c.in_err-budget.ensures.none
+    (λ none replay are. none replay.budget are.budget)
+
+pub returns-in_err-program-clause-none : goal.returns-in_err-program-clause-none
+returns-in_err-program-clause-none c =
+    handed_on c.from_residual-in_err-program.result c.in_err-program.field-0.0 _ _ c.from_residual-in_err-program.ensures.1 c.in_err-program.ensures.none
+    (no_replay (rows_of (found_of c.args.matches.now)))
 
 pub returns-in_err-check_file-clause-none : goal.returns-in_err-check_file-clause-none
 returns-in_err-check_file-clause-none c =
-    let p = err_from_is_err_and c.from_residual-in_err-check_file.result c.from_residual-in_err-check_file.ensures.1 in
-    let rows = rows_of (found_of c.args.matches.now) in
-    rw (p.1, p.2)
-    (refuses_more c.in_err-check_file.field-0.0 _ _
-    (λ none replay are. none_other (IsApart (first_of (codes "record") rows)) (first_of (codes "schedule") rows) _ c.in_ok-schedule.ensures.path
-    (λ apart. none (subst (IsApart (first_of (codes "record") rows)) (sym c.as_str.ensures.value) apart)) _ are.schedule are.other_schedule)
-    c.in_err-check_file.ensures.none)
-
-pub returns-in_err-check_files-clause-none : goal.returns-in_err-check_files-clause-none
-returns-in_err-check_files-clause-none c =
-    let p = err_from_is_err_and c.from_residual-in_err-check_files.result c.from_residual-in_err-check_files.ensures.1 in
-    rw (p.1, p.2)
-    (refuses_more c.in_err-check_files.field-0.0 _ _
-    (λ none replay are. files_others (rows_of (found_of c.args.matches.now)) c.in_ok-files.files.items _ c.deref.ensures.value c.in_ok-files.ensures.files none replay.files.items are.files are.other_files)
-    c.in_err-check_files.ensures.none)
+    handed_on c.from_residual-in_err-check_file.result c.in_err-check_file.field-0.0 _ _ c.from_residual-in_err-check_file.ensures.1 c.in_err-check_file.ensures.none
+    (λ none replay are. none_other (IsApart (first_of (codes "record") (rows_of (found_of c.args.matches.now)))) (first_of (codes "schedule") (rows_of (found_of c.args.matches.now))) _ c.in_ok-schedule.ensures.path
+    (λ apart. none (subst (IsApart (first_of (codes "record") (rows_of (found_of c.args.matches.now)))) (sym c.as_str.ensures.value) apart)) _ are.schedule are.other_schedule)
 
 pub returns-clause-values : goal.returns-clause-values
-returns-clause-values c = record {
-  schedule = c.in_ok-schedule.ensures.path;
-  then_run = c.in_ok-then_run.ensures.values;
-  budget = c.in_ok-budget.ensures.number;
-  limits = c.in_ok-limits.ensures.limits;
-  main = c.in_ok-main.ensures;
-  files = c.in_ok-files.ensures.files;
-  other_schedule = subst (IsApart (first_of (codes "record") (rows_of (found_of c.args.matches.now)))) c.as_str.ensures.value c.in_ok-check_file.ensures.apart;
-  other_files = files_other (rows_of (found_of c.args.matches.now)) c.in_ok-files.files.items _ c.deref.ensures.value c.in_ok-check_files.ensures.apart;
-  explain = c.is_set.ensures;
-  quiet = c.is_set-2.ensures;
-  any_files = c.is_set-3.ensures;
-  files_alone = c.is_set-4.ensures;
-  follow = c.is_set-5.ensures;
-}
+returns-clause-values c =
+    let program = c.in_ok-program.ensures.values in
+    record {
+      schedule = c.in_ok-schedule.ensures.path;
+      any_files = c.is_set.ensures;
+      then_run = c.in_ok-then_run.ensures.values;
+      budget = c.in_ok-budget.ensures.number;
+      limits = program.values.limits;
+      main = program.values.main;
+      files = program.values.files;
+      other_schedule = subst (IsApart (first_of (codes "record") (rows_of (found_of c.args.matches.now)))) c.as_str.ensures.value c.in_ok-check_file.ensures.apart;
+      other_files = program.other_files;
+      explain = program.values.explain;
+      quiet = program.values.quiet;
+      files_alone = program.values.files_alone;
+      follow = c.is_set-2.ensures;
+    }

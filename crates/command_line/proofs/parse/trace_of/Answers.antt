@@ -1,25 +1,52 @@
-use Rattle.std.proofs.lemmas.Result.{err_from_is_err_and}
-use Rattle.command_line.proofs.CommandLineLemmas.{refuses_more}
+use Rattle.clap.specs.Words.{found_of, rows_of}
+use Rattle.command_line.proofs.ProgramLemmas.{handed_on, no_trace}
 use Rattle.command_line.proofs.parse.trace_of.Goals as goal
 
 pub returns-in_err-schedule-clause-none : goal.returns-in_err-schedule-clause-none
 returns-in_err-schedule-clause-none c =
-    let p = err_from_is_err_and c.from_residual.result c.from_residual.ensures.1 in
-    rw (p.1, p.2) (refuses_more c.in_err-schedule.field-0.0 _ _ (λ none trace are. none _ are.schedule) c.in_err-schedule.ensures.none)
+    handed_on c.from_residual.result c.in_err-schedule.field-0.0 _ _ c.from_residual.ensures.1 c.in_err-schedule.ensures.none
+    (λ none trace are. none _ are.schedule)
+
+pub returns-in_err-from-clause-none : goal.returns-in_err-from-clause-none
+returns-in_err-from-clause-none c =
+    handed_on c.from_residual-in_err-from.result c.in_err-from.field-0.0 _ _ c.from_residual-in_err-from.ensures.1 c.in_err-from.ensures.none
+    (λ none trace are. none trace.from are.from)
+
+pub returns-in_err-to-clause-none : goal.returns-in_err-to-clause-none
+returns-in_err-to-clause-none c =
+    handed_on c.from_residual-in_err-to.result c.in_err-to.field-0.0 _ _ c.from_residual-in_err-to.ensures.1 c.in_err-to.ensures.none
+    (λ none trace are. none trace.to are.to)
+
+pub returns-in_err-only-clause-none : goal.returns-in_err-only-clause-none
+returns-in_err-only-clause-none c =
+    handed_on c.from_residual-in_err-only.result c.in_err-only.field-0.0 _ _ c.from_residual-in_err-only.ensures.1 c.in_err-only.ensures.none
+    (λ none trace are. none _ are.only)
+
+pub returns-in_err-form-clause-none : goal.returns-in_err-form-clause-none
+returns-in_err-form-clause-none c =
+    handed_on c.from_residual-in_err-form.result c.in_err-form.field-0.0 _ _ c.from_residual-in_err-form.ensures.1 c.in_err-form.ensures.none
+    (λ none trace are. none trace.form are.form)
+
+pub returns-in_err-program-clause-none : goal.returns-in_err-program-clause-none
+returns-in_err-program-clause-none c =
+    handed_on c.from_residual-in_err-program.result c.in_err-program.field-0.0 _ _ c.from_residual-in_err-program.ensures.1 c.in_err-program.ensures.none
+    (no_trace (rows_of (found_of c.args.matches.now)))
 
 pub returns-clause-values : goal.returns-clause-values
-returns-clause-values c = record {
-  schedule = c.in_ok-schedule.ensures.path;
-  from = c.in_ok-from.ensures.number;
-  to = c.in_ok-to.ensures.number;
-  only = c.in_ok-only.ensures.numbers;
-  form = c.in_ok-form.ensures.form;
-  summary = c.is_set.ensures;
-  limits = c.in_ok-limits.ensures.limits;
-  main = c.in_ok-main.ensures;
-  files = c.in_ok-files.ensures.files;
-  explain = c.is_set-2.ensures;
-  quiet = c.is_set-3.ensures;
-  any_files = c.is_set-4.ensures;
-  files_alone = c.is_set-5.ensures;
-}
+returns-clause-values c =
+    let program = c.in_ok-program.ensures.values in
+    record {
+      schedule = c.in_ok-schedule.ensures.path;
+      any_files = c.is_set.ensures;
+      from = c.in_ok-from.ensures.number;
+      to = c.in_ok-to.ensures.number;
+      only = c.in_ok-only.ensures.numbers;
+      form = c.in_ok-form.ensures.form;
+      summary = c.is_set-2.ensures;
+      limits = program.limits;
+      main = program.main;
+      files = program.files;
+      explain = program.explain;
+      quiet = program.quiet;
+      files_alone = program.files_alone;
+    }

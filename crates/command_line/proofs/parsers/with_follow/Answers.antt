@@ -1,13 +1,6 @@
-use Rattle.std.proofs.Common.{◌∙◌, ap₂}
-use Rattle.std.specs.Prelude.{◌||◌}
-use Rattle.std.proofs.lemmas.Result.{IfOk-weaker}
-use Rattle.clap.specs.Words.{with_rule}
 use Rattle.command_line.proofs.parsers.with_follow.Goals as goal
 
-pub returns-clause-app : goal.returns-clause-app
-returns-clause-app c =
-    IfOk-weaker c.arg.result _ _ (λ whole added. added.shape c.flag_argument.ensures.local ∙ ap₂ with_rule c.in_ok-with_program.ensures.app c.flag_argument.ensures.rule) c.arg.ensures
-
-pub returns-clause-local : goal.returns-clause-local
-returns-clause-local c = λ first.
-    IfOk-weaker c.arg.result _ _ (λ whole added. added.globals ∙ ap₂ (λ a b. a || b) (c.in_ok-with_program.ensures.local first) c.flag_argument.ensures.local) c.arg.ensures
+pub returns : goal.returns
+returns c = λ app made.
+    let one = c.with_program-command.ensures _ made in
+    c.with_argument.ensures _ _ one c.flag_argument.ensures.rule c.flag_argument.ensures.local

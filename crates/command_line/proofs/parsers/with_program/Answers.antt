@@ -1,13 +1,7 @@
-use Rattle.std.proofs.Common.{◌∙◌, ap₂}
-use Rattle.std.specs.Prelude.{◌||◌}
-use Rattle.std.proofs.lemmas.Result.{IfOk-weaker}
-use Rattle.clap.specs.Words.{with_rule}
 use Rattle.command_line.proofs.parsers.with_program.Goals as goal
 
-pub returns-clause-app : goal.returns-clause-app
-returns-clause-app c =
-    IfOk-weaker c.arg.result _ _ (λ program added. added.shape c.alone_argument.ensures.local ∙ ap₂ with_rule c.in_ok-with_main.ensures.app c.alone_argument.ensures.rule) c.arg.ensures
-
-pub returns-clause-local : goal.returns-clause-local
-returns-clause-local c = λ first.
-    IfOk-weaker c.arg.result _ _ (λ program added. added.globals ∙ ap₂ (λ a b. a || b) (c.in_ok-with_main.ensures.local first) c.alone_argument.ensures.local) c.arg.ensures
+pub returns : goal.returns
+returns c = λ app made.
+    let one = c.with_limits-command.ensures _ made in
+    let two = c.with_argument-command.ensures _ _ one c.main_argument.ensures.rule c.main_argument.ensures.local in
+    c.with_argument.ensures _ _ two c.alone_argument.ensures.rule c.alone_argument.ensures.local

@@ -1,16 +1,25 @@
-use Rattle.std.proofs.lemmas.Result.{err_from_is_err_and}
-use Rattle.command_line.proofs.CommandLineLemmas.{refuses_more}
+use Rattle.command_line.proofs.ProgramLemmas.{handed_on}
 use Rattle.command_line.proofs.schedule_arguments.places_of.Goals as goal
+
+pub returns-in_err-check_flag_alone-clause-none : goal.returns-in_err-check_flag_alone-clause-none
+returns-in_err-check_flag_alone-clause-none c =
+    handed_on c.from_residual.result c.in_err-check_flag_alone.field-0.0 _ _ c.from_residual.ensures.1 c.in_err-check_flag_alone.ensures.none
+    (λ none places are. none are.no_write)
+
+pub returns-in_err-check_alone-clause-none : goal.returns-in_err-check_alone-clause-none
+returns-in_err-check_alone-clause-none c =
+    handed_on c.from_residual-in_err-check_alone.result c.in_err-check_alone.field-0.0 _ _ c.from_residual-in_err-check_alone.ensures.1 c.in_err-check_alone.ensures.none
+    (λ none places are. none are.no_version)
 
 pub returns-in_err-schedule-clause-none : goal.returns-in_err-schedule-clause-none
 returns-in_err-schedule-clause-none c =
-    let p = err_from_is_err_and c.from_residual-in_err-schedule.result c.from_residual-in_err-schedule.ensures.1 in
-    rw (p.1, p.2) (refuses_more c.in_err-schedule.field-0.0 _ _ (λ none places are. none _ are.schedule) c.in_err-schedule.ensures.none)
+    handed_on c.from_residual-in_err-schedule.result c.in_err-schedule.field-0.0 _ _ c.from_residual-in_err-schedule.ensures.1 c.in_err-schedule.ensures.none
+    (λ none places are. none _ are.schedule)
 
 pub returns-in_err-files-clause-none : goal.returns-in_err-files-clause-none
 returns-in_err-files-clause-none c =
-    let p = err_from_is_err_and c.from_residual-in_err-files.result c.from_residual-in_err-files.ensures.1 in
-    rw (p.1, p.2) (refuses_more c.in_err-files.field-0.0 _ _ (λ none places are. none _ are.files) c.in_err-files.ensures.none)
+    handed_on c.from_residual-in_err-files.result c.in_err-files.field-0.0 _ _ c.from_residual-in_err-files.ensures.1 c.in_err-files.ensures.none
+    (λ none places are. none _ are.files)
 
 pub returns-clause-values : goal.returns-clause-values
 returns-clause-values c = record {

@@ -12,18 +12,18 @@ returns-in_err-sweep_by-in-Some-clause-none c =
     rw (p.1, p.2)
     (refuses_more c.in_err-sweep_by-in-Some.field-0.0 _ _ (none_of_word (rows_of (found_of c.args.matches.now)) _ c.in-Some.word.now is) c.in_err-sweep_by-in-Some.ensures.none)
 
-pub returns-in_err-no_goal_of-in-None-clause-none : goal.returns-in_err-no_goal_of-in-None-clause-none
-returns-in_err-no_goal_of-in-None-clause-none c =
-    let p = err_from_is_err_and c.from_residual-in_err-no_goal_of-in-None.result c.from_residual-in_err-no_goal_of-in-None.ensures.1 in
+pub returns-in_err-check_beside-in-None-clause-none : goal.returns-in_err-check_beside-in-None-clause-none
+returns-in_err-check_beside-in-None-clause-none c =
+    let p = err_from_is_err_and c.from_residual-in_err-check_beside-in-None.result c.from_residual-in_err-check_beside-in-None.ensures.1 in
     let is = first_is c.args.matches.now (codes "seeds") None c.in-None.ensures in
     rw (p.1, p.2)
-    (refuses_more c.in_err-no_goal_of-in-None.field-0.0 _ _ (a_goal (rows_of (found_of c.args.matches.now)) _ is) c.in_err-no_goal_of-in-None.ensures.none)
+    (refuses_more c.in_err-check_beside-in-None.field-0.0 _ _ (a_goal (rows_of (found_of c.args.matches.now)) _ is) c.in_err-check_beside-in-None.ensures.none)
 
 pub returns-in_ok-sweep_by-in-Some-clause-sweep : goal.returns-in_ok-sweep_by-in-Some-clause-sweep
 returns-in_ok-sweep_by-in-Some-clause-sweep c =
     a_sweep (rows_of (found_of c.args.matches.now)) _ c.in-Some.word.now (first_is c.args.matches.now (codes "seeds") (Some c.in-Some.word.now) c.in-Some.ensures)
     c.in_ok-sweep_by-in-Some.field-0 c.in_ok-sweep_by-in-Some.ensures.sweep
 
-pub returns-in_ok-no_goal_of-in-None-clause-sweep : goal.returns-in_ok-no_goal_of-in-None-clause-sweep
-returns-in_ok-no_goal_of-in-None-clause-sweep c =
-    no_sweep (rows_of (found_of c.args.matches.now)) _ (first_is c.args.matches.now (codes "seeds") None c.in-None.ensures) c.in_ok-no_goal_of-in-None.ensures.ok
+pub returns-in_ok-check_beside-in-None-clause-sweep : goal.returns-in_ok-check_beside-in-None-clause-sweep
+returns-in_ok-check_beside-in-None-clause-sweep c =
+    no_sweep (rows_of (found_of c.args.matches.now)) _ (first_is c.args.matches.now (codes "seeds") None c.in-None.ensures) c.in_ok-check_beside-in-None.ensures.ok
