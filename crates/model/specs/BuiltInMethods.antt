@@ -4,9 +4,9 @@ use Rattle.std.specs.Prelude.{ℕ, List, [], ◌∷◌, ◌++◌, Option, Some, 
 use Rattle.std.specs.Option.{option_map}
 use Rattle.model.specs.declared.event.Event.{Event}
 use Rattle.model.specs.Names.{Name, Member, member_eq, java_lang_object, java_lang_thread, thread_target, println_int, constructor_name}
-use Rattle.model.specs.Ints.{signed}
+use Rattle.model.specs.Texts.{Text, int_line}
 use Rattle.model.specs.Operands.{Slots, Carrier}
-use Rattle.model.specs.State.{Waiter, Notified, Interrupted, ThreadStatus, Running, Waiting, Relock, Ended, Thread, WorldOf, new_thread}
+use Rattle.model.specs.State.{Waiter, Notified, Interrupted, ThreadStatus, Running, Waiting, Relock, Ended, WorldOf, new_thread}
 use Rattle.model.specs.Outcomes.{OutcomeOf, Raises, Interrupts, Waits, IllegalMonitorState, IllegalThreadState, Starts, Joins}
 use Rattle.model.specs.Monitors as monitors
 use Rattle.model.specs.Monitors.{monitor_at}
@@ -127,10 +127,10 @@ join_by false next world slots rest = pushing next [] world slots rest
 abbrev pub bit : Bool → ℕ
 bit b = if b then 1 else 0
 
--- ---- println
+-- ---- println (own: the bits of an int as its decimal, and a line feed)
 
-abbrev pub with_printed : {A : Type 0} → WorldOf A → ℕ → WorldOf A
-with_printed world bits = record world { printed = world.printed ++ signed bits ∷ [] }
+abbrev pub with_printed : {A : Type 0} → WorldOf A → Text → WorldOf A
+with_printed world text = record world { printed = world.printed ++ text }
 
 -- ---- the table
 
@@ -176,4 +176,4 @@ built_in_does C ThreadJoin next event world slots ops rest = join_by (is_alive w
 -- .., objectref -> .., result
 built_in_does C ThreadIsAlive next event world slots ops rest = pushing next (C.int (bit (is_alive world (object_of C ops 0))) ∷ []) world slots rest
 -- .., objectref, value -> ..
-built_in_does C PrintStreamPrintln next event world slots ops rest = pushing next [] (with_printed world (int_operand C ops 0)) slots rest
+built_in_does C PrintStreamPrintln next event world slots ops rest = pushing next [] (with_printed world (int_line (int_operand C ops 0))) slots rest

@@ -23,6 +23,7 @@ use Rattle.model.specs.Frames.{at_offset, at_call}
 use Rattle.model.specs.Sites.{pushing, operand, int_operand}
 use Rattle.model.specs.Calls.{parameter_count, result_types}
 use Rattle.model.specs.BuiltInMethods
+use Rattle.model.specs.Texts.{int_line}
 use Rattle.model.specs.BuiltInMethods.{BuiltInMethod, Construct, ConstructWithTarget, ObjectWait, ObjectNotify, ObjectNotifyAll, ThreadStart, ThreadInterrupt, ThreadIsInterrupted, ThreadInterrupted, ThreadYield, ThreadCurrentThread, ThreadJoin, ThreadIsAlive, PrintStreamPrintln, of_object, of_thread, built_in_methods, is_row_of, built_in_may, built_in_does, wait_by, waiting, notified, notified_all, if_owner, with_started, start_by, interrupted_on, join_by, bit, with_printed, object_of}
 use Rattle.model.specs.Typing.{has_no_receiver, argument_types}
 use Rattle.model.specs.WellTyped.{has_type, is_object_in, are_typed, Ready, Awaits}
@@ -247,7 +248,7 @@ module _ (files : Program) (linked : Linked files) (event : Event) (w : World) (
                         (
                           λ e. carries (IntType ∷ []) w (value.Int (bit (is_alive w (object_of values ops 0))) ∷ []) (ap (result_types files) e ∙ bit_results files (codes "isAlive")) (self_keeps files w c.fits) refl,
                           (
-                            λ e. carries [] (with_printed w (int_operand values ops 0)) [] (ap (result_types files) e ∙ println_results files) (printed_keeps files w c.fits (int_operand values ops 0)) refl,
+                            λ e. carries [] (with_printed w (int_line (int_operand values ops 0))) [] (ap (result_types files) e ∙ println_results files) (printed_keeps files w c.fits (int_line (int_operand values ops 0))) refl,
                             tt,
                           ),
                         ),

@@ -19,6 +19,7 @@ use Rattle.model.specs.Worlds.{with_monitors, thread_at, object_at, with_object,
 use Rattle.model.specs.Monitors as monitors
 use Rattle.model.specs.Sites.{operand, int_operand}
 use Rattle.model.specs.Calls.{parameter_count, is_one}
+use Rattle.model.specs.Texts.{int_line}
 use Rattle.model.specs.BuiltInMethods.{BuiltInMethod, Construct, ConstructWithTarget, ObjectWait, ObjectNotify, ObjectNotifyAll, ThreadStart, ThreadInterrupt, ThreadIsInterrupted, ThreadInterrupted, ThreadYield, ThreadCurrentThread, ThreadJoin, ThreadIsAlive, PrintStreamPrintln, built_in_methods, is_row_of, built_in_method, wait_by, notified_one, notified, if_owner, start_by, interrupted_in, interrupted_on, may_join, notified_all, bit, join_by, with_printed, object_of, built_in_may, built_in_does}
 use Rattle.model.specs.Words.{map_slots}
 use Rattle.run_laws.specs.word_runs.Words.{map_outcome}
@@ -185,4 +186,4 @@ module _ (event : Event) (world : World) where
     does_words ThreadIsAlive ops a =
         pushes_words world _ (value.Int (bit (is_alive world (object_of values ops 0)))) rest slots.locals next (ap (λ o. bit (is_alive world o)) (a 0 refl))
     does_words PrintStreamPrintln ops a =
-        becomes_words _ (with_printed world (int_operand values ops 0)) rest slots.locals next (ap (λ n. with_printed (world_words world) n) (int_words ops 0))
+        becomes_words _ (with_printed world (int_line (int_operand values ops 0))) rest slots.locals next (ap (λ n. with_printed (world_words world) (int_line n)) (int_words ops 0))
