@@ -5,6 +5,7 @@ use Rattle.model.specs.Classes.{Program}
 use Rattle.model.specs.LimitStands.{Bounds}
 use Rattle.model.specs.Operands.{words, word_reference}
 use Rattle.model.specs.Outcomes.{not_null}
+use Rattle.model.specs.Texts.{int_line}
 use Rattle.model.specs.BuiltInMethods.{with_printed}
 use Rattle.model.specs.Sites.{MeaningOf, Site, pushing, int_operand}
 use Rattle.model.specs.Meanings.{println_meaning}
@@ -73,7 +74,7 @@ module _ (trees : Program) (p : LinkedProgram) (bounds : Bounds) (inflated : Lis
   event_with frames pick o =
       enabled_if (pick == 0)
       (become trees frames t state.world frame rest
-      (not_null o (λ r. pushing behind [] (with_printed state.world (int_operand words (take 2 stack) 0)) frame.place.slots (drop 2 stack))))
+      (not_null o (λ r. pushing behind [] (with_printed state.world (int_line (int_operand words (take 2 stack) 0))) frame.place.slots (drop 2 stack))))
 
   printing_event : (frames pick : ℕ) → instruction_event trees frames (record { thread = t; pick = pick }) state.world frame rest meaning
       ≡ event_with frames pick (object_under 1 from)

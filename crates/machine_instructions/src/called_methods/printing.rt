@@ -12,11 +12,11 @@ use linked_code::BuiltInMethod;
 use machine_state::{Effect, EventRefusal, MachineException, Shared};
 use thread_stacks::ThreadStack;
 
-/// `invokevirtual` of PrintStream.println(int): the number on top is printed; null under it is a NullPointerException.
+/// `invokevirtual` of PrintStream.println(int): the number on top is printed, and a line feed; null under it is a NullPointerException.
 ///
 /// # Errors
 ///
-/// Where there is no memory for the number. Nothing has changed then.
+/// Where there is no memory for these. Nothing has changed then.
 pub fn println(
     shared: &mut Shared,
     stack: &mut ThreadStack,
