@@ -9,12 +9,12 @@ use Rattle.std.proofs.lemmas.Bool.{lt-leb}
 use Rattle.std.proofs.lemmas.Fmt.{IsAscii-signed}
 use Rattle.std.proofs.lemmas.Str.{encode_ascii, utf16_chars-nil, utf16_chars_lone}
 use Rattle.std.proofs.lemmas.Str.Ascii.{All-from_ascii}
-use Rattle.std.proofs.lemmas.List.Elements.{All-append}
+use Rattle.std.proofs.lemmas.List.Elements.{All-append, All-head, All-nil, All-push, All-tail}
 use Rattle.model.specs.Texts.{Text, character_bytes, encoded, ends_line, number_line, printed_lines}
 use Rattle.model.specs.Report.{line, signed_number}
 use Rattle.run_laws.specs.printed_texts.Lines.{ArePrintedAsLines}
 
-abbrev IsAsciiUnit : ℕ → Type 0
+abbrev pub IsAsciiUnit : ℕ → Type 0
 IsAsciiUnit u = u < 128
 
 lone : (u : ℕ) → u < 128 → lone_unit_char u ≡ Some u
@@ -28,9 +28,9 @@ first_encoded u text ascii =
     ∙ ap (λ bytes. bytes ++ encoded text) (encode_ascii u ascii)
 
 -- a text of ASCII is its own bytes
-pub ascii_encoded : (text : Text) → All (λ u. u < 128) text → encoded text ≡ text
+pub ascii_encoded : (text : Text) → All IsAsciiUnit text → encoded text ≡ text
 ascii_encoded [] h = ap (λ cs. flat_map character_bytes cs) utf16_chars-nil
-ascii_encoded (u ∷ text) h = first_encoded u text h.0 ∙ ap (λ l. u ∷ l) (ascii_encoded text h.1)
+ascii_encoded (u ∷ text) h = first_encoded u text (All-head IsAsciiUnit u text h) ∙ ap (λ (l : List ℕ). u ∷ l) (ascii_encoded text (All-tail IsAsciiUnit u text h))
 
 pub ends_append : (text other : Text) → ends_line text ≡ true → ends_line other ≡ true → ends_line (text ++ other) ≡ true
 ends_append [] other h k = k
@@ -48,11 +48,12 @@ small (pos n) is = omega (arith, is.sfits)
 small (negsuc n) is = omega (arith, is.sfits)
 
 line_ascii : (z : ℤ) → FitsSigned w32 z → All IsAsciiUnit (number_line z)
-line_ascii z is = All-append IsAsciiUnit (signed_number z) (10 ∷ []) (All-from_ascii (signed_number z) (IsAscii-signed z (small z is))) (omega arith, tt)
+line_ascii z is = All-push IsAsciiUnit (signed_number z) 10 (All-from_ascii (signed_number z) (IsAscii-signed z (small z is))) (omega arith)
 
 lines_ascii : (ints : List ℤ) → All (FitsSigned w32) ints → All IsAsciiUnit (flat_map number_line ints)
-lines_ascii [] each = tt
-lines_ascii (z ∷ ints) each = All-append IsAsciiUnit (number_line z) (flat_map number_line ints) (line_ascii z each.0) (lines_ascii ints each.1)
+lines_ascii [] each = All-nil IsAsciiUnit
+lines_ascii (z ∷ ints) each = All-append IsAsciiUnit (number_line z) (flat_map number_line ints) 
+    (line_ascii z (All-head (FitsSigned w32) z ints each)) (lines_ascii ints (All-tail (FitsSigned w32) z ints each))
 
 pub lines_end : (ints : List ℤ) → ends_line (flat_map number_line ints) ≡ true
 lines_end [] = refl
