@@ -3,7 +3,7 @@
 ghost use Rattle.std.specs.Prelude.{◌≤◌};
 
 use schedule::recorded_events::RecordedEvents;
-use schedule::report::push_printed;
+use schedule::report::push_text;
 use std::fs::OpenOptions;
 use std::io::{ErrorKind, Read, Write};
 use std::rt::{Clock, Files};
@@ -28,7 +28,7 @@ struct Shown {
     part: Option<String>,
     /// How many of the events stand there.
     events: u32,
-    /// How many of the printed numbers are shown.
+    /// How many of the printed units are shown.
     printed: usize,
 }
 
@@ -52,6 +52,14 @@ pub struct Growing<'a, R> {
     shown: Mutex<Shown>,
     /// How many bytes of the report are shown before it is written.
     bytes: AtomicU64,
+}
+
+/// The units without the last one where it is the first one of a pair.
+fn without_half(units: &[u16]) -> &[u16] {
+    match units.split_last() {
+        Some((last, others)) if (0xD800..0xDC00).contains(last) => others,
+        _ => units,
+    }
 }
 
 impl<'a, R: Clock + Print + Files + AllocGlobal> Growing<'a, R> {
@@ -107,27 +115,28 @@ impl<'a, R: Clock + Print + Files + AllocGlobal> Growing<'a, R> {
         }
     }
 
-    /// The lines of the numbers that are not shown so far, if there are some, and are to be shown.
-    pub fn new_lines(&self, printed: &[i32]) -> Option<Vec<u8>> {
+    /// What is printed and not shown so far, if there is some, and it is to be shown. The first unit of a pair waits for
+    /// the second one.
+    pub fn new_text(&self, printed: &[u16]) -> Option<Vec<u8>> {
         if !self.follows.load(Ordering::SeqCst) {
             return None;
         }
         let mut shown = self.shown.try_lock()?;
-        let numbers = printed.get(shown.printed..)?;
-        if numbers.is_empty() {
+        let units = without_half(printed.get(shown.printed..)?);
+        if units.is_empty() {
             return None;
         }
-        let mut lines = Vec::new(self.rt.alloc());
-        push_printed(self.rt.alloc(), &mut lines, numbers).ok()?;
-        shown.printed = printed.len();
-        Some(lines)
+        let mut text = Vec::new(self.rt.alloc());
+        push_text(&mut text, units).ok()?;
+        shown.printed = shown.printed.saturating_add(units.len());
+        Some(text)
     }
 
-    /// Shows lines that come next in the report. Where the output fails, no more are shown before that is written.
-    pub fn show(&self, lines: &[u8]) {
+    /// Shows text that comes next in the report. Where the output fails, no more is shown before that is written.
+    pub fn show(&self, text: &[u8]) {
         let mut output = io::writer(self.rt);
-        let mut left = lines;
-        for _ in 0..lines.len() {
+        let mut left = text;
+        for _ in 0..text.len() {
             match output.write(left) {
                 Ok(written) if written > 0 => {
                     self.bytes.fetch_add(written as u64, Ordering::SeqCst);

@@ -3,7 +3,6 @@
 use crate::traced_events::before::Before;
 use crate::traced_events::deed::Deed;
 use linked_code::{BuiltInMethod, LinkedProgram, MethodBody};
-use machine_state::Shared;
 use machine_state::method_selection::method_at;
 
 /// The built-in method of a number, if it is one.
@@ -17,18 +16,16 @@ pub(crate) fn built_in_called(
     }
 }
 
-/// The last number that was printed.
-pub(crate) fn printed(shared: &Shared) -> Deed {
-    match shared.printed.last() {
-        Some(number) => Deed::Prints { number: *number },
-        None => Deed::Nothing,
+/// The number that the event printed, which was on top of the frame.
+pub(crate) fn printed(before: &Before) -> Deed {
+    Deed::Prints {
+        number: before.operands[0].cast_signed(),
     }
 }
 
 /// What a call of a built-in method did: `top` is the word on top after it, and `pick` that of its event.
 pub(crate) fn built_in_deed(
     before: &Before,
-    shared: &Shared,
     method: u32,
     built_in: BuiltInMethod,
     top: u32,
@@ -50,6 +47,6 @@ pub(crate) fn built_in_deed(
         | BuiltInMethod::ThreadInterrupted
         | BuiltInMethod::ThreadCurrentThread
         | BuiltInMethod::ThreadIsAlive => Deed::Pushes { word: top },
-        BuiltInMethod::PrintStreamPrintln => printed(shared),
+        BuiltInMethod::PrintStreamPrintln => printed(before),
     }
 }
