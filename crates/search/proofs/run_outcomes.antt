@@ -1,3 +1,4 @@
+mod LineLaws
 mod Orders
 mod Lists
 mod Places

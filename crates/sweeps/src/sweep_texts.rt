@@ -40,7 +40,7 @@ fn push_outcome(
     ensures { OnOk result (text.new.items ≡ text.old.items ++ outcome_text number (told_by outcome.now)) }
 {
     push_line(text, format!(in alloc; "outcome {number}")?.as_bytes())?;
-    push_printed(alloc, text, &outcome.printed)?;
+    push_printed(text, &outcome.printed)?;
     push_threads(alloc, text, &outcome.threads)
 }
 

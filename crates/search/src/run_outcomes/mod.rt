@@ -4,11 +4,12 @@
 //!
 //! - `Wanted::is`, memory aside: whether an outcome is the one that is wanted (`IsWanted`): a thread waits for ever,
 //!   one ended with an exception, what was printed is a text, or is another one.
-//! - `printed_lines`, memory aside: it makes of ints the text that a run prints of them (`printed_text`).
+//! - `printed_lines`, memory aside: it makes of ints the bytes of what a run prints of them (`printed_text`).
 //! - `Outcomes`: its outcomes are in an order, each once (`AreInOrder`); `add` lists one more and keeps the others
 //!   (`IsAdded`).
 //! - `Outcome::is_same`: whether two outcomes are equal (`equal`), which is where neither comes first (`is_same`).
 
+mod lines;
 mod order;
 mod outcomes;
 mod printed;

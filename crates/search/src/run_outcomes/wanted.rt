@@ -3,12 +3,13 @@
 ghost use Rattle.std.specs.Prelude.{◌≡◌, ◌↔◌, IfOk, IsTrue};
 ghost use Rattle.std.specs.List.{list_any};
 ghost use Rattle.model.specs.Report.{end_state_of};
+ghost use Rattle.model.specs.Texts.{encoded};
 ghost use Rattle.search.specs.run_outcomes.Outcomes.{told_by, IsWanted};
 ghost use Rattle.search.specs.run_outcomes.Outcomes as spec;
 
 use crate::run_outcomes::outcomes::Outcome;
 use model::EndState;
-use schedule::report::push_printed;
+use schedule::report::push_text;
 use std::alloc::{AllocError, Global};
 
 /// The outcome that a search is to find.
@@ -20,7 +21,7 @@ pub enum Wanted {
     Stuck,
     /// A thread ended with an exception that nothing caught.
     Uncaught,
-    /// The run printed this text: each number in decimal, and a line feed behind it.
+    /// The run printed this text, in UTF-8.
     Printed(Vec<u8>),
     /// Another text than this is.
     PrintedOther(Vec<u8>),
@@ -61,10 +62,10 @@ fn are_same(one: &[u8], other: &[u8]) -> bool
 
 /// Whether a text is what was printed. The only error is a want of memory.
 fn is_printed(alloc: Global, outcome: &Outcome, text: &[u8]) -> Result<bool, AllocError>
-    ensures { IfOk result (λ b. IsTrue b ↔ (spec.printed_text outcome.now.printed.items ≡ text.now)) }
+    ensures { IfOk result (λ b. IsTrue b ↔ (encoded outcome.now.printed.items ≡ text.now)) }
 {
     let mut printed = Vec::new(alloc);
-    push_printed(alloc, &mut printed, &outcome.printed)?;
+    push_text(&mut printed, &outcome.printed)?;
     Ok(are_same(&printed, text))
 }
 
