@@ -278,7 +278,7 @@ fn push_end(
     }
 }
 
-/// The text of what has come of a sweep by a policy. Each outcome by its number, from 1 on, with the printed numbers
+/// The text of what has come of a sweep by a policy. Each outcome by its number, from 1 on, with the printed text
 /// and the threads as a report has them, and how many runs have shown it; how many outcomes there are; how many runs
 /// the budget or a limit has ended; how many runs and events there were; how many outcomes were met once, and how many
 /// of further runs show another one, at most; and why there are no more runs. Where one shows what is wanted the last

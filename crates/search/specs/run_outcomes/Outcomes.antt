@@ -7,7 +7,7 @@ use Rattle.std.specs.BTreeSet.{insert_key}
 use Rattle.std.specs.Ordering.{eq_by_cmp, nat_cmp, ordering_then}
 use Rattle.std.specs.declared.cmp.Ordering.{Ordering}
 use Rattle.model.specs.Report.{ThreadEnd, Ended, Threw, Blocked, Waiting, Joining, Initialising, Runnable, end_state_of, line, signed_number}
-use Rattle.model.specs.Texts.{encoded}
+use Rattle.model.specs.Texts.{encoded, printed_lines}
 use Rattle.run_laws.specs.interleavings.Ends.{Outcome, Has}
 use Rattle.search.specs.run_outcomes.Lines.{text_cmp}
 use Rattle.search.specs.declared.run_outcomes.outcomes.Outcome.{Outcome as TheOutcome}
@@ -44,7 +44,7 @@ IsWanted wanted.Nothing o = ⊥
 IsWanted wanted.Stuck o = IsTrue (list_any is_stuck o.ends)
 IsWanted wanted.Uncaught o = IsTrue (list_any has_thrown o.ends)
 IsWanted (wanted.Printed text) o = encoded o.printed ≡ text.items
-IsWanted (wanted.PrintedOther text) o = encoded o.printed ≡ text.items → ⊥
+IsWanted (wanted.PrintedOther text) o = printed_lines o.printed ≡ text.items → ⊥
 
 -- ---- their order
 

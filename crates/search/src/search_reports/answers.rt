@@ -70,7 +70,7 @@ impl Answer {
 impl SearchReport {
     /// The text of what a search answers. Where a wanted outcome was found it is the text of the run's report. Where
     /// all outcomes are known, it is a line `outcome` with a number for each of them, from 1 on, behind it the
-    /// printed numbers and the threads as a report has them, and behind these a line `outcomes` with their number.
+    /// printed text and the threads as a report has them, and behind these a line `outcomes` with their number.
     /// Then come a line `states` with their number; where all outcomes are known, a line `of runs that end`; and a
     /// line `search` with `found`, `complete` or `gave up`. Each line ends with a line feed. The only error is a want
     /// of memory.
