@@ -1,9 +1,11 @@
 -- Units, one after the other, in UTF-8.
-use Rattle.std.proofs.Common.{◌≡◌, ℕ, suc, ◌+◌, ◌-◌, ◌*◌, ◌<◌, ◌≤◌, ◌^◌, List, [], ◌∷◌, ◌++◌, Option, Some, None, Bool, true, false, ⊎_elim, inl, inr, length, get_or, refl, sym, ap, ◌∙◌, append-nil, append_assoc, arith}
+use Rattle.std.proofs.Common.{◌≡◌, ℕ, suc, ◌+◌, ◌-◌, ◌*◌, ◌<◌, ◌≤◌, ◌^◌, List, [], ◌∷◌, ◌++◌, Option, Some, None, Bool, true, false, ⊎_elim, inl, inr, length, get_or, drop, refl, sym, ap, ◌∙◌, append-nil, append_assoc, arith}
 use Rattle.std.specs.Prelude.{◌==◌, ◌&&◌, if◌then◌else◌, nat_le, nat_lt, MatchOption, SomeIff}
 use Rattle.std.specs.Char.{IsScalar, InScalarRange, OutOfScalarRange}
 use Rattle.std.specs.Char.Utf16.{lone_unit_char, surrogate_pair_char, utf16_chars}
 use Rattle.std.specs.List.{flat_map}
+use Rattle.std.proofs.Math.Seq.{drop-cons}
+use Rattle.std.proofs.Math.ListN.{drop_of_length-le}
 use Rattle.std.proofs.lemmas.Bool.{lt-ltb, le-ltb, lt-leb, le-leb}
 use Rattle.std.proofs.lemmas.Str.{utf16_chars-nil, utf16_chars_lone, utf16_chars_pair}
 use Rattle.model.specs.Texts.{Text, character_bytes, encoded, ends_line}
@@ -50,11 +52,12 @@ alone_written unit old new low is rest =
     ap (λ (l : List ℕ). l ++ encoded rest) is ∙ append_assoc old (character_bytes (lone_unit_char unit)) (encoded rest)
     ∙ ap (λ (l : List ℕ). old ++ l) (sym (first_alone unit rest (λ h k. low h)))
 
--- one that waited in vain
-pub vain_written : (high unit : ℕ) (old new : List ℕ) → (IsLow unit → ⊥) → new ≡ old ++ character_bytes (lone_unit_char high)
-    → (rest : Text) → new ++ encoded (unit ∷ rest) ≡ old ++ encoded (high ∷ unit ∷ rest)
-vain_written high unit old new apart is rest =
-    ap (λ (l : List ℕ). l ++ encoded (unit ∷ rest)) is ∙ append_assoc old (character_bytes (lone_unit_char high)) (encoded (unit ∷ rest))
+-- one that waited in vain, and what becomes of the next one
+pub behind_written : (high unit : ℕ) (old mid new : List ℕ) (next : Option ℕ) → (IsLow unit → ⊥) → mid ≡ old ++ character_bytes (lone_unit_char high)
+    → ((rest : Text) → new ++ encoded (units_of next ++ rest) ≡ mid ++ encoded (unit ∷ rest))
+    → (rest : Text) → new ++ encoded (units_of next ++ rest) ≡ old ++ encoded (high ∷ unit ∷ rest)
+behind_written high unit old mid new next apart is written rest =
+    written rest ∙ ap (λ (l : List ℕ). l ++ encoded (unit ∷ rest)) is ∙ append_assoc old (character_bytes (lone_unit_char high)) (encoded (unit ∷ rest))
     ∙ ap (λ (l : List ℕ). old ++ l) (sym (first_alone high (unit ∷ rest) (λ h k. apart k)))
 
 pub pair_written : (high low : ℕ) (old new : List ℕ) → IsHigh high → IsLow low → new ≡ old ++ character_bytes (Some (surrogate_pair_char high low))
@@ -63,10 +66,34 @@ pair_written high low old new h l is rest =
     ap (λ (l : List ℕ). l ++ encoded rest) is ∙ append_assoc old (character_bytes (Some (surrogate_pair_char high low))) (encoded rest)
     ∙ ap (λ (l : List ℕ). old ++ l) (sym (first_pair high low rest h l))
 
--- the one that waits at the end
-pub last_written : (high : ℕ) (old new : List ℕ) → new ≡ old ++ character_bytes (lone_unit_char high) → new ≡ old ++ encoded (high ∷ [])
-last_written high old new is =
-    is ∙ ap (λ (l : List ℕ). old ++ l) (sym (first_alone high [] (λ h k. absurd (omega (arith, k.0))) ∙ ap (λ (l : List ℕ). character_bytes (lone_unit_char high) ++ l) nothing ∙ append-nil (character_bytes (lone_unit_char high))))
+-- ---- all units
+
+-- one more is written
+pub one_written : (units : Text) (k unit : ℕ) (first next : Option ℕ) (old text new : List ℕ) → k < length units → unit ≡ get_or units k unit
+    → text ++ encoded (units_of first ++ drop k units) ≡ old ++ encoded units
+    → ((rest : Text) → new ++ encoded (units_of next ++ rest) ≡ text ++ encoded (units_of first ++ unit ∷ rest))
+    → new ++ encoded (units_of next ++ drop (k + 1) units) ≡ old ++ encoded units
+one_written units k unit first next old text new here is before written =
+    let place : suc k ≡ k + 1 = omega arith in
+    let rest : drop k units ≡ unit ∷ drop (k + 1) units =
+    drop-cons units k unit here ∙ ap (λ (u : ℕ). u ∷ drop (suc k) units) (sym is) ∙ ap (λ (n : ℕ). unit ∷ drop n units) place in
+    written (drop (k + 1) units) ∙ ap (λ (l : Text). text ++ encoded (units_of first ++ l)) (sym rest) ∙ before
+
+-- nothing waits behind all
+pub all_written : (units : Text) (k : ℕ) (old text : List ℕ) → length units ≤ k → text ++ encoded (drop k units) ≡ old ++ encoded units
+    → text ≡ old ++ encoded units
+all_written units k old text all before =
+    sym (append-nil text) ∙ ap (λ (l : List ℕ). text ++ l) (sym nothing)
+    ∙ ap (λ (l : Text). text ++ encoded l) (sym (drop_of_length-le units all)) ∙ before
+
+-- the first unit of a pair waits behind all
+pub last_written : (units : Text) (k high : ℕ) (old text new : List ℕ) → length units ≤ k → text ++ encoded (high ∷ drop k units) ≡ old ++ encoded units
+    → new ≡ text ++ character_bytes (lone_unit_char high) → new ≡ old ++ encoded units
+last_written units k high old text new all before is =
+    let alone : encoded (high ∷ []) ≡ character_bytes (lone_unit_char high) =
+    first_alone high [] (λ h l. absurd (omega (arith, l.0))) ∙ ap (λ (l : List ℕ). character_bytes (lone_unit_char high) ++ l) nothing ∙ append-nil (character_bytes (lone_unit_char high)) in
+    is ∙ ap (λ (l : List ℕ). text ++ l) (sym alone)
+    ∙ ap (λ (l : Text). text ++ encoded (high ∷ l)) (sym (drop_of_length-le units all)) ∙ before
 
 -- ---- the end of a line
 

@@ -48,6 +48,7 @@ fn push_character(text: &mut Vec<u8>, character: Option<char>) -> Result<(), All
 }
 
 /// Writes the character of a unit behind a text, or returns the unit where it is the first one of a pair.
+#[tactic(auto, using(crate::proofs::report::Units::alone_written))]
 fn push_alone(text: &mut Vec<u8>, unit: u16) -> Result<Option<u16>, AllocError>
     ensures waits { IfOk result MayWait }
     ensures written { IfOk result (λ next. (rest : Text)
@@ -61,6 +62,7 @@ fn push_alone(text: &mut Vec<u8>, unit: u16) -> Result<Option<u16>, AllocError>
 }
 
 /// Does the same behind the first unit of a pair, which waits.
+#[tactic(auto, using(crate::proofs::report::Units::pair_written, crate::proofs::report::Units::behind_written))]
 fn push_behind(text: &mut Vec<u8>, high: u16, unit: u16) -> Result<Option<u16>, AllocError>
     requires { IsHigh high }
     ensures waits { IfOk result MayWait }
@@ -94,6 +96,8 @@ fn push_unit(
 }
 
 /// Writes UTF-16 units in UTF-8 behind a text. A surrogate without its other half is a question mark.
+#[tactic(auto, using(crate::proofs::report::Units::one_written, crate::proofs::report::Units::all_written,
+    crate::proofs::report::Units::last_written))]
 pub fn push_text(text: &mut Vec<u8>, units: &[u16]) -> Result<(), AllocError>
     ensures { OnOk result (text.new.items ≡ text.old.items ++ encoded units.now) }
 {
@@ -107,6 +111,7 @@ pub fn push_text(text: &mut Vec<u8>, units: &[u16]) -> Result<(), AllocError>
     Ok(())
 }
 
+#[tactic(auto, using(crate::proofs::report::Units::ends_at))]
 fn ends_line(text: &[u16]) -> bool
     ensures { result ≡ ends_line text.now }
 {

@@ -121,10 +121,7 @@ fn compare_each_line(one: &[u16], other: &[u16]) -> Ordering
 {
     let mut left = one;
     let mut right = other;
-    'lines: for _line in 0..one.len() {
-        if left.is_empty() || right.is_empty() {
-            return compare_ended(left, right);
-        }
+    'lines: while !left.is_empty() && !right.is_empty() {
         let (first, behind_first) = split_line(left);
         let (second, behind_second) = split_line(right);
         match compare_lines(first, second) {
