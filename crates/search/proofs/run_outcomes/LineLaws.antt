@@ -1,15 +1,21 @@
 -- Lines of texts, and the numbers of which they are the decimal.
-use Rattle.std.proofs.Common.{◌≡◌, ℕ, zero, suc, ◌+◌, ◌-◌, ◌*◌, ◌^◌, ◌<◌, ◌≤◌, List, [], ◌∷◌, ◌++◌, Bool, true, false, length, take, drop, get_or, refl, sym, ap, ◌∙◌, subst, arith}
-use Rattle.std.specs.Prelude.{◌==◌, if◌then◌else◌}
+use Rattle.std.proofs.Common.{◌≡◌, ◌⊎◌, ⊎_elim, ℕ, suc, ◌+◌, ◌-◌, ◌*◌, ◌^◌, ◌<◌, ◌≤◌, List, [], ◌∷◌, ◌++◌, Bool, true, false, ◌&&◌, length, take, drop, get_or, refl, sym, ap, ◌∙◌, subst, arith}
+use Rattle.std.specs.Prelude.{◌==◌, if◌then◌else◌, nat_le}
 use Rattle.std.specs.List.{All, list_all}
 use Rattle.std.specs.Cmp.Lexicographic.{slice_cmp}
 use Rattle.std.specs.declared.cmp.Ordering.TheVariants.{Less, Equal, Greater}
 use Rattle.std.proofs.Math.Seq.{drop-cons}
-use Rattle.std.proofs.lemmas.Bool.Decides.{Decides-eqb, not_from_Decides}
+use Rattle.std.specs.Ordering.{ordering_then}
+use Rattle.std.specs.declared.cmp.Ordering.{Ordering}
+use Rattle.std.proofs.Math.Bool.{and-false}
+use Rattle.std.proofs.Math.Nat.{pow-le-pow_right}
+use Rattle.std.proofs.lemmas.Bool.{le-leb, lt-leb}
+use Rattle.std.proofs.lemmas.Nat.{pow-add}
+use Rattle.std.proofs.lemmas.List.Folds.{list_all_at, list_all_more}
 use Rattle.std.proofs.lemmas.List.{take-append-drop, take_more}
 use Rattle.std.proofs.lemmas.List.Elements.{All-head, All-tail}
 use Rattle.model.specs.Texts.{Text}
-use Rattle.search.specs.run_outcomes.Lines.{begun, line_cmp, lines_of, number_behind}
+use Rattle.search.specs.run_outcomes.Lines.{begun, is_digit, line_cmp, lines_of, number_behind}
 
 -- ---- lines
 
@@ -72,3 +78,43 @@ ended_later (unit ∷ text) some = let h = has_line unit text in sym (ap (λ ls.
 pub number_more : (n : ℕ) (digits : Text) (digit : ℕ) → number_behind n (digits ++ digit ∷ []) ≡ number_behind n digits * 10 + (digit - 48)
 number_more n [] digit = refl
 number_more n (first ∷ digits) digit = number_more (n * 10 + (first - 48)) digits digit
+
+digit_is : (digit : ℕ) → 48 ≤ digit → digit ≤ 57 → is_digit digit ≡ true
+digit_is digit low high = ap (λ (b : Bool). b && nat_le digit 57) (le-leb 48 digit low) ∙ le-leb digit 57 high
+
+-- one digit more, of which the number is less than a power of ten
+module _ (digits : Text) (k digit : ℕ) (here : k < length digits) (is : digit ≡ get_or digits k digit) (low : 48 ≤ digit) (high : digit ≤ 57) where
+  pub are_digits : list_all is_digit (take k digits) ≡ true → list_all is_digit (take (k + 1) digits) ≡ true
+  are_digits before =
+      list_all_more is_digit digits k digit here ∙ ap (λ (b : Bool). b && is_digit (get_or digits k digit)) before
+      ∙ ap is_digit (sym is) ∙ digit_is digit low high
+
+  pub number_is : (number : ℕ) → number ≡ number_behind 0 (take k digits) → number * 10 + (digit - 48) ≡ number_behind 0 (take (k + 1) digits)
+  number_is number before =
+      ap (λ (n : ℕ). n * 10 + (digit - 48)) before ∙ sym (number_more 0 (take k digits) digit)
+      ∙ ap (λ (u : ℕ). number_behind 0 (take k digits ++ u ∷ [])) is ∙ ap (number_behind 0) (sym (take_more digits k digit here))
+
+  pub number_fits : (number : ℕ) → number < 10 ^ k → number * 10 + (digit - 48) < 10 ^ (k + 1)
+  number_fits number before = let more : 10 ^ (k + 1) ≡ 10 ^ k * 10 = pow-add 10 k 1 in omega (arith, before, more, high)
+
+-- a number of fewer than ten digits, before one more
+pub has_room : (k number : ℕ) → k < 10 → number < 10 ^ k → number * 10 + 9 < 2 ^ 64
+has_room k number few before = let most : 10 ^ k ≤ 10 ^ 9 = pow-le-pow_right (omega arith) (omega (arith, few)) in omega (arith, before, most)
+
+-- a unit that is no digit
+pub no_digit : (digits : Text) (k digit : ℕ) → k < length digits → digit ≡ get_or digits k digit → (digit < 48) ⊎ (57 < digit)
+    → list_all is_digit digits ≡ false
+no_digit digits k digit here is out = list_all_at is_digit digits k digit here (ap is_digit (sym is) ∙ none)
+  where
+    none : is_digit digit ≡ false
+    none = ⊎_elim (λ low. ap (λ (b : Bool). b && nat_le digit 57) (lt-leb 48 digit low))
+        (λ high. ap (λ (b : Bool). nat_le 48 digit && b) (lt-leb digit 57 high) ∙ and-false (nat_le 48 digit)) out
+
+-- ---- two texts, line by line
+
+module _ (one other : List Text) (first second : Text) (left right : List Text) (is : one ≡ first ∷ left) (also : other ≡ second ∷ right) where
+  compared : slice_cmp line_cmp one other ≡ ordering_then (line_cmp first second) (slice_cmp line_cmp left right)
+  compared = ap (λ ls. slice_cmp line_cmp ls other) is ∙ ap (λ ls. slice_cmp line_cmp (first ∷ left) ls) also
+
+  pub lines_decide : (o : Ordering) → line_cmp first second ≡ o → slice_cmp line_cmp one other ≡ ordering_then o (slice_cmp line_cmp left right)
+  lines_decide o e = compared ∙ ap (λ x. ordering_then x (slice_cmp line_cmp left right)) e
