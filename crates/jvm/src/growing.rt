@@ -57,7 +57,7 @@ pub struct Growing<'a, R> {
 /// The units without the last one where it is the first one of a pair.
 fn without_half(units: &[u16]) -> &[u16] {
     match units.split_last() {
-        Some((last, others)) if (0xD800..0xDC00).contains(last) => others,
+        Some((last, others)) if 0xD800 <= *last && *last < 0xDC00 => others,
         _ => units,
     }
 }

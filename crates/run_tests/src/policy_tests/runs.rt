@@ -56,7 +56,7 @@ const LINE_FEED: u16 = 10;
 /// What was printed, without the line feed behind the last number.
 fn printed_numbers(printed: &[u16]) -> &[u16] {
     match printed.split_last() {
-        Some((&LINE_FEED, others)) => others,
+        Some((last, others)) if *last == LINE_FEED => others,
         _ => printed,
     }
 }

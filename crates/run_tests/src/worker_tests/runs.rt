@@ -83,7 +83,7 @@ static ROWS: [Row; 5] = [
 /// Whether a run came to what a row says.
 fn is_as(recorded: &Recorded, row: &Row) -> bool {
     for printed in row.printed {
-        if is_printed(&recorded.report.printed, printed) {
+        if is_printed(&recorded.report.printed, *printed) {
             return recorded.report.events == row.events && recorded.end == row.end;
         }
     }
