@@ -2,6 +2,8 @@
 
 from __future__ import annotations
 
+import copy
+import functools
 import struct
 from typing import TYPE_CHECKING, Any, Dict, List, Optional, Sequence, Tuple
 
@@ -170,8 +172,9 @@ def read_code(data: bytes, method: Method) -> None:
     method.handlers = [tuple(reader.number(2) for _ in range(4)) for _ in range(reader.number(2))]
 
 
-def read_class(data: bytes) -> Class:
-    """The class that the bytes of a class file spell."""
+@functools.lru_cache(maxsize=None)
+def first_read(data: bytes) -> Class:
+    """The class that the bytes of a class file spell, as it is before any run."""
     reader = ClassReader(data)
     flags = reader.number(2)
     name, superclass = reader.class_name(), reader.superclass_name()
@@ -191,9 +194,24 @@ def read_class(data: bytes) -> Class:
     return found
 
 
+def read_class(data: bytes) -> Class:
+    """The class that the bytes of a class file spell, for one run."""
+    found = copy.copy(first_read(data))
+    found.statics = {}
+    found.methods = {key: copy.copy(method) for key, method in found.methods.items()}
+    for method in found.methods.values():
+        method.owner = found
+    return found
+
+
+@functools.lru_cache(maxsize=None)
+def built_in_files() -> List[bytes]:
+    return [built_in_file(name).read_bytes() for name in built_in_names()]
+
+
 def built_in_classes() -> List[Class]:
     """The classes that the machine brings along, all of them initialised, by their class files."""
-    found = [read_class(built_in_file(name).read_bytes()) for name in built_in_names()]
+    found = [read_class(data) for data in built_in_files()]
     for known in found:
         known.state = "initialised"
     return found

@@ -1,7 +1,7 @@
 #!/usr/bin/env python3
 """Searches by the oracle: what `jvm search` has to print, worked out by a machine of its own.
 
-    oracle/searches.py [--for OUTCOME] [--states N] FILE..
+    oracle/searches.py [--for OUTCOME] [--states N] [--all-events] FILE..
     oracle/searches.py --write
 
 States are searched breadth first, the events of each in the order of threads and picks. Behind an event with pick 0
@@ -9,25 +9,30 @@ those of its thread are done, too, that are alone: local instructions, at most 1
 no monitor is entered or left, and what leaves a monitor for good. They are told by what they did. A state is told apart from others by its objects in
 the order in which they were made, its classes, threads and stacks, and what was printed. A state is kept as the events
 that lead to it. With --write the searches of the lessons below become cases of `crates/conformance`, with what they
-have to print. The schedule of a run that was found is recorded and replayed.
+have to print. The schedule of a run that was found is recorded and replayed. So are those of the programs in
+`programs/races/` and `programs/kinds/`, whose first lines say which variables race, or which kinds of states there are.
+
+With --all-events each event is a step by itself, and each state that any run comes to is looked at.
 """
 
 import argparse
 import pathlib
 import re
 import sys
+import tempfile
 from typing import Any, Dict, Iterator, List, Optional, Sequence, Set, Tuple, Union
 
 sys.dont_write_bytecode = True
 sys.path.insert(0, str(pathlib.Path(__file__).resolve().parent.parent))
 
 from oracle.frames import Frame
+from oracle.kinds import KINDS, kinds_of, race_line
 from oracle.lessons import LESSONS, class_files
 from oracle.machine import Machine, status_of, text_of
 from oracle.schedules import Event
 from oracle.state import Initialisation, JavaThread, NotEnabled, Object, Refused, Value
-from tools.cases import store, stored
-from tools.repository import CONFORMANCE
+from tools.cases import file_lines, store, stored
+from tools.repository import CONFORMANCE, ROOT, compiled
 
 # How the words of a report are ordered.
 RANKS = ["ended", "threw", "blocked", "waiting", "joining", "initialising"]
@@ -163,7 +168,9 @@ def past(files: Sequence[bytes], events: Tuple[Event, ...], number: int) -> Tupl
     return events, machine
 
 
-def following(files: Sequence[bytes], events: Tuple[Event, ...]) -> Iterator[Tuple[Tuple[Event, ...], Numbered]]:
+def following(
+    files: Sequence[bytes], events: Tuple[Event, ...], is_reduced: bool
+) -> Iterator[Tuple[Tuple[Event, ...], Numbered]]:
     """The states to which an event leads from the end of these, in the order of threads and picks."""
     for thread in range(len(at(files, events).threads)):
         for pick in range(1 << 16):
@@ -173,7 +180,7 @@ def following(files: Sequence[bytes], events: Tuple[Event, ...]) -> Iterator[Tup
             except NotEnabled:
                 break
             after = (*events, (thread, pick))
-            yield (after, machine) if pick else past(files, after, thread)
+            yield past(files, after, thread) if is_reduced and not pick else (after, machine)
 
 
 def is_wanted(goal: Optional[str], outcome: Outcome) -> bool:
@@ -204,42 +211,76 @@ def lines_of(outcome: Outcome) -> List[str]:
     return [*map(str, printed), *(f"thread {number} {state}" for number, state in enumerate(threads))]
 
 
-def search(files: Sequence[bytes], goal: Optional[str], most: int) -> Tuple[str, int, Optional[Numbered]]:
-    """What `jvm search` prints, its status, and the machine that was found."""
+class Seen:
+    """What the states of a search have shown."""
+
+    def __init__(self, goal: Optional[str]) -> None:
+        self.goal = goal
+        self.outcomes: Set[Outcome] = set()
+        self.kinds: Set[str] = set()
+
+    def is_found(self, machine: Numbered) -> bool:
+        """Whether the state of a machine is to be found. If not, what it shows is listed."""
+        kinds = kinds_of(machine)
+        if kinds and self.goal == "any" or self.goal in kinds:
+            return True
+        self.kinds |= kinds
+        if not machine.is_quiet():
+            return False
+        outcome = machine.outcome()
+        if self.goal not in KINDS and is_wanted(self.goal, outcome):
+            return True
+        self.outcomes.add(outcome)
+        return False
+
+    def lines(self) -> List[str]:
+        """The outcomes, and the kinds."""
+        text: List[str] = []
+        for number, outcome in enumerate(sorted(self.outcomes, key=order), 1):
+            text += [f"outcome {number}", *lines_of(outcome)]
+        return [*text, f"outcomes {len(self.outcomes)}", *(f"kind {kind}" for kind in KINDS if kind in self.kinds)]
+
+
+def search(
+    files: Sequence[bytes], goal: Optional[str], most: int, is_reduced: bool = True
+) -> Tuple[str, int, Optional[Numbered]]:
+    """What `jvm search` prints, its status, and the machine that was found. Where the search isn't reduced there are
+    more states, and no event is followed by others."""
     met = {at(files, ()).key()}
     states: List[Tuple[Event, ...]] = [()]
-    outcomes: Set[Outcome] = set()
+    seen = Seen(goal)
     for events in states:
-        machine = at(files, events)
-        if machine.is_quiet():
-            outcome = machine.outcome()
-            if is_wanted(goal, outcome):
-                return text_of(machine, "quiet") + last_lines(states, "found"), 1, machine
-            outcomes.add(outcome)
-        for after, machine in following(files, events):
+        for after, machine in following(files, events, is_reduced):
             key = machine.key()
             if key not in met:
                 if len(states) == most:
                     return last_lines(states, "gave up"), 5, None
                 met.add(key)
                 states.append(after)
-    text: List[str] = []
-    for number, outcome in enumerate(sorted(outcomes, key=order), 1):
-        text += [f"outcome {number}", *lines_of(outcome)]
-    return "\n".join([*text, f"outcomes {len(outcomes)}", last_lines(states, "complete")]), 0, None
+        machine = at(files, events)
+        if seen.is_found(machine):
+            return text_of(machine, end_of(machine)) + last_lines(states, "found"), 1, machine
+    scope = ["of runs that end"] if "race" in seen.kinds else ["of runs that end", race_line(at(files, ()), files)]
+    text = "\n".join([*seen.lines(), last_lines(states, "complete", scope)])
+    return text, 4 if "deadlock" in seen.kinds else 0, None
 
 
-def last_lines(states: List[Tuple[Event, ...]], word: str) -> str:
-    scope = "of runs that end\n" if word == "complete" else ""
-    return f"states {len(states)}\n{scope}search {word}\n"
+def end_of(machine: Numbered) -> str:
+    return "quiet" if machine.is_quiet() else "schedule"
+
+
+def last_lines(states: List[Tuple[Event, ...]], word: str, scope: Sequence[str] = ()) -> str:
+    return "".join(f"{line}\n" for line in [f"states {len(states)}", *scope, f"search {word}"])
 
 
 # The lessons that are searched: folder, class files, and options.
 SEARCHED = [
     ("lost-update", ["LostUpdate"], ""),
     ("lost-update", ["LostUpdate"], "--states 50"),
+    ("lost-update", ["LostUpdate"], "--for race"),
     ("lost-update", ["LostUpdate"], "--for output=1"),
     ("lost-update", ["LostUpdate"], "--for differs=two"),
+    ("lost-update", ["Repaired"], "--for race"),
     ("lost-update", ["Repaired"], "--for output=1"),
     ("lost-update", ["Repaired"], "--for differs=two"),
     ("lock-order", ["LockOrder"], "--for deadlock"),
@@ -252,6 +293,27 @@ SEARCHED = [
     ("wrong-waiter", ["WrongWaiter"], "--for deadlock"),
 ]
 
+# The programs that are searched, too, beside all of programs/races/ and programs/kinds/ without an option.
+PROGRAMS = [
+    ("races/NoLock", "--for race"),
+    ("races/NoLock", "--for any"),
+    ("races/NoLock", "--for uncaught"),
+    ("races/NoLock", "--for race --states 4"),
+    ("races/OneLock", "--for race"),
+    ("races/OneLock", "--for any"),
+    ("races/Interrupted", "--for race"),
+    ("races/OneElement", "--for race"),
+    ("kinds/CircleBesideLoop", "--for deadlock"),
+    ("kinds/CircleBesideLoop", "--for race"),
+    ("kinds/CircleBesideLoop", "--for output="),
+    ("kinds/ClassesBesideLoop", "--for deadlock"),
+    ("kinds/ThrowsBesideLoop", "--for uncaught"),
+    ("kinds/ThrowsBesideLoop", "--for any"),
+    ("kinds/WaitsBesideLoop", "--for any"),
+    ("kinds/AllKinds", "--for uncaught"),
+    ("kinds/AllKinds", "--for deadlock"),
+]
+
 # The texts that printed numbers are compared with, by their lines.
 TEXTS = {"two": [2]}
 
@@ -262,43 +324,89 @@ HEAD = [
     "",
 ]
 
+KINDS_HEAD = [
+    "# Kinds of states, made by `oracle/searches.py` of the sources in programs/races/ and programs/kinds/.",
+    "",
+]
+
 
 def words_of(words: Sequence[str]) -> argparse.Namespace:
     """The words behind `search`."""
     parser = argparse.ArgumentParser()
     parser.add_argument("--for", dest="goal")
     parser.add_argument("--states", type=int, default=10_000_000)
+    parser.add_argument("--all-events", action="store_true")
     parser.add_argument("files", nargs="+")
     return parser.parse_args(words)
 
 
-def cases_of(folder: str, names: List[str], options: str) -> Tuple[List[str], str]:
-    """The lines of the cases of a search, and what they have to print."""
-    words = words_of([*options.split(), *names])
-    files = class_files(LESSONS / folder)
-    told, status, found = search([files[f"{name}.class"] for name in names], words.goal, words.states)
-    name = "-".join([folder, names[0], re.sub("[ =]", "-", options.replace("--for ", "").replace("--", "")) or "all"])
-    paths = " ".join(f"{folder}/{one}.class" for one in names)
+def cases_of(label: str, files: Dict[str, bytes], options: str) -> Tuple[List[str], str]:
+    """The lines of the cases of a search over files, and what they have to print."""
+    words = words_of([*options.split(), *files])
+    told, status, found = search(list(files.values()), words.goal, words.states)
+    name = "-".join([label, re.sub("[ =]", "-", options.replace("--for ", "").replace("--", "")) or "all"])
+    paths = " ".join(files)
     record = f"--record {name}.schedule" if words.goal else ""
     text = [f"case search-{name}", "  " + " ".join(["search", *options.split(), *record.split(), paths])]
     printed = f"case search-{name}\n{told}status {status}\n"
     if found:
+        end = end_of(found)
         text += [f"case replay-{name}", f"  replay --schedule {name}.schedule {paths}"]
-        printed += f"case replay-{name}\n{text_of(found, 'quiet')}status {status_of(found, 'quiet')}\n"
+        printed += f"case replay-{name}\n{text_of(found, end)}status {status_of(found, end)}\n"
     elif record:
         text += [f"shown {name}.schedule"]
         printed += f"recorded {name}.schedule is missing\n"
     return text, printed
 
 
-def write() -> None:
+def of_lessons() -> Tuple[List[str], str]:
+    """The text of the cases of lessons, and what they have to print."""
     lines, shown = [*HEAD], ""
     for name, numbers in TEXTS.items():
         lines += [f"text {name}", *(f"  {number}" for number in numbers), ""]
-    for row in SEARCHED:
-        text, printed = cases_of(*row)
+    for folder, names, options in SEARCHED:
+        files = class_files(LESSONS / folder)
+        given = {f"{folder}/{name}.class": files[f"{name}.class"] for name in names}
+        text, printed = cases_of(f"{folder}-{names[0]}", given, options)
         lines, shown = [*lines, *text], shown + printed
+    return lines, shown
+
+
+def is_as_told(told: str, printed: str) -> bool:
+    """Whether a program shows the kinds that its first line says. Of races that is whether there is one."""
+    kinds = re.findall("(?m)^kind (.*)$", printed)
+    wanted = re.search(r"Kinds: (.*)\. \*/", told)
+    if wanted:
+        return kinds == wanted[1].split(", ")
+    if "No kind." in told:
+        return not kinds
+    return ("race" in kinds) == ("Races: " in told)
+
+
+def of_program(source: pathlib.Path) -> Tuple[List[str], str]:
+    """The text of the cases of a program, and what they have to print."""
+    told = source.read_text().splitlines()[0]
+    with tempfile.TemporaryDirectory() as folder:
+        files = {f"{source.stem}/{path.name}": path.read_bytes() for path in compiled([source], folder)}
+    lines = [f"# {told[4:-3]}", *(line for name, data in files.items() for line in file_lines(name, data))]
+    shown = ""
+    further = [options for name, options in PROGRAMS if name == f"{source.parent.name}/{source.stem}"]
+    for options in ["", *further]:
+        text, printed = cases_of(source.stem, files, options)
+        lines, shown = [*lines, *text], shown + printed
+    if not is_as_told(told, shown.split("\ncase ")[0]):
+        sys.exit(f"{source}: not the kinds of its first line")
+    return [*lines, ""], shown
+
+
+def write() -> None:
+    lines, shown = of_lessons()
     (CONFORMANCE / "data/searches.cases").write_text("\n".join([*lines, ""]))
+    lines = [*KINDS_HEAD]
+    for source in [*sorted((ROOT / "programs/races").iterdir()), *sorted((ROOT / "programs/kinds").iterdir())]:
+        text, printed = of_program(source)
+        lines, shown = [*lines, *text], shown + printed
+    (CONFORMANCE / "data/kinds.cases").write_text("\n".join(lines))
     store(stored().split("case search-lost-update-")[0] + shown.encode().decode("latin-1"))
 
 
@@ -307,7 +415,8 @@ def main() -> int:
         write()
         return 0
     words = words_of(sys.argv[1:])
-    text, status, _ = search([pathlib.Path(path).read_bytes() for path in words.files], words.goal, words.states)
+    files = [pathlib.Path(path).read_bytes() for path in words.files]
+    text, status, _ = search(files, words.goal, words.states, not words.all_events)
     sys.stdout.write(text)
     return status
 

@@ -19,7 +19,11 @@ THIN_ENTRIES = 256
 
 
 class NotEnabled(Exception):
-    """The event is not enabled; the argument is the state of its thread."""
+    """The event is not enabled: the state of its thread, and the thread that holds what it needs, if one does."""
+
+    def __init__(self, state: str, holder: "Optional[JavaThread]" = None) -> None:
+        super().__init__(state)
+        self.holder = holder
 
 
 class Refused(Exception):
@@ -190,7 +194,7 @@ class State:
     def entering(self, thread: JavaThread, thing: Object) -> Action:
         """What enters a monitor, where the thread may."""
         if thing.owner is not None and thing.owner is not thread:
-            raise NotEnabled("blocked")
+            raise NotEnabled("blocked", thing.owner)
         if thing.entries == THIN_ENTRIES:
             self.monitor_room(thing)
 
@@ -241,7 +245,7 @@ class State:
         if one.state == "none":
             return lambda: self.begin_class(thread, one)
         if one.state == "begun" and one.by is not thread:
-            raise NotEnabled("initialising")
+            raise NotEnabled("initialising", one.by)
         if one.state == "erroneous":
             return self.throwing(thread, "NoClassDefFoundError")
         return None

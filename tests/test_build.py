@@ -3,7 +3,8 @@
 import unittest
 from typing import Dict, List
 
-from tools.build_plan import all_below, chains, ready, time_left
+from tools.build_plan import Begun, all_below, by_the_clock, chains, next_ones, ready, time_left
+from tools.build_report import minutes
 
 CRATES: Dict[str, List[str]] = {
     "model": [],
@@ -30,11 +31,24 @@ class Plans(unittest.TestCase):
         self.assertEqual(ready(CRATES, SECONDS, {"model", "heap"}, {"linker"}), ["machine"])
         self.assertEqual(ready(CRATES, SECONDS, set(CRATES), set()), [])
 
+    def test_processes_are_shared_by_those_that_begin(self) -> None:
+        self.assertEqual(next_ones(CRATES, SECONDS, set(), {}, 4), {"model": 4})
+        self.assertEqual(next_ones(CRATES, SECONDS, {"model"}, {}, 3), {"linker": 2, "heap": 1})
+        self.assertEqual(next_ones(CRATES, SECONDS, {"model"}, {}, 1), {"linker": 1})
+        self.assertEqual(next_ones(CRATES, SECONDS, {"model"}, {"linker": Begun(3)}, 4), {"heap": 1})
+        self.assertEqual(next_ones(CRATES, SECONDS, {"model"}, {"linker": Begun(3)}, 2), {})
+
     def test_the_time_that_is_left(self) -> None:
         self.assertEqual(time_left(CRATES, SECONDS, set(), {}, 1), 96)
-        self.assertEqual(time_left(CRATES, SECONDS, set(), {}, 2), 71)
-        self.assertEqual(time_left(CRATES, SECONDS, {"model"}, {"heap": 15.0}, 2), 61)
-        self.assertEqual(time_left(CRATES, SECONDS, {"model"}, {"linker": 100.0}, 1), 26)
+        running = {"linker": Begun(1, 15.0)}
+        self.assertAlmostEqual(time_left(CRATES, SECONDS, {"model", "heap"}, running, 2), 45 + by_the_clock(1, 2))
+        self.assertEqual(time_left(CRATES, SECONDS, {"model"}, {"linker": Begun(1, 100.0)}, 1), 26)
+        self.assertAlmostEqual(time_left(CRATES, SECONDS, {"model", "heap", "linker"}, {}, 4), by_the_clock(6, 4))
+
+    def test_minutes(self) -> None:
+        self.assertEqual(minutes(29), "less than a minute")
+        self.assertEqual(minutes(31), "about a minute")
+        self.assertEqual(minutes(2400), "about 40 minutes")
 
 
 if __name__ == "__main__":

@@ -1,13 +1,23 @@
 """The order in which crates are proved side by side: what is next, and how long all of it takes."""
 
 import heapq
-from typing import Dict, List, Mapping, Sequence, Set, Tuple
+from typing import Dict, List, Mapping, NamedTuple, Sequence, Set, Tuple
 
 # The crates that each one stands on.
 Below = Mapping[str, Sequence[str]]
 
 # The seconds of a processor that each one takes.
 Seconds = Mapping[str, float]
+
+# What each process beyond the first adds to the speed of a proof: four are some three times as fast as one.
+SHARE_OF_A_FURTHER_PROCESS = 0.7
+
+
+class Begun(NamedTuple):
+    """A proof that has begun: by how many processes, and how many seconds ago."""
+
+    processes: int
+    since: float = 0.0
 
 
 def all_below(crates: Below, name: str) -> Set[str]:
@@ -47,16 +57,33 @@ def ready(crates: Below, seconds: Seconds, done: Set[str], begun: Set[str]) -> L
     return sorted(free, key=lambda name: (-longest[name], name))
 
 
-def time_left(crates: Below, seconds: Seconds, done: Set[str], running: Mapping[str, float], jobs: int) -> float:
-    """The seconds until all are proved, where so many are at once; `running` has the seconds of those that have begun."""
-    now, finished = 0.0, set(done)
-    ends: List[Tuple[float, str]] = [(max(seconds[name] - since, 0), name) for name, since in running.items()]
+def next_ones(
+    crates: Below, seconds: Seconds, done: Set[str], begun: Mapping[str, Begun], processes: int
+) -> Dict[str, int]:
+    """The crates to begin now, each with the processes that prove it; so many processes are at work then."""
+    free = max(processes - sum(proof.processes for proof in begun.values()), 0)
+    names = ready(crates, seconds, done, set(begun))[:free]
+    return {name: free // len(names) + (at < free % len(names)) for at, name in enumerate(names)}
+
+
+def by_the_clock(seconds: float, processes: int) -> float:
+    """How long a proof takes that takes so many seconds of one processor."""
+    return seconds / (1 + SHARE_OF_A_FURTHER_PROCESS * (processes - 1))
+
+
+def time_left(crates: Below, seconds: Seconds, done: Set[str], begun: Mapping[str, Begun], processes: int) -> float:
+    """The seconds until all are proved by so many processes."""
+    now, finished, at_work = 0.0, set(done), dict(begun)
+    ends: List[Tuple[float, str]] = []
+    for name, (shared, since) in begun.items():
+        ends.append((max(by_the_clock(seconds[name], shared) - since, 0), name))
     heapq.heapify(ends)
     while True:
-        begun = {name for _, name in ends}
-        for name in ready(crates, seconds, finished, begun)[: max(jobs - len(ends), 0)]:
-            heapq.heappush(ends, (now + seconds[name], name))
+        for name, shared in next_ones(crates, seconds, finished, at_work, processes).items():
+            at_work[name] = Begun(shared)
+            heapq.heappush(ends, (now + by_the_clock(seconds[name], shared), name))
         if not ends:
             return now
         now, name = heapq.heappop(ends)
         finished.add(name)
+        del at_work[name]

@@ -3,6 +3,7 @@
 import os
 import pathlib
 import shutil
+import signal
 import subprocess
 import sys
 from typing import List, Sequence
@@ -12,17 +13,34 @@ from tools.manual import USER_COMMANDS, manual_page
 from tools.repository import JVM, ROOT
 
 PROGRAM = "jvm"
-DOCUMENTS = ["README.md", "docs", "lessons", "library", "programs"]
-SCRIPTS = ["java-classes", "jvm-java", "class-file"]
-MODULES_OF_SCRIPTS = ["__init__.py", "class_files.py"]
+DOCUMENTS = ["README.md", "docs", "lessons", "library", "programs", "cluster/README.md"]
+SCRIPTS = ["java-classes", "jvm-java", "class-file", "jvm-cluster"]
+
+# What the scripts stand on, by folders.
+MODULES = {
+    "tools": ["__init__.py", "class_files.py", "repository.py", "set_counts.py"],
+    "cluster": ["*.py"],
+    "oracle": [
+        *("__init__.py", "calls.py", "classes.py", "frames.py", "machine.py"),
+        *("opcodes.py", "schedules.py", "seeds.py", "state.py"),
+    ],
+}
 
 
 class Fault(Exception):
     """Why nothing, or not all, is installed."""
 
 
-def prove_and_build() -> None:
+def prove_and_build(is_built: bool = False) -> None:
+    """Proves and builds the program; one that is built already is taken as it stands."""
+    if is_built:
+        if not JVM.is_file():
+            raise Fault(f"{JVM.relative_to(ROOT)} isn't there: tools/build makes it")
+        return
+    # An interrupt is the build's, which ends what it began.
+    before = signal.signal(signal.SIGINT, signal.SIG_IGN)
     done = subprocess.run([sys.executable, "-B", str(ROOT / "tools/build")])
+    signal.signal(signal.SIGINT, before)
     if done.returncode != 0:
         raise Fault("the program isn't proved, and nothing is installed")
 
@@ -47,6 +65,7 @@ def install_documents(folder: str) -> None:
             shutil.rmtree(to, ignore_errors=True)
             shutil.copytree(source, to)
         else:
+            make_folder(os.path.dirname(to))
             shutil.copyfile(source, to)
 
 
@@ -60,9 +79,11 @@ def make_link(path: str, to: str) -> None:
 
 
 def install_scripts(prefix: str) -> None:
-    folder = make_folder(os.path.join(prefix, "share", PROGRAM, "tools"))
-    for name in [*SCRIPTS, *MODULES_OF_SCRIPTS]:
-        shutil.copy(ROOT / "tools" / name, os.path.join(folder, name))
+    share = os.path.join(prefix, "share", PROGRAM)
+    for folder, patterns in {**MODULES, "tools": [*SCRIPTS, *MODULES["tools"]]}.items():
+        to = make_folder(os.path.join(share, folder))
+        for path in (path for pattern in patterns for path in sorted((ROOT / folder).glob(pattern))):
+            shutil.copy(path, os.path.join(to, path.name))
     for name in SCRIPTS:
         make_link(os.path.join(prefix, "bin", name), os.path.join("..", "share", PROGRAM, "tools", name))
     make_link(os.path.join(prefix, "share", "doc", PROGRAM, "tools"), os.path.join("..", "..", PROGRAM, "tools"))

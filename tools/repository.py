@@ -10,8 +10,8 @@ CONFORMANCE = ROOT / "crates/conformance"
 # The class files of the built-in classes, beside their sources.
 BUILT_IN = ROOT / "builtin"
 
-# The built programs.
-JVM = ROOT / "crates/jvm/out/jvm"
+# The built programs. Where these scripts are installed, below PREFIX/share/jvm, `jvm` is the one of PREFIX/bin.
+JVM = ROOT / "crates/jvm/out/jvm" if (ROOT / "crates").is_dir() else ROOT.parent.parent / "bin/jvm"
 BENCH = ROOT / "crates/bench/out/bench"
 TRIALS = ROOT / "crates/conformance/out/conformance"
 

@@ -3,12 +3,16 @@
 import hashlib
 import pathlib
 import re
+import shutil
 from typing import Iterable, List, NamedTuple, Optional
 
 from tools.repository import ROOT
 
 FOLDER = ROOT / "out/verdicts"
 PARTS_OF_A_CRATE = ("src", "specs", "proofs")
+
+# The file that says which toolchain the verdicts are of.
+TOOLCHAIN = ".toolchain"
 
 LINE = re.compile(rb"^logic=proved .*$", re.M)
 
@@ -37,6 +41,15 @@ def checksum_of(crate: str) -> str:
 
 def file_of(crate: str) -> pathlib.Path:
     return FOLDER / crate
+
+
+def keep_only_of(toolchain: str) -> None:
+    """Forgets what another toolchain said."""
+    file = FOLDER / TOOLCHAIN
+    if not file.is_file() or file.read_text(encoding="utf-8") != toolchain:
+        shutil.rmtree(FOLDER, ignore_errors=True)
+        FOLDER.mkdir(parents=True)
+        file.write_text(toolchain, encoding="utf-8")
 
 
 def keep(crate: str, output: bytes) -> None:

@@ -1,6 +1,5 @@
 -- A call or a return that is seen is alone behind the run that was shown.
 use Rattle.std.proofs.Common.{◌≡◌, inl, inr, ℕ, List, [], ◌∷◌, ◌++◌, Some, refl, sym, ◌∙◌, subst, arith}
-use Rattle.std.proofs.lemmas.Bool.{false≢true}
 use Rattle.std.proofs.lemmas.Option.{same_Some}
 use Rattle.model.specs.declared.event.Event.{Event}
 use Rattle.model.specs.Accepted.{IsAccepted}
@@ -16,14 +15,15 @@ use Rattle.machine_state.specs.linked_frames.Frames.{event_of}
 use Rattle.machine_state.specs.shown_runs.Runs.{HasRun}
 use Rattle.machine_state.specs.state_events.Whole.{AreStacksLent}
 use Rattle.search_laws.specs.Moves.{HasMoved, Called, Returned, IsMove, AreMovesAlone}
-use Rattle.search_laws.specs.OwnEvents.{no_conflict}
+use Rattle.racing_threads.specs.Racing.{are_racing}
+use Rattle.racing_threads.specs.free_events.Free.{AreMovesFree}
 use Rattle.alone_events.specs.Alone.{LeadsPast, AreAloneAfter}
 use Rattle.alone_events.specs.Ahead.{HasCalledOrReturned, AreMovesAloneSeen}
 use Rattle.alone_events.specs.Seen.{HasMovedBy}
 use Rattle.alone_events.proofs.Runs.{last_step}
 use Rattle.alone_events.proofs.Standing.{StandsIn, stands_in}
 
-module _ (lend : AreStacksLent) (alone : AreMovesAlone) (files : List (List ℕ)) (trees : Program) (accepted : IsAccepted files trees) (p : LinkedProgram) (bounds : Bounds)
+module _ (lend : AreStacksLent) (alone : AreMovesAlone) (free : AreMovesFree) (files : List (List ℕ)) (trees : Program) (accepted : IsAccepted files trees) (p : LinkedProgram) (bounds : Bounds)
     (old new : Shared) (t : ℕ) (events : List Event) (has : HasRun trees p bounds old events) (then : HasRun trees p bounds new (events ++ event_of t ∷ []))
     (seen : HasCalledOrReturned t old new) where
   abbrev first : State
@@ -64,10 +64,11 @@ module _ (lend : AreStacksLent) (alone : AreMovesAlone) (files : List (List ℕ)
 
   pub alone_after : AreAloneAfter trees bounds.frames events (event_of t ∷ [])
   alone_after state reached =
-      let a = alone files trees accepted bounds.frames no_conflict first next (events, has.lead.reached) t is_move (λ others later are r u c. absurd (false≢true c)) goes in
+      let is_free = free files trees accepted bounds.frames first next (events, has.lead.reached) t is_move goes in
+      let a = alone files trees accepted bounds.frames (are_racing trees bounds.frames) first next (events, has.lead.reached) t is_move is_free goes in
       let same : first ≡ state = same_Some first state (sym has.lead.reached ∙ reached) in
       subst (λ z. LeadsPast trees bounds.frames events (event_of t ∷ []) z) same
       (record { threads = t ∷ []; last = next; are_alone = (next, (a, refl)); reached = then.lead.reached })
 
-pub moves_alone : AreStacksLent → AreMovesAlone → AreMovesAloneSeen
-moves_alone lend alone files trees accepted p bounds old new t events has then seen = alone_after lend alone files trees accepted p bounds old new t events has then seen
+pub moves_alone : AreStacksLent → AreMovesAlone → AreMovesFree → AreMovesAloneSeen
+moves_alone lend alone free files trees accepted p bounds old new t events has then seen = alone_after lend alone free files trees accepted p bounds old new t events has then seen

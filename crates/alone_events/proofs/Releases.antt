@@ -1,6 +1,5 @@
 -- A monitor that is seen to be left is left by an event that is alone behind the run that was shown.
 use Rattle.std.proofs.Common.{◌≡◌, ℕ, List, [], ◌∷◌, ◌++◌, Some, refl, sym, ap, ◌∙◌, subst, arith}
-use Rattle.std.proofs.lemmas.Bool.{false≢true}
 use Rattle.std.proofs.lemmas.Option.{same_Some}
 use Rattle.model.specs.declared.event.Event.{Event}
 use Rattle.model.specs.Accepted.{IsAccepted}
@@ -17,7 +16,8 @@ use Rattle.machine_state.specs.linked_frames.Frames.{event_of}
 use Rattle.machine_state.specs.shown_runs.Runs.{HasRun}
 use Rattle.machine_state.specs.state_events.Whole.{AreStacksLent}
 use Rattle.search_laws.specs.Releases.{IsRelease, AreReleasesAlone}
-use Rattle.search_laws.specs.OwnEvents.{no_conflict}
+use Rattle.racing_threads.specs.Racing.{are_racing}
+use Rattle.racing_threads.specs.free_events.Free.{AreReleasesFree}
 use Rattle.alone_events.specs.Alone.{LeadsPast, AreAloneAfter}
 use Rattle.alone_events.specs.Ahead.{IsOwned, HasLeftMonitor, AreReleasesAloneSeen}
 use Rattle.alone_events.proofs.Runs.{last_step}
@@ -28,7 +28,7 @@ monitors_are : (trees : Program) (p : LinkedProgram) (bounds : Bounds) (shared :
     → shared.heap.locks.monitors ≡ has.lead.state.world.monitors
 monitors_are trees p bounds shared events has = has.shown.represents.world_is.monitors ∙ ap (λ (w : StateOf ℕ). w.world.monitors) has.lead.are.are
 
-module _ (lend : AreStacksLent) (alone : AreReleasesAlone) (files : List (List ℕ)) (trees : Program) (accepted : IsAccepted files trees) (p : LinkedProgram) (bounds : Bounds)
+module _ (lend : AreStacksLent) (alone : AreReleasesAlone) (free : AreReleasesFree) (files : List (List ℕ)) (trees : Program) (accepted : IsAccepted files trees) (p : LinkedProgram) (bounds : Bounds)
     (old new : Shared) (t : ℕ) (events : List Event) (has : HasRun trees p bounds old events) (then : HasRun trees p bounds new (events ++ event_of t ∷ []))
     (seen : HasLeftMonitor t old new) where
   abbrev first : State
@@ -70,10 +70,11 @@ module _ (lend : AreStacksLent) (alone : AreReleasesAlone) (files : List (List �
 
   pub alone_after : AreAloneAfter trees bounds.frames events (event_of t ∷ [])
   alone_after state reached =
-      let a = alone files trees accepted bounds.frames no_conflict first next (events, has.lead.reached) t r is_release (λ others later are run u c. absurd (false≢true c)) goes in
+      let is_free = free files trees accepted bounds.frames first next (events, has.lead.reached) t r is_release goes in
+      let a = alone files trees accepted bounds.frames (are_racing trees bounds.frames) first next (events, has.lead.reached) t r is_release is_free goes in
       let same : first ≡ state = same_Some first state (sym has.lead.reached ∙ reached) in
       subst (λ z. LeadsPast trees bounds.frames events (event_of t ∷ []) z) same
       (record { threads = t ∷ []; last = next; are_alone = (next, (a, refl)); reached = then.lead.reached })
 
-pub releases_alone : AreStacksLent → AreReleasesAlone → AreReleasesAloneSeen
-releases_alone lend alone files trees accepted p bounds old new t events has then seen = alone_after lend alone files trees accepted p bounds old new t events has then seen
+pub releases_alone : AreStacksLent → AreReleasesAlone → AreReleasesFree → AreReleasesAloneSeen
+releases_alone lend alone free files trees accepted p bounds old new t events has then seen = alone_after lend alone free files trees accepted p bounds old new t events has then seen

@@ -11,8 +11,8 @@
 //!   the next event of the thread was done, with pick 0. Where it answers `Alone`, the thread ran in a frame before and
 //!   after, with no exception pending, and the event called a method or returned from one, by which no monitor was
 //!   entered or left (`HasCalledOrReturned`), or left a monitor that the thread owned, and the stack got no deeper
-//!   (`HasLeftMonitor`). Such an event is alone behind each run that was shown (`AreAloneAfter`). Where it answers
-//!   `Past`, the event was no such call or return.
+//!   (`HasLeftMonitor`). Such an event is alone behind each run that was shown, and in no race, whatever the others do
+//!   first (`AreAloneAfter`). Where it answers `Past`, the event was no such call or return.
 //!
 //! # Not proved
 //!

@@ -15,10 +15,12 @@ use Rattle.clap.proofs.CutLemmas.{Lacks, slice_split-Lacks, slice_split-at}
 use Rattle.clap.specs.Words.{Text}
 use Rattle.model.specs.Report.{signed_number}
 use Rattle.command_line.specs.CommandLine.{Refuses}
-use Rattle.command_line.specs.Goals.{IsGoal, AreInts, AreEachInt, IsGoalWord, IsGoalWith, IsInt, numbers_text}
+use Rattle.command_line.specs.Goals.{IsGoal, AreInts, AreEachInt, IsGoalWord, IsGoalWith, IsInt, IsSearchGoal, IsSearchGoalWord, numbers_text, search_goal}
 use Rattle.command_line.specs.declared.usage.Usage.{Usage}
 use Rattle.command_line.specs.declared.options.Goal.{Goal}
 use Rattle.command_line.specs.declared.options.Goal.TheVariants as goals
+use Rattle.command_line.specs.declared.options.SearchGoal.{SearchGoal}
+use Rattle.command_line.specs.declared.options.SearchGoal.TheVariants as sought
 use Rattle.command_line.proofs.CommandLineLemmas.{refuses_more}
 
 -- ---- names without a `=`
@@ -181,7 +183,41 @@ module _ (text : Text) where
       let value : found ≡ int = read_as (Ok found) reads int is spelled in
       none (spelled ∙ ap signed_number (sym value))
 
--- ---- where one is asked for
+-- ---- what a search is to find
+
+-- what runs are searched for, too, has the same word
+pub searched_word : (word : Text) (goal : Goal) → IsGoalWord word goal → IsSearchGoalWord word (search_goal goal)
+searched_word word goals.Deadlock is = is
+searched_word word goals.Uncaught is = is
+searched_word word (goals.Output ints) is = is
+searched_word word (goals.Differs path) is = is
+
+-- a word that is neither of the other two, and names no outcome of runs
+module _ (word : Text) (no_race : word ≡ codes "race" → ⊥) (not_any : word ≡ codes "any" → ⊥) (none : (goal : Goal) → IsGoalWord word goal → ⊥) where
+  pub none_searched : (goal : SearchGoal) → IsSearchGoalWord word goal → ⊥
+  none_searched sought.Race is = no_race is
+  none_searched sought.Any is = not_any is
+  none_searched sought.Uncaught is = none goals.Uncaught is
+  none_searched sought.Deadlock is = none goals.Deadlock is
+  none_searched (sought.Output ints) is = none (goals.Output ints) is
+  none_searched (sought.Differs path) is = none (goals.Differs path) is
+
+-- where something is asked for
+pub nothing_sought : (value : Option Text) → value ≡ None → IsSearchGoal value None
+nothing_sought value e = subst (λ v. IsSearchGoal v None) (sym e) tt
+
+module _ (value : Option Text) (word : Text) (is : value ≡ Some word) where
+  pub one_sought : (goal : SearchGoal) → IsSearchGoalWord word goal → IsSearchGoal value (Some goal)
+  one_sought goal named = subst (λ v. IsSearchGoal v (Some goal)) (sym is) named
+
+  pub none_sought : ((goal : SearchGoal) → IsSearchGoalWord word goal → ⊥) → (goal : Option SearchGoal) → IsSearchGoal value goal → ⊥
+  none_sought none goal fits = refute goal (subst (λ v. IsSearchGoal v goal) is fits)
+    where
+      refute : (goal : Option SearchGoal) → IsSearchGoal (Some word) goal → ⊥
+      refute None no_goal = no_goal
+      refute (Some goal) named = none goal named
+
+-- ---- where an outcome is asked for
 
 pub none_asked : (value : Option Text) → value ≡ None → IsGoal value None
 none_asked value e = subst (λ v. IsGoal v None) (sym e) tt

@@ -4,10 +4,10 @@ use Rattle.std.specs.Prelude.{All}
 use Rattle.std.proofs.lemmas.List.{get_or-map, length-map, map-append, take_more}
 use Rattle.std.proofs.lemmas.List.Elements.{All-get_or, All-push}
 use Rattle.clap.specs.Words.{Row, Text, all_of, first_of}
-use Rattle.command_line.specs.Goals.{IsGoal}
-use Rattle.command_line.specs.Paths.{IsApart, IsGoalApart}
-use Rattle.command_line.specs.declared.options.Goal.{Goal}
-use Rattle.command_line.specs.declared.options.Goal.TheVariants as goals
+use Rattle.command_line.specs.Goals.{IsSearchGoal}
+use Rattle.command_line.specs.Paths.{IsApart, IsSearchGoalApart}
+use Rattle.command_line.specs.declared.options.SearchGoal.{SearchGoal}
+use Rattle.command_line.specs.declared.options.SearchGoal.TheVariants as sought
 
 -- what isn't so of one value isn't so of another one, where both are the value of an argument
 pub none_other : {A : Type 0} (P : A → Type 0) (value : Option A) (one : A) → value ≡ Some one → (P one → ⊥) → (other : A) → value ≡ Some other → P other → ⊥
@@ -16,19 +16,24 @@ none_other P value one is none other is_other holds = none (subst P (ap (λ o. u
 byte : ℕ → Text → ℕ
 byte i text = get_or text i 0
 
--- so it is of the file that a search reads
-pub goal_apart : (written value : Option Text) (one other : Option Goal) → IsGoal value one → IsGoal value other → IsGoalApart written other → IsGoalApart written one
+-- so it is of the file that a search compares with
+pub goal_apart : (written value : Option Text) (one other : Option SearchGoal) → IsSearchGoal value one → IsSearchGoal value other
+    → IsSearchGoalApart written other → IsSearchGoalApart written one
 unfolding byte
 goal_apart written value None other is is_other apart = tt
-goal_apart written value (Some goals.Deadlock) other is is_other apart = tt
-goal_apart written value (Some goals.Uncaught) other is is_other apart = tt
-goal_apart written value (Some (goals.Output ints)) other is is_other apart = tt
-goal_apart written None (Some (goals.Differs path)) other is is_other apart = elim is [ ]
-goal_apart written (Some word) (Some (goals.Differs path)) None is is_other apart = elim is_other [ ]
-goal_apart written (Some word) (Some (goals.Differs path)) (Some goals.Deadlock) is is_other apart = let bad : 105 ≡ 101 = ap (byte 1) (sym is ∙ is_other) in absurd (omega (arith, bad))
-goal_apart written (Some word) (Some (goals.Differs path)) (Some goals.Uncaught) is is_other apart = let bad : 100 ≡ 117 = ap (byte 0) (sym is ∙ is_other) in absurd (omega (arith, bad))
-goal_apart written (Some word) (Some (goals.Differs path)) (Some (goals.Output ints)) is is_other apart = let bad : 100 ≡ 111 = ap (byte 0) (sym is ∙ is_other.1) in absurd (omega (arith, bad))
-goal_apart written (Some word) (Some (goals.Differs path)) (Some (goals.Differs another)) is is_other apart =
+goal_apart written value (Some sought.Race) other is is_other apart = tt
+goal_apart written value (Some sought.Uncaught) other is is_other apart = tt
+goal_apart written value (Some sought.Deadlock) other is is_other apart = tt
+goal_apart written value (Some sought.Any) other is is_other apart = tt
+goal_apart written value (Some (sought.Output ints)) other is is_other apart = tt
+goal_apart written None (Some (sought.Differs path)) other is is_other apart = elim is [ ]
+goal_apart written (Some word) (Some (sought.Differs path)) None is is_other apart = elim is_other [ ]
+goal_apart written (Some word) (Some (sought.Differs path)) (Some sought.Race) is is_other apart = let bad : 100 ≡ 114 = ap (byte 0) (sym is ∙ is_other) in absurd (omega (arith, bad))
+goal_apart written (Some word) (Some (sought.Differs path)) (Some sought.Uncaught) is is_other apart = let bad : 100 ≡ 117 = ap (byte 0) (sym is ∙ is_other) in absurd (omega (arith, bad))
+goal_apart written (Some word) (Some (sought.Differs path)) (Some sought.Deadlock) is is_other apart = let bad : 105 ≡ 101 = ap (byte 1) (sym is ∙ is_other) in absurd (omega (arith, bad))
+goal_apart written (Some word) (Some (sought.Differs path)) (Some sought.Any) is is_other apart = let bad : 100 ≡ 97 = ap (byte 0) (sym is ∙ is_other) in absurd (omega (arith, bad))
+goal_apart written (Some word) (Some (sought.Differs path)) (Some (sought.Output ints)) is is_other apart = let bad : 100 ≡ 111 = ap (byte 0) (sym is ∙ is_other.1) in absurd (omega (arith, bad))
+goal_apart written (Some word) (Some (sought.Differs path)) (Some (sought.Differs another)) is is_other apart =
     let same : string_bytes another ≡ string_bytes path = ap (drop 8) (sym is_other ∙ is) in
     subst (IsApart written) same apart
 

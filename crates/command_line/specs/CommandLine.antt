@@ -14,9 +14,9 @@ use Rattle.clap.specs.declared.builder.command.Command as parser
 use Rattle.clap.specs.declared.builder.command.Command.TheViews.{out-Command}
 use Rattle.clap.specs.declared.builder.ArgAction.TheVariants.{Set, SetTrue, Append}
 use Rattle.clap.specs.declared.builder.value_parser.ValueParser.TheVariants.{Unsigned}
-use Rattle.command_line.specs.Goals.{IsGoal}
+use Rattle.command_line.specs.Goals.{IsGoal, IsSearchGoal}
 use Rattle.command_line.specs.Numerals.{IsNumeralWithin}
-use Rattle.command_line.specs.Paths.{IsApart, IsGoalApart}
+use Rattle.command_line.specs.Paths.{IsApart, IsGoalApart, IsSearchGoalApart}
 use Rattle.command_line.specs.Policies.{GoTogether, IsPolicy}
 use Rattle.command_line.specs.Sweeps.{IsSweep}
 use Rattle.command_line.specs.declared.usage.Usage.{Usage}
@@ -365,7 +365,7 @@ pub record AreTraceValues (rows : List Row) (trace : Trace) : Type 0 where
 
 -- the values that the words give to `jvm search`
 pub record AreSearchValues (rows : List Row) (search : Search) : Type 0 where
-  pub goal : IsGoal (first_of (codes "for") rows) search.goal
+  pub goal : IsSearchGoal (first_of (codes "for") rows) search.goal
   pub states : IsNumber 0 4294967295 (first_of (codes "states") rows) search.states
   pub memory : IsNumber 0 4294967295 (first_of (codes "memory") rows) search.memory
   pub seconds : IsNumber 1 4294967295 (first_of (codes "seconds") rows) search.seconds
@@ -374,7 +374,7 @@ pub record AreSearchValues (rows : List Row) (search : Search) : Type 0 where
   pub limits : AreLimitNumbers rows search.limits
   pub main : first_of (codes "main") rows ≡ option_map string_bytes search.main
   pub files : all_of (codes "files") rows ≡ Some (map string_bytes search.files.items)
-  pub other_text : IsGoalApart (first_of (codes "record") rows) search.goal
+  pub other_text : IsSearchGoalApart (first_of (codes "record") rows) search.goal
   pub other_files : All (IsApart (first_of (codes "record") rows)) (map string_bytes search.files.items)
   pub explain : search.explain ≡ is_set (first_of (codes "explain") rows)
   pub quiet : search.quiet ≡ is_set (first_of (codes "quiet") rows)

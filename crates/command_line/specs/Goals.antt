@@ -1,4 +1,4 @@
--- Which outcome of a run a search is to find, as a word of the command line (own).
+-- What a search is to find, and which outcome of a run, as a word of the command line (own).
 use Rattle.std.specs.Prelude.{◌≡◌, ℤ, List, ◌∷◌, ◌++◌, Option, Some, None, map, codes, string_bytes}
 use Rattle.std.specs.Int.{w32}
 use Rattle.std.specs.Int.RustNames.{FitsSigned}
@@ -7,6 +7,8 @@ use Rattle.clap.specs.Words.{Text}
 use Rattle.model.specs.Report.{signed_number}
 use Rattle.command_line.specs.declared.options.Goal.{Goal}
 use Rattle.command_line.specs.declared.options.Goal.TheVariants as goals
+use Rattle.command_line.specs.declared.options.SearchGoal.{SearchGoal}
+use Rattle.command_line.specs.declared.options.SearchGoal.TheVariants as sought
 
 -- a value of the type int (JVMS 2.3.1)
 abbrev pub IsInt : ℤ → Type 0
@@ -46,3 +48,28 @@ IsGoal None None = Unit {0}
 IsGoal (Some word) (Some goal) = IsGoalWord word goal
 IsGoal None (Some goal) = ⊥
 IsGoal (Some word) None = ⊥
+
+-- ---- what a search is to find
+
+-- the word names it: a kind of states, or an outcome of runs that end
+abbrev pub IsSearchGoalWord : Text → SearchGoal → Type 0
+IsSearchGoalWord word sought.Race = word ≡ codes "race"
+IsSearchGoalWord word sought.Uncaught = word ≡ codes "uncaught"
+IsSearchGoalWord word sought.Deadlock = word ≡ codes "deadlock"
+IsSearchGoalWord word sought.Any = word ≡ codes "any"
+IsSearchGoalWord word (sought.Output ints) = (text : Text) × (word ≡ codes "output" ++ 0x3d ∷ text) × AreInts text ints.items
+IsSearchGoalWord word (sought.Differs path) = word ≡ codes "differs" ++ 0x3d ∷ string_bytes path
+
+-- what is asked for, where something is
+abbrev pub IsSearchGoal : Option Text → Option SearchGoal → Type 0
+IsSearchGoal None None = Unit {0}
+IsSearchGoal (Some word) (Some goal) = IsSearchGoalWord word goal
+IsSearchGoal None (Some goal) = ⊥
+IsSearchGoal (Some word) None = ⊥
+
+-- what runs are searched for, too
+abbrev pub search_goal : Goal → SearchGoal
+search_goal goals.Deadlock = sought.Deadlock
+search_goal goals.Uncaught = sought.Uncaught
+search_goal (goals.Output ints) = sought.Output ints
+search_goal (goals.Differs path) = sought.Differs path

@@ -6,6 +6,8 @@ use Rattle.std.specs.Str.{bytes_eq}
 use Rattle.clap.specs.Words.{Text}
 use Rattle.command_line.specs.declared.options.Goal.{Goal}
 use Rattle.command_line.specs.declared.options.Goal.TheVariants as goals
+use Rattle.command_line.specs.declared.options.SearchGoal.{SearchGoal}
+use Rattle.command_line.specs.declared.options.SearchGoal.TheVariants as sought
 
 -- what stands between two slashes, as a step of a path: with a slash before it. Nothing and a dot alone lead nowhere.
 abbrev pub step_of : Text → Text
@@ -32,10 +34,20 @@ is_same_path one other = beq (is_absolute one) (is_absolute other) && bytes_eq (
 abbrev pub IsApart : (written : Option Text) → (read : Text) → Type 0
 IsApart written read = IfSome written (λ path. IsSamePath path read → ⊥)
 
--- it is another one than the file that a search reads
+-- it is another one than the file that outcomes of runs are compared with
 abbrev pub IsGoalApart : (written : Option Text) → Option Goal → Type 0
 IsGoalApart written None = Unit {0}
 IsGoalApart written (Some goals.Deadlock) = Unit {0}
 IsGoalApart written (Some goals.Uncaught) = Unit {0}
 IsGoalApart written (Some (goals.Output ints)) = Unit {0}
 IsGoalApart written (Some (goals.Differs path)) = IsApart written (string_bytes path)
+
+-- it is another one than the file that a search compares with
+abbrev pub IsSearchGoalApart : (written : Option Text) → Option SearchGoal → Type 0
+IsSearchGoalApart written None = Unit {0}
+IsSearchGoalApart written (Some sought.Race) = Unit {0}
+IsSearchGoalApart written (Some sought.Uncaught) = Unit {0}
+IsSearchGoalApart written (Some sought.Deadlock) = Unit {0}
+IsSearchGoalApart written (Some sought.Any) = Unit {0}
+IsSearchGoalApart written (Some (sought.Output ints)) = Unit {0}
+IsSearchGoalApart written (Some (sought.Differs path)) = IsApart written (string_bytes path)

@@ -4,6 +4,7 @@ ghost use Rattle.std.specs.Prelude.{◌≡◌, codes, false};
 ghost use Rattle.clap.specs.Words.{rule_of};
 ghost use Rattle.command_line.specs.CommandLine.{alone_flag, class_files, flag, goal_option, main_option, path_option, record_option, required_goal_option, schedule_option};
 
+use crate::help::OUTCOME_HELP;
 use clap::{Arg, ArgAction};
 use std::alloc::Global;
 
@@ -69,11 +70,11 @@ pub(crate) fn required_goal_argument<'a>(alloc: Global) -> Arg<'a>
     ensures rule { rule_of result ≡ required_goal_option }
     ensures local { result.global ≡ false }
 {
-    goal_argument(alloc).required(true)
+    goal_argument(alloc, OUTCOME_HELP).required(true)
 }
 
-/// The outcome that is to be found, or to be kept.
-pub(crate) fn goal_argument<'a>(alloc: Global) -> Arg<'a>
+/// What is to be found, or to be kept.
+pub(crate) fn goal_argument<'a>(alloc: Global, help: &'a str) -> Arg<'a>
     ensures rule { rule_of result ≡ goal_option }
     ensures local { result.global ≡ false }
 {
@@ -81,7 +82,7 @@ pub(crate) fn goal_argument<'a>(alloc: Global) -> Arg<'a>
         .long("for")
         .value_name("OUTCOME")
         .action(ArgAction::Set)
-        .help("The outcome: deadlock, uncaught, output=NUMBERS or differs=FILE")
+        .help(help)
 }
 
 /// The class files, one or more.

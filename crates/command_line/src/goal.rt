@@ -1,17 +1,51 @@
-//! Which outcome of a run a search is to find, as a word.
+//! What a search is to find, and which outcome of a run, as a word.
 
 ghost use Rattle.std.specs.Prelude.{◌≡◌, ℤ, IfErr, IfOk, map};
 ghost use Rattle.model.specs.Report.{signed_number};
-ghost use Rattle.command_line.specs.CommandLine.{Refuses};
-ghost use Rattle.command_line.specs.Goals.{AreEachInt, AreInts, IsGoalWord, IsGoalWith, IsInt};
+ghost use Rattle.command_line.specs.CommandLine.{Asks, Refuses};
+ghost use Rattle.command_line.specs.Goals.{AreEachInt, AreInts, IsGoalWord, IsGoalWith, IsInt, IsSearchGoalWord};
+ghost use Rattle.command_line.specs.Goals as spec;
 
 use crate::numbers::comma_parts;
-use crate::options::Goal;
+use crate::options::{Goal, SearchGoal};
 use crate::usage::Usage;
 use std::alloc::Global;
 
-/// The outcome that a word names.
-pub(crate) fn goal_by(alloc: Global, word: &str) -> Result<Goal, Usage>
+/// What a search may be to find, as the text of a fault tells it.
+const SEARCH_GOALS: &str = "race, uncaught, deadlock, any, output=NUMBERS, differs=FILE";
+
+/// The outcomes of runs that may be to be found, as the text of a fault tells them.
+pub(crate) const OUTCOMES: &str = "deadlock, uncaught, output=NUMBERS, differs=FILE";
+
+/// What a search is to find, by the word that names it.
+pub(crate) fn search_goal_by(alloc: Global, word: &str) -> Result<SearchGoal, Usage>
+    ensures named { IfOk result (IsSearchGoalWord word.now) }
+    ensures none { IfErr result (λ usage. Refuses usage ((goal : _) → IsSearchGoalWord word.now goal → ⊥)) }
+{
+    if word == "race" {
+        return Ok(SearchGoal::Race);
+    }
+    if word == "any" {
+        return Ok(SearchGoal::Any);
+    }
+    let goal = goal_by(alloc, word, SEARCH_GOALS)?;
+    Ok(search_goal(goal))
+}
+
+/// What a search is to find that runs are searched for, too.
+fn search_goal(goal: Goal) -> SearchGoal
+    ensures { result ≡ spec.search_goal goal }
+{
+    match goal {
+        Goal::Deadlock => SearchGoal::Deadlock,
+        Goal::Uncaught => SearchGoal::Uncaught,
+        Goal::Output(numbers) => SearchGoal::Output(numbers),
+        Goal::Differs(path) => SearchGoal::Differs(path),
+    }
+}
+
+/// The outcome that a word names. The possible words are told where it is none of them.
+pub(crate) fn goal_by(alloc: Global, word: &str, possible: &str) -> Result<Goal, Usage>
     ensures named { IfOk result (IsGoalWord word.now) }
     ensures none { IfErr result (λ usage. Refuses usage ((goal : _) → IsGoalWord word.now goal → ⊥)) }
 {
@@ -22,13 +56,30 @@ pub(crate) fn goal_by(alloc: Global, word: &str) -> Result<Goal, Usage>
         return Ok(Goal::Uncaught);
     }
     match word.split_once('=') {
-        Some((name, value)) => goal_with(alloc, word, name, value),
-        None => Err(Usage::no_goal(alloc, word)),
+        Some((name, value)) => goal_with(alloc, word, name, value, possible),
+        None => Err(no_goal(alloc, word, possible)),
+    }
+}
+
+/// The fault that a word names no outcome of a run.
+fn no_goal(alloc: Global, word: &str, possible: &str) -> Usage
+    ensures { Asks result → ⊥ }
+{
+    if word == "race" || word == "any" {
+        Usage::of_searches(alloc, word)
+    } else {
+        Usage::no_goal(alloc, word, possible)
     }
 }
 
 /// The outcome that a word names which is a name and a value with `=` between them.
-fn goal_with(alloc: Global, word: &str, name: &str, value: &str) -> Result<Goal, Usage>
+fn goal_with(
+    alloc: Global,
+    word: &str,
+    name: &str,
+    value: &str,
+    possible: &str,
+) -> Result<Goal, Usage>
     ensures named { IfOk result (IsGoalWith name.now value.now) }
     ensures none { IfErr result (λ usage. Refuses usage ((goal : _) → IsGoalWith name.now value.now goal → ⊥)) }
 {
@@ -38,7 +89,7 @@ fn goal_with(alloc: Global, word: &str, name: &str, value: &str) -> Result<Goal,
     if name == "differs" {
         return Ok(Goal::Differs(String::from_str(alloc, value)?));
     }
-    Err(Usage::no_goal(alloc, word))
+    Err(Usage::no_goal(alloc, word, possible))
 }
 
 /// The ints that a text spells, in decimal and with commas between them. The empty text spells none.

@@ -16,7 +16,7 @@ Statuses:
   2  a class file or the schedule is refused
   3  an event was not enabled or was refused, or a place gave up, or memory was
      missing
-  4  nothing can go on, and a thread hasn't ended
+  4  nothing can go on, and a thread hasn't ended; or a search lists a deadlock
   5  the schedule or the budget is used up, and a thread can go on; or a search gave up
   6  the command is wrong, or a file can't be read, or the output not written
 
@@ -39,6 +39,14 @@ pub(crate) const RECORD_HELP: &str = "The file that the schedule of the run is w
 /// What is recorded of runs.
 pub(crate) const RUN_RECORD_HELP: &str =
     "The file that the schedule of the run is written to; with --seeds the folder for those of the outcomes";
+
+/// Which outcome of runs is to be found, or to be kept.
+pub(crate) const OUTCOME_HELP: &str =
+    "The outcome: deadlock, uncaught, output=NUMBERS or differs=FILE";
+
+/// What a search is to find.
+pub(crate) const SEARCH_GOAL_HELP: &str =
+    "What is to be found: race, uncaught, deadlock, any, output=NUMBERS or differs=FILE";
 
 /// What files `schedule` takes.
 pub(crate) const SCHEDULE_HELP: &str =
@@ -137,20 +145,27 @@ pub(crate) const SEARCH_PAGE: &str = "\
 What it does:
   Searches all schedules of the class files: every order of their events, and
   every pick of a thread that is notified. Without --for it lists what can come
-  of them. With --for it ends at the first run that ends so, prints its report,
-  and may record its schedule; where there is none it lists all the others.
-    deadlock        no thread may go on, and one waits
-    uncaught        an exception that nothing caught ended a thread
-    output=1,2      these numbers were printed, and no others
-    differs=FILE    something else was printed than FILE has
-  Where it says `search complete`, no other end is possible. Of runs that never
-  end nothing is said, and nothing where it gives up.
+  of runs that end, and which kinds of states some run comes to, whether it ends
+  or not: `kind race`, `kind uncaught`, `kind deadlock`. With --for it ends at the
+  first state that is so, prints its report, and may record its schedule; where
+  there is none it lists all that is possible.
+    race            two threads access one variable next, which isn't volatile,
+                    and one of them writes it
+    uncaught        an exception that nothing caught has ended a thread
+    deadlock        no thread may go on, and one waits; or threads wait in a circle
+    any             any of these three
+    output=1,2      a run ended that printed these numbers, and no others
+    differs=FILE    a run ended that printed something else than FILE has
+  Where it says `search complete`, no other end and no other kind is possible.
+  `no data race: correctly synchronized` is told where no state is a race. Where
+  it gives up, nothing is said.
 
 Statuses:
   0  all that can come of the class files is listed, and it is not what --for asks
-  1  a run was found that --for asks for
+  1  a state was found that --for asks for
   2  a class file is refused
   3  memory was missing
+  4  all that can come of the class files is listed, and a deadlock is among it
   5  the search gave up: too many states, too much memory or time, or a limit of a
      run
   6  the command is wrong, or a file can't be read, or the output not written
@@ -166,7 +181,7 @@ What it does:
   it. It leaves out entries, and brings those of a thread together, and tries each
   such schedule, with --budget events at most. What is left is printed as text; a
   run behind it has the outcome. How many entries there were and are is told on
-  standard error. Of the outcomes of --for tells `jvm search --help`, and of the
+  standard error. Of the outcomes of --for tells `jvm run --help`, and of the
   words of a schedule `jvm replay --help`.
 
 Statuses:

@@ -6,8 +6,10 @@
 //!   of digits alone, each in its range (`spelled`); a usage fault is answered only where the parser doesn't take the
 //!   words or they spell no command, memory aside; and help or the version is told only where it is what the parser may
 //!   answer to the words (`refused`).
-//! - In both clauses: what `search --for` seeks is what its word names (`IsGoalWord`). Behind `output=` stand ints,
-//!   each as a report prints it; there is no command where an item is none.
+//! - In both clauses: what `search --for` seeks is what its word names (`IsSearchGoalWord`). The words of a kind of
+//!   states are `race`, `uncaught`, `deadlock` and `any`; of `run --seeds` and `shrink` there is no command with `race`
+//!   or `any` (`IsGoalWord`). Behind `output=` stand ints, each as a report prints it; there is no command where an item
+//!   is none.
 //! - In both clauses: `schedule` has one file, and a version beside `--write` alone (`AreScheduleValues`,
 //!   `IsMadeVersion`); or with `--places` class files, a schedule of them, and neither `--write` nor a version
 //!   (`ArePlacesValues`). Of all others `--as-version` stands beside `--record` alone (`IsRecordedVersion`).
@@ -46,8 +48,8 @@ mod usage;
 mod values;
 
 pub use options::{
-    Command, Disasm, Goal, LimitOptions, Places, Replay, Run, Schedule, Search, Shrink, ThenRun,
-    Trace, TraceForm, Verify,
+    Command, Disasm, Goal, LimitOptions, Places, Replay, Run, Schedule, Search, SearchGoal, Shrink,
+    ThenRun, Trace, TraceForm, Verify,
 };
 pub use parse::command;
 pub use paths::{is_absolute, is_same_path, steps_of};

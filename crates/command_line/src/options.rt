@@ -128,8 +128,8 @@ pub enum TraceForm {
 /// `jvm search`: all schedules of class files are searched, and what comes of it is reported.
 #[derive(Drop)]
 pub struct Search {
-    /// The outcome that is to be found, and `None` where all are asked for.
-    pub goal: Option<Goal>,
+    /// What is to be found, and `None` where all outcomes and kinds are asked for.
+    pub goal: Option<SearchGoal>,
     /// How many states there may be, and `None` for the usual number.
     pub states: Option<u32>,
     /// How many bytes the states that are kept may take, and `None` for the usual number.
@@ -151,6 +151,24 @@ pub struct Search {
     pub quiet: bool,
     /// Whether no class is added from the library.
     pub files_alone: bool,
+}
+
+/// What a search is to find: a state that some run comes to, whether it ends or not; or an outcome of a run that ends.
+#[derive(Drop)]
+pub enum SearchGoal {
+    /// The next events of two threads conflict: they access one variable that isn't volatile, and one writes it
+    /// (JLS 17.4.1).
+    Race,
+    /// An exception that nothing caught has ended a thread.
+    Uncaught,
+    /// No thread may go on, and one hasn't ended; or threads wait in a circle for what they hold.
+    Deadlock,
+    /// Any of these three.
+    Any,
+    /// The run printed these numbers, in this order, and no others.
+    Output(Vec<i32>),
+    /// Something else was printed than the file with this path has.
+    Differs(String),
 }
 
 /// Which outcome of a run is to be found, or to be kept.

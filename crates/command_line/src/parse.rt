@@ -15,7 +15,7 @@ use crate::options::{
     Disasm, Goal, Replay, Run, Search, Shrink, ThenRun, Trace, TraceForm, Verify,
 };
 use crate::parsers::program;
-use crate::paths::{check_file, check_goal};
+use crate::paths::{check_file, check_goal, check_search_goal};
 use crate::program_options::{apart_program_of, program_options_of};
 use crate::run_arguments::{policy_of, seed_of};
 use crate::run_options::{Clash, RunOptions};
@@ -24,7 +24,7 @@ use crate::sweep_arguments::{SEEDS, follow_of, sweep_of};
 use crate::usage::Usage;
 use crate::values::{
     check_beside, files_of, goal_of, is_set, missing, path_of, recorded_version_of, recording_of,
-    required_path_of,
+    required_path_of, search_goal_of,
 };
 use clap::ArgMatches;
 use clap::error::ErrorKind;
@@ -182,13 +182,13 @@ fn search_of(alloc: Global, matches: &ArgMatches<'_>) -> Result<Search, Usage>
     ensures none { IfErr result (λ usage. Refuses usage ((search : _)
         → AreSearchValues (rows_of (found_of matches.now)) search → ⊥)) }
 {
-    let goal = goal_of(alloc, matches)?;
+    let goal = search_goal_of(alloc, matches)?;
     let states = STATES.number(alloc, matches)?;
     let memory = MEMORY.number(alloc, matches)?;
     let seconds = SECONDS.number(alloc, matches)?;
     let recording = recording_of(alloc, matches)?;
     let program = apart_program_of(alloc, matches)?;
-    check_goal(alloc, matches, &goal)?;
+    check_search_goal(alloc, matches, &goal)?;
     Ok(Search {
         goal,
         states,

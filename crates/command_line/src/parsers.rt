@@ -11,9 +11,9 @@ use crate::arguments::{
     main_argument, path_argument, record_argument, required_goal_argument, schedule_argument,
 };
 use crate::help::{
-    ABOUT, AFTER, DISASM_PAGE, FILES_HELP, LISTED_HELP, RECORD_HELP, REPLAY_PAGE, RUN_PAGE,
-    RUN_RECORD_HELP, SCHEDULE_HELP, SCHEDULE_PAGE, SEARCH_PAGE, SHRINK_PAGE, TRACE_PAGE,
-    VERIFY_PAGE, VERSION,
+    ABOUT, AFTER, DISASM_PAGE, FILES_HELP, LISTED_HELP, OUTCOME_HELP, RECORD_HELP, REPLAY_PAGE,
+    RUN_PAGE, RUN_RECORD_HELP, SCHEDULE_HELP, SCHEDULE_PAGE, SEARCH_GOAL_HELP, SEARCH_PAGE,
+    SHRINK_PAGE, TRACE_PAGE, VERIFY_PAGE, VERSION,
 };
 use crate::numbers::{
     AS_VERSION, BUDGET, CELLS, FRAMES, FROM, MEMORY, MONITORS, OBJECTS, ONLY, QUANTUM, SECONDS,
@@ -239,7 +239,7 @@ fn with_sweep_options<'a>(
         → IfOk result (λ whole. IsParser whole (spec.with_sweep_options app)) }
 {
     let command = with_argument(command, seeds_argument(alloc));
-    with_argument(command, goal_argument(alloc))
+    with_argument(command, goal_argument(alloc, OUTCOME_HELP))
 }
 
 /// The command with a schedule, and the flag that takes it for any class files.
@@ -321,7 +321,7 @@ fn with_search_options<'a>(
     ensures { (app : App) → IfOk command.entry (λ made. IsParser made app)
         → IfOk result (λ whole. IsParser whole (spec.with_search_options app)) }
 {
-    let command = with_argument(command, goal_argument(alloc));
+    let command = with_argument(command, goal_argument(alloc, SEARCH_GOAL_HELP));
     let command = with_argument(command, STATES.argument(alloc));
     let command = with_argument(command, MEMORY.argument(alloc));
     let command = with_argument(command, SECONDS.argument(alloc));

@@ -4,10 +4,10 @@ ghost use Rattle.std.specs.Prelude.{◌≡◌, ◌++◌, ◌==◌, ◌↔◌, Al
 ghost use Rattle.std.specs.List.{slice_split};
 ghost use Rattle.clap.specs.Words.{first_of, found_of, rows_of};
 ghost use Rattle.command_line.specs.CommandLine.{Refuses};
-ghost use Rattle.command_line.specs.Paths.{IsApart, IsGoalApart, IsSamePath};
+ghost use Rattle.command_line.specs.Paths.{IsApart, IsGoalApart, IsSamePath, IsSearchGoalApart};
 ghost use Rattle.command_line.specs.Paths as spec;
 
-use crate::options::Goal;
+use crate::options::{Goal, SearchGoal};
 use crate::usage::Usage;
 use clap::ArgMatches;
 use std::alloc::{AllocError, Global};
@@ -30,6 +30,30 @@ pub(crate) fn check_files(
 }
 
 /// Refuses `--record` with the file that a search compares with, if it does.
+pub(crate) fn check_search_goal(
+    alloc: Global,
+    matches: &ArgMatches<'_>,
+    goal: &Option<SearchGoal>,
+) -> Result<(), Usage>
+    ensures apart { IfOk result (λ _.
+        IsSearchGoalApart (first_of (codes "record") (rows_of (found_of matches.now))) goal.now) }
+    ensures none { IfErr result (λ usage. Refuses usage (
+        IsSearchGoalApart (first_of (codes "record") (rows_of (found_of matches.now))) goal.now → ⊥)) }
+{
+    match goal {
+        Some(SearchGoal::Differs(path)) => check_file(alloc, matches, path.as_str()),
+        Some(
+            SearchGoal::Race
+            | SearchGoal::Uncaught
+            | SearchGoal::Deadlock
+            | SearchGoal::Any
+            | SearchGoal::Output(_),
+        )
+        | None => Ok(()),
+    }
+}
+
+/// Refuses `--record` with the file that outcomes of runs are compared with, if they are.
 pub(crate) fn check_goal(
     alloc: Global,
     matches: &ArgMatches<'_>,

@@ -91,12 +91,22 @@ impl Usage {
         ))
     }
 
-    /// The fault that a search can find no such outcome, in the parser's words for a value that isn't one of a few.
-    pub(crate) fn no_goal(alloc: Global, text: &str) -> Usage
+    /// The fault that a search can find nothing of this name, in the parser's words for a value that isn't one of a
+    /// few.
+    pub(crate) fn no_goal(alloc: Global, text: &str, possible: &str) -> Usage
         ensures { Asks result → ⊥ }
     {
         Usage::told(format!(in alloc;
-            "error: invalid value '{text}' for '--for <OUTCOME>'\n  [possible values: deadlock, uncaught, output=NUMBERS, differs=FILE]\n\n{MORE}\n"
+            "error: invalid value '{text}' for '--for <OUTCOME>'\n  [possible values: {possible}]\n\n{MORE}\n"
+        ))
+    }
+
+    /// The fault that only a search over all schedules finds this, in the parser's words for a value that it refuses.
+    pub(crate) fn of_searches(alloc: Global, text: &str) -> Usage
+        ensures { Asks result → ⊥ }
+    {
+        Usage::told(format!(in alloc;
+            "error: invalid value '{text}' for '--for <OUTCOME>': it is for 'jvm search' alone\n\n{MORE}\n"
         ))
     }
 

@@ -4,12 +4,12 @@ ghost use Rattle.std.specs.Prelude.{◌≡◌, List, false, Some, codes, map, st
 ghost use Rattle.std.specs.Option.{option_map};
 ghost use Rattle.clap.specs.Words.{all_of, first_of, found_of, rows_of, Text};
 ghost use Rattle.command_line.specs.CommandLine.{AreLimitNumbers, Asks, IsRecordedVersion, Refuses, is_set as is_true};
-ghost use Rattle.command_line.specs.Goals.{IsGoal};
+ghost use Rattle.command_line.specs.Goals.{IsGoal, IsSearchGoal};
 ghost use Rattle.command_line.specs.Programs.{IsRecording};
 
-use crate::goal::goal_by;
+use crate::goal::{OUTCOMES, goal_by, search_goal_by};
 use crate::numbers::{AS_VERSION, CELLS, FRAMES, MONITORS, OBJECTS, THREADS};
-use crate::options::{Goal, LimitOptions};
+use crate::options::{Goal, LimitOptions, SearchGoal};
 use crate::parsers::program;
 use crate::usage::Usage;
 use clap::ArgMatches;
@@ -41,7 +41,22 @@ pub(crate) fn is_set(matches: &ArgMatches<'_>, flag: &str) -> bool
     }
 }
 
-/// The outcome that a search is to find, where one is asked for.
+/// What a search is to find, where something is asked for.
+pub(crate) fn search_goal_of(
+    alloc: Global,
+    matches: &ArgMatches<'_>,
+) -> Result<Option<SearchGoal>, Usage>
+    ensures goal { IfOk result (IsSearchGoal (first_of (codes "for") (rows_of (found_of matches.now)))) }
+    ensures none { IfErr result (λ usage. Refuses usage ((goal : _)
+        → IsSearchGoal (first_of (codes "for") (rows_of (found_of matches.now))) goal → ⊥)) }
+{
+    match matches.get_str("for") {
+        None => Ok(None),
+        Some(word) => Ok(Some(search_goal_by(alloc, word)?)),
+    }
+}
+
+/// The outcome of a run that is to be found, or to be kept, where one is asked for.
 pub(crate) fn goal_of(alloc: Global, matches: &ArgMatches<'_>) -> Result<Option<Goal>, Usage>
     ensures goal { IfOk result (IsGoal (first_of (codes "for") (rows_of (found_of matches.now)))) }
     ensures none { IfErr result (λ usage. Refuses usage ((goal : _)
@@ -49,7 +64,7 @@ pub(crate) fn goal_of(alloc: Global, matches: &ArgMatches<'_>) -> Result<Option<
 {
     match matches.get_str("for") {
         None => Ok(None),
-        Some(word) => Ok(Some(goal_by(alloc, word)?)),
+        Some(word) => Ok(Some(goal_by(alloc, word, OUTCOMES)?)),
     }
 }
 

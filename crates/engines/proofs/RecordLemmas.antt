@@ -10,7 +10,7 @@ use Rattle.command_line.specs.declared.options.Run.{Run}
 use Rattle.command_line.specs.declared.options.Search.{Search}
 use Rattle.command_line.specs.declared.options.ThenRun.{ThenRun}
 use Rattle.command_line.specs.declared.run_options.RunOptions.{RunOptions}
-use Rattle.search.specs.declared.run_outcomes.wanted.Wanted.{Wanted}
+use Rattle.search.specs.declared.kinds.Goal.{Goal}
 use Rattle.program_files.specs.Folders.{Held}
 use Rattle.engines.specs.Commands.{IsContinuationUndone, IsRunUndone, IsSearchUndone, IsUnrecorded, LeavesAt}
 use Rattle.engines.specs.Continuations.{Continues, IsUncontinued}
@@ -18,7 +18,7 @@ use Rattle.engines.specs.Devices.{IsUnable}
 use Rattle.engines.specs.Files.{OfSchedule, written_at}
 use Rattle.engines.specs.RecordForms.{record_form}
 use Rattle.engines.specs.Recordings.{conditions_of}
-use Rattle.engines.specs.Goals.{IsAskedFor}
+use Rattle.engines.specs.Goals.{IsSearchedFor}
 use Rattle.engines.specs.Runs.{IsUnrun, Runs}
 use Rattle.engines.specs.Searches.{IsUnsearched, Searches, most_states}
 use Rattle.engines.specs.declared.fault.Fault.{Fault}
@@ -53,15 +53,15 @@ whole_is_uncontinued left lefts asked then_run old new made (faults.Schedule fau
 whole_is_uncontinued left lefts asked then_run old new made (faults.Text fault) unable whole = absurd unable
 whole_is_uncontinued left lefts asked then_run old new made (faults.Place missing) unable whole = absurd unable
 
-whole_is_unsearched : (form : RecordForm) (lefts : List (Option (List ℕ))) (asked : LimitOptions) (want : Wanted) (may_stop : Bool) (most : ℕ) (recorded : Bool) (old new made : Option (List ℕ))
-    (fault : Fault) → IsUnable fault → (text : List ℕ) × (status : Status) × Searches form lefts asked want may_stop most recorded text made status × Appends old new text
-    → IsUnsearched form lefts asked want may_stop most recorded old new None made fault
-whole_is_unsearched form lefts asked want may_stop most recorded old new made faults.Device unable (text, status, runs, all) = inr (text, status, runs, all_front old new text all)
-whole_is_unsearched form lefts asked want may_stop most recorded old new made faults.Memory unable (text, status, runs, all) = inr (text, status, runs, all_front old new text all)
-whole_is_unsearched form lefts asked want may_stop most recorded old new made (faults.Refusal refusal) unable whole = absurd unable
-whole_is_unsearched form lefts asked want may_stop most recorded old new made (faults.Schedule fault) unable whole = absurd unable
-whole_is_unsearched form lefts asked want may_stop most recorded old new made (faults.Text fault) unable whole = absurd unable
-whole_is_unsearched form lefts asked want may_stop most recorded old new made (faults.Place missing) unable whole = absurd unable
+whole_is_unsearched : (form : RecordForm) (lefts : List (Option (List ℕ))) (asked : LimitOptions) (goal : Goal) (may_stop : Bool) (most : ℕ) (recorded : Bool) (old new made : Option (List ℕ))
+    (fault : Fault) → IsUnable fault → (text : List ℕ) × (status : Status) × Searches form lefts asked goal may_stop most recorded text made status × Appends old new text
+    → IsUnsearched form lefts asked goal may_stop most recorded old new None made fault
+whole_is_unsearched form lefts asked goal may_stop most recorded old new made faults.Device unable (text, status, runs, all) = inr (text, status, runs, all_front old new text all)
+whole_is_unsearched form lefts asked goal may_stop most recorded old new made faults.Memory unable (text, status, runs, all) = inr (text, status, runs, all_front old new text all)
+whole_is_unsearched form lefts asked goal may_stop most recorded old new made (faults.Refusal refusal) unable whole = absurd unable
+whole_is_unsearched form lefts asked goal may_stop most recorded old new made (faults.Schedule fault) unable whole = absurd unable
+whole_is_unsearched form lefts asked goal may_stop most recorded old new made (faults.Text fault) unable whole = absurd unable
+whole_is_unsearched form lefts asked goal may_stop most recorded old new made (faults.Place missing) unable whole = absurd unable
 
 -- ---- a fault of the command, or of the record
 
@@ -109,13 +109,13 @@ module _ (held holds : Held) (given : ℕ) (lefts : List (Option (List ℕ))) (o
         let whole = subst (λ (o : Result Status Fault). IfOk o ReplayDone) is done in
         (None, record { file = made; uncontinued = replay_whole status unable whole; recorded = inl refl }, with)
 
-  module _ (search : Search) (want : Wanted) (asked : IsAskedFor held search.goal want) where
+  module _ (search : Search) (goal : Goal) (asked : IsSearchedFor held search.goal goal) where
     abbrev SearchDone : Status → Type 0
-    SearchDone status = (text : List ℕ) × Searches (record_form given search.as_version) lefts search.limits want (is_some search.seconds) (most_states search)
+    SearchDone status = (text : List ℕ) × Searches (record_form given search.as_version) lefts search.limits goal (is_some search.seconds) (most_states search)
         (is_some search.record) text made status × Appends old new text
 
     abbrev SearchUndone : Fault → Type 0
-    SearchUndone told = IsUnsearched (record_form given search.as_version) lefts search.limits want (is_some search.seconds) (most_states search)
+    SearchUndone told = IsUnsearched (record_form given search.as_version) lefts search.limits goal (is_some search.seconds) (most_states search)
         (is_some search.record) old new None made told
 
     search_whole : (status : Status) → IsUnable fault → SearchDone status → SearchUndone fault
@@ -124,20 +124,20 @@ module _ (held holds : Held) (given : ℕ) (lefts : List (Option (List ℕ))) (o
     pub search_undone : IsUnrecorded outcome held holds (written_at search.record made) fault → IfOk outcome SearchDone
         → IfErr outcome SearchUndone → LeavesAt (IsSearchUndone held given lefts search old new) held holds fault
     search_undone (inl (is, inl with)) done undone =
-        (None, record { want = want; asked = asked; file = made; unsearched = subst (λ (o : Result Status Fault). IfErr o SearchUndone) is undone; recorded = inl refl }, with)
+        (None, record { goal = goal; asked = asked; file = made; unsearched = subst (λ (o : Result Status Fault). IfErr o SearchUndone) is undone; recorded = inl refl }, with)
     search_undone (inl (is, inr with)) done undone =
-        (written_at search.record made, record { want = want; asked = asked; file = made; unsearched = subst (λ (o : Result Status Fault). IfErr o SearchUndone) is undone; recorded = inr refl }, with)
+        (written_at search.record made, record { goal = goal; asked = asked; file = made; unsearched = subst (λ (o : Result Status Fault). IfErr o SearchUndone) is undone; recorded = inr refl }, with)
     search_undone (inr ((status, is), unable, with)) done undone =
         let whole = subst (λ (o : Result Status Fault). IfOk o SearchDone) is done in
-        (None, record { want = want; asked = asked; file = made; unsearched = search_whole status unable whole; recorded = inl refl }, with)
+        (None, record { goal = goal; asked = asked; file = made; unsearched = search_whole status unable whole; recorded = inl refl }, with)
 
 -- the same of what is answered, whatever that is
-pub search_undone_of : (held holds : Held) (given : ℕ) (lefts : List (Option (List ℕ))) (old new made : Option (List ℕ)) (outcome result : Result Status Fault) (search : Search) (want : Wanted)
-    → IsAskedFor held search.goal want → IfErr result (IsUnrecorded outcome held holds (written_at search.record made))
-    → IfOk outcome (λ status. (text : List ℕ) × Searches (record_form given search.as_version) lefts search.limits want (is_some search.seconds) (most_states search)
+pub search_undone_of : (held holds : Held) (given : ℕ) (lefts : List (Option (List ℕ))) (old new made : Option (List ℕ)) (outcome result : Result Status Fault) (search : Search) (goal : Goal)
+    → IsSearchedFor held search.goal goal → IfErr result (IsUnrecorded outcome held holds (written_at search.record made))
+    → IfOk outcome (λ status. (text : List ℕ) × Searches (record_form given search.as_version) lefts search.limits goal (is_some search.seconds) (most_states search)
     (is_some search.record) text made status × Appends old new text)
-    → IfErr outcome (IsUnsearched (record_form given search.as_version) lefts search.limits want (is_some search.seconds) (most_states search) (is_some search.record) old new None made)
+    → IfErr outcome (IsUnsearched (record_form given search.as_version) lefts search.limits goal (is_some search.seconds) (most_states search) (is_some search.record) old new None made)
     → IfErr result (LeavesAt (IsSearchUndone held given lefts search old new) held holds)
-search_undone_of held holds given lefts old new made outcome (Ok status) search want asked unrecorded done undone = tt
-search_undone_of held holds given lefts old new made outcome (Err fault) search want asked unrecorded done undone =
-    search_undone held holds given lefts old new made outcome fault search want asked unrecorded done undone
+search_undone_of held holds given lefts old new made outcome (Ok status) search goal asked unrecorded done undone = tt
+search_undone_of held holds given lefts old new made outcome (Err fault) search goal asked unrecorded done undone =
+    search_undone held holds given lefts old new made outcome fault search goal asked unrecorded done undone

@@ -5,6 +5,7 @@ use Rattle.std.specs.Option.{option_and_then, option_map}
 use Rattle.std.specs.Io.KnownBytes.{Appends}
 use Rattle.model.specs.Devices.{AppendsFront}
 use Rattle.program_runs.specs.declared.traced_runs.window.Window.{Window}
+use Rattle.search.specs.declared.kinds.Goal.{Goal as SearchesFor}
 use Rattle.search.specs.declared.run_outcomes.wanted.Wanted.{Wanted}
 use Rattle.traces.specs.declared.form.Form.{Form}
 use Rattle.traces.specs.declared.form.Form.TheVariants as lines
@@ -31,7 +32,7 @@ use Rattle.engines.specs.Handed.{AreHanded, IsUnread as IsUnreadFile, refused_na
 use Rattle.program_files.specs.Given.{AreGiven, IsUnable as IsUnableFor, IsUngiven, is_given}
 use Rattle.program_files.specs.Handed.{AreHandedOn, IsUnhanded}
 use Rattle.program_files.specs.declared.files_fault.FilesFault.{FilesFault}
-use Rattle.engines.specs.Goals.{IsAskedFor}
+use Rattle.engines.specs.Goals.{IsAskedFor, IsSearchedFor}
 use Rattle.engines.specs.Libraries.{IsUnacceptedLibrary, VerifiesLibrary}
 use Rattle.engines.specs.Listings.{AreClassFiles, IsUnlisted, IsUnnamed, Lists}
 use Rattle.engines.specs.Opening.{IsKeptBy}
@@ -278,17 +279,17 @@ IsTraceUndone held given lefts trace old new fault written = (window : Window) �
 -- ---- search
 
 pub record IsSearchDone (held : Held) (given : ℕ) (lefts : List (Option (List ℕ))) (search : Search) (text : List ℕ) (written : Written) (status : Status) : Type 0 where
-  pub want : Wanted
-  pub asked : IsAskedFor held search.goal want
+  pub goal : SearchesFor
+  pub asked : IsSearchedFor held search.goal goal
   pub file : Option (List ℕ)
-  pub searches : Searches (record_form given search.as_version) lefts search.limits want (is_some search.seconds) (most_states search) (is_some search.record) text file status
+  pub searches : Searches (record_form given search.as_version) lefts search.limits goal (is_some search.seconds) (most_states search) (is_some search.record) text file status
   pub recorded : written ≡ written_at search.record file
 
 pub record IsSearchUndone (held : Held) (given : ℕ) (lefts : List (Option (List ℕ))) (search : Search) (old new : Option (List ℕ)) (fault : Fault) (written : Written) : Type 0 where
-  pub want : Wanted
-  pub asked : IsAskedFor held search.goal want
+  pub goal : SearchesFor
+  pub asked : IsSearchedFor held search.goal goal
   pub file : Option (List ℕ)
-  pub unsearched : IsUnsearched (record_form given search.as_version) lefts search.limits want (is_some search.seconds) (most_states search) (is_some search.record) old new None file fault
+  pub unsearched : IsUnsearched (record_form given search.as_version) lefts search.limits goal (is_some search.seconds) (most_states search) (is_some search.record) old new None file fault
   pub recorded : (written ≡ None) ⊎ (written ≡ written_at search.record file)
 
 -- ---- verify and disasm

@@ -7,6 +7,7 @@ use Rattle.model.specs.declared.end.End.{End}
 use Rattle.model.specs.declared.end.End.TheVariants as ends
 use Rattle.command_line.specs.declared.usage.Usage.{Usage}
 use Rattle.command_line.specs.declared.usage.Usage.TheVariants as usages
+use Rattle.search.specs.declared.kinds.Kinds.{Kinds}
 use Rattle.search.specs.declared.search_reports.answers.Answer.{Answer}
 use Rattle.search.specs.declared.search_reports.answers.Answer.TheVariants as answers
 use Rattle.program_files.specs.declared.files_fault.FilesFault.{FilesFault}
@@ -51,10 +52,14 @@ status_of threads ends.Budget = statuses.UsedUp
 status_of threads (ends.NotEnabled done) = statuses.Stopped
 status_of threads (ends.Refused done cause) = statuses.Stopped
 
+-- the status of a search that has found nothing it was asked for, and lists these kinds
+abbrev pub kinds_status : Kinds → Status
+kinds_status kinds = if kinds.deadlock then statuses.Stuck else statuses.Returned
+
 -- the status of a search
 abbrev pub search_status : Answer → Status
-search_status (answers.Found schedule report) = statuses.Threw
-search_status (answers.Complete outcomes) = statuses.Returned
+search_status (answers.Found schedule report end) = statuses.Threw
+search_status (answers.Complete outcomes kinds) = kinds_status kinds
 search_status answers.GaveUp = statuses.UsedUp
 
 -- the status of a sweep

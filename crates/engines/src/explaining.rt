@@ -14,7 +14,7 @@ use crate::fault::Fault;
 use crate::main_hints::add_mains;
 use crate::named_file::is_given_word;
 use crate::place_schedules::explain_place;
-use command_line::{Command, Goal, Usage, command};
+use command_line::{Command, Goal, SearchGoal, Usage, command};
 use explanations::refusal_explanations::{explain, explain_schedule, explain_text};
 use library_files::LibraryClass;
 use link_conditions::refusal::RefusalKind;
@@ -170,10 +170,9 @@ fn schedule_of(command: &Command) -> Option<&str> {
     }
 }
 
-/// The goal of a search, a sweep or a shrink, if there is one.
+/// The outcome that a sweep or a shrink asks for, if there is one.
 fn goal_of(command: &Command) -> Option<&Goal> {
     match command {
-        Command::Search(options) => options.goal.as_ref(),
         Command::Shrink(options) => Some(&options.goal),
         Command::Run(options) => match &options.sweep {
             Some(sweep) => sweep.goal.as_ref(),
@@ -185,8 +184,19 @@ fn goal_of(command: &Command) -> Option<&Goal> {
 
 /// The path of the text behind `differs=`, if one is read.
 fn text_of(command: &Command) -> Option<&str> {
-    match goal_of(command) {
-        Some(Goal::Differs(path)) => Some(path.as_str()),
+    match command {
+        Command::Search(options) => searched_text(&options.goal),
+        _ => match goal_of(command) {
+            Some(Goal::Differs(path)) => Some(path.as_str()),
+            _ => None,
+        },
+    }
+}
+
+/// The path of the text that a search compares with, if one is read.
+fn searched_text(goal: &Option<SearchGoal>) -> Option<&str> {
+    match goal {
+        Some(SearchGoal::Differs(path)) => Some(path.as_str()),
         _ => None,
     }
 }

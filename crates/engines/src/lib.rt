@@ -12,7 +12,7 @@
 //!   - behind them come the files of the classes that the library adds (`AreHanded`, by `AreAdded` of `library_files`).
 //!     It adds none for `disasm` and with `--files-alone` (`library_of`);
 //!   - `run`, `replay` and `search` hand on all their options; `trace` its window and its form (`IsWindow`); `search`
-//!     its goal (`IsAskedFor`), with the text of the file of `differs`; `verify` whether it is of a library; `disasm`
+//!     its goal (`IsSearchedFor`), with the text of the file of `differs`; `verify` whether it is of a library; `disasm`
 //!     whether names are asked for; `schedule` whether a file is made, and with `--places` the schedule
 //!     (`IsPlacesDone`); `run` over seeds its sweep (`IsSweepDone`);
 //!   - the file that is asked for holds the bytes of the schedule, and each other file what it held (`IsWith`); of

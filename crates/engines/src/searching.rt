@@ -17,14 +17,13 @@ use crate::verification::accepted;
 use command_line::Search;
 use model::{Limits, Sink, Source};
 use program_runs::verified_programs::verified_program;
-use search::run_outcomes::Wanted;
 use search::search_reports::{Answer, search_report};
-use search::{Progress, states_within};
+use search::{Goal, Progress, states_within};
 use std::alloc::{AllocError, Global};
 use verifier::Verified;
 
-/// Searches all schedules of the class files, as far as the options say, for a run whose outcome is wanted. Makes the
-/// schedule file of the run that was found, where one is asked for; writes what comes of the search, and answers the
+/// Searches all schedules of the class files, as far as the options say, for what is to be found. Makes the schedule
+/// file of the run that was found, where one is asked for; writes what comes of the search, and answers the
 /// status.
 ///
 /// The first so many of the class files are given, and a library adds the others: the schedule file tells them so.
@@ -38,20 +37,20 @@ pub fn search_engine<P: Progress, S: Source, W: Sink>(
     files: &mut [S],
     given: usize,
     options: &Search,
-    wanted: &Wanted,
+    goal: &Goal,
     report: &mut W,
     file: &mut Option<Vec<u8>>,
 ) -> Result<Status, Fault>
-    // What can come of the class files is written, or a run whose outcome is wanted, and nothing else; and the file
-    // is that of the run's schedule, where it is asked for.
+    // What can come of the class files is written, or a run to what is to be found, and nothing else; and the file is
+    // that of the run's schedule, where it is asked for.
     ensures searched { IfOk result (λ status. (text : _)
         × Searches (record_form given options.now.as_version)
-        (map S.remaining files.old) options.now.limits wanted.now (P.may_stop progress.now)
+        (map S.remaining files.old) options.now.limits goal.now (P.may_stop progress.now)
         (most_states options.now) (is_some options.now.record) text (option_map vec_items file.new) status
         × Appends (W.contents report.old) (W.contents report.new) text) }
     ensures faulty { IfErr result
         (IsUnsearched (record_form given options.now.as_version)
-        (map S.remaining files.old) options.now.limits wanted.now (P.may_stop progress.now)
+        (map S.remaining files.old) options.now.limits goal.now (P.may_stop progress.now)
         (most_states options.now) (is_some options.now.record) (W.contents report.old) (W.contents report.new)
         (option_map vec_items file.old) (option_map vec_items file.new)) }
     ensures counted { CountsFailure result
@@ -61,7 +60,7 @@ pub fn search_engine<P: Progress, S: Source, W: Sink>(
     let read = read_class_files(alloc, files)?;
     let files = read.as_slice();
     let verified = accepted(alloc, files)?;
-    let searched = searched(alloc, progress, verified, files, given, options, wanted)?;
+    let searched = searched(alloc, progress, verified, files, given, options, goal)?;
     *file = searched.file;
     report.write_all(searched.text.as_slice())?;
     Ok(searched.status)
@@ -75,16 +74,16 @@ fn searched<P: Progress>(
     files: &[Vec<u8>],
     given: usize,
     options: &Search,
-    wanted: &Wanted,
+    goal: &Goal,
 ) -> Result<Outcome, AllocError>
     requires { IsAccepted (map vec_items files.now) verified }
     ensures { IfOk result (λ searched.
         IsSearched (record_form given options.now.as_version)
-        (map vec_items files.now) options.now.limits wanted.now (P.may_stop progress.now)
+        (map vec_items files.now) options.now.limits goal.now (P.may_stop progress.now)
         (most_states options.now) (is_some options.now.record) searched.text.items
         (option_map vec_items searched.file) searched.status) }
 {
-    search_of(alloc, progress, &verified, files, given, options, wanted)
+    search_of(alloc, progress, &verified, files, given, options, goal)
 }
 
 /// Searches accepted class files, and makes what is to be written.
@@ -95,20 +94,20 @@ fn search_of<P: Progress>(
     files: &[Vec<u8>],
     given: usize,
     options: &Search,
-    wanted: &Wanted,
+    goal: &Goal,
 ) -> Result<Outcome, AllocError>
     requires { IsAccepted (map vec_items files.now) verified.now }
     ensures { IfOk result (λ searched.
         IsSearched (record_form given options.now.as_version)
-        (map vec_items files.now) options.now.limits wanted.now (P.may_stop progress.now)
+        (map vec_items files.now) options.now.limits goal.now (P.may_stop progress.now)
         (most_states options.now) (is_some options.now.record) searched.text.items
         (option_map vec_items searched.file) searched.status) }
 {
     let limits = options.limits.limits();
     let program = verified_program(alloc, verified)?;
-    let classes = verified.linked().set();
+    let linked = verified.linked();
     let most = most_states(options);
-    let searched = search_report(alloc, progress, classes, program, limits, wanted, most)?;
+    let searched = search_report(alloc, progress, linked, program, limits, goal, most)?;
     let text = searched.text(alloc)?;
     let is_recorded = options.record.is_some();
     let form = RecordForm {
@@ -144,7 +143,7 @@ fn found_file(
         (option_map vec_items file)) }
 {
     match answer {
-        Answer::Found(schedule, _) => recorded_file(
+        Answer::Found(schedule, _, _) => recorded_file(
             alloc,
             is_recorded,
             files,
@@ -152,6 +151,6 @@ fn found_file(
             limits,
             schedule,
         ),
-        Answer::Complete(_) | Answer::GaveUp => Ok(None),
+        Answer::Complete(_, _) | Answer::GaveUp => Ok(None),
     }
 }

@@ -2,13 +2,14 @@
 
 ghost use Rattle.std.specs.Prelude.{◌≡◌};
 ghost use Rattle.std.specs.List.{list_all};
-ghost use Rattle.engines.specs.Statuses.{has_ended, has_returned, code_of, complaint_status, fault_status, files_status, usage_status, search_status, status_of, sweep_status};
+ghost use Rattle.engines.specs.Statuses.{has_ended, has_returned, code_of, complaint_status, fault_status, files_status, kinds_status, usage_status, search_status, status_of, sweep_status};
 
 use crate::complaint::Complaint;
 use crate::fault::Fault;
 use command_line::Usage;
 use model::{End, EndState, Report};
 use program_files::FilesFault;
+use search::Kinds;
 use search::search_reports::Answer;
 use sweeps::SweepEnd;
 
@@ -16,14 +17,14 @@ use sweeps::SweepEnd;
 pub enum Status {
     /// No thread can go on, and all have ended, none with an exception. Of what runs nothing: it is done.
     Returned,
-    /// No thread can go on, and all have ended, some with an exception. Of a search or a sweep: it found a run whose
-    /// outcome is wanted.
+    /// No thread can go on, and all have ended, some with an exception. Of a search or a sweep: it found what it was
+    /// asked for.
     Threw,
     /// A class file or the schedule is refused.
     Refused,
     /// An event of the schedule isn't enabled or is refused, or memory is wanted.
     Stopped,
-    /// No thread can go on, and some haven't ended.
+    /// No thread can go on, and some haven't ended. Of a search: it lists a deadlock.
     Stuck,
     /// The schedule is used up, or the budget or the time, and some thread can go on. Of a search or a sweep: it gave up.
     UsedUp,
@@ -61,9 +62,20 @@ impl Status {
         ensures { result ≡ search_status answer.now }
     {
         match answer {
-            Answer::Found(_, _) => Status::Threw,
-            Answer::Complete(_) => Status::Returned,
+            Answer::Found(_, _, _) => Status::Threw,
+            Answer::Complete(_, kinds) => Status::of_kinds(kinds),
             Answer::GaveUp => Status::UsedUp,
+        }
+    }
+
+    /// The status of a search that has found nothing it was asked for, and lists these kinds.
+    fn of_kinds(kinds: &Kinds) -> Status
+        ensures { result ≡ kinds_status kinds.now }
+    {
+        if kinds.deadlock {
+            Status::Stuck
+        } else {
+            Status::Returned
         }
     }
 

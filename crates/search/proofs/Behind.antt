@@ -10,6 +10,8 @@ use Rattle.model.specs.LimitStands.{bounds_of}
 use Rattle.model.specs.Run.{run}
 use Rattle.model.specs.State.{State}
 use Rattle.search_laws.specs.Schedules.{ArePassed, AreLocalPassed}
+use Rattle.racing_threads.specs.Racing.{are_racing}
+use Rattle.racing_threads.specs.free_events.Free.{AreLocalEventsFree}
 use Rattle.linked_code.specs.declared.program.LinkedProgram.{LinkedProgram}
 use Rattle.machine_state.specs.declared.state.Shared.{Shared}
 use Rattle.machine_state.specs.linked_frames.Frames.{event_of}
@@ -32,9 +34,9 @@ replicate_more (suc n) k x =
 
 -- ---- runs
 
-passed_on : (trees : Program) (frames : ℕ) (threads more : List ℕ) (state mid last : State) → ArePassed trees frames threads state mid → ArePassed trees frames more mid last
-    → ArePassed trees frames (threads ++ more) state last
-passed_on trees frames [] more state mid last one two = subst (λ s. ArePassed trees frames more s last) (sym one) two
+passed_on : (trees : Program) (frames : ℕ) (threads more : List ℕ) (state mid last : State) → ArePassed trees frames (are_racing trees frames) threads state mid
+    → ArePassed trees frames (are_racing trees frames) more mid last → ArePassed trees frames (are_racing trees frames) (threads ++ more) state last
+passed_on trees frames [] more state mid last one two = subst (λ s. ArePassed trees frames (are_racing trees frames) more s last) (sym one) two
 passed_on trees frames (t ∷ threads) more state mid last one two = (one.0, (one.1.0, passed_on trees frames threads more one.0 mid last one.1.1 two))
 
 after_on : (trees : Program) (frames : ℕ) (events more rest : List Event) → AreAloneAfter trees frames events more → AreAloneAfter trees frames (events ++ more) rest
@@ -53,11 +55,11 @@ none_after : (trees : Program) (frames : ℕ) (events : List Event) → AreAlone
 none_after trees frames events state reached = record { threads = []; last = state; are_alone = refl; reached = ap (run trees frames) (append-nil events) ∙ reached }
 
 -- local events are alone
-local_after : AreLocalPassed → (files : List (List ℕ)) (trees : Program) → IsAccepted files trees → (frames : ℕ) (events more : List Event) → AreLocalAfter trees frames events more
+local_after : AreLocalPassed → AreLocalEventsFree → (files : List (List ℕ)) (trees : Program) → IsAccepted files trees → (frames : ℕ) (events more : List Event) → AreLocalAfter trees frames events more
     → AreAloneAfter trees frames events more
-local_after passed files trees accepted frames events more local state reached =
+local_after passed free files trees accepted frames events more local state reached =
     let l = local state reached in
-    record { threads = l.threads; last = l.last; are_alone = passed files trees accepted frames state l.last l.threads (events, reached) l.are_local; reached = l.reached }
+    record { threads = l.threads; last = l.last; are_alone = passed files trees accepted frames (are_racing trees frames) (free files trees accepted frames) state l.last l.threads (events, reached) l.are_local; reached = l.reached }
 
 -- ---- machines
 
@@ -93,7 +95,7 @@ module _ (event : Event) where
 
   -- ---- local ones
 
-  module _ (passed : AreLocalPassed) (m : MachineOf) (p : LinkedProgram) (shared : Shared) (n : ℕ) (program_is : p ≡ m.program) (shared_is : shared ≡ m.shared) (plain : event.pick ≡ 0) where
+  module _ (passed : AreLocalPassed) (free : AreLocalEventsFree) (m : MachineOf) (p : LinkedProgram) (shared : Shared) (n : ℕ) (program_is : p ≡ m.program) (shared_is : shared ≡ m.shared) (plain : event.pick ≡ 0) where
     pub event_is : event_of event.thread ≡ event
     event_is = ap (λ k. let e : Event = record { thread = event.thread; pick = k } in e) (sym plain)
 
@@ -102,7 +104,7 @@ module _ (event : Event) where
         let here : AreNextLocal m.program m.shared event.thread n = subst (λ q. AreNextLocal q m.shared event.thread n) program_is (subst (λ s. AreNextLocal p s event.thread n) shared_is next) in
         let local = here files trees has.accepted has.program (bounds_of m.limits) events has.run in
         subst (λ e. AreAloneAfter trees m.limits.frames events (replicate n e)) event_is
-        (local_after passed files trees has.accepted m.limits.frames events (replicate n (event_of event.thread)) local)
+        (local_after passed free files trees has.accepted m.limits.frames events (replicate n (event_of event.thread)) local)
 
     pub local_alone : (new : MachineOf) → AreNextLocal p shared event.thread n → HasDoneMore event n m new → GoesAlone event n m new
     local_alone new next more = record { are_alone = local_behind next; more = more }

@@ -4,5 +4,10 @@ mod Schedules
 mod Growth
 mod Kept
 mod Expanded
+mod KindLists
+mod OwnEdges
+mod StateKinds
+mod Uncaught
+mod Walks
 mod Visits
 mod Whole

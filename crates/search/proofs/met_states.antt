@@ -1,1 +1,2 @@
 mod Bridge
+mod KindsMet

@@ -1,2 +1,3 @@
+mod Appended
 mod OutcomeTexts
 mod Reported

@@ -1,5 +1,8 @@
 pub mod GivingUp
+pub mod Kinds
 pub mod Machines
+pub mod OwnEdges
+pub mod StateKinds
 pub mod States
 pub mod Verdicts
 pub mod Visits

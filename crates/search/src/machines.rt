@@ -16,6 +16,7 @@ use machine::{Machine, Stopped};
 use machine_state::shown_runs::{runs_are_opened, runs_go_on};
 use machine_state::{Answer, EventRefusal};
 use model::{Event, Limits, ScheduleEntry};
+use racing_threads::free_events::local_events_are_free;
 use run_laws::word_reports::reports_of_words;
 use search_laws::kept_states::local_events_are_passed;
 use std::alloc::{AllocError, Global};
@@ -90,6 +91,7 @@ fn do_local(alloc: Global, machine: &mut Machine, event: Event) -> Result<u32, A
     ensures most { IfOk result (λ count. count ≤ 1024) }
 {
     local_events_are_passed();
+    local_events_are_free();
     let count = local_count(alloc, machine.program(), machine.shared(), event.thread)?;
     do_more(machine, event, count)?;
     Ok(count)

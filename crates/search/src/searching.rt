@@ -1,22 +1,23 @@
 //! The search over all schedules.
 
-ghost use Rattle.std.specs.Prelude.{◌<◌, ◌≤◌, [], length, IfOk};
+ghost use Rattle.std.specs.Prelude.{◌≡◌, ◌≤◌, length, IfOk};
 ghost use Rattle.std.specs.Arc.{arc_value};
 ghost use Rattle.machine.specs.Machines.{IsProgramOf};
-ghost use Rattle.search.specs.Machines.{TellsOutcome};
 ghost use Rattle.search.specs.Verdicts.{Says};
-ghost use Rattle.search.specs.Visits.{HasVisited, Visits, ListsOr};
+ghost use Rattle.search.specs.Visits.{nothing_seen, HasVisited};
 
-use crate::expanding::expand;
-use crate::machines::{opened, outcome_of};
-use crate::met_states::{met_states_are_kept, moving_states_are_not_quiet, searches_are_whole};
+use crate::kinds::{Goal, Kinds};
+use crate::machines::opened;
+use crate::met_states::{kinds_are_met, searches_are_whole};
 use crate::progress::Progress;
-use crate::run_outcomes::{Outcome, Outcomes, Wanted};
+use crate::run_outcomes::Outcomes;
 use crate::states::{States, Walk};
-use hierarchy::ClassSet;
+use crate::visiting::{Asked, Seen, Visit, visit_state};
 use linked_code::LinkedProgram;
-use machine::Machine;
+use linker::Linked;
 use model::Limits;
+use next_accesses::access_tables::AccessTables;
+use racing_threads::lasting_races::races_are_told_by_words;
 use schedule::Schedule;
 use search_laws::kept_states::schedules_are_complete;
 use std::alloc::{AllocError, Global};
@@ -25,10 +26,11 @@ use std::sync::Arc;
 /// What a search answers.
 #[derive(Drop)]
 pub enum Verdict {
-    /// A schedule of a run whose outcome is wanted, in as few entries as its events can have.
+    /// A schedule of a run that ends with a wanted outcome, or comes to a state of a kind that is to be found, in as
+    /// few entries as its events can have.
     Found(Schedule),
-    /// The outcomes of all runs that end, none of which is wanted.
-    Complete(Outcomes),
+    /// The outcomes of all runs that end, and the kinds of the states that any run comes to. None is to be found.
+    Complete(Outcomes, Kinds),
     /// Nothing: there are more states than were allowed, a limit forbids an event, or 65,535 threads wait to be picked.
     GaveUp,
 }
@@ -40,119 +42,35 @@ pub struct Searched {
     pub states: u32,
 }
 
-/// What a search comes to at a state.
-#[derive(Drop)]
-pub(crate) enum Visit {
-    /// The outcome of the state is listed, if no thread may step there, and the states to which events lead from it are
-    /// met.
-    Visited,
-    /// The outcome of the state is wanted.
-    Found(Schedule),
-    GaveUp,
-}
-
-/// Lists the outcome of a state, if there is one, unless it is wanted: then the answer is true.
-fn is_found(
-    alloc: Global,
-    wanted: &Wanted,
-    outcomes: &mut Outcomes,
-    outcome: Option<Outcome>,
-) -> Result<bool, AllocError>
-    ensures { IfOk result (λ found. ListsOr wanted.now outcome found outcomes.old outcomes.new) }
-{
-    let Some(outcome) = outcome else {
-        return Ok(false);
-    };
-    if wanted.is(alloc, &outcome)? {
-        return Ok(true);
-    }
-    outcomes.add(outcome)?;
-    Ok(false)
-}
-
-/// Whether an outcome is wanted, of the state in which a machine is.
-fn is_found_at(
-    alloc: Global,
-    classes: &ClassSet,
-    wanted: &Wanted,
-    outcomes: &mut Outcomes,
-    machine: &Machine,
-) -> Result<bool, AllocError>
-    ensures { IfOk result (λ found. (outcome : _) × TellsOutcome classes.now machine.now outcome
-        × ListsOr wanted.now outcome found outcomes.old outcomes.new) }
-{
-    let outcome = outcome_of(alloc, classes, machine)?;
-    is_found(alloc, wanted, outcomes, outcome)
-}
-
-/// Visits the state of a number, all below which have been visited. The classes are those of the files.
-fn visit_state(
-    alloc: Global,
-    classes: &ClassSet,
-    wanted: &Wanted,
-    walk: Walk,
-    outcomes: &mut Outcomes,
-    number: u32,
-    most: u32,
-) -> Result<(Visit, Walk), AllocError>
-    requires visited { HasVisited classes.now walk.states.limits wanted.now walk.states outcomes.old number }
-    requires number { number < length walk.states.schedules }
-    ensures visits { IfOk result (λ r.
-        Visits classes.now walk.states.limits wanted.now most number r.0 r.1.states outcomes.new) }
-    ensures few { IfOk result (λ r. length walk.states.schedules ≤ most → length r.1.states.schedules ≤ most) }
-{
-    met_states_are_kept();
-    moving_states_are_not_quiet();
-    let (went_on, walk) = expand(alloc, walk, number, most)?;
-    if !went_on {
-        return Ok((Visit::GaveUp, walk));
-    }
-    if walk.moved {
-        return Ok((Visit::Visited, walk));
-    }
-    if is_found_at(alloc, classes, wanted, outcomes, &walk.machine)? {
-        let schedule = walk.states.schedule(number)?;
-        return Ok((Visit::Found(schedule.joined(alloc)?), walk));
-    }
-    Ok((Visit::Visited, walk))
-}
-
 /// Visits states from the opening state on, up to so many, and tells how far it has come.
 fn visit_all<P: Progress>(
-    alloc: Global,
     progress: &P,
-    classes: &ClassSet,
-    wanted: &Wanted,
+    asked: &Asked<'_>,
     walk: Walk,
-    most: u32,
 ) -> Result<(Verdict, Walk), AllocError>
-    requires visited { HasVisited classes.now walk.states.limits wanted.now walk.states [] 0 }
-    requires few { 1 ≤ most → length walk.states.schedules ≤ most }
-    ensures says { IfOk result (λ r. Says classes.now walk.states.limits wanted.now (P.may_stop progress.now) most
-        (length r.1.states.schedules) r.0) }
-    ensures few { IfOk result (λ r. 1 ≤ most → length r.1.states.schedules ≤ most) }
+    requires tables { asked.now.tables.linked.now ≡ asked.now.linked.now }
+    requires visited { HasVisited asked.now.linked.now walk.states.limits asked.now.goal.now walk.states nothing_seen
+        0 }
+    requires few { 1 ≤ asked.now.most → length walk.states.schedules ≤ asked.now.most }
+    ensures says { IfOk result (λ r. Says asked.now.linked.now walk.states.limits asked.now.goal.now
+        (P.may_stop progress.now) asked.now.most (length r.1.states.schedules) r.0) }
+    ensures few { IfOk result (λ r. 1 ≤ asked.now.most → length r.1.states.schedules ≤ asked.now.most) }
 {
     searches_are_whole();
     schedules_are_complete();
+    races_are_told_by_words();
+    kinds_are_met();
     let mut walk = walk;
-    let mut outcomes = Outcomes::new(alloc);
-    'states: for number in 0..most {
+    let mut seen = Seen::new(asked.alloc);
+    'states: for number in 0..asked.most {
         if number >= walk.states.len() {
-            return Ok((Verdict::Complete(outcomes), walk));
+            return Ok((Verdict::Complete(seen.outcomes, seen.kinds), walk));
         }
         progress.states_met(walk.states.len());
         if progress.is_over() {
             return Ok((Verdict::GaveUp, walk));
         }
-        let (visit, further) = visit_state(
-            alloc,
-            classes,
-            wanted,
-            walk,
-            &mut outcomes,
-            number,
-            most,
-        )?;
+        let (visit, further) = visit_state(asked, walk, &mut seen, number)?;
         walk = further;
         match visit {
             Visit::Visited => {}
@@ -160,27 +78,27 @@ fn visit_all<P: Progress>(
             Visit::GaveUp => return Ok((Verdict::GaveUp, walk)),
         }
     }
-    if walk.states.len() <= most {
-        Ok((Verdict::Complete(outcomes), walk))
+    if walk.states.len() <= asked.most {
+        Ok((Verdict::Complete(seen.outcomes, seen.kinds), walk))
     } else {
         Ok((Verdict::GaveUp, walk))
     }
 }
 
-/// Searches all schedules of a program (JVMS 2.5, 2.6, 5.5, chapter 6; JLS 17), which is that of the classes, as far
-/// as so many states, for a run whose outcome is wanted. Of runs that never end nothing is said. Meanwhile it tells
-/// how far it has come. The only error is a want of memory.
+/// Searches all schedules of a program (JVMS 2.5, 2.6, 5.5, chapter 6; JLS 17), which is that of the linked classes,
+/// as far as so many states, for a run that ends with a wanted outcome, or comes to a state of a kind that is to be
+/// found. Meanwhile it tells how far it has come. The only error is a want of memory.
 pub fn search<P: Progress>(
     alloc: Global,
     progress: &P,
-    classes: &ClassSet,
+    linked: &Linked,
     program: Arc<LinkedProgram>,
     limits: Limits,
-    wanted: &Wanted,
+    goal: &Goal,
     most: u32,
 ) -> Result<Searched, AllocError>
-    requires { IsProgramOf classes.now (arc_value program) }
-    ensures says { IfOk result (λ s. Says classes.now limits wanted.now (P.may_stop progress.now) most s.states
+    requires { IsProgramOf linked.now (arc_value program) }
+    ensures says { IfOk result (λ s. Says linked.now limits goal.now (P.may_stop progress.now) most s.states
         s.verdict) }
     ensures few { IfOk result (λ s. 1 ≤ most → s.states ≤ most) }
 {
@@ -191,7 +109,14 @@ pub fn search<P: Progress>(
         machine,
         moved: false,
     };
-    let (verdict, walk) = visit_all(alloc, progress, classes, wanted, walk, most)?;
+    let asked = Asked {
+        alloc,
+        linked,
+        tables: AccessTables::new(alloc, linked)?,
+        goal,
+        most,
+    };
+    let (verdict, walk) = visit_all(progress, &asked, walk)?;
     Ok(Searched {
         verdict,
         states: walk.states.len(),

@@ -87,17 +87,17 @@ threw_inv : (a b : Name) → Threw a ≡ Threw b → a ≡ b
 threw_inv a b e = cc
 
 -- the class of the object with which a thread ended
-abbrev class_at : World → ℕ → Name
+abbrev pub class_at : World → ℕ → Name
 class_at world exception = option_map_or class_name_in (slice_get world.heap exception) []
 
 -- a thread that has thrown
-record Thrown (status : ThreadStatus) (world : World) (class : Name) : Type 0 where
-  exception : ℕ
-  status_is : status ≡ state.Ended (Some exception)
-  class_is : class_at world exception ≡ class
+pub record Thrown (status : ThreadStatus) (world : World) (class : Name) : Type 0 where
+  pub exception : ℕ
+  pub status_is : status ≡ state.Ended (Some exception)
+  pub class_is : class_at world exception ≡ class
 
 module _ (files : Program) (frames : ℕ) (s : State) where
-  thrown_of : (t : ℕ) (status : ThreadStatus) (class : Name) → thread_end files frames s t status ≡ Threw class
+  pub thrown_of : (t : ℕ) (status : ThreadStatus) (class : Name) → thread_end files frames s t status ≡ Threw class
       → Thrown status s.world class
   thrown_of t state.Running class e =
       let held = held_end files s.world t (slice_index_or s.stacks t []) in
@@ -109,7 +109,7 @@ module _ (files : Program) (frames : ℕ) (s : State) where
   thrown_of t (state.Ended (Some exception)) class e =
       record { exception = exception; status_is = refl; class_is = threw_inv (class_at s.world exception) class e }
 
-  end_at : (k : ℕ) (threads : List Thread) (i : ℕ) (x : ThreadEnd) → slice_get (ends_from files frames s k threads) i ≡ Some x
+  pub end_at : (k : ℕ) (threads : List Thread) (i : ℕ) (x : ThreadEnd) → slice_get (ends_from files frames s k threads) i ≡ Some x
       → (thread : Thread) × ((slice_get threads i ≡ Some thread) × (thread_end files frames s (k + i) thread.status ≡ x))
   end_at k [] i x e = absurd cc
   end_at k (thread ∷ threads) zero x e =
@@ -120,7 +120,7 @@ module _ (files : Program) (frames : ℕ) (s : State) where
       let more : suc k + i ≡ k + suc i = omega arith in
       (r.0, (r.1.0, subst (λ n. thread_end files frames s n (r.0).status ≡ x) more r.1.1))
 
-  at_end : (k : ℕ) (threads : List Thread) (i : ℕ) (thread : Thread) → slice_get threads i ≡ Some thread
+  pub at_end : (k : ℕ) (threads : List Thread) (i : ℕ) (thread : Thread) → slice_get threads i ≡ Some thread
       → slice_get (ends_from files frames s k threads) i ≡ Some (thread_end files frames s (k + i) thread.status)
   at_end k [] i thread e = absurd cc
   at_end k (first ∷ threads) zero thread e =

@@ -21,7 +21,7 @@ use Rattle.run_laws.proofs.typed_runs.Threads.{get_set_at}
 use Rattle.search_laws.specs.Alone.{passing, next_event, IsAlone, HaveSameWords}
 use Rattle.search_laws.specs.KeptStates.{IsReached}
 use Rattle.search_laws.specs.Moves.{HasMoved, Called, Returned, IsMove, AreMovesAlone}
-use Rattle.search_laws.specs.OwnEvents.{IsFreeOf}
+use Rattle.search_laws.specs.OwnEvents.{IsOwnEvent}
 use Rattle.search_laws.specs.OwnSteps.{asks, if_left, is_ready, own_outcome, own_meant, own_at, own_in, own_stack, next_own}
 use Rattle.search_laws.proofs.ClassesKept.{all}
 use Rattle.search_laws.proofs.Events.{IsDone, done_of}
@@ -38,7 +38,7 @@ get_front (z ∷ zs) ys (suc k) x e = get_front zs ys k x e
 
 module _ (frame : Frame) (below : StackOf Value) where
   -- neither a call nor a return leaves as many entries
-  as_many : {X : Type 0} (after : StackOf Value) → length after ≡ suc (length below) → HasMoved frame below after → X
+  pub as_many : {X : Type 0} (after : StackOf Value) → length after ≡ suc (length below) → HasMoved frame below after → X
   as_many after e (Called callee rest is none deep) = let many = ap length is in absurd (omega (arith, e, deep, many))
   as_many after e (Returned entry rest is none deep) = let many = ap length is in absurd (omega (arith, e, deep, many))
 
@@ -210,9 +210,8 @@ module _ (files : Program) (frames t : ℕ) (world : World) (frame : Frame) (bel
 
 -- ---- the event of the thread
 
-module _ (files : List (List ℕ)) (trees : Program) (accepted : IsAccepted files trees) (frames : ℕ) (conflict : State → ℕ → ℕ → Bool)
-    (state next : State) (reached : IsReached trees frames state) (t : ℕ) (m : IsMove state t next) (free : IsFreeOf trees frames conflict state t)
-    (e : step trees frames state (next_event t) ≡ Some next) where
+module _ (files : List (List ℕ)) (trees : Program) (accepted : IsAccepted files trees) (frames : ℕ) (state next : State) (reached : IsReached trees frames state)
+    (t : ℕ) (m : IsMove state t next) (e : step trees frames state (next_event t) ≡ Some next) where
   abbrev d : IsDone trees frames state (next_event t) next
   d = done_of trees frames state (next_event t) next e
 
@@ -243,12 +242,14 @@ module _ (files : List (List ℕ)) (trees : Program) (accepted : IsAccepted file
       ∙ (ap (option_and_then (own_stack all trees frames t state.world)) m.there
       ∙ by_body trees frames t state.world m.frame m.below d.cost d.left moved (body_of trees m.frame.method) came))
 
-  alone : IsAlone trees frames (passing conflict) (HaveSameWords trees) state t next
-  alone =
-      let o = own_steps_own files trees accepted frames state (reached_typed files trees accepted frames state reached) t d.left.stack all is_own in
-      let a = own_events_alone files trees accepted frames conflict state reached t d.left.stack all (all_written trees frames state t) o free in
-      subst (λ z. IsAlone trees frames (passing conflict) (HaveSameWords trees) state t z) (same_Some (with_stack state t d.left.stack) next (sym a.0.goes ∙ e)) a.0
+  -- it is the thread's own
+  pub move_own : IsOwnEvent trees frames all state t m.after
+  move_own =
+      own_steps_own files trees accepted frames state (reached_typed files trees accepted frames state reached) t m.after all
+      (is_own ∙ ap (λ (s : StackOf Value). Some s) after_is)
 
 pub moves_alone : AreMovesAlone
 moves_alone files trees accepted frames conflict state next reached t m free e =
-    alone files trees accepted frames conflict state next reached t m free e
+    let o = move_own files trees accepted frames state next reached t m e in
+    let a = own_events_alone files trees accepted frames conflict state reached t m.after all (all_written trees frames state t) o free in
+    subst (λ z. IsAlone trees frames (passing conflict) (HaveSameWords trees) state t z) (same_Some (with_stack state t m.after) next (sym a.0.goes ∙ e)) a.0

@@ -24,18 +24,19 @@ use Rattle.run_laws.proofs.interleavings.Commuting.{local_is_own, left_alone}
 use Rattle.run_laws.proofs.interleavings.Own.{next_of, of_next, own_unpicked}
 use Rattle.run_laws.proofs.interleavings.Reduction.{opened, run_typed}
 use Rattle.run_laws.proofs.typed_runs.Threads.{get_set_other}
-use Rattle.search_laws.specs.Alone.{passing, next_event, AreOfOthers, IsAlone, AreAlone, HaveSameWords}
-use Rattle.search_laws.specs.KeptStates.{Graph, IsFollowed as IsKeptBehind}
+use Rattle.search_laws.specs.Alone.{passing, next_event, AreOfOthers, IsAlone, HaveSameWords}
+use Rattle.search_laws.specs.KeptStates.{Graph, IsReached, IsFollowed as IsKeptBehind}
 use Rattle.search_laws.specs.OwnEvents.{StandsAs, IsOwnEvent, IsFreeOf, AreOwnEventsAlone, AreLocalEventsOwn, no_conflict, graph_of, AreSearchesWhole}
 use Rattle.search_laws.specs.Preemptions.{LeavesEnabled}
+use Rattle.search_laws.specs.Schedules.{ArePassed, AreLocalFree}
 use Rattle.search_laws.specs.Verdicts.{IsWholeSearch, AreListed}
 use Rattle.search_laws.specs.Writes.{Variables, WritesAtMost, AreWritesOfOthers}
 use Rattle.search_laws.proofs.Events.{does, done_of, changed}
-use Rattle.search_laws.proofs.ClassesKept.{all, variables_next, statics_next, AreClassesHeld, ready_next, held_next, opened_held, reached_held}
+use Rattle.search_laws.proofs.ClassesKept.{all, variables_next, statics_next, AreClassesHeld, ready_next, held_next, reached_held}
 use Rattle.search_laws.proofs.Variables.{keeps_same, keeps_on}
 use Rattle.search_laws.proofs.Runs.{made_of, first_of, begun}
 use Rattle.search_laws.proofs.SameWords.{answer_of, typed}
-use Rattle.search_laws.proofs.Verdicts.{outcome_met, reached_typed}
+use Rattle.search_laws.proofs.Verdicts.{outcome_met, reached_next, reached_typed}
 
 -- ---- a stack beside that of the thread that moves
 
@@ -211,25 +212,28 @@ module _ (files : List (List ℕ)) (trees : Program) (accepted : IsAccepted file
 
   -- ---- a search past local events
 
-  abbrev pub Chain : List ℕ → State → State → Type 0
-  Chain = AreAlone trees frames (passing no_conflict) (HaveSameWords trees)
+  module _ (conflict : State → ℕ → ℕ → Bool) (free : AreLocalFree trees frames conflict) where
+    pub record LocalChain (threads : List ℕ) (state last : State) : Type 0 where
+      pub are_alone : ArePassed trees frames conflict threads state last
+      pub typed_last : IsWellTyped trees last
 
-  pub record LocalChain (threads : List ℕ) (state last : State) : Type 0 where
-    pub are_alone : Chain threads state last
-    pub typed_last : IsWellTyped trees last
+    pub local_chain : (threads : List ℕ) (state last : State) → IsReached trees frames state → AreLocal trees threads state last
+        → LocalChain threads state last
+    local_chain [] state last r l = record { are_alone = l; typed_last = subst (IsWellTyped trees) l (reached_typed files trees accepted frames state r) }
+    local_chain (t ∷ threads) state last r l =
+        let h = reached_typed files trees accepted frames state r in
+        let held = reached_held trees frames state r in
+        let o = local_own all state h t l.0 l.1 in
+        let first = with_stack state t l.0 in
+        let goes = o.goes state h (left_alone_self all state t) in
+        let rest = local_chain threads first last (reached_next files trees accepted frames state first (next_event t) r goes) l.2 in
+        record {
+          are_alone = (first, (own_alone all state t l.0 o conflict h held (all_written trees frames state t) (free state r t l.0 l.1), rest.are_alone));
+          typed_last = rest.typed_last;
+        }
 
-  pub local_chain : (threads : List ℕ) (state last : State) → IsWellTyped trees state → AreClassesHeld state → AreLocal trees threads state last
-      → LocalChain threads state last
-  local_chain [] state last h held l = record { are_alone = l; typed_last = subst (IsWellTyped trees) l h }
-  local_chain (t ∷ threads) state last h held l =
-      let o = local_own all state h t l.0 l.1 in
-      let first = with_stack state t l.0 in
-      let goes = o.goes state h (left_alone_self all state t) in
-      let rest = local_chain threads first last (typed files trees accepted frames state first (next_event t) h goes) (held_next trees frames state first (next_event t) goes held) l.2 in
-      record {
-        are_alone = (first, (own_alone all state t l.0 o no_conflict h held (all_written trees frames state t) (λ others later are r u c. absurd (false≢true c)), rest.are_alone));
-        typed_last = rest.typed_last;
-      }
+  none_free : AreLocalFree trees frames no_conflict
+  none_free state r t own e others later are q u c = absurd (false≢true c)
 
   module _ (schedules : List (List Event)) (outcomes : List Outcome) (w : IsWhole trees frames schedules outcomes) where
     abbrev graph : Graph
@@ -238,9 +242,9 @@ module _ (files : List (List ℕ)) (trees : Program) (accepted : IsAccepted file
     abbrev Followed : State → ℕ → Type 0
     Followed = IsKeptBehind trees frames (passing no_conflict) (HaveSameWords trees) graph
 
-    followed : (state : State) → IsWellTyped trees state → AreClassesHeld state → IsFollowed trees frames schedules state → (node : ℕ) × Followed state node
-    followed state h held f =
-        let c = local_chain f.threads state f.last h held f.are_local in
+    followed : (state : State) → IsReached trees frames state → IsFollowed trees frames schedules state → (node : ℕ) × Followed state node
+    followed state r f =
+        let c = local_chain no_conflict none_free f.threads state f.last r f.are_local in
         let m = f.is_met in
         let met_typed = run_typed files trees accepted frames m.schedule (opening values trees) m.met (opened files trees accepted frames) m.leads in (
           m.has.0,
@@ -261,7 +265,7 @@ module _ (files : List (List ℕ)) (trees : Program) (accepted : IsAccepted file
 
     whole : IsWholeSearch files trees frames no_conflict graph
     whole =
-        let start = followed (opening values trees) (opened files trees accepted frames) (opened_held trees) w.opened in
+        let start = followed (opening values trees) ([], refl) w.opened in
         record {
           search = record {
             accepted = accepted;
@@ -274,8 +278,8 @@ module _ (files : List (List ℕ)) (trees : Program) (accepted : IsAccepted file
           };
           expanded = λ node state next event is e.
               let s = schedule_of node state is in
-              let h = run_typed files trees accepted frames s.0 (opening values trees) state (opened files trees accepted frames) s.1.1 in
-              let f = followed next (typed files trees accepted frames state next event h e) (held_next trees frames state next event e (reached_held trees frames state (s.0, s.1.1))) (w.closed s.0 state next event (node, s.1.0) s.1.1 e) in
+              let r = reached_next files trees accepted frames state next event (s.0, s.1.1) e in
+              let f = followed next r (w.closed s.0 state next event (node, s.1.0) s.1.1 e) in
               (f.0, (refl, f.1));
         }
 

@@ -26,10 +26,9 @@ use Rattle.run_laws.proofs.typed_runs.Settled.{thread_there}
 use Rattle.run_laws.proofs.typed_runs.Threads.{get_set_at}
 use Rattle.run_laws.proofs.laws.Operations.{OfMeaning}
 use Rattle.monitor_laws.specs.owners.Owners.{is_meant, entered_in, monitor_operand, meant_by, meant_with, meant_at, meant_in, meant_running, meant_before, meant, AreOwnersKeptBy}
-use Rattle.search_laws.specs.Alone.{passing, next_event, IsAlone, HaveSameWords}
+use Rattle.search_laws.specs.Alone.{next_event}
 use Rattle.search_laws.specs.KeptStates.{IsReached}
 use Rattle.search_laws.specs.OwnedMonitors.{IsAt, IsToUse, Exits, Enters, Returns}
-use Rattle.search_laws.specs.OwnEvents.{IsFreeOf}
 use Rattle.search_laws.specs.Releases.{IsRelease, AreReleasesAlone}
 use Rattle.search_laws.proofs.Events.{IsDone, done_of}
 use Rattle.search_laws.proofs.Leaving.{thread_set, Told, IsTold, all_told}
@@ -137,9 +136,8 @@ module _ (files : Program) (frames t : ℕ) (state : State) (thread : Thread) (i
 
 -- ---- the event of the thread
 
-module _ (owners : AreOwnersKeptBy values) (files : List (List ℕ)) (trees : Program) (accepted : IsAccepted files trees) (frames : ℕ) (conflict : State → ℕ → ℕ → Bool)
-    (state next : State) (reached : IsReached trees frames state) (t r : ℕ) (m : IsRelease state t r next) (free : IsFreeOf trees frames conflict state t)
-    (e : step trees frames state (next_event t) ≡ Some next) where
+module _ (owners : AreOwnersKeptBy values) (files : List (List ℕ)) (trees : Program) (accepted : IsAccepted files trees) (frames : ℕ)
+    (state next : State) (reached : IsReached trees frames state) (t r : ℕ) (m : IsRelease state t r next) (e : step trees frames state (next_event t) ≡ Some next) where
   abbrev d : IsDone trees frames state (next_event t) next
   d = done_of trees frames state (next_event t) next e
 
@@ -301,11 +299,11 @@ module _ (owners : AreOwnersKeptBy values) (files : List (List ℕ)) (trees : Pr
   by_body None b c q = not_some r q
   by_body (Some body) b c q = by_site body b (site_at m.frame.method body m.frame.place.offset) refl c q
 
-  alone : IsAlone trees frames (passing conflict) (HaveSameWords trees) state t next
-  alone =
-      owned_monitors_alone files trees accepted frames conflict state next reached t r m.owned
-      (by_body (body_of trees m.frame.method) refl came meant_running_is) free e
+  -- so the event is one on the monitor that is left
+  pub to_use : IsToUse trees state t r
+  to_use = by_body (body_of trees m.frame.method) refl came meant_running_is
 
 pub releases_alone : AreOwnersKeptBy values → AreReleasesAlone
 releases_alone owners files trees accepted frames conflict state next reached t r m free e =
-    alone owners files trees accepted frames conflict state next reached t r m free e
+    owned_monitors_alone files trees accepted frames conflict state next reached t r m.owned
+    (to_use owners files trees accepted frames state next reached t r m e) free e

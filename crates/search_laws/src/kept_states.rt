@@ -25,10 +25,11 @@
 //!   endless state has a kept state from which no edges lead to a quiet one (`endless_states_are_trapped`).
 //! - A search that goes past local events, as `searches` of `run_laws` has it, is such a search, and lists the outcomes
 //!   of its quiet states (`searches_past_local_events_are_whole`).
-//! - A search may keep schedules, tell states apart by their words, and go past events that are alone, whatever they
-//!   access: where each event from where a schedule led is followed so to where one of them led, the outcomes of those
-//!   that end are those of all runs that end (`schedules_are_complete`). Local events are such
-//!   (`local_events_are_passed`).
+//! - A search may keep schedules, tell states apart by their words, and go past events that are alone, with any test
+//!   for the conflict that words tell. Where each event from where a schedule led is followed so to where one of them
+//!   led, it is such a search, of the states to which its schedules lead (`searches_by_schedules_are_whole`). So the
+//!   outcomes of those that end are those of all runs that end (`schedules_are_complete`). Local events are passed so,
+//!   if those of states of runs are in no conflict, whatever the others do first (`local_events_are_passed`).
 //!
 //! # Not proved
 //!
@@ -37,7 +38,7 @@
 
 ghost use Rattle.search_laws.specs.Ends.{AreExceptionsMet, AreStuckMet};
 ghost use Rattle.search_laws.specs.OwnEvents.{AreSearchesWhole};
-ghost use Rattle.search_laws.specs.Schedules.{AreSchedulesComplete, AreLocalPassed};
+ghost use Rattle.search_laws.specs.Schedules.{AreSchedulesComplete, AreSchedulesWhole, AreLocalPassed};
 ghost use Rattle.search_laws.specs.Verdicts.{AreAllFollowed, AreConflictsMet, AreEndlessTrapped, AreOutcomesMet, AreRunsFollowed, AreTrapsEndless, IsLastingMet};
 ghost use Rattle.search_laws.specs.Waits.{AreCirclesForEver, AreCirclesMet, AreWaitersHeldBack};
 
@@ -106,12 +107,18 @@ pub fn searches_past_local_events_are_whole()
     ensures holds { AreSearchesWhole }
 {}
 
+/// A search that keeps schedules, and goes past events that are alone, is whole, and lists the outcomes of its quiet
+/// states.
+pub fn searches_by_schedules_are_whole()
+    ensures holds { AreSchedulesWhole }
+{}
+
 /// A search that keeps schedules, and goes past events that are alone, lists the outcomes of all runs that end.
 pub fn schedules_are_complete()
     ensures holds { AreSchedulesComplete }
 {}
 
-/// Local events are alone, whatever they access.
+/// Local events are alone, if those of states of runs are in no conflict.
 pub fn local_events_are_passed()
     ensures holds { AreLocalPassed }
 {}

@@ -6,8 +6,9 @@ ghost use Rattle.engines.specs.Devices.{IsUnable};
 ghost use Rattle.engines.specs.Failures.{FolderMayFail, TellsFailure, TellsFailures};
 
 use crate::commands::outcome_files::try_outcomes;
-use crate::commands::searches::{wanted_by, wanted_for};
+use crate::commands::searches::goal_by;
 use crate::commands::storing::try_record;
+use crate::commands::wanted_outcomes::{wanted_by, wanted_for};
 use crate::explanation::Explanation;
 use crate::fault::Fault;
 use crate::named_file::schedule_source;
@@ -99,7 +100,8 @@ fn check_search<F: Folder>(
     ensures told { (n : ℕ) → TellsFailures (FolderMayFail F.may_fail) result n n }
 {
     check_record(alloc, folder, &options.record, explanation)?;
-    check_goal(alloc, folder, &options.goal)
+    let _ = goal_by(alloc, folder, &options.goal)?;
+    Ok(())
 }
 
 fn check_shrink<F: Folder>(

@@ -17,6 +17,7 @@ mod searches;
 mod seed_sweeps;
 mod shrinks;
 mod storing;
+mod wanted_outcomes;
 
 pub(crate) use before_files::unread;
 pub(crate) use event_traces::trace;

@@ -9,7 +9,7 @@ ghost use Rattle.engines.specs.Files.{known};
 ghost use Rattle.engines.specs.Sweeps.{IsUnswept, SweepsOver};
 
 use crate::commands::outcome_files::{store_outcomes, try_outcomes};
-use crate::commands::searches::wanted_by;
+use crate::commands::wanted_outcomes::wanted_by;
 use crate::deadline::{Deadline, Until};
 use crate::explanation::Explanation;
 use crate::fault::Fault;

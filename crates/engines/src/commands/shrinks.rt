@@ -32,8 +32,8 @@ ghost use Rattle.engines.specs.Recordings.{conditions_of};
 ghost use Rattle.engines.specs.Shrinks.{IsShrinkDone, IsShrinkUndone, IsShrunkBy, IsShrunkOf, IsUnshrunk};
 ghost use Rattle.engines.specs.Shrinks.{Shrinks, shrunk_text, tries_of};
 
-use crate::commands::searches::wanted_for;
 use crate::commands::storing::{recorded, try_record};
+use crate::commands::wanted_outcomes::wanted_for;
 use crate::explanation::Explanation;
 use crate::fault::Fault;
 use crate::named_file::{schedule_source, sources};

@@ -1,23 +1,21 @@
 -- Events that are in no race, whatever the other threads do first.
 use Rattle.std.specs.Prelude.{◌≡◌, ℕ, List, Some}
-use Rattle.model.specs.declared.value.Value.{Value}
 use Rattle.model.specs.Accepted.{IsAccepted}
 use Rattle.model.specs.Classes.{Program}
-use Rattle.model.specs.State.{StackOf, State}
+use Rattle.model.specs.State.{State}
 use Rattle.model.specs.Step.{step}
-use Rattle.run_laws.specs.interleavings.Local.{next_local}
 use Rattle.search_laws.specs.Alone.{next_event}
 use Rattle.search_laws.specs.KeptStates.{IsReached}
 use Rattle.search_laws.specs.Moves.{IsMove}
 use Rattle.search_laws.specs.OwnEvents.{IsFreeOf}
 use Rattle.search_laws.specs.Releases.{IsRelease}
+use Rattle.search_laws.specs.Schedules.{AreLocalFree}
 use Rattle.racing_threads.specs.Racing.{are_racing}
 
 -- a local event
 abbrev pub AreLocalEventsFree : Type 0
 AreLocalEventsFree =
-    (files : List (List ℕ)) (trees : Program) → IsAccepted files trees → (frames : ℕ) (state : State) → IsReached trees frames state
-    → (t : ℕ) (own : StackOf Value) → next_local trees state t ≡ Some own → IsFreeOf trees frames (are_racing trees frames) state t
+    (files : List (List ℕ)) (trees : Program) → IsAccepted files trees → (frames : ℕ) → AreLocalFree trees frames (are_racing trees frames)
 
 -- a call or a return that enters and leaves no monitor
 abbrev pub AreMovesFree : Type 0

@@ -1,7 +1,8 @@
 -- What is answered where a search has found a run.
-use Rattle.std.proofs.Common.{◌≡◌, List, ◌++◌, Some, Result, Ok, Err, sym, ap, subst, ◌∙◌}
-use Rattle.std.specs.Prelude.{IfOk}
+use Rattle.std.proofs.Common.{◌≡◌, List, [], ◌++◌, Some, Result, Ok, Err, sym, ap, subst, ◌∙◌}
+use Rattle.std.specs.Prelude.{IfOk, IsTrue, IsFalse}
 use Rattle.std.proofs.lemmas.List.{append-nil}
+use Rattle.std.proofs.lemmas.Option.{same_Some}
 use Rattle.model.specs.declared.end.End.{End}
 use Rattle.model.specs.declared.end.End.TheVariants as ends
 use Rattle.model.specs.declared.event.Event.{Event}
@@ -11,6 +12,8 @@ use Rattle.model.specs.declared.report.Report.{Report}
 use Rattle.model.specs.Classes.{Program}
 use Rattle.model.specs.LimitStands.{bounds_of}
 use Rattle.model.specs.Meaning.{meaning}
+use Rattle.model.specs.Run.{run, is_quiet}
+use Rattle.model.specs.State.{State}
 use Rattle.machine.specs.machine_replay.Replays.{IsReplay, EndFits, text_of}
 use Rattle.search.specs.declared.searching.Verdict.{Verdict}
 use Rattle.search.specs.declared.searching.Verdict.TheVariants as verdict
@@ -18,15 +21,35 @@ use Rattle.search.specs.declared.search_reports.answers.Answer.{Answer}
 use Rattle.search.specs.search_reports.Answers.{IsReportOf, IsAnswerTo}
 
 -- the report of a replay to whose end all events were done
-pub reported : (trees : Program) (events : List Event) (limits : Limits) (r : Report) (end : End) → IsReplay trees events limits r end
-    → end ≡ ends.Quiet → IsReportOf trees limits.frames events r
-reported trees events limits r end replay is =
-    let fits : EndFits trees (bounds_of limits) replay.state replay.front replay.left ends.Quiet = subst (EndFits trees (bounds_of limits) replay.state replay.front replay.left) is replay.ended in
-    let all : replay.front ≡ events = sym (replay.events_are ∙ (ap (λ l. replay.front ++ l) fits.0 ∙ append-nil replay.front)) in
-    let means : meaning trees limits.frames replay.front ends.Quiet ≡ Some (text_of r ends.Quiet) =
-    subst (λ e. meaning trees limits.frames replay.front e ≡ Some (text_of r e)) is replay.means
-    in
-    subst (λ l. meaning trees limits.frames l ends.Quiet ≡ Some (text_of r ends.Quiet)) all means
+module _ (trees : Program) (events : List Event) (limits : Limits) (r : Report) (end : End) (replay : IsReplay trees events limits r end) where
+  module _ (so : End) (is : end ≡ so) (none : replay.left ≡ []) where
+    all : replay.front ≡ events
+    all = sym (replay.events_are ∙ (ap (λ l. replay.front ++ l) none ∙ append-nil replay.front))
+
+    means : meaning trees limits.frames events so ≡ Some (text_of r so)
+    means = subst (λ l. meaning trees limits.frames l so ≡ Some (text_of r so)) all (subst (λ e. meaning trees limits.frames replay.front e ≡ Some (text_of r e)) is replay.means)
+
+    state_is : (state : State) → run trees limits.frames events ≡ Some state → replay.state ≡ state
+    state_is state reached = same_Some replay.state state (sym replay.reached ∙ (ap (run trees limits.frames) all ∙ reached))
+
+  fits : (so : End) → end ≡ so → EndFits trees (bounds_of limits) replay.state replay.front replay.left so
+  fits so is = subst (EndFits trees (bounds_of limits) replay.state replay.front replay.left) is replay.ended
+
+  pub quiet_reported : end ≡ ends.Quiet → IsReportOf trees limits.frames events ends.Quiet r
+  quiet_reported is =
+      let fit = fits ends.Quiet is in
+      record {
+        means = means ends.Quiet is fit.0;
+        ends = λ state reached. subst (λ s. IsTrue (is_quiet trees limits.frames s)) (state_is ends.Quiet is fit.0 state reached) fit.1;
+      }
+
+  pub moving_reported : end ≡ ends.Schedule → IsReportOf trees limits.frames events ends.Schedule r
+  moving_reported is =
+      let fit = fits ends.Schedule is in
+      record {
+        means = means ends.Schedule is fit.0;
+        ends = λ state reached. subst (λ s. IsFalse (is_quiet trees limits.frames s)) (state_is ends.Schedule is fit.0 state reached) fit.1;
+      }
 
 -- where there was memory for it
 pub answered_if : (trees : Program) (limits : Limits) (v : Verdict) (schedule : List ScheduleEntry) → v ≡ verdict.Found schedule

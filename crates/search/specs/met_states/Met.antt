@@ -1,24 +1,28 @@
 -- When a search has met the state to which an event leads on from a schedule (own).
 use Rattle.std.specs.Prelude.{◌≡◌, ◌≤◌, ℕ, List, [], ◌∷◌, ◌++◌, length, Some, IsTrue, IsFalse}
 use Rattle.model.specs.declared.event.Event.{Event}
+use Rattle.model.specs.Accepted.{IsAccepted}
 use Rattle.model.specs.Classes.{Program}
 use Rattle.model.specs.LimitStands.{Bounds}
 use Rattle.model.specs.Run.{run, is_quiet}
 use Rattle.model.specs.State.{State}
 use Rattle.model.specs.Step.{step, is_enabled}
 use Rattle.run_laws.specs.interleavings.Ends.{Has, Outcome, outcome_of, EndsWith}
+use Rattle.racing_threads.specs.Racing.{are_racing}
 use Rattle.search_laws.specs.Schedules.{IsFollowed, IsWhole}
 use Rattle.linked_code.specs.declared.program.LinkedProgram.{LinkedProgram}
 use Rattle.machine_state.specs.declared.state.Shared.{Shared}
 use Rattle.machine_state.specs.same_states.Same.{AreAlike}
 use Rattle.machine_state.specs.shown_runs.Runs.{HasRun}
 use Rattle.alone_events.specs.Alone.{AreAloneAfter}
+use Rattle.search.specs.declared.kinds.Kind.{Kind}
+use Rattle.search.specs.Kinds.{Shows, IsShown}
 
--- where the event leads on from where the first events led, one of the schedules has met the state, or one to which events that are alone
--- lead from there
+-- where the event leads on from where the first events led, one of the schedules has met the state, or one to which events that are alone,
+-- and in no race, lead from there
 abbrev pub IsNextMet : (trees : Program) (frames : ℕ) (schedules : List (List Event)) (events : List Event) → Event → Type 0
 IsNextMet trees frames schedules events event =
-    (state next : State) → run trees frames events ≡ Some state → step trees frames state event ≡ Some next → IsFollowed trees frames schedules next
+    (state next : State) → run trees frames events ≡ Some state → step trees frames state event ≡ Some next → IsFollowed trees frames (are_racing trees frames) schedules next
 
 -- ---- one event
 
@@ -81,4 +85,21 @@ pub record HasMetAll (trees : Program) (frames : ℕ) (schedules : List (List Ev
 abbrev pub AreSearchesWhole : Type 0
 AreSearchesWhole =
     (trees : Program) (frames : ℕ) (schedules : List (List Event)) (outcomes : List Outcome)
-    → HasMetAll trees frames schedules outcomes → IsWhole trees frames schedules outcomes
+    → HasMetAll trees frames schedules outcomes → IsWhole trees frames (are_racing trees frames) schedules outcomes
+
+-- ---- kinds of states
+
+-- one of the schedules leads to a state of the kind
+pub record IsKindMet (trees : Program) (frames : ℕ) (schedules : List (List Event)) (kind : Kind) : Type 0 where
+  pub schedule : List Event
+  pub has : Has schedules schedule
+  pub state : State
+  pub reached : run trees frames schedule ≡ Some state
+  pub shows : Shows trees frames kind state
+
+-- where a whole search has some run that comes to one
+abbrev pub AreKindsMet : Type 0
+AreKindsMet =
+    (files : List (List ℕ)) (trees : Program) → IsAccepted files trees → (frames : ℕ) (schedules : List (List Event)) (outcomes : List Outcome)
+    → IsWhole trees frames (are_racing trees frames) schedules outcomes → (kind : Kind) → IsShown trees frames kind
+    → IsKindMet trees frames schedules kind

@@ -1,5 +1,5 @@
 -- The text of what a search answers (own).
-use Rattle.std.specs.Prelude.{◌≡◌, ℕ, suc, pos, List, [], ◌∷◌, ◌++◌, length, map, codes, refl}
+use Rattle.std.specs.Prelude.{◌≡◌, ℕ, suc, pos, List, [], ◌∷◌, ◌++◌, Bool, false, length, map, codes, refl}
 use Rattle.std.specs.Fmt.{digits}
 use Rattle.std.specs.Char.{encode_utf8}
 use Rattle.std.specs.Char.Utf16.{utf16_chars}
@@ -7,6 +7,7 @@ use Rattle.model.specs.declared.end.End.TheVariants as ends
 use Rattle.model.specs.Texts.{number_line, printed_lines}
 use Rattle.model.specs.Report.{Ended, end_state_of, number, line, thread_lines, report_text}
 use Rattle.run_laws.specs.interleavings.Ends.{Outcome}
+use Rattle.search.specs.declared.kinds.Kinds.{Kinds}
 use Rattle.search.specs.declared.search_reports.answers.Answer.{Answer}
 use Rattle.search.specs.declared.search_reports.answers.Answer.TheVariants as answer
 
@@ -23,41 +24,70 @@ abbrev pub outcome_texts : ℕ → List Outcome → List ℕ
 outcome_texts i [] = []
 outcome_texts i (o ∷ others) = outcome_text i o ++ outcome_texts (suc i) others
 
--- where an outcome was wanted the report of its run, else all outcomes
+-- a line, where it is told
+abbrev pub line_if : Bool → List ℕ → List ℕ
+line_if Bool.true text = line text
+line_if false text = []
+
+-- a line for each kind that is told
+abbrev pub kind_lines : Kinds → List ℕ
+kind_lines kinds =
+    line_if kinds.race (codes "kind race") ++ (line_if kinds.uncaught (codes "kind uncaught") ++ line_if kinds.deadlock (codes "kind deadlock"))
+
+-- where a run was found its report, else all outcomes and kinds
 abbrev pub found_text : Answer → List ℕ
-found_text (answer.Found schedule r) = report_text r.printed.items (map end_state_of r.threads.items) r.events ends.Quiet
-found_text (answer.Complete outcomes) = outcome_texts 1 outcomes ++ line (codes "outcomes " ++ number (length outcomes))
+found_text (answer.Found schedule r end) = report_text r.printed.items (map end_state_of r.threads.items) r.events end
+found_text (answer.Complete outcomes kinds) = outcome_texts 1 outcomes ++ (line (codes "outcomes " ++ number (length outcomes)) ++ kind_lines kinds)
 found_text answer.GaveUp = []
 
 abbrev pub answer_word : Answer → List ℕ
-answer_word (answer.Found schedule r) = codes "found"
-answer_word (answer.Complete outcomes) = codes "complete"
+answer_word (answer.Found schedule r end) = codes "found"
+answer_word (answer.Complete outcomes kinds) = codes "complete"
 answer_word answer.GaveUp = codes "gave up"
 
--- of which runs a complete answer tells: what never ends has no outcome
-abbrev pub scope_text : Answer → List ℕ
-scope_text (answer.Found schedule r) = []
-scope_text (answer.Complete outcomes) = line (codes "of runs that end")
-scope_text answer.GaveUp = []
+-- that no run has a data race (JLS 17.4.5), where none has
+abbrev pub race_line : (race own_edges : Bool) → List ℕ
+race_line Bool.true own_edges = []
+race_line false Bool.true = line (codes "no data race, by edges of this machine's own")
+race_line false false = line (codes "no data race: correctly synchronized")
+
+-- of which runs the outcomes of a complete answer are, as what never ends has none; and whether a run has a data race
+abbrev pub scope_text : Answer → (own_edges : Bool) → List ℕ
+scope_text (answer.Found schedule r end) own_edges = []
+scope_text (answer.Complete outcomes kinds) own_edges = line (codes "of runs that end") ++ race_line kinds.race own_edges
+scope_text answer.GaveUp own_edges = []
 
 -- that, how many states were met, of which runs it is told, and what the answer is
-abbrev pub search_text : Answer → ℕ → List ℕ
-search_text a states = found_text a ++ (line (codes "states " ++ number states) ++ (scope_text a ++ line (codes "search " ++ answer_word a)))
+abbrev pub search_text : Answer → (own_edges : Bool) → ℕ → List ℕ
+search_text a own_edges states =
+    found_text a ++ (line (codes "states " ++ number states) ++ (scope_text a own_edges ++ line (codes "search " ++ answer_word a)))
 
 -- ---- examples
+
+no_kinds : Kinds
+no_kinds = record { race = false; uncaught = false; deadlock = false }
+
+two_kinds : Kinds
+two_kinds = record { race = Bool.true; uncaught = false; deadlock = Bool.true }
 
 two_ended : ℕ → Outcome
 two_ended n = record { printed = number_line (pos n); ends = Ended ∷ Ended ∷ [] }
 
-lists_both : search_text (answer.Complete (two_ended 1 ∷ two_ended 2 ∷ [])) 40
-    ≡ codes "outcome 1\n1\nthread 0 ended\nthread 1 ended\noutcome 2\n2\nthread 0 ended\nthread 1 ended\noutcomes 2\nstates 40\nof runs that end\nsearch complete\n"
-unfolding digits two_ended utf16_chars encode_utf8
+lists_both : search_text (answer.Complete (two_ended 1 ∷ two_ended 2 ∷ []) two_kinds) false 40
+    ≡ codes "outcome 1\n1\nthread 0 ended\nthread 1 ended\noutcome 2\n2\nthread 0 ended\nthread 1 ended\noutcomes 2\nkind race\nkind deadlock\nstates 40\nof runs that end\nsearch complete\n"
+unfolding digits two_ended two_kinds utf16_chars encode_utf8
 lists_both = refl
 
-lists_none : search_text (answer.Complete []) 3 ≡ codes "outcomes 0\nstates 3\nof runs that end\nsearch complete\n"
-unfolding digits
+lists_none : search_text (answer.Complete [] no_kinds) false 3
+    ≡ codes "outcomes 0\nstates 3\nof runs that end\nno data race: correctly synchronized\nsearch complete\n"
+unfolding digits no_kinds
 lists_none = refl
 
-gives_up : search_text answer.GaveUp 1000 ≡ codes "states 1000\nsearch gave up\n"
+by_own_edges : search_text (answer.Complete [] no_kinds) Bool.true 3
+    ≡ codes "outcomes 0\nstates 3\nof runs that end\nno data race, by edges of this machine's own\nsearch complete\n"
+unfolding digits no_kinds
+by_own_edges = refl
+
+gives_up : search_text answer.GaveUp false 1000 ≡ codes "states 1000\nsearch gave up\n"
 unfolding digits
 gives_up = refl

@@ -19,3 +19,4 @@ mod wanted;
 pub use outcomes::{Outcome, Outcomes};
 pub use printed::printed_lines;
 pub use wanted::Wanted;
+pub(crate) use wanted::any_is_stuck;

@@ -42,7 +42,8 @@ fn has_thrown(thread: &EndState) -> bool
     matches!(thread, EndState::Threw(_))
 }
 
-fn any_is_stuck(threads: &[EndState]) -> bool
+/// Whether a thread waits for ever.
+pub(crate) fn any_is_stuck(threads: &[EndState]) -> bool
     ensures { result ≡ list_any (λ thread. spec.is_stuck (end_state_of thread)) threads.now }
 {
     threads.iter().any(is_stuck)

@@ -1,8 +1,9 @@
 //! The text of what a search answers.
 
 ghost use Rattle.std.specs.Prelude.{◌≡◌, ◌++◌, IfOk, OnOk};
-ghost use Rattle.search.specs.search_reports.Reports.{answer_word, found_text, scope_text, search_text};
+ghost use Rattle.search.specs.search_reports.Reports.{answer_word, found_text, kind_lines, line_if, race_line, scope_text, search_text};
 
+use crate::kinds::Kinds;
 use crate::run_outcomes::Outcomes;
 use crate::search_reports::outcomes::push_outcomes;
 use model::{End, Report};
@@ -13,11 +14,12 @@ use std::alloc::{AllocError, Global};
 /// What a search answers.
 #[derive(Drop)]
 pub enum Answer {
-    /// A schedule of a run whose outcome is wanted, in as few entries as its events can have, and the report of the
-    /// run. No thread may go on where it ends.
-    Found(Schedule, Report),
-    /// The outcomes of all runs that end, none of which is wanted.
-    Complete(Outcomes),
+    /// A schedule of a run that ends with a wanted outcome, or comes to a state of a kind that is to be found, in as
+    /// few entries as its events can have; the report of the run; and its end: `Quiet`, or `Schedule` where a thread may
+    /// go on.
+    Found(Schedule, Report, End),
+    /// The outcomes of all runs that end, and the kinds of the states that any run comes to. None is to be found.
+    Complete(Outcomes, Kinds),
     /// Nothing.
     GaveUp,
 }
@@ -27,30 +29,72 @@ pub enum Answer {
 pub struct SearchReport {
     pub answer: Answer,
     pub states: u32,
+    /// Whether the classes name methods whose edges of happens-before are this machine's own.
+    pub own_edges: bool,
 }
 
-/// The report of a run, or outcomes.
+/// A line of a kind, where it is told.
+fn push_kind(text: &mut Vec<u8>, is_told: bool, line: &[u8]) -> Result<(), AllocError>
+    ensures { OnOk result (text.new.items ≡ text.old.items ++ line_if is_told line.now) }
+{
+    if is_told {
+        push_line(text, line)
+    } else {
+        Ok(())
+    }
+}
+
+/// A line for each kind that is told.
+fn push_kinds(text: &mut Vec<u8>, kinds: Kinds) -> Result<(), AllocError>
+    ensures { OnOk result (text.new.items ≡ text.old.items ++ kind_lines kinds) }
+{
+    push_kind(text, kinds.race, b"kind race")?;
+    push_kind(text, kinds.uncaught, b"kind uncaught")?;
+    push_kind(text, kinds.deadlock, b"kind deadlock")?;
+    Ok(())
+}
+
+/// The report of a run, or outcomes and kinds.
 fn push_found(alloc: Global, text: &mut Vec<u8>, answer: &Answer) -> Result<(), AllocError>
     ensures { OnOk result (text.new.items ≡ text.old.items ++ found_text answer.now) }
 {
     match answer {
-        Answer::Found(_, report) => {
-            let lines = schedule::report::text(alloc, report, &End::Quiet)?;
+        Answer::Found(_, report, end) => {
+            let lines = schedule::report::text(alloc, report, end)?;
             text.extend_from_slice(&lines)?;
             Ok(())
         }
-        Answer::Complete(outcomes) => push_outcomes(alloc, text, outcomes),
+        Answer::Complete(outcomes, kinds) => {
+            push_outcomes(alloc, text, outcomes)?;
+            push_kinds(text, *kinds)
+        }
         Answer::GaveUp => Ok(()),
     }
 }
 
-/// Of which runs a complete answer tells.
-fn push_scope(text: &mut Vec<u8>, answer: &Answer) -> Result<(), AllocError>
-    ensures { OnOk result (text.new.items ≡ text.old.items ++ scope_text answer.now) }
+/// That no run has a data race, where none has.
+fn push_races(text: &mut Vec<u8>, kinds: Kinds, own_edges: bool) -> Result<(), AllocError>
+    ensures { OnOk result (text.new.items ≡ text.old.items ++ race_line kinds.race own_edges) }
+{
+    if kinds.race {
+        Ok(())
+    } else if own_edges {
+        push_line(text, b"no data race, by edges of this machine's own")
+    } else {
+        push_line(text, b"no data race: correctly synchronized")
+    }
+}
+
+/// Of which runs the outcomes of a complete answer are, and whether a run has a data race.
+fn push_scope(text: &mut Vec<u8>, answer: &Answer, own_edges: bool) -> Result<(), AllocError>
+    ensures { OnOk result (text.new.items ≡ text.old.items ++ scope_text answer.now own_edges) }
 {
     match answer {
-        Answer::Complete(_) => push_line(text, b"of runs that end"),
-        Answer::Found(_, _) | Answer::GaveUp => Ok(()),
+        Answer::Complete(_, kinds) => {
+            push_line(text, b"of runs that end")?;
+            push_races(text, *kinds, own_edges)
+        }
+        Answer::Found(_, _, _) | Answer::GaveUp => Ok(()),
     }
 }
 
@@ -60,28 +104,29 @@ impl Answer {
         ensures { result.now ≡ answer_word self.now }
     {
         match self {
-            Answer::Found(_, _) => "found",
-            Answer::Complete(_) => "complete",
+            Answer::Found(_, _, _) => "found",
+            Answer::Complete(_, _) => "complete",
             Answer::GaveUp => "gave up",
         }
     }
 }
 
 impl SearchReport {
-    /// The text of what a search answers. Where a wanted outcome was found it is the text of the run's report. Where
-    /// all outcomes are known, it is a line `outcome` with a number for each of them, from 1 on, behind it the
-    /// printed text and the threads as a report has them, and behind these a line `outcomes` with their number.
-    /// Then come a line `states` with their number; where all outcomes are known, a line `of runs that end`; and a
-    /// line `search` with `found`, `complete` or `gave up`. Each line ends with a line feed. The only error is a want
-    /// of memory.
+    /// The text of what a search answers. Where a run was found it is the text of the run's report. Where all outcomes
+    /// are known, it is a line `outcome` with a number for each of them, from 1 on, behind it the printed text and
+    /// the threads as a report has them, behind these a line `outcomes` with their number, and a line `kind` for each
+    /// kind that some run shows, in the order `race`, `uncaught`, `deadlock`. Then come a line `states` with their
+    /// number; where all outcomes are known, a line `of runs that end`, and one that there is no data race, if there is
+    /// none; and a line `search` with `found`, `complete` or `gave up`. Outcomes are of runs that end, kinds of all.
+    /// Each line ends with a line feed. The only error is a want of memory.
     pub fn text(&self, alloc: Global) -> Result<Vec<u8>, AllocError>
-        ensures { IfOk result (λ v. v.items ≡ search_text self.now.answer self.now.states) }
+        ensures { IfOk result (λ v. v.items ≡ search_text self.now.answer self.now.own_edges self.now.states) }
     {
         let states = self.states;
         let mut text = Vec::new(alloc);
         push_found(alloc, &mut text, &self.answer)?;
         push_line(&mut text, format!(in alloc; "states {states}")?.as_bytes())?;
-        push_scope(&mut text, &self.answer)?;
+        push_scope(&mut text, &self.answer, self.own_edges)?;
         let word = self.answer.word();
         push_line(&mut text, format!(in alloc; "search {word}")?.as_bytes())?;
         Ok(text)

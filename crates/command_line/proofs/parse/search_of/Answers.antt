@@ -34,9 +34,9 @@ returns-in_err-program-clause-none c =
     handed_on c.from_residual-in_err-program.result c.in_err-program.field-0.0 _ _ c.from_residual-in_err-program.ensures.1 c.in_err-program.ensures.none
     (no_search (rows_of (found_of c.args.matches.now)))
 
-pub returns-in_err-check_goal-clause-none : goal.returns-in_err-check_goal-clause-none
-returns-in_err-check_goal-clause-none c =
-    handed_on c.from_residual-in_err-check_goal.result c.in_err-check_goal.field-0.0 _ _ c.from_residual-in_err-check_goal.ensures.1 c.in_err-check_goal.ensures.none
+pub returns-in_err-check_search_goal-clause-none : goal.returns-in_err-check_search_goal-clause-none
+returns-in_err-check_search_goal-clause-none c =
+    handed_on c.from_residual-in_err-check_search_goal.result c.in_err-check_search_goal.field-0.0 _ _ c.from_residual-in_err-check_search_goal.ensures.1 c.in_err-check_search_goal.ensures.none
     (λ none search are. none (goal_apart (first_of (codes "record") (rows_of (found_of c.args.matches.now))) (first_of (codes "for") (rows_of (found_of c.args.matches.now)))
     c.in_ok-goal.goal search.goal c.in_ok-goal.ensures.goal are.goal are.other_text))
 
@@ -53,7 +53,7 @@ returns-clause-values c =
       limits = program.values.limits;
       main = program.values.main;
       files = program.values.files;
-      other_text = c.in_ok-check_goal.ensures.apart;
+      other_text = c.in_ok-check_search_goal.ensures.apart;
       other_files = program.other_files;
       explain = program.values.explain;
       quiet = program.values.quiet;

@@ -7,4 +7,4 @@ pub returns-in-Found : goal.returns-in-Found
 returns-in-Found c =
     let recording = recorded_as c.args.limits c.args.form (map vec_items c.args.files.now) in
     rw c.in-Found.is
-    (file_of_found vec_items recording c.args.is_recorded c.in-Found.schedule c.in-Found.field-1 c.recorded_file.result c.recorded_file.ensures.asked c.recorded_file.ensures.spelled)
+    (file_of_found vec_items recording c.args.is_recorded c.in-Found.schedule c.in-Found.field-1 c.in-Found.field-2 c.recorded_file.result c.recorded_file.ensures.asked c.recorded_file.ensures.spelled)

@@ -1,9 +1,11 @@
-use Rattle.std.proofs.Common.{arith, map, sym, subst, vec_items, ◌∙◌, ◌≤◌}
+use Rattle.std.proofs.Common.{ap, arith, map, sym, subst, vec_items, ◌∙◌, ◌≤◌}
 use Rattle.std.specs.Arc.{arc_value}
 use Rattle.std.proofs.lemmas.List.{length-map}
 use Rattle.model.specs.Classes.{Program}
 use Rattle.machine.specs.Machines.{IsProgramOf}
+use Rattle.search.specs.OwnEdges.{names_own_edges}
 use Rattle.search.specs.search_reports.Answers.{Answers}
+use Rattle.search.specs.search_reports.Reports.{search_text}
 use Rattle.std.specs.Option.{option_map}
 use Rattle.engines.specs.RecordForms.{record_form, recorded_as}
 use Rattle.engines.specs.Searches.{IsFileOf}
@@ -12,7 +14,7 @@ use Rattle.engines.proofs.searching.search_of.Goals as goal
 
 pub search_report-requires : goal.search_report-requires
 search_report-requires g c =
-    subst (λ (t : Program). IsProgramOf t (arc_value c.in_ok-program.program)) (sym (c.set-classes.ensures.same ∙ c.linked.ensures.same)) c.in_ok-program.ensures
+    subst (λ (t : Program). IsProgramOf t (arc_value c.in_ok-program.program)) (sym c.linked-linked.ensures.same) c.in_ok-program.ensures
 
 pub found_file-requires : goal.found_file-requires
 found_file-requires g c = omega (arith, few_files (map vec_items c.args.files.now) c.args.verified.now c.requires, length-map c.args.files.now vec_items)
@@ -21,7 +23,7 @@ pub returns : goal.returns
 returns g c =
     let found = c.in_ok-searched.searched in
     let most = c.most_states-most.ensures in
-    let answers = subst (λ (t : Program). Answers t c.limits-limits.result c.args.wanted.now (g.P.Progress.may_stop c.args.progress.now) c.most_states-most.result found.states found.answer) (c.set-classes.ensures.same ∙ c.linked.ensures.same) c.in_ok-searched.ensures.answers in
+    let answers = subst (λ (t : Program). Answers t c.limits-limits.result c.args.goal.now (g.P.Progress.may_stop c.args.progress.now) c.most_states-most.result found.states found.answer) c.linked-linked.ensures.same c.in_ok-searched.ensures.answers in
     record {
       trees = c.args.verified.now;
       accepted = c.requires;
@@ -29,9 +31,11 @@ returns g c =
       chosen = c.limits-limits.ensures;
       answer = found.answer;
       states = found.states;
-      answers = subst (λ m. Answers c.args.verified.now c.limits-limits.result c.args.wanted.now (g.P.Progress.may_stop c.args.progress.now) m found.states found.answer) most answers;
+      answers = subst (λ m. Answers c.args.verified.now c.limits-limits.result c.args.goal.now (g.P.Progress.may_stop c.args.progress.now) m found.states found.answer) most answers;
       few = subst (λ m. 1 ≤ m → found.states ≤ m) most c.in_ok-searched.ensures.few;
-      told = c.in_ok-text.ensures;
+      told =
+          c.in_ok-text.ensures
+          ∙ ap (λ own_edges. search_text found.answer own_edges found.states) (c.in_ok-searched.ensures.own_edges ∙ ap names_own_edges c.linked-linked.ensures.same);
       spelled = subst (λ recorded. IsFileOf (recorded_as c.limits-limits.result (record_form c.args.given c.args.options.now.as_version) (map vec_items c.args.files.now)) recorded found.answer (option_map vec_items c.in_ok-file.file)) c.is_some-is_recorded.ensures c.in_ok-file.ensures;
       ended = c.of_search-status.ensures;
     }

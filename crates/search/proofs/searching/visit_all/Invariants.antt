@@ -4,5 +4,5 @@ use Rattle.search.proofs.searching.visit_all.Given as goal
 
 abbrev pub invariant-states : goal.invariant-states
 invariant-states g l =
-    HasVisited l.classes l.fn.walk.states.limits l.wanted l.walk.states l.outcomes l.number
-    × (1 ≤ l.most → length l.walk.states.schedules ≤ l.most)
+    HasVisited l.asked.linked.now l.fn.walk.states.limits l.asked.goal.now l.walk.states l.seen l.number
+    × (1 ≤ l.asked.most → length l.walk.states.schedules ≤ l.asked.most)

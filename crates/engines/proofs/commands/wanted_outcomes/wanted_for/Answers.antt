@@ -1,0 +1,17 @@
+use Rattle.std.proofs.Common.{Some, string_bytes, subst, sym}
+use Rattle.std.proofs.lemmas.Result.{IfOk-weaker}
+use Rattle.engines.specs.Goals.{IsAskedFor, IsPrinted, IsPrintedOther}
+use Rattle.engines.proofs.commands.wanted_outcomes.wanted_for.Goals as goal
+
+pub returns-in_ok-printed-in-Output-clause-asked : goal.returns-in_ok-printed-in-Output-clause-asked
+returns-in_ok-printed-in-Output-clause-asked g c =
+    let want = c.in_ok-printed-in-Output.field-0 in
+    subst (λ goal. IsAskedFor (g.F.Folder.held c.args.folder.now) (Some goal) want) (sym c.in-Output.is)
+    (subst (λ numbers. IsPrinted numbers want) c.as_slice.ensures.value c.in_ok-printed-in-Output.ensures)
+
+pub returns-in-Differs-clause-asked : goal.returns-in-Differs-clause-asked
+returns-in-Differs-clause-asked g c =
+    let held = g.F.Folder.held c.args.folder.now in
+    IfOk-weaker c.printed_other.result _ _
+    (λ want other. subst (λ goal. IsAskedFor held (Some goal) want) (sym c.in-Differs.is) (subst (λ path. IsPrintedOther held path want) c.as_str.ensures.value other))
+    c.printed_other.ensures.other

@@ -1,0 +1,4 @@
+pub mod Parts
+pub mod Stepping
+pub mod Passing
+pub mod Meant

@@ -1,0 +1,299 @@
+-- What is told of a thread is what its next event reads or writes.
+use Rattle.std.proofs.Common.{◌≡◌, refl, sym, ap, subst, ◌∙◌, ℕ, zero, suc, List, [], ◌∷◌, map, Bool, true, false, if◌then◌else◌, Option, Some, None}
+use Rattle.std.specs.Prelude.{IsFalse, ◌&&◌, ◌⊎◌, slice_get}
+use Rattle.std.specs.Option.{option_map, option_map_or, option_and_then, option_to_list}
+use Rattle.std.proofs.Common.{inl, inr}
+use Rattle.std.proofs.lemmas.Option.{same_Some}
+use Rattle.model.specs.declared.value.Value.{Value}
+use Rattle.model.specs.declared.instr.FieldAccess.{FieldAccess}
+use Rattle.model.specs.declared.instr.Instr.{Instr}
+use Rattle.model.specs.declared.instr.Instr.TheVariants as instr
+use Rattle.model.specs.Names.{Member}
+use Rattle.model.specs.Pool.{field_at}
+use Rattle.model.specs.Instruction.{Sized, sized_at, instr_at}
+use Rattle.model.specs.Classes.{Program, Body, body_of}
+use Rattle.model.specs.Lookup.{find_field}
+use Rattle.model.specs.LimitStands.{Bounds}
+use Rattle.model.specs.Operands.{Slots, values, word_of}
+use Rattle.model.specs.State as state
+use Rattle.model.specs.State.{types_of, StackOf, World, State}
+use Rattle.model.specs.Worlds.{thread_at}
+use Rattle.model.specs.Sites.{MeaningOf, Site, site_with}
+use Rattle.model.specs.Meanings.{meaning_of}
+use Rattle.model.specs.Step.{ops_of, stepped}
+use Rattle.model.specs.Words.{map_frame, map_stack, map_world, words_of}
+use Rattle.run_laws.specs.laws.Steps.{is_wrong}
+use Rattle.run_laws.specs.soundness.Runs.{IsNoEventWrong}
+use Rattle.run_laws.specs.word_operands.Receivers.{Receiver, receiver_of, IsReceived, AreReceived}
+use Rattle.linked_code.specs.declared.program.LinkedProgram.{LinkedProgram}
+use Rattle.linked_code.specs.Numbers.{IsMethodAt}
+use Rattle.thread_stacks.specs.Stacks.{ShownFrame, ShownEntry, Invocation, IsTopFrame}
+use Rattle.heap.specs.java_threads.Table.{thread_at as shown_thread}
+use Rattle.machine_state.specs.declared.state.Shared.{Shared}
+use Rattle.machine_state.specs.Shown.{IsProgram}
+use Rattle.machine_state.specs.shown_stacks.Shown.{ShowsFrame, offset_at}
+use Rattle.machine_state.specs.linked_frames.Frames.{AreTopsShown}
+use Rattle.machine_state.specs.state_events.Whole.{ShowsStacks}
+use Rattle.race_places.specs.declared.run_actions.Action.{Action}
+use Rattle.race_places.specs.named_actions.Names.{named_action}
+use Rattle.data_races.specs.Actions as named
+use Rattle.data_races.specs.EventActions.{Instruction, Rule, Does, Begins, Initialises, Relocks, Other, only_if, is_done, goes_on, outcome_at, operands_of, access_by, rule_by, rule_of, accesses_of}
+use Rattle.thread_rules.specs.declared.next_rules.NextRule.{NextRule}
+use Rattle.thread_rules.specs.declared.next_rules.NextRule.TheVariants as rule
+use Rattle.thread_rules.specs.next_rules.Rules.{IsRule}
+use Rattle.thread_rules.specs.next_rules.Meant.{IsAtInstruction, MeansRule, AreRulesMeant}
+use Rattle.field_names.specs.declared.named_fields.NamedField.{NamedField}
+use Rattle.field_names.specs.named_fields.Fields.{IsFieldIf, NamesField, field_named, field_referred, reference_in, names_of}
+use Rattle.next_accesses.specs.read_operands.Reads.{ReadsAt, AreOperandsRead}
+use Rattle.next_accesses.specs.accesses.Accesses.{IsFieldOf, IsRightIf, IsAccess, TellsAccess}
+use Rattle.next_accesses.specs.access_tables.Tables.{IsInstructionAt, IsFieldNamed}
+use Rattle.next_accesses.specs.access_conditions.Conditions.{GoesOn}
+use Rattle.next_accesses.specs.next_access.Next.{IsReached, accesses_next, AreAccesses, TellsNext, TellsStack, TellsFrame}
+use Rattle.next_accesses.proofs.next_access.Stepping.{found, accesses_seen, none_named, none_of_rule}
+use Rattle.next_accesses.proofs.next_access.Passing.{Passes, PassesIf, Given, passes_at}
+
+-- ---- at an instruction
+
+module _ (wrong : IsNoEventWrong) (receives : AreReceived) (reads : AreOperandsRead) (tops : AreTopsShown) (trees : Program) (p : LinkedProgram)
+    (shared : Shared) (t : ℕ) (frame : ShownFrame) (bounds : Bounds) (state : State) (r : IsReached trees p bounds shared state) (stack : List ShownEntry)
+    (at : IsAtInstruction trees p bounds r.inflated t shared stack state) (top : at.runs.shown ≡ frame) where
+  abbrev instruction : Instruction
+  instruction = at.instruction
+
+  abbrev site : Site
+  site = instruction.site
+
+  abbrev body : Body
+  body = at.stands.body
+
+  abbrev offset : ℕ
+  offset = at.stands.frame.place.offset
+
+  shows : ShowsFrame trees p at.runs.shown (map_frame word_of at.stands.frame)
+  shows = (tops trees p bounds r.inflated t shared stack (words_of state) (map_frame word_of at.stands.frame) at.rest at.code site at.meaning at.linked at.runs).top
+
+  operands_are : map word_of instruction.slots.stack ≡ frame.operands
+  operands_are = ap (λ (s : Slots Value). map word_of s.stack) at.stands.slots ∙ shows.operands ∙ ap (λ (f : ShownFrame). f.operands) top
+
+  numbered : IsMethodAt trees frame.method at.stands.frame.method
+  numbered = subst (λ (f : ShownFrame). IsMethodAt trees f.method at.stands.frame.method) top shows.method
+
+  offset_is : offset ≡ offset_at p frame.method frame.place
+  offset_is = shows.offset ∙ ap (λ (f : ShownFrame). offset_at p f.method f.place) top
+
+  instr_of : (o : Option Sized) → option_map (site_with at.stands.frame.method body offset) o ≡ Some site → option_map (λ (s : Sized). s.0) o ≡ Some site.instr
+  instr_of None e = absurd cc
+  instr_of (Some sized) e = ap (λ (s : Site). Some s.instr) (same_Some (site_with at.stands.frame.method body offset sized) site e)
+
+  -- it is the one that is looked up
+  pub instr_is : (told : Option Instr) (place : ℕ) → place ≡ offset_at p frame.method frame.place → IsInstructionAt trees frame.method place told → told ≡ Some site.instr
+  instr_is told place e h =
+      h at.stands.frame.method body numbered at.stands.has_body
+      ∙ ap (λ (n : ℕ). instr_at body.code.code n) (e ∙ sym offset_is)
+      ∙ instr_of (sized_at body.code.code offset) at.stands.at
+
+  field_of : (told : Option NamedField) (i : Instr) → instr_at body.code.code offset ≡ Some i → NamesField trees frame.method offset told
+      → (how : FieldAccess) (index : ℕ) → i ≡ instr.Field how index → IsFieldIf trees (option_and_then (find_field trees) (field_at body.pool index)) told
+  field_of told i e h how index is =
+      subst (λ (o : Option Member). IsFieldIf trees (option_and_then (find_field trees) o) told) (ap (option_and_then (reference_in body)) (e ∙ ap (λ (x : Instr). Some x) is))
+      (h at.stands.frame.method body numbered at.stands.has_body)
+
+  body_is : site.body ≡ body
+  body_is = by (sized_at body.code.code offset) at.stands.at
+    where
+      by : (o : Option Sized) → option_map (site_with at.stands.frame.method body offset) o ≡ Some site → site.body ≡ body
+      by None e = absurd cc
+      by (Some sized) e = ap (λ (s : Site). s.body) (sym (same_Some (site_with at.stands.frame.method body offset sized) site e))
+
+  -- and so is its field
+  named_so : (told : Option NamedField) (i : Instr) → site.instr ≡ i → IsFieldNamed trees frame.method offset i told → IsFieldOf trees site i told
+  named_so told (instr.Field how index) e h =
+      subst (λ (b : Body). IsFieldIf trees (option_and_then (find_field trees) (field_at b.pool index)) told) (sym body_is)
+      (field_of told (instr.Field how index) (instr_of (sized_at body.code.code offset) at.stands.at ∙ ap (λ (x : Instr). Some x) e) h how index refl)
+  named_so told _ e h = tt
+
+  right : IsFalse (is_wrong (stepped values trees bounds.frames state (record { thread = t; pick = 0 })))
+  right = wrong r.files trees r.accepted bounds.frames r.events state (record { thread = t; pick = 0 }) r.reached
+
+  finds : values.finds trees (types_of state.world.heap) instruction.meaning.wants body.code.max_stack instruction.slots ≡ true
+  finds =
+      subst (λ (s : Slots Value). values.finds trees (types_of state.world.heap) instruction.meaning.wants body.code.max_stack s ≡ true) (sym at.stands.slots)
+      (found trees bounds.frames state t instruction at.stands right)
+
+  found_there : values.finds trees (types_of state.world.heap) instruction.meaning.wants body.code.max_stack at.stands.frame.place.slots ≡ true
+  found_there = found trees bounds.frames state t instruction at.stands right
+
+  abbrev accesses : List named.Action
+  accesses = access_by trees site (operands_of instruction) site.instr
+
+  abbrev does_so : Bool
+  does_so = is_done t state.world instruction && goes_on (outcome_at (record { thread = t; pick = 0 }) state.world instruction)
+
+  module _ (field : Option NamedField) (told : Bool) (goes : GoesOn p shared t frame.operands site.instr field told) (of_field : IsFieldOf trees site site.instr field) where
+    read : ReadsAt (operands_of instruction) (map word_of instruction.slots.stack) site.instr
+    read = reads trees at.stands.frame.method body offset site at.stands.at instruction.meaning at.stands.means state.world body.code.max_stack instruction.slots finds
+
+    received : (of : Receiver) → receiver_of trees site site.instr ≡ Some of → IsReceived (map_world word_of state.world).heap (map word_of instruction.slots.stack) of
+    received of e =
+        subst (λ (s : Slots Value). IsReceived (map_world word_of state.world).heap (map word_of s.stack) of) (sym at.stands.slots)
+        (receives r.program.files trees r.program.linkable (words_of state) r.shown.typed t (map_frame word_of at.stands.frame) at.runs.top body site of at.stands.has_body at.stands.at e)
+
+    passes : PassesIf trees p bounds shared state.world r.program r.shown.represents t body.code.max_stack instruction.slots field site instruction.meaning told
+    passes =
+        passes_at trees p bounds shared state.world r.program r.shown.represents t body.code.max_stack instruction.slots field at.stands.frame.method body offset
+        (sized_at body.code.code offset) site at.stands.at instruction.meaning at.stands.means told
+        (record {
+          goes = subst (λ (ns : List ℕ). GoesOn p shared t ns site.instr field told) (sym operands_are) goes;
+          reads = read;
+          of_field = of_field;
+          received = received;
+          finds = finds;
+        })
+
+    nothing : (b : Bool) → accesses ≡ [] → only_if b accesses ≡ []
+    nothing true e = e
+    nothing false e = refl
+
+    -- the accesses are those that it names, if it is told to go on
+    seen : PassesIf trees p bounds shared state.world r.program r.shown.represents t body.code.max_stack instruction.slots field site instruction.meaning told
+        → accesses_next trees bounds.frames state t ≡ only_if told accesses
+    seen (inl h) =
+        accesses_seen trees bounds.frames state t instruction at.stands at.is_rule found_there
+        (subst (λ (s : Slots Value). instruction.meaning.may (record { thread = t; pick = 0 }) state.world (ops_of values instruction.meaning s) ≡ true) at.stands.slots h.may)
+        ∙ sym h.is
+    seen (inr e) = none_named trees bounds.frames state t instruction at.stands at.is_rule e ∙ nothing does_so e ∙ sym (nothing told e)
+
+    abbrev told_if : Bool → Option Action → Option Action
+    told_if b access = if b then access else None
+
+    told_so : (b : Bool) (access : Option Action) → map (named_action (names_of trees)) (option_to_list access) ≡ accesses
+        → map (named_action (names_of trees)) (option_to_list (told_if b access)) ≡ only_if b accesses
+    told_so true access e = e
+    told_so false access e = refl
+
+    right_so : (b : Bool) (access : Option Action) → IsRightIf trees access → IsRightIf trees (told_if b access)
+    right_so true access h = h
+    right_so false access h = tt
+
+    pub tells : (access : Option Action) → TellsAccess frame.operands site.instr field access → AreAccesses trees bounds.frames state t (told_if told access)
+    tells access h =
+        let is = h trees site (operands_of instruction) of_field (subst (λ (ns : List ℕ). ReadsAt (operands_of instruction) ns site.instr) operands_are read) in
+        record { are = told_so told access is.are ∙ sym (seen passes); right = right_so told access is.right }
+
+    pub silent : told ≡ false → AreAccesses trees bounds.frames state t None
+    silent e = record { are = sym (seen passes ∙ ap (λ b. only_if b accesses) e); right = tt }
+
+  -- by the instruction that was looked up
+  pub frame_told : (place : ℕ) → place ≡ offset_at p frame.method frame.place → (i : Instr) → site.instr ≡ i → (field : Option NamedField)
+      → IsFieldNamed trees frame.method place i field → (told : Bool) → GoesOn p shared t frame.operands i field told → (access : Option Action)
+      → TellsAccess frame.operands i field access → AreAccesses trees bounds.frames state t (if told then access else None)
+  frame_told place e i is field names told goes access h =
+      let of_field : IsFieldOf trees site i field = named_so field i is (subst (λ (n : ℕ). IsFieldNamed trees frame.method n i field) (e ∙ sym offset_is) names) in
+      tells field told (subst (λ (x : Instr). GoesOn p shared t frame.operands x field told) (sym is) goes) (subst (λ (x : Instr). IsFieldOf trees site x field) (sym is) of_field)
+      access (subst (λ (x : Instr). TellsAccess frame.operands x field access) (sym is) h)
+
+  pub frame_silent : (place : ℕ) → place ≡ offset_at p frame.method frame.place → (i : Instr) → site.instr ≡ i → (field : Option NamedField)
+      → IsFieldNamed trees frame.method place i field → (told : Bool) → GoesOn p shared t frame.operands i field told → told ≡ false
+      → AreAccesses trees bounds.frames state t None
+  frame_silent place e i is field names told goes not_so =
+      let of_field : IsFieldOf trees site i field = named_so field i is (subst (λ (n : ℕ). IsFieldNamed trees frame.method n i field) (e ∙ sym offset_is) names) in
+      silent field told (subst (λ (x : Instr). GoesOn p shared t frame.operands x field told) (sym is) goes) (subst (λ (x : Instr). IsFieldOf trees site x field) (sym is) of_field) not_so
+
+-- ---- what a function tells of a frame
+
+module _ (wrong : IsNoEventWrong) (receives : AreReceived) (reads : AreOperandsRead) (tops : AreTopsShown) (trees : Program) (p : LinkedProgram)
+    (shared : Shared) (t : ℕ) (frame : ShownFrame) (place : ℕ) (place_is : place ≡ offset_at p frame.method frame.place) where
+  no_instruction : IsInstructionAt trees frame.method place None → TellsFrame trees p shared t frame None
+  no_instruction h bounds state r stack at top = absurd (differs _ (instr_is wrong receives reads tops trees p shared t frame bounds state r stack at top None place place_is h))
+    where
+      differs : (i : Instr) → None ≡ Some i → ⊥
+      differs i e = cc
+
+  pub no_instruction_told : IsInstructionAt trees frame.method place None → (told : Option Action) → told ≡ None → TellsFrame trees p shared t frame told
+  no_instruction_told h told e = subst (TellsFrame trees p shared t frame) (sym e) (no_instruction h)
+
+  module _ (i : Instr) (looked : IsInstructionAt trees frame.method place (Some i)) (field : Option NamedField) (names : IsFieldNamed trees frame.method place i field)
+      (told : Bool) (goes : GoesOn p shared t frame.operands i field told) where
+    told_with : (access : Option Action) → TellsAccess frame.operands i field access → TellsFrame trees p shared t frame (if told then access else None)
+    told_with access h bounds state r stack at top =
+        let is = same_Some _ _ (sym (instr_is wrong receives reads tops trees p shared t frame bounds state r stack at top (Some i) place place_is looked)) in
+        frame_told wrong receives reads tops trees p shared t frame bounds state r stack at top place place_is i is field names told goes access h
+
+    pub goes_told : (access : Option Action) → TellsAccess frame.operands i field access → told ≡ true → TellsFrame trees p shared t frame access
+    goes_told access h e = subst (λ b. TellsFrame trees p shared t frame (if b then access else None)) e (told_with access h)
+
+    pub stays_told : told ≡ false → TellsFrame trees p shared t frame None
+    stays_told e bounds state r stack at top =
+        let is = same_Some _ _ (sym (instr_is wrong receives reads tops trees p shared t frame bounds state r stack at top (Some i) place place_is looked)) in
+        frame_silent wrong receives reads tops trees p shared t frame bounds state r stack at top place place_is i is field names told goes e
+
+-- ---- by the rule of a thread
+
+-- the frame on top, where there is one
+top_is : (stack : List ShownEntry) (shown : ShownFrame) (others : List ShownEntry) → stack ≡ Invocation shown ∷ others → (found : Option ShownFrame)
+    → IsTopFrame stack found → found ≡ Some shown
+top_is stack shown others e found h = subst (λ (s : List ShownEntry). IsTopFrame s found) e h
+
+module _ (meant : AreRulesMeant) (trees : Program) (p : LinkedProgram) (shared : Shared) (t : ℕ) (stack : List ShownEntry) (told : NextRule)
+    (is : IsRule (shown_thread shared.threads.threads t) stack told) where
+  means : slice_get shared.stacks.items t ≡ Some stack → (bounds : Bounds) (state : State) → (r : IsReached trees p bounds shared state)
+      → MeansRule trees p bounds r.inflated t shared stack state told
+  means e bounds state r = meant trees p bounds r.inflated shared state r.program r.shown t stack e told is
+
+  -- at an instruction, in the frame on top
+  pub top_told : told ≡ rule.Bytecode → (frame : ShownFrame) → IsTopFrame stack (Some frame) → (access : Option Action)
+      → TellsFrame trees p shared t frame access → TellsStack trees p shared t stack access
+  top_told by frame top access h e bounds state r =
+      let at : IsAtInstruction trees p bounds r.inflated t shared stack state = subst (MeansRule trees p bounds r.inflated t shared stack state) by (means e bounds state r) in
+      h bounds state r stack at (sym (same_Some frame at.runs.shown (top_is stack at.runs.shown at.runs.others at.runs.is_stack (Some frame) top)))
+
+  pub no_top : told ≡ rule.Bytecode → IsTopFrame stack None → TellsStack trees p shared t stack None
+  no_top by top e bounds state r =
+      let at : IsAtInstruction trees p bounds r.inflated t shared stack state = subst (MeansRule trees p bounds r.inflated t shared stack state) by (means e bounds state r) in
+      absurd (differs at.runs.shown (top_is stack at.runs.shown at.runs.others at.runs.is_stack None top))
+    where
+      differs : (frame : ShownFrame) → None ≡ Some frame → ⊥
+      differs frame e = cc
+
+  none_at : (bounds : Bounds) (state : State) (m : Rule) → rule_of trees state t ≡ m → ((world : World) → accesses_of trees (record { thread = t; pick = 0 }) world m ≡ [])
+      → AreAccesses trees bounds.frames state t None
+  none_at bounds state m e none = record { are = sym (none_of_rule trees bounds.frames state t m e none); right = tt }
+
+  -- and else there is none
+  by_rule : (other : NextRule) → (other ≡ rule.Bytecode → ⊥) → (bounds : Bounds) (state : State) → (r : IsReached trees p bounds shared state)
+      → MeansRule trees p bounds r.inflated t shared stack state other → AreAccesses trees bounds.frames state t None
+  by_rule rule.NoEvent n bounds state r m = none_at bounds state Other m (λ world. refl)
+  by_rule (rule.Pending exception) n bounds state r m = none_at bounds state Other m (λ world. refl)
+  by_rule (rule.Relock object count why) n bounds state r m = none_at bounds state _ m (λ world. refl)
+  by_rule rule.Begin n bounds state r m = none_at bounds state Begins m (λ world. refl)
+  by_rule (rule.Initialisation number phase) n bounds state r m = none_at bounds state _ m.2 (λ world. refl)
+  by_rule rule.Bytecode n bounds state r m = absurd (n refl)
+
+  pub other_told : (told ≡ rule.Bytecode → ⊥) → TellsStack trees p shared t stack None
+  other_told n e bounds state r = by_rule told n bounds state r (means e bounds state r)
+
+-- ---- a thread that has no stack
+
+none_shown : (trees : Program) (p : LinkedProgram) (shown : List (List ShownEntry)) (stacks : List (StackOf ℕ)) → ShowsStacks trees p shown stacks → (k : ℕ)
+    → slice_get shown k ≡ None → slice_get stacks k ≡ None
+none_shown trees p [] [] h k e = refl
+none_shown trees p [] (stack ∷ stacks) h k e = absurd h
+none_shown trees p (top ∷ shown) [] h k e = absurd h
+none_shown trees p (top ∷ shown) (stack ∷ stacks) h zero e = absurd cc
+none_shown trees p (top ∷ shown) (stack ∷ stacks) h (suc k) e = none_shown trees p shown stacks h.1 k e
+
+none_mapped : {A B : Type 0} (f : A → B) (xs : List A) (k : ℕ) → slice_get (map f xs) k ≡ None → slice_get xs k ≡ None
+none_mapped f [] k e = refl
+none_mapped f (x ∷ xs) zero e = absurd cc
+none_mapped f (x ∷ xs) (suc k) e = none_mapped f xs k e
+
+pub no_stack : (trees : Program) (p : LinkedProgram) (shared : Shared) (t : ℕ) → slice_get shared.stacks.items t ≡ None → TellsNext trees p shared t None
+no_stack trees p shared t e bounds state r =
+    let none : slice_get state.stacks t ≡ None =
+    none_mapped (map_stack word_of) state.stacks t (none_shown trees p shared.stacks.items (words_of state).stacks r.shown.stacks t e)
+    in
+    record {
+      are = sym (none_of_rule trees bounds.frames state t Other
+          (ap (λ o. option_map_or (λ (stack : StackOf Value). rule_by trees (thread_at state.world t) stack (thread_at state.world t).status) o Other) none) (λ world. refl));
+      right = tt;
+    }

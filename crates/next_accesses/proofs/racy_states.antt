@@ -1,0 +1,5 @@
+pub mod Alike
+pub mod Places
+pub mod RaceAt
+pub mod Growing
+pub mod Kept

@@ -1,0 +1,5 @@
+pub mod Accessing
+pub mod Standing
+pub mod Locals
+pub mod Moves
+pub mod Releases

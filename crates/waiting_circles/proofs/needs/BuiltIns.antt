@@ -1,0 +1,118 @@
+-- The built-in methods: none but join waits, and join waits for the end of a thread that is alive.
+use Rattle.std.proofs.Common.{◌≡◌, ℕ, List, Option, Some, None, Bool, true, false, not, ◌&&◌, ◌||◌, if◌then◌else◌, length, refl, sym, ◌∙◌}
+use Rattle.std.specs.Prelude.{nat_lt, is_some}
+use Rattle.std.proofs.lemmas.Bool.{true≢false}
+use Rattle.model.specs.Names.{Member}
+use Rattle.model.specs.Classes.{Program, Body, body_of}
+use Rattle.model.specs.Operands.{Slots, words}
+use Rattle.model.specs.Outcomes.{OutcomeOf, Interrupts}
+use Rattle.model.specs.Sites.{Site}
+use Rattle.model.specs.State.{WorldOf}
+use Rattle.model.specs.Worlds.{is_owner, is_alive, thread_at, thread_of, waiters_of}
+use Rattle.model.specs.BuiltInMethods as built_in
+use Rattle.model.specs.BuiltInMethods.{BuiltInMethod, built_in_method, built_in_may, built_in_does, object_of, wait_by, if_owner, start_by, join_by}
+use Rattle.model.specs.Calls.{Chosen, Fails, Runs, may_run, runs, may_invoke, invoked}
+use Rattle.linked_code.specs.declared.method.BuiltInMethod as linked
+use Rattle.linked_code.specs.declared.method.BuiltInMethod.TheVariants as method
+use Rattle.linked_code.specs.Methods.{built_in_of}
+use Rattle.machine_state.specs.linked_frames.Frames.{event_of}
+use Rattle.waiting_circles.proofs.needs.Quick.{Stays}
+
+wait_stays : (b c : Bool) (t object : ℕ) (world : WorldOf ℕ) (rest : List ℕ) → Stays (wait_by b c t object world rest)
+wait_stays false c t object world rest = tt
+wait_stays true true t object world rest = tt
+wait_stays true false t object world rest = tt
+
+owner_stays : (b : Bool) (done : OutcomeOf ℕ) → Stays done → Stays (if_owner b done)
+owner_stays true done h = h
+owner_stays false done h = tt
+
+start_stays : (b : Bool) (next object : ℕ) (world : WorldOf ℕ) (slots : Slots ℕ) (rest : List ℕ)
+    → Stays (start_by b next object world slots rest)
+start_stays true next object world slots rest = tt
+start_stays false next object world slots rest = tt
+
+join_stays : (b : Bool) (next : ℕ) (world : WorldOf ℕ) (slots : Slots ℕ) (rest : List ℕ) → Stays (join_by b next world slots rest)
+join_stays true next world slots rest = tt
+join_stays false next world slots rest = tt
+
+-- a built-in method calls nothing
+pub built_in_stays : (of : BuiltInMethod) (next t : ℕ) (world : WorldOf ℕ) (slots : Slots ℕ) (ops rest : List ℕ)
+    → Stays (built_in_does words of next (event_of t) world slots ops rest)
+built_in_stays built_in.Construct next t world slots ops rest = tt
+built_in_stays built_in.ConstructWithTarget next t world slots ops rest = tt
+built_in_stays built_in.ObjectWait next t world slots ops rest = wait_stays (is_owner world t (object_of words ops 0)) (thread_at world t).interrupted t _ world rest
+built_in_stays built_in.ObjectNotify next t world slots ops rest = owner_stays (is_owner world t (object_of words ops 0)) _ tt
+built_in_stays built_in.ObjectNotifyAll next t world slots ops rest = owner_stays (is_owner world t (object_of words ops 0)) _ tt
+built_in_stays built_in.ThreadStart next t world slots ops rest = start_stays (is_some (thread_of world (object_of words ops 0))) next _ world slots rest
+built_in_stays built_in.ThreadInterrupt next t world slots ops rest = tt
+built_in_stays built_in.ThreadIsInterrupted next t world slots ops rest = tt
+built_in_stays built_in.ThreadInterrupted next t world slots ops rest = tt
+built_in_stays built_in.ThreadYield next t world slots ops rest = tt
+built_in_stays built_in.ThreadCurrentThread next t world slots ops rest = tt
+built_in_stays built_in.ThreadJoin next t world slots ops rest = join_stays (is_alive world (object_of words ops 0)) next world slots rest
+built_in_stays built_in.ThreadIsAlive next t world slots ops rest = tt
+built_in_stays built_in.PrintStreamPrintln next t world slots ops rest = tt
+
+-- where a member waits, the first may be picked; else nothing is
+notify_may : (owner : Bool) (n : ℕ) → (if owner && nat_lt 0 n then nat_lt 0 n else true) ≡ true
+notify_may false n = refl
+notify_may true n = by (nat_lt 0 n) refl
+  where
+    by : (b : Bool) → nat_lt 0 n ≡ b → (if b then nat_lt 0 n else true) ≡ true
+    by true e = e
+    by false e = refl
+
+-- any but join may be done by an event that picks nothing
+pub built_in_allowed : (called : linked.BuiltInMethod) → (called ≡ method.ThreadJoin → ⊥) → (t : ℕ) (world : WorldOf ℕ) (ops : List ℕ)
+    → built_in_may words (built_in_of called) (event_of t) world ops ≡ true
+built_in_allowed method.Construct n t world ops = refl
+built_in_allowed method.ConstructWithTarget n t world ops = refl
+built_in_allowed method.ObjectWait n t world ops = refl
+built_in_allowed method.ObjectNotify n t world ops = notify_may (is_owner world t (object_of words ops 0)) (length (waiters_of world (object_of words ops 0)))
+built_in_allowed method.ObjectNotifyAll n t world ops = refl
+built_in_allowed method.ThreadStart n t world ops = refl
+built_in_allowed method.ThreadInterrupt n t world ops = refl
+built_in_allowed method.ThreadIsInterrupted n t world ops = refl
+built_in_allowed method.ThreadInterrupted n t world ops = refl
+built_in_allowed method.ThreadYield n t world ops = refl
+built_in_allowed method.ThreadCurrentThread n t world ops = refl
+built_in_allowed method.ThreadJoin n t world ops = absurd (n refl)
+built_in_allowed method.ThreadIsAlive n t world ops = refl
+built_in_allowed method.PrintStreamPrintln n t world ops = refl
+
+-- a join that may not be done is one of a thread that is alive
+join_held : (alive interrupted : Bool) (next : ℕ) (world : WorldOf ℕ) (slots : Slots ℕ) (rest : List ℕ)
+    → (not alive || interrupted) ≡ false → join_by alive next world slots rest ≡ Interrupts
+join_held true interrupted next world slots rest h = refl
+join_held false interrupted next world slots rest h = absurd (true≢false h)
+
+-- so a built-in method that may not be done is a join, and would be interrupted
+held_by : (of : BuiltInMethod) (next t : ℕ) (world : WorldOf ℕ) (slots : Slots ℕ) (ops rest : List ℕ)
+    → built_in_may words of (event_of t) world ops ≡ false → built_in_does words of next (event_of t) world slots ops rest ≡ Interrupts
+held_by built_in.ThreadJoin next t world slots ops rest h = join_held (is_alive world (object_of words ops 0)) (thread_at world t).interrupted next world slots rest h
+held_by built_in.Construct next t world slots ops rest h = absurd (true≢false h)
+held_by built_in.ConstructWithTarget next t world slots ops rest h = absurd (true≢false h)
+held_by built_in.ObjectWait next t world slots ops rest h = absurd (true≢false h)
+held_by built_in.ObjectNotify next t world slots ops rest h = absurd (true≢false (sym (notify_may (is_owner world t (object_of words ops 0)) (length (waiters_of world (object_of words ops 0)))) ∙ h))
+held_by built_in.ObjectNotifyAll next t world slots ops rest h = absurd (true≢false h)
+held_by built_in.ThreadStart next t world slots ops rest h = absurd (true≢false h)
+held_by built_in.ThreadInterrupt next t world slots ops rest h = absurd (true≢false h)
+held_by built_in.ThreadIsInterrupted next t world slots ops rest h = absurd (true≢false h)
+held_by built_in.ThreadInterrupted next t world slots ops rest h = absurd (true≢false h)
+held_by built_in.ThreadYield next t world slots ops rest h = absurd (true≢false h)
+held_by built_in.ThreadCurrentThread next t world slots ops rest h = absurd (true≢false h)
+held_by built_in.ThreadIsAlive next t world slots ops rest h = absurd (true≢false h)
+held_by built_in.PrintStreamPrintln next t world slots ops rest h = absurd (true≢false h)
+
+module _ (trees : Program) (site : Site) (t : ℕ) (world : WorldOf ℕ) (slots : Slots ℕ) (ops rest : List ℕ) (object : ℕ) where
+  run_held : (m : Member) (body : Option Body) → may_run words (event_of t) world ops m body ≡ false
+      → runs words trees site (event_of t) world slots ops rest object m body ≡ Interrupts
+  run_held m None h = held_by (built_in_method m) site.next t world slots ops rest h
+  run_held m (Some body) h = absurd (true≢false h)
+
+  -- a call that may not be done would be interrupted
+  pub invocation_held : (chosen : Chosen) → may_invoke words trees (event_of t) world ops chosen ≡ false
+      → invoked words trees site (event_of t) world slots ops rest object chosen ≡ Interrupts
+  invocation_held (Fails fault) h = absurd (true≢false h)
+  invocation_held (Runs m) h = run_held m (body_of trees m) h

@@ -1,0 +1,4 @@
+pub mod Rounds
+pub mod Needs
+pub mod Holders
+pub mod Circles

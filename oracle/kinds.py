@@ -1,0 +1,159 @@
+"""Kinds of states that runs come to: data races, uncaught exceptions, deadlocks (JLS 11.3, 17.1, 17.4.1; JVMS 5.5).
+
+What the next event of a thread accesses, and who holds what it needs, is read off the state that is there.
+"""
+
+from typing import Any, Iterator, List, NamedTuple, Optional, Sequence, Set, Tuple
+
+from oracle.classes import Class, ClassReader
+from oracle.frames import Frame, short
+from oracle.machine import ELEMENTS, Machine
+from oracle.state import JavaThread, NotEnabled, Refused, component
+
+# The kinds, in the order in which they are told.
+KINDS = ["race", "uncaught", "deadlock"]
+
+VOLATILE = 0x0040
+
+GETSTATIC, PUTSTATIC, GETFIELD, PUTFIELD, AASTORE = 0xB2, 0xB3, 0xB4, 0xB5, 0x53
+
+# Methods of Thread by which threads see of each other what the JLS orders nothing by.
+OWN_EDGES = {("isAlive", "()Z"), ("interrupt", "()V"), ("isInterrupted", "()Z"), ("interrupted", "()Z")}
+
+
+class Access(NamedTuple):
+    """An access of an ordinary variable."""
+
+    variable: Tuple[object, ...]
+    is_write: bool
+
+
+# ---- races
+
+
+def of_element(machine: Machine, frame: Frame) -> Optional[Access]:
+    """The element that is loaded or stored, where that throws nothing."""
+    opcode, stack = frame.opcode(), frame.stack
+    is_write = opcode >= 0x4F
+    array, index, *rest = stack[-3:] if is_write else stack[-2:]
+    if array is None or not 0 <= index < len(array.elements):
+        return None
+    if opcode == AASTORE and rest[0] is not None and not machine.is_below(rest[0].kind, component(array.kind)):
+        return None
+    return Access((id(array), index), is_write)
+
+
+def is_ready(one: Class, thread: JavaThread) -> bool:
+    """Whether a thread may use the static fields of a class at once."""
+    return one.state == "initialised" or (one.state == "begun" and one.by is thread)
+
+
+def of_field(machine: Machine, thread: JavaThread, frame: Frame) -> Optional[Access]:
+    """The field that is read or written, where that throws nothing and begins no initialisation."""
+    opcode = frame.opcode()
+    name, field, descriptor = frame.method.owner.pool[short(frame, 1)][1]
+    one = machine.found_field(name, field, descriptor)
+    flags = next(declared[0] for declared in one.fields if declared[1:3] == (field, descriptor))
+    if flags & VOLATILE:
+        return None
+    if opcode in (GETSTATIC, PUTSTATIC):
+        is_there, of = is_ready(one, thread), 0
+    else:
+        this = frame.stack[-1 if opcode == GETFIELD else -2]
+        is_there, of = this is not None, id(this)
+    return Access((of, one.name, field, descriptor), opcode in (PUTSTATIC, PUTFIELD)) if is_there else None
+
+
+def access_of(machine: Machine, thread: JavaThread) -> Optional[Access]:
+    """What the next event of a thread accesses, where it accesses an ordinary variable."""
+    top = thread.top()
+    if thread.has_ended or thread.waits or thread.relock or thread.pending or not isinstance(top, Frame):
+        return None
+    if top.opcode() in ELEMENTS:
+        return of_element(machine, top)
+    if GETSTATIC <= top.opcode() <= PUTFIELD:
+        return of_field(machine, thread, top)
+    return None
+
+
+def is_racy(machine: Machine) -> bool:
+    """Whether two threads may each do an access next of one variable, one of them a write."""
+    found = [one for one in (access_of(machine, thread) for thread in machine.threads) if one is not None]
+    pairs = [(one, other) for at, one in enumerate(found) for other in found[at + 1 :]]
+    return any(one.variable == other.variable and (one.is_write or other.is_write) for one, other in pairs)
+
+
+# ---- deadlocks
+
+
+def waited_for(machine: Machine, thread: JavaThread) -> Optional[JavaThread]:
+    """Who holds the monitor, or initialises the class, without which a thread can't go on."""
+    try:
+        machine.planned(thread, 0)
+    except NotEnabled as why:
+        return why.holder
+    except Refused:
+        pass
+    return None
+
+
+def has_circle(machine: Machine) -> bool:
+    """Whether threads wait for each other in a circle."""
+    for first in machine.threads:
+        met: List[JavaThread] = []
+        thread: Optional[JavaThread] = first
+        while thread is not None and thread not in met:
+            met.append(thread)
+            thread = waited_for(machine, thread)
+        if thread is not None:
+            return True
+    return False
+
+
+def is_deadlocked(machine: Machine) -> bool:
+    """Whether no thread may go on and one hasn't ended, or threads wait in a circle."""
+    is_stuck = not machine.enabled() and not all(thread.has_ended for thread in machine.threads)
+    return is_stuck or has_circle(machine)
+
+
+# ---- all of them
+
+
+def kinds_of(machine: Machine) -> Set[str]:
+    """The kinds of the state of a machine."""
+    found = {
+        "race": is_racy(machine),
+        "uncaught": any(thread.has_ended and thread.pending for thread in machine.threads),
+        "deadlock": is_deadlocked(machine),
+    }
+    return {kind for kind, holds in found.items() if holds}
+
+
+def members_of(data: bytes) -> Iterator[Tuple[str, str, str]]:
+    """The methods that a class file names, as class, name and descriptor."""
+    pool = ClassReader(data).pool
+
+    def text(index: int) -> Any:
+        return pool[index][1]
+
+    for tag, value in pool.values():
+        if tag in (10, 11):
+            name, descriptor = pool[value[1]][1]
+            yield text(text(value[0])), text(name), text(descriptor)
+
+
+def names_own_edges(machine: Machine, files: Sequence[bytes]) -> bool:
+    """Whether class files name methods of Thread by which the JLS orders nothing."""
+    for data in files:
+        for name, method, descriptor in members_of(data):
+            if (method, descriptor) in OWN_EDGES and name[0] != "[":
+                if machine.found_method(name, method, descriptor).owner.name == "java/lang/Thread":
+                    return True
+    return False
+
+
+def race_line(machine: Machine, files: Sequence[bytes]) -> str:
+    """What is told where no state is a race."""
+    if names_own_edges(machine, files):
+        return "no data race, by edges of this machine's own"
+    return "no data race: correctly synchronized"
