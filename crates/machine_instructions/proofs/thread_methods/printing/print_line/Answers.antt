@@ -53,3 +53,6 @@ returns c = λ t trees p bounds inflated state frame rest offset is frames.
       limits = record { opening = limits.opening; objects = limits.objects; cells = limits.cells; monitors = limits.monitors; threads = limits.threads };
     })
     refl refl refl c.go_on.new.stack [] c.go_on.ensures
+
+pub push_line-requires : goal.push_line-requires
+push_line-requires c = c.take_room.ensures.room 12 c.in_ok-spare.ensures
