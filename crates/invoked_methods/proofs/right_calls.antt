@@ -1,0 +1,2 @@
+pub mod OnTop
+pub mod Receiving

@@ -1,0 +1,5 @@
+pub mod built_in_runs
+pub mod receivers
+pub mod right_calls
+pub mod runs
+pub mod sources
