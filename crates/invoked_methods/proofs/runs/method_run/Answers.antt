@@ -37,3 +37,39 @@ returns-in-None c =
     let at : method_at pool c.in-Invoke.index ≡ None = ap (λ (x : List Entry). method_at x c.in-Invoke.index) (sym c.file.ensures) ∙ sym c.in-None.ensures in
     subst (λ (i : Instr). RunsMethod files c.args.program.now c.args.heap.now.objects operands method.class pool i None) (sym c.in-Invoke.is)
     (invocation_unnamed files c.args.program.now c.args.heap.now.objects operands method.class pool c.in-Invoke.invocation c.in-Invoke.index at)
+
+pub returns-in-Some-interface_method_reference : goal.returns-in-Some-interface_method_reference
+returns-in-Some-interface_method_reference c =
+    let files = c.args.sources.now.hierarchy.now in
+    let operands = (shown_frame c.args.frame.now).operands in
+    let method = member_of c.args.method.now in
+    let pool = (body_of c.args.method.now).pool in
+    let index = c.in-InvokeInterface.index in
+    let named = reference_of c.in-Some-interface_method_reference.named in
+    let at : interface_method_at pool index ≡ Some named =
+    ap (λ (x : List Entry). interface_method_at x index) (sym c.file-2.ensures) ∙ sym c.in-Some-interface_method_reference.ensures in
+    subst (λ (i : Instr). RunsMethod files c.args.program.now c.args.heap.now.objects operands method.class pool i c.interface_run.result)
+    (sym c.in-InvokeInterface.is)
+    (interface_told_at files c.args.program.now c.args.heap.now.objects operands method.class pool index _ _ named c.interface_run.result at
+    c.interface_run.ensures)
+
+pub returns-in-None-interface_method_reference : goal.returns-in-None-interface_method_reference
+returns-in-None-interface_method_reference c =
+    let files = c.args.sources.now.hierarchy.now in
+    let operands = (shown_frame c.args.frame.now).operands in
+    let method = member_of c.args.method.now in
+    let pool = (body_of c.args.method.now).pool in
+    let index = c.in-InvokeInterface.index in
+    let at : interface_method_at pool index ≡ None =
+    ap (λ (x : List Entry). interface_method_at x index) (sym c.file-2.ensures) ∙ sym c.in-None-interface_method_reference.ensures in
+    subst (λ (i : Instr). RunsMethod files c.args.program.now c.args.heap.now.objects operands method.class pool i None) (sym c.in-InvokeInterface.is)
+    (interface_unnamed files c.args.program.now c.args.heap.now.objects operands method.class pool index _ _ at)
+
+pub returns-in_default : goal.returns-in_default
+returns-in_default c =
+    let files = c.args.sources.now.hierarchy.now in
+    let operands = (shown_frame c.args.frame.now).operands in
+    let method = member_of c.args.method.now in
+    let pool = (body_of c.args.method.now).pool in
+    no_call files c.args.program.now c.args.heap.now.objects operands method.class pool c.args.instruction
+    (λ of index e. c.in_default.not-Invoke of index e) (λ index count last e. c.in_default.not-InvokeInterface index count last e)
