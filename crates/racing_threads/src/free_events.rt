@@ -14,8 +14,7 @@
 //!
 //! # Not proved
 //!
-//! - Not said: of an access, that no other thread does a conflicting one. An event that is in a race may be local to
-//!   its thread all the same, as the get of a field that no instruction puts.
+//! - Not said: which accesses are in no race, as the get of a field that no instruction puts.
 
 ghost use Rattle.racing_threads.specs.free_events.Free.{AreLocalEventsFree, AreMovesFree, AreReleasesFree};
 
