@@ -37,13 +37,15 @@ pub record DoesAccess (files : Program) (s : State) (t : ℕ) (a : Action) : Typ
 -- ---- from the actions of the event
 
 module _ (files : Program) (frames : ℕ) (s : State) (t : ℕ) (a : Action) where
-  by_rule : (rule : Rule) → rule_of files s t ≡ rule → In a (accesses_of files (event_of_thread t) s.world rule) → DoesAccess files s t a
+  by_rule : (rule : Rule) → rule_of files s t ≡ rule → In a (accesses_of files (event_of_thread t) s.world rule)
+      → DoesAccess files s t a
   by_rule Begins r h = absurd h
   by_rule (Does instruction) r h =
       let e = event_of_thread t in
       let does = is_done t s.world instruction in
       let on = goes_on (outcome_at e s.world instruction) in
-      let p = in_only_if a (does && on) (access_by files instruction.site (operands_of instruction) instruction.site.instr) h in
+      let site = instruction.site in
+      let p = in_only_if a (does && on) (access_by files site (operands_of instruction) site.instr) h in
       let q = and_parts does on p.0 in
       record { instruction = instruction; at = is_at files s t instruction r; accesses = p.1; done = q.0; onward = q.1 }
   by_rule (Initialises class phase) r h = absurd h
@@ -56,14 +58,16 @@ module _ (files : Program) (frames : ℕ) (s : State) (t : ℕ) (a : Action) whe
   by_next : (o : Option State) → In a (acts_to (rule_of files s t) o) → is_access a ≡ true → DoesAccess files s t a
   by_next None h access = absurd h
   by_next (Some next) h access =
-      by_rule (rule_of files s t) refl (access_part files (event_of_thread t) s.world next.world (rule_of files s t) a access h)
+      let rule = rule_of files s t in
+      by_rule rule refl (access_part files (event_of_thread t) s.world next.world rule a access h)
 
   pub does_access : In a (actions_of files frames s (event_of_thread t)) → is_access a ≡ true → DoesAccess files s t a
   does_access h access = by_next (step files frames s (event_of_thread t)) h access
 
 -- ---- to them
 
-outcome_goes : (o : OutcomeOf Value) → IsTrue (goes_on o) → (cost : Cost) × (world : World) × (slots : Slots Value) × (to : ℕ) × (o ≡ Goes cost world slots to)
+outcome_goes : (o : OutcomeOf Value) → IsTrue (goes_on o)
+    → (cost : Cost) × (world : World) × (slots : Slots Value) × (to : ℕ) × (o ≡ Goes cost world slots to)
 outcome_goes (Goes cost world slots to) h = (cost, world, slots, to, refl)
 outcome_goes _ h = absurd (false≢true h)
 
@@ -76,8 +80,12 @@ module _ (files : Program) (rooted : Rooted files) (s : State) (typed : IsWellTy
     abbrev whole : StackOf Value
     whole = state.Invocation h.frame ∷ h.rest
 
+    abbrev pub finds_all : Bool
+    finds_all =
+        values.finds files (types_of s.world.heap) instruction.meaning.wants h.body.code.max_stack h.frame.place.slots
+
     -- in a well-typed state it finds its operands
-    pub found : IsTrue (values.finds files (types_of s.world.heap) instruction.meaning.wants h.body.code.max_stack h.frame.place.slots)
+    pub found : IsTrue finds_all
     found =
         let os = types_of s.world.heap in
         let max = h.body.code.max_stack in
@@ -85,7 +93,8 @@ module _ (files : Program) (rooted : Rooted files) (s : State) (typed : IsWellTy
         let is = get_or_from_slice_get s.world.threads t th.0 no_thread th.1.0 in
         let status : th.0.status ≡ Running = sym (ap (λ (z : Thread). z.status) is) ∙ h.running in
         let pending : th.0.pending ≡ None = sym (ap (λ (z : Thread). z.pending) is) ∙ h.quiet in
-        let running : IsRunning files os None whole = subst (λ p. IsRunning files os p whole) pending (subst (λ k. IsStackTyped files os th.0.pending whole k) status th.1.1.stack_typed) in
+        let stands = subst (λ k. IsStackTyped files os th.0.pending whole k) status th.1.1.stack_typed in
+        let running : IsRunning files os None whole = subst (λ p. IsRunning files os p whole) pending stands in
         let all = ready_finds files rooted os h.frame running.0 in
         subst (λ o. finds_operands files os max h.frame o ≡ true) h.means
         (subst (λ o. finds_operands files os max h.frame (option_and_then (meaning_of values files) o) ≡ true) h.at
@@ -98,18 +107,25 @@ module _ (files : Program) (rooted : Rooted files) (s : State) (typed : IsWellTy
     abbrev event : Event
     event = event_of_thread t
 
-    at_frame : (o : OutcomeOf Value) → outcome_at event s.world it ≡ o
-        → it.meaning.does event s.world d.at.frame.place.slots (ops_of values it.meaning d.at.frame.place.slots) (under it.meaning.wants d.at.frame.place.slots) ≡ o
-    at_frame o h =
-        subst (λ (x : Slots Value). it.meaning.does event s.world x (ops_of values it.meaning x) (under it.meaning.wants x) ≡ o) d.at.slots h
+    -- what it comes to with other slots
+    abbrev with_slots : Slots Value → OutcomeOf Value
+    with_slots slots =
+        it.meaning.does event s.world slots (ops_of values it.meaning slots) (under it.meaning.wants slots)
+
+    at_frame : (o : OutcomeOf Value) → outcome_at event s.world it ≡ o → with_slots d.at.frame.place.slots ≡ o
+    at_frame o h = subst (λ (x : Slots Value). with_slots x ≡ o) d.at.slots h
 
     pub among : In a (actions_of files frames s event)
     among =
         let o = outcome_goes (outcome_at event s.world it) d.onward in
-        let may = (accessing files it.site it.meaning a (operands_of it) d.accesses d.at.means).picks event s.world (ops_of values it.meaning d.at.frame.place.slots) in
+        let accesses = accessing files it.site it.meaning a (operands_of it) d.accesses d.at.means in
+        let may = accesses.picks event s.world (ops_of values it.meaning d.at.frame.place.slots) in
         let next = after files frames s t it d.at o.1 o.2 o.3 in
-        let steps = goes files frames s t it d.at o.0 o.1 o.2 o.3 (found it d.at) may d.done (at_frame (Goes o.0 o.1 o.2 o.3) o.4) in
+        let does = at_frame (Goes o.0 o.1 o.2 o.3) o.4 in
+        let steps = goes files frames s t it d.at o.0 o.1 o.2 o.3 (found it d.at) may d.done does in
+        let on = goes_on (outcome_at event s.world it) in
+        let both = and_from (is_done t s.world it) on d.done d.onward in
         subst (λ x. In a (acts_to files frames s t a (rule_of files s t) x)) (sym steps)
         (subst (λ (r : Rule). In a (actions_to files event s.world r next.world)) (sym (rule_is files s t it d.at))
         (accesses_among files event s.world next.world (Does it) a
-        (in_if a (is_done t s.world it && goes_on (outcome_at event s.world it)) _ (and_from (is_done t s.world it) (goes_on (outcome_at event s.world it)) d.done d.onward) d.accesses)))
+        (in_if a (is_done t s.world it && on) _ both d.accesses)))

@@ -30,15 +30,22 @@ either_of None other = other
 module _ (files : Program) (site : Site) (Holds : Instr → MeaningOf Value → Type 0) where
   pub record HoldsOfEach : Type 0 where
     pub system_out : (index : ℕ) → Holds (instr.Field access.GetStatic index) (system_out_meaning values site.next)
-    pub get_static : (index : ℕ) (field : Member) → Holds (instr.Field access.GetStatic index) (get_static_of values files site.next field)
-    pub put_static : (index : ℕ) (field : Member) → Holds (instr.Field access.PutStatic index) (put_static_of values files site.next field)
-    pub get_field : (index : ℕ) (named : Name) (field : Member) → Holds (instr.Field access.GetField index) (get_field_of values files site.next named field)
-    pub put_field : (index : ℕ) (named : Name) (field : Member) → Holds (instr.Field access.PutField index) (put_field_of values files site.next named field)
+    pub get_static : (index : ℕ) (field : Member)
+        → Holds (instr.Field access.GetStatic index) (get_static_of values files site.next field)
+    pub put_static : (index : ℕ) (field : Member)
+        → Holds (instr.Field access.PutStatic index) (put_static_of values files site.next field)
+    pub get_field : (index : ℕ) (named : Name) (field : Member)
+        → Holds (instr.Field access.GetField index) (get_field_of values files site.next named field)
+    pub put_field : (index : ℕ) (named : Name) (field : Member)
+        → Holds (instr.Field access.PutField index) (put_field_of values files site.next named field)
     pub load : (kind : ArrayKind) → Holds (instr.LoadElement kind) (load_of values files site kind)
     pub store : (kind : ArrayKind) → Holds (instr.StoreElement kind) (store_of values files site kind)
 
+  abbrev row_of : Instr → Option Row
+  row_of i = local_row (integers_of site.body.pool) site.body.code.code site.offset site.next i
+
   with_instr : Instr → Option (MeaningOf Value)
-  with_instr i = either_of (local_row (integers_of site.body.pool) site.body.code.code site.offset site.next i) (other_meaning values files site i)
+  with_instr i = either_of (row_of i) (other_meaning values files site i)
 
   by_row : (o : Option Row) → local_or values files site o ≡ either_of o (other_meaning values files site site.instr)
   unfolding either_of
@@ -47,43 +54,56 @@ module _ (files : Program) (site : Site) (Holds : Instr → MeaningOf Value → 
 
   meant : meaning_of values files site ≡ with_instr site.instr
   unfolding with_instr
-  meant = by_row (local_row (integers_of site.body.pool) site.body.code.code site.offset site.next site.instr)
+  meant = by_row (row_of site.instr)
 
   module _ (each : HoldsOfEach) (meaning : MeaningOf Value) where
     of_some : (i : Instr) (other : MeaningOf Value) → Holds i other → Some other ≡ Some meaning → Holds i meaning
     of_some i other h e = subst (λ (m : MeaningOf Value). Holds i m) (same_Some other meaning e) h
 
-    if_case : (i : Instr) (b : Bool) (other : MeaningOf Value) → Holds i other → (if b then Some other else None) ≡ Some meaning → Holds i meaning
+    if_case : (i : Instr) (b : Bool) (other : MeaningOf Value) → Holds i other
+        → (if b then Some other else None) ≡ Some meaning → Holds i meaning
     if_case i true other h e = of_some i other h e
     if_case i false other h e = absurd (none-some meaning e)
 
-    found_case : (i : Instr) (o : Option Member) (test : FieldTree → Bool) (make : Member → MeaningOf Value) → ((field : Member) → Holds i (make field))
-        → option_and_then (if_field test files make) o ≡ Some meaning → Holds i meaning
+    found_case : (i : Instr) (o : Option Member) (test : FieldTree → Bool) (make : Member → MeaningOf Value)
+        → ((field : Member) → Holds i (make field)) → option_and_then (if_field test files make) o ≡ Some meaning
+        → Holds i meaning
     found_case i None test make holds e = absurd (none-some meaning e)
     found_case i (Some field) test make holds e = if_case i _ (make field) (holds field) e
 
+    abbrev static_get : Option Member → Option (MeaningOf Value)
+    static_get o = option_and_then (if_field is_static_field files (get_static_of values files site.next)) o
+
     static_case : (index : ℕ) (b : Bool) (o : Option Member)
-        → (if b then Some (system_out_meaning values site.next) else option_and_then (if_field is_static_field files (get_static_of values files site.next)) o) ≡ Some meaning
+        → (if b then Some (system_out_meaning values site.next) else static_get o) ≡ Some meaning
         → Holds (instr.Field access.GetStatic index) meaning
     static_case index true o e = of_some _ (system_out_meaning values site.next) (each.system_out index) e
-    static_case index false o e = found_case _ o is_static_field (get_static_of values files site.next) (each.get_static index) e
+    static_case index false o e =
+        found_case _ o is_static_field (get_static_of values files site.next) (each.get_static index) e
 
-    named_case : (kind : FieldAccess) (index : ℕ) (named : Member) → field_meaning values files site.next kind named ≡ Some meaning
+    named_case : (kind : FieldAccess) (index : ℕ) (named : Member)
+        → field_meaning values files site.next kind named ≡ Some meaning
         → Holds (instr.Field kind index) meaning
-    named_case access.GetStatic index named e = static_case index (member_eq named system_out) (find_field files named) e
+    named_case access.GetStatic index named e =
+        static_case index (member_eq named system_out) (find_field files named) e
     named_case access.PutStatic index named e =
-        found_case _ (find_field files named) is_static_field (put_static_of values files site.next) (each.put_static index) e
+        let make = put_static_of values files site.next in
+        found_case _ (find_field files named) is_static_field make (each.put_static index) e
     named_case access.GetField index named e =
-        found_case _ (find_field files named) is_instance_field (get_field_of values files site.next named.class) (each.get_field index named.class) e
+        let make = get_field_of values files site.next named.class in
+        found_case _ (find_field files named) is_instance_field make (each.get_field index named.class) e
     named_case access.PutField index named e =
-        found_case _ (find_field files named) is_instance_field (put_field_of values files site.next named.class) (each.put_field index named.class) e
+        let make = put_field_of values files site.next named.class in
+        found_case _ (find_field files named) is_instance_field make (each.put_field index named.class) e
 
-    field_case : (kind : FieldAccess) (index : ℕ) (o : Option Member) → option_and_then (field_meaning values files site.next kind) o ≡ Some meaning
+    field_case : (kind : FieldAccess) (index : ℕ) (o : Option Member)
+        → option_and_then (field_meaning values files site.next kind) o ≡ Some meaning
         → Holds (instr.Field kind index) meaning
     field_case kind index None e = absurd (none-some meaning e)
     field_case kind index (Some named) e = named_case kind index named e
 
-    by_instr : (a : Action) (ops : List Value) (i : Instr) → In a (access_by files site ops i) → with_instr i ≡ Some meaning → Holds i meaning
+    by_instr : (a : Action) (ops : List Value) (i : Instr) → In a (access_by files site ops i)
+        → with_instr i ≡ Some meaning → Holds i meaning
     unfolding with_instr either_of
     by_instr a ops (instr.Field kind index) h e = field_case kind index (field_at site.body.pool index) e
     by_instr a ops (instr.LoadElement kind) h e = of_some _ _ (each.load kind) e
@@ -91,6 +111,6 @@ module _ (files : Program) (site : Site) (Holds : Instr → MeaningOf Value → 
     by_instr a ops _ h e = absurd h
 
     -- where the instruction of the site accesses a variable
-    pub holds : (a : Action) (ops : List Value) → In a (access_by files site ops site.instr) → meaning_of values files site ≡ Some meaning
-        → Holds site.instr meaning
+    pub holds : (a : Action) (ops : List Value) → In a (access_by files site ops site.instr)
+        → meaning_of values files site ≡ Some meaning → Holds site.instr meaning
     holds a ops h e = by_instr a ops site.instr h (sym meant ∙ e)

@@ -22,7 +22,8 @@ some_by : {A : Type 0} (test : A → Bool) (x : A) (xs : List A) (b : Bool) → 
 some_by test x xs true e others h = (x, inl refl, e)
 some_by test x xs false e others h = let r = others h in (r.0, inr r.1, r.2)
 
-any_some : {A : Type 0} (test : A → Bool) (xs : List A) → IsTrue (list_any test xs) → (x : A) × In x xs × IsTrue (test x)
+any_some : {A : Type 0} (test : A → Bool) (xs : List A) → IsTrue (list_any test xs)
+    → (x : A) × In x xs × IsTrue (test x)
 any_some test [] h = absurd (false≢true h)
 any_some test (x ∷ xs) h = some_by test x xs (test x) refl (λ g. any_some test xs g) h
 
@@ -63,7 +64,8 @@ module _ (files : Program) (frames : ℕ) (s : State) (t u : ℕ) where
       let q = any_some (λ b. conflict_of p.0 b) theirs p.2 in
       let x = from_map (in_event t 0) p.0 (actions_of files frames s (event_of_thread t)) p.1 in
       let y = from_map (in_event u 0) q.0 (actions_of files frames s (event_of_thread u)) q.1 in
-      let g = subst (λ a. IsTrue (conflict_of a (in_event u 0 y.0))) (sym x.2) (subst (λ b. IsTrue (conflict_of p.0 b)) (sym y.2) q.2) in
+      let with_y = subst (λ b. IsTrue (conflict_of p.0 b)) (sym y.2) q.2 in
+      let g = subst (λ a. IsTrue (conflict_of a (in_event u 0 y.0))) (sym x.2) with_y in
       let parts = and_parts (not (t == u)) (conflicts files x.0 y.0) g in
       record { one = x.0; other = y.0; of_one = x.1; of_other = y.1; apart = parts.0; conflict = parts.1 }
 
@@ -93,7 +95,8 @@ apart_turned t u false true p q h =
     let e : u ≡ t = eqb-true u t q in
     absurd (false≢true (sym p ∙ (ap (λ n. n == u) (sym e) ∙ (ap (λ n. u == n) e ∙ q))))
 
-pub other_way : (files : Program) (frames : ℕ) (s : State) (t u : ℕ) → Conflicting files frames s t u → Conflicting files frames s u t
+pub other_way : (files : Program) (frames : ℕ) (s : State) (t u : ℕ) → Conflicting files frames s t u
+    → Conflicting files frames s u t
 other_way files frames s t u c =
     record {
       one = c.other;

@@ -1,4 +1,4 @@
--- Races between the next events of two threads: words tell them, they go both ways, and events of other threads keep them.
+-- Races between the next events of two threads: words tell them, they go both ways, and others' events keep them.
 use Rattle.std.proofs.Common.{◌≡◌, refl, sym, ℕ, List}
 use Rattle.std.specs.Prelude.{Bool, true, false, IsTrue}
 use Rattle.std.proofs.lemmas.Bool.{false≢true}
@@ -45,27 +45,37 @@ module _ (files : List (List ℕ)) (trees : Program) (accepted : IsAccepted file
   rooted : Rooted trees
   rooted = (linked_of files trees accepted.linkable.spelled accepted.linkable.no_refusal).rooted
 
-  alike : (one other : State) (t u : ℕ) → HaveSameWords trees one other → IsTrue (are_racing trees frames one t u) → IsTrue (are_racing trees frames other t u)
+  abbrev AreRacing : State → ℕ → ℕ → Type 0
+  AreRacing s t u = IsTrue (are_racing trees frames s t u)
+
+  alike : (one other : State) (t u : ℕ) → HaveSameWords trees one other → AreRacing one t u → AreRacing other t u
   alike one other t u like h =
       let c = conflicting trees frames one t u h in
       racing trees frames other t u
-      (carried trees rooted frames one other t u like.other_typed c (λ d. told trees rooted one other like t c.one d) (λ d. told trees rooted one other like u c.other d))
+      (carried trees rooted frames one other t u like.other_typed c (told trees rooted one other like t c.one)
+      (told trees rooted one other like u c.other))
 
 pub races_told : AreRacesTold
 races_told files trees accepted frames one other t u like =
-    let back : HaveSameWords trees other one = record { one_typed = like.other_typed; other_typed = like.one_typed; same = sym like.same } in
-    both_ways (are_racing trees frames one t u) (are_racing trees frames other t u) (alike files trees accepted frames one other t u like)
-    (alike files trees accepted frames other one t u back)
+    let back : HaveSameWords trees other one =
+    record { one_typed = like.other_typed; other_typed = like.one_typed; same = sym like.same }
+    in
+    both_ways (are_racing trees frames one t u) (are_racing trees frames other t u)
+    (alike files trees accepted frames one other t u like) (alike files trees accepted frames other one t u back)
 
 -- ---- events of other threads
 
 pub races_last : DoRacesLast
 races_last files trees accepted frames =
     record {
-      symmetric = λ state t u h. racing trees frames state u t (other_way trees frames state t u (conflicting trees frames state t u h));
+      symmetric = λ state t u h.
+          racing trees frames state u t (other_way trees frames state t u (conflicting trees frames state t u h));
       lasts = λ state next event t u reached apart also_apart goes h.
           let c = conflicting trees frames state t u h in
+          let before = reached_typed files trees accepted frames state reached in
+          let after = typed files trees accepted frames state next event before goes in
           racing trees frames next t u
-          (carried trees (rooted files trees accepted frames) frames state next t u (typed files trees accepted frames state next event (reached_typed files trees accepted frames state reached) goes) c
-          (lasts files trees accepted frames state next event reached goes t c.one apart) (lasts files trees accepted frames state next event reached goes u c.other also_apart));
+          (carried trees (rooted files trees accepted frames) frames state next t u after c
+          (lasts files trees accepted frames state next event reached goes t c.one apart)
+          (lasts files trees accepted frames state next event reached goes u c.other also_apart));
     }
