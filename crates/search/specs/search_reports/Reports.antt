@@ -43,13 +43,14 @@ answer_word (answer.Found schedule r end) = codes "found"
 answer_word (answer.Complete outcomes kinds) = codes "complete"
 answer_word answer.GaveUp = codes "gave up"
 
--- that no run has a data race (JLS 17.4.5), where none has
+-- That there is no data race, where no run comes to a racy state. That no run has one then (JLS 17.4.5) is known, and
+-- isn't proved here.
 abbrev pub race_line : (race own_edges : Bool) → List ℕ
 race_line Bool.true own_edges = []
 race_line false Bool.true = line (codes "no data race, by edges of this machine's own")
 race_line false false = line (codes "no data race: correctly synchronized")
 
--- of which runs the outcomes of a complete answer are, as what never ends has none; and whether a run has a data race
+-- of which runs the outcomes of a complete answer are, as what never ends has none; and the line on races
 abbrev pub scope_text : Answer → (own_edges : Bool) → List ℕ
 scope_text (answer.Found schedule r end) own_edges = []
 scope_text (answer.Complete outcomes kinds) own_edges = line (codes "of runs that end") ++ race_line kinds.race own_edges

@@ -72,7 +72,7 @@ fn push_found(alloc: Global, text: &mut Vec<u8>, answer: &Answer) -> Result<(), 
     }
 }
 
-/// That no run has a data race, where none has.
+/// That there is no data race, where no run comes to a racy state.
 fn push_races(text: &mut Vec<u8>, kinds: Kinds, own_edges: bool) -> Result<(), AllocError>
     ensures { OnOk result (text.new.items ≡ text.old.items ++ race_line kinds.race own_edges) }
 {
@@ -85,7 +85,8 @@ fn push_races(text: &mut Vec<u8>, kinds: Kinds, own_edges: bool) -> Result<(), A
     }
 }
 
-/// Of which runs the outcomes of a complete answer are, and whether a run has a data race.
+/// Of which runs the outcomes of a complete answer are, and that there is no data race, where no run comes to a racy
+/// state.
 fn push_scope(text: &mut Vec<u8>, answer: &Answer, own_edges: bool) -> Result<(), AllocError>
     ensures { OnOk result (text.new.items ≡ text.old.items ++ scope_text answer.now own_edges) }
 {
