@@ -20,7 +20,7 @@ import pathlib
 import re
 import sys
 import tempfile
-from typing import Any, Dict, Iterator, List, Optional, Sequence, Set, Tuple, Union
+from typing import Any, Dict, Iterable, Iterator, List, Optional, Sequence, Set, Tuple, Union
 
 sys.dont_write_bytecode = True
 sys.path.insert(0, str(pathlib.Path(__file__).resolve().parent.parent))
@@ -28,9 +28,10 @@ sys.path.insert(0, str(pathlib.Path(__file__).resolve().parent.parent))
 from oracle.frames import Frame
 from oracle.kinds import KINDS, kinds_of, race_line
 from oracle.lessons import LESSONS, class_files
-from oracle.machine import Machine, status_of, text_of
+from oracle.machine import Machine, status_of, text_of, thread_lines
 from oracle.schedules import Event
 from oracle.state import Initialisation, JavaThread, NotEnabled, Object, Refused, Value
+from oracle.texts import in_utf8, printed_lines, text_order
 from tools.cases import file_lines, store, stored
 from tools.repository import CONFORMANCE, ROOT, compiled
 
@@ -38,7 +39,7 @@ from tools.repository import CONFORMANCE, ROOT, compiled
 RANKS = ["ended", "threw", "blocked", "waiting", "joining", "initialising"]
 
 
-# What was printed, and how each thread stands.
+# The units that were printed, and how each thread stands.
 Outcome = Tuple[Tuple[int, ...], Tuple[str, ...]]
 
 # A value as it tells a state apart.
@@ -190,25 +191,30 @@ def is_wanted(goal: Optional[str], outcome: Outcome) -> bool:
     if goal == "uncaught":
         return any(state.startswith("threw") for state in threads)
     if goal and goal.startswith("differs="):
-        return "".join(f"{number}\n" for number in printed) != text_at(goal.removeprefix("differs="))
-    return goal is not None and goal == "output=" + ",".join(map(str, printed))
+        return printed_lines(printed) != text_at(goal.removeprefix("differs="))
+    numbers = [number for number in (goal or "").removeprefix("output=").split(",") if number]
+    return goal is not None and goal.startswith("output=") and in_utf8(printed) == lines_of_ints(numbers)
 
 
 def text_at(path: str) -> str:
     """A text that is given below, or else lies there."""
-    lines = TEXTS.get(path)
-    return pathlib.Path(path).read_text() if lines is None else "".join(f"{line}\n" for line in lines)
+    numbers = TEXTS.get(path)
+    return pathlib.Path(path).read_text(encoding="latin-1") if numbers is None else lines_of_ints(numbers)
+
+
+def lines_of_ints(numbers: Iterable[Union[int, str]]) -> str:
+    return "".join(f"{number}\n" for number in numbers)
 
 
 def order(outcome: Outcome) -> Tuple[Any, ...]:
     """Where an outcome stands in a list."""
     printed, threads = outcome
-    return printed, tuple((RANKS.index(state.split(" ")[0]), state.encode()) for state in threads)
+    return text_order(printed), tuple((RANKS.index(state.split(" ")[0]), state.encode()) for state in threads)
 
 
-def lines_of(outcome: Outcome) -> List[str]:
+def lines_of(outcome: Outcome) -> str:
     printed, threads = outcome
-    return [*map(str, printed), *(f"thread {number} {state}" for number, state in enumerate(threads))]
+    return printed_lines(printed) + thread_lines(threads)
 
 
 class Seen:
@@ -233,12 +239,12 @@ class Seen:
         self.outcomes.add(outcome)
         return False
 
-    def lines(self) -> List[str]:
+    def text(self) -> str:
         """The outcomes, and the kinds."""
-        text: List[str] = []
-        for number, outcome in enumerate(sorted(self.outcomes, key=order), 1):
-            text += [f"outcome {number}", *lines_of(outcome)]
-        return [*text, f"outcomes {len(self.outcomes)}", *(f"kind {kind}" for kind in KINDS if kind in self.kinds)]
+        outcomes = enumerate(sorted(self.outcomes, key=order), 1)
+        parts = [f"outcome {number}\n{lines_of(outcome)}" for number, outcome in outcomes]
+        kinds = [f"kind {kind}\n" for kind in KINDS if kind in self.kinds]
+        return "".join([*parts, f"outcomes {len(self.outcomes)}\n", *kinds])
 
 
 def search(
@@ -261,8 +267,7 @@ def search(
         if seen.is_found(machine):
             return text_of(machine, end_of(machine)) + last_lines(states, "found"), 1, machine
     scope = ["of runs that end"] if "race" in seen.kinds else ["of runs that end", race_line(at(files, ()), files)]
-    text = "\n".join([*seen.lines(), last_lines(states, "complete", scope)])
-    return text, 4 if "deadlock" in seen.kinds else 0, None
+    return seen.text() + last_lines(states, "complete", scope), 4 if "deadlock" in seen.kinds else 0, None
 
 
 def end_of(machine: Numbered) -> str:
@@ -407,7 +412,7 @@ def write() -> None:
         text, printed = of_program(source)
         lines, shown = [*lines, *text], shown + printed
     (CONFORMANCE / "data/kinds.cases").write_text("\n".join(lines))
-    store(stored().split("case search-lost-update-")[0] + shown.encode().decode("latin-1"))
+    store(stored().split("case search-lost-update-")[0] + shown)
 
 
 def main() -> int:
@@ -417,7 +422,7 @@ def main() -> int:
     words = words_of(sys.argv[1:])
     files = [pathlib.Path(path).read_bytes() for path in words.files]
     text, status, _ = search(files, words.goal, words.states, not words.all_events)
-    sys.stdout.write(text)
+    sys.stdout.buffer.write(text.encode("latin-1"))
     return status
 
 

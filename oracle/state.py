@@ -108,6 +108,7 @@ class State:
         self.classes["java/lang/System"].statics["out"] = Object("java/io/PrintStream")
         self.initial, self.done = read[0], 0
         self.strings: Dict[str, Object] = {}
+        # The text that was printed: UTF-16 code units.
         self.printed: List[int] = []
         self.objects = self.cells = self.monitors = 0
         self.threads = [JavaThread(self.made("java/lang/Thread"))]

@@ -7,7 +7,8 @@ from oracle.listing import Lines, instruction
 from oracle.machine import Machine
 from oracle.opcodes import MNEMONICS, PRIMITIVES, SILENT
 from oracle.state import Initialisation, JavaThread, NotEnabled, Object, Value, component
-from oracle.told import Told
+from oracle.texts import quoted
+from oracle.told import Spelled, Told
 
 
 def ordinal(number: int) -> str:
@@ -25,6 +26,8 @@ class Before(NamedTuple):
     stack: List[Value]
     waiting: Dict[int, List[JavaThread]]
     pick: int
+    # How many units were printed.
+    printed: int
 
     def frame(self) -> Frame:
         assert isinstance(self.top, Frame)
@@ -38,12 +41,12 @@ class Before(NamedTuple):
         return found
 
 
-def seen_before(thread: JavaThread, pick: int) -> Before:
+def seen_before(thread: JavaThread, pick: int, printed: int) -> Before:
     top = thread.top()
     stack = list(top.stack) if isinstance(top, Frame) else []
     waiting = {id(one): list(one.waiters) for one in stack if isinstance(one, Object)}
     at = top.at if isinstance(top, Frame) else 0
-    return Before(top, len(thread.entries), thread.frames(), at, stack, waiting, pick)
+    return Before(top, len(thread.entries), thread.frames(), at, stack, waiting, pick, printed)
 
 
 class Traced(Machine):
@@ -103,7 +106,7 @@ class Traced(Machine):
 
     def words(self, thread: JavaThread, number: int, pick: int) -> List[str]:
         """Does an event, and answers what it did."""
-        pending, relock, before = thread.pending, thread.relock, seen_before(thread, pick)
+        pending, relock, before = thread.pending, thread.relock, seen_before(thread, pick, len(self.printed))
         self.step(number, pick)
         thrown = thread.pending if thread.pending is not None and thread.pending is not pending else None
         words: List[str] = []
@@ -213,8 +216,10 @@ class Traced(Machine):
     def built_in_words(self, thread: JavaThread, before: Before) -> List[str]:
         owner, name, descriptor = before.member()
         this = before.stack[-1] if before.stack else None
-        if name == "println":
-            return [f"prints {self.printed[-1]}"]
+        if name in ("print", "println"):
+            if (name, descriptor) == ("println", "(I)V"):
+                return [f"prints {before.stack[-1]}"]
+            return [Spelled(f"prints {quoted(self.printed[before.printed :])}")]
         if name in ("wait", "join") and thread.waits:
             return [f"waits on {self.thing(thread.waits[0])}"]
         if name in ("notify", "notifyAll"):

@@ -1,5 +1,5 @@
 //! `machine EVENTS FILE..` runs class files on the machine: the first argument names a file with a schedule, or is a
-//! number of events of the main thread. It prints the numbers that the run printed, how many events were done and why
+//! number of events of the main thread. It prints what the run printed, how many events were done and why
 //! no more; how long the events alone took it says on standard error. `bench/machine.py` times it.
 
 use crate::arguments::files;
@@ -11,6 +11,7 @@ use machine::schedule_runs::run_schedule;
 use machine::{Machine, Stopped};
 use model::Limits;
 use program_runs::verified_programs::verified_program;
+use schedule::report::push_printed;
 use schedule::{Schedule, read_schedule};
 use std::alloc::Global;
 use std::env::Args;
@@ -66,9 +67,9 @@ fn done(rt: &HostRuntime, machine: &mut Machine, word: &str) -> Result<(u64, Sto
 
 /// What a run came to.
 fn tell(rt: &HostRuntime, machine: &Machine, done: u64, why: Stopped) -> Result<()> {
-    for number in &machine.shared().printed {
-        println!(rt; "{number}")?;
-    }
+    let mut text = Vec::new(rt.alloc());
+    push_printed(&mut text, &machine.shared().printed)?;
+    print!(rt; "{}", str::from_utf8(&text).context("the text")?)?;
     println!(rt; "events {done}")?;
     match why {
         Stopped::Most => println!(rt; "all were done")?,

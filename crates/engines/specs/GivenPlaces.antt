@@ -1,12 +1,12 @@
 -- What a schedule gives that may have places, and what is told of a run that gave up at one (own).
-use Rattle.std.specs.Prelude.{◌≡◌, ◌⊎◌, ◌++◌, ℕ, ℤ, List, [], ◌∷◌, Option, Some, None, Bool, true, false, codes, if◌then◌else◌, map}
-use Rattle.std.specs.List.{flat_map}
+use Rattle.std.specs.Prelude.{◌≡◌, ◌⊎◌, ◌++◌, ℕ, List, [], ◌∷◌, Option, Some, None, Bool, true, false, codes, if◌then◌else◌, map}
 use Rattle.model.specs.declared.end.End.{End}
 use Rattle.model.specs.declared.event.Event.{Event}
 use Rattle.model.specs.declared.limits.Limits.{Limits}
 use Rattle.model.specs.declared.report.Report.{Report}
 use Rattle.model.specs.Classes.{Program}
-use Rattle.model.specs.Report.{end_state_of, line, number, signed_number, thread_lines}
+use Rattle.model.specs.Report.{end_state_of, line, number, thread_lines}
+use Rattle.model.specs.Texts.{printed_lines}
 use Rattle.schedule.specs.Files.{Recording}
 use Rattle.schedule.specs.schedule_text.Either.{GivesEvents}
 use Rattle.schedule.specs.schedule_text.Text.{text_words}
@@ -66,7 +66,7 @@ Spells schedule recorded =
 -- the text of the report of a run that gave up at a place
 abbrev pub place_text_of : Report → List ℕ
 place_text_of r =
-    flat_map (λ (z : ℤ). line (signed_number z)) r.printed.items
+    printed_lines r.printed.items
     ++ (thread_lines 0 (map end_state_of r.threads.items) ++ (line (codes "events " ++ number r.events) ++ line (codes "end place " ++ number r.events)))
 
 abbrev pub told_text : (gives_up : Bool) → Report → End → List ℕ

@@ -1,7 +1,7 @@
 -- The text of a run that may be stopped (own).
 use Rattle.std.specs.Prelude.{◌≡◌, ℕ, List, Bool, true, false, ◌++◌, codes, if◌then◌else◌, ltb, map}
-use Rattle.std.specs.List.{flat_map}
-use Rattle.model.specs.Report.{end_state_of, line, number, signed_number, thread_lines}
+use Rattle.model.specs.Report.{end_state_of, line, number, thread_lines}
+use Rattle.model.specs.Texts.{printed_lines}
 use Rattle.model.specs.declared.end.End.{End}
 use Rattle.model.specs.declared.end.End.TheVariants as ends
 use Rattle.model.specs.declared.report.Report.{Report}
@@ -15,7 +15,7 @@ is_stopped budget r end = false
 -- its text has the end `seconds`
 abbrev pub stopped_text : Report → List ℕ
 stopped_text r =
-    flat_map (λ z. line (signed_number z)) r.printed.items
+    printed_lines r.printed.items
     ++ (thread_lines 0 (map end_state_of r.threads.items) ++ (line (codes "events " ++ number r.events) ++ line (codes "end seconds")))
 
 abbrev pub run_text : (budget : ℕ) → Report → End → List ℕ

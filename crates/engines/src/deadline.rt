@@ -62,7 +62,7 @@ impl<G: Gate + Deadline> Gate for Until<'_, G> {
         self.gate.watch_record(events);
     }
 
-    fn watch_output(&self, printed: &[i32]) {
+    fn watch_output(&self, printed: &[u16]) {
         self.gate.watch_output(printed);
     }
 

@@ -31,7 +31,7 @@ fn place_text(alloc: Global, report: &Report) -> Result<Vec<u8>, AllocError>
 {
     let events = report.events;
     let mut text = Vec::new(alloc);
-    push_printed(alloc, &mut text, &report.printed)?;
+    push_printed(&mut text, &report.printed)?;
     push_threads(alloc, &mut text, &report.threads)?;
     push_line(&mut text, format!(in alloc; "events {events}")?.as_bytes())?;
     push_line(

@@ -24,7 +24,7 @@ fn stopped_text(alloc: Global, report: &Report) -> Result<Vec<u8>, AllocError>
     ensures { IfOk result (λ text. text.items ≡ stopped_text report.now) }
 {
     let mut text = Vec::new(alloc);
-    push_printed(alloc, &mut text, &report.printed)?;
+    push_printed(&mut text, &report.printed)?;
     push_threads(alloc, &mut text, &report.threads)?;
     let events = report.events;
     push_line(&mut text, format!(in alloc; "events {events}")?.as_bytes())?;

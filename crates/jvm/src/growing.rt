@@ -3,7 +3,7 @@
 ghost use Rattle.std.specs.Prelude.{◌≤◌};
 
 use schedule::recorded_events::RecordedEvents;
-use schedule::report::push_printed;
+use schedule::report::push_text;
 use std::fs::OpenOptions;
 use std::io::{ErrorKind, Read, Write};
 use std::rt::{Clock, Files};
@@ -18,6 +18,9 @@ const BETWEEN: u32 = 1024;
 /// How many milliseconds pass between two times at which what is new is shown.
 const PERIOD: u64 = 100;
 
+/// The unit that ends a line.
+const LINE_FEED: u16 = 10;
+
 /// What each text begins with in which a record grows.
 const FIRST_WORD: &[u8] = b"#growing";
 
@@ -28,7 +31,7 @@ struct Shown {
     part: Option<String>,
     /// How many of the events stand there.
     events: u32,
-    /// How many of the printed numbers are shown.
+    /// How many of the printed units are shown.
     printed: usize,
 }
 
@@ -52,6 +55,16 @@ pub struct Growing<'a, R> {
     shown: Mutex<Shown>,
     /// How many bytes of the report are shown before it is written.
     bytes: AtomicU64,
+}
+
+/// The whole lines of units: those up to the last line feed.
+fn whole_lines(units: &[u16]) -> &[u16] {
+    for at in (0..units.len()).rev() {
+        if units[at] == LINE_FEED {
+            return units.get(..=at).unwrap_or(&[]);
+        }
+    }
+    &[]
 }
 
 impl<'a, R: Clock + Print + Files + AllocGlobal> Growing<'a, R> {
@@ -107,19 +120,19 @@ impl<'a, R: Clock + Print + Files + AllocGlobal> Growing<'a, R> {
         }
     }
 
-    /// The lines of the numbers that are not shown so far, if there are some, and are to be shown.
-    pub fn new_lines(&self, printed: &[i32]) -> Option<Vec<u8>> {
+    /// The whole lines that are printed and not shown so far, if there are some, and are to be shown.
+    pub fn new_lines(&self, printed: &[u16]) -> Option<Vec<u8>> {
         if !self.follows.load(Ordering::SeqCst) {
             return None;
         }
         let mut shown = self.shown.try_lock()?;
-        let numbers = printed.get(shown.printed..)?;
-        if numbers.is_empty() {
+        let units = whole_lines(printed.get(shown.printed..)?);
+        if units.is_empty() {
             return None;
         }
         let mut lines = Vec::new(self.rt.alloc());
-        push_printed(self.rt.alloc(), &mut lines, numbers).ok()?;
-        shown.printed = printed.len();
+        push_text(&mut lines, units).ok()?;
+        shown.printed = shown.printed.saturating_add(units.len());
         Some(lines)
     }
 

@@ -98,7 +98,7 @@ impl<R: Clock + Eprint + Print + Files + AllocGlobal> Gate for Progress<'_, R> {
         self.growing.grow(events);
     }
 
-    fn watch_output(&self, printed: &[i32]) {
+    fn watch_output(&self, printed: &[u16]) {
         if let Some(lines) = self.growing.new_lines(printed) {
             self.clear();
             self.growing.show(lines.as_slice());

@@ -16,7 +16,7 @@ use Rattle.machine_state.specs.declared.state.ClassStatus.TheVariants as status
 use Rattle.machine_state.specs.declared.state.Shared.{Shared}
 use Rattle.machine_state.specs.same_states.Same.{AreAlike}
 use Rattle.kept_states.specs.declared.numbered.GlobalNumbers.{GlobalNumbers}
-use Rattle.kept_states.specs.Rows.{status_code, statuses_row, ints_of}
+use Rattle.kept_states.specs.Rows.{status_code, statuses_row}
 use Rattle.kept_states.specs.States.{AreThreads, globals_row, IsStateRow, AreFat, AreTheSame}
 
 -- ---- how far classes are
@@ -96,9 +96,7 @@ row_stays old new row s grows is = record {
     statics = grows.kept is.numbers.statics s.statics.items is.each_is.statics;
     statuses = grows.kept is.numbers.statuses (statuses_row s.statuses.items) is.each_is.statuses;
     ready = grows.kept is.numbers.ready (flags_row s.ready.items) is.each_is.ready;
-    printed_row = is.each_is.printed_row;
-    printed = grows.kept is.numbers.printed is.each_is.printed_row is.each_is.printed;
-    printed_are = is.each_is.printed_are;
+    printed = grows.kept is.numbers.printed s.printed.items is.each_is.printed;
   };
   objects = is.objects;
   heap_is = grows.kept is.heap is.objects is.heap_is;
@@ -187,10 +185,7 @@ rows_one parts row one other a b =
         statics = stands_at parts a.numbers.statics b.numbers.statics one.statics.items other.statics.items words.statics a.each_is.statics b.each_is.statics;
         statuses = statuses_one one.statuses.items other.statuses.items (stands_at parts a.numbers.statuses b.numbers.statuses (statuses_row one.statuses.items) (statuses_row other.statuses.items) words.statuses a.each_is.statuses b.each_is.statuses);
         threads = stacks.0;
-        printed =
-            a.each_is.printed_are
-            ∙ ap ints_of (stands_at parts a.numbers.printed b.numbers.printed a.each_is.printed_row b.each_is.printed_row words.printed a.each_is.printed b.each_is.printed)
-            ∙ sym b.each_is.printed_are;
+        printed = stands_at parts a.numbers.printed b.numbers.printed one.printed.items other.printed.items words.printed a.each_is.printed b.each_is.printed;
         stacks = stacks.1;
       };
       opening = words.opening;

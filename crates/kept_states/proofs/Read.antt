@@ -6,15 +6,15 @@ use Rattle.kept_parts.specs.Heaps.{IsHeapRead}
 use Rattle.machine_state.specs.declared.state.Shared.{Shared}
 use Rattle.kept_states.specs.declared.globals.Globals.{Globals}
 use Rattle.kept_states.specs.Rows.{statuses_row}
-use Rattle.kept_states.specs.States.{AreThreads, IsPrintedRead, IsSharedRead}
+use Rattle.kept_states.specs.States.{AreThreads, IsSharedRead}
 
 pub shared_read : (parts : List (List ℕ)) (g : Globals) (objects threads fat : List ℕ) (s : Shared) → IsHeapRead parts g.limits g.opening objects fat s.heap
     → StandsFor parts g.numbers.statics s.statics.items → StandsFor parts g.numbers.statuses (statuses_row s.statuses.items)
-    → StandsFor parts g.numbers.ready (flags_row s.ready.items) → IsPrintedRead parts g.numbers.printed s.printed.items
+    → StandsFor parts g.numbers.ready (flags_row s.ready.items) → StandsFor parts g.numbers.printed s.printed.items
     → AreThreads parts threads s.threads.threads s.stacks.items → s.threads.limit ≡ g.limits.threads → IsSharedRead parts g objects threads fat s
 shared_read parts g objects threads fat s heap statics statuses ready printed are limit = record {
   heap = heap;
-  each = record { statics = statics; statuses = statuses; ready = ready; printed_row = printed.row; printed = printed.stands; printed_are = printed.are };
+  each = record { statics = statics; statuses = statuses; ready = ready; printed = printed };
   limit = limit;
   threads_are = are;
 }

@@ -1,8 +1,7 @@
 -- What is written of a state, and read again.
 use Rattle.std.proofs.Common.{◌≡◌, ℕ, zero, suc, ◌+◌, ◌<◌, List, [], ◌∷◌, ◌++◌, length, take, get_or, refl, sym, ◌∙◌, ap, subst, Option, Some, None, Result, Ok, Err, Bor, arith, append_assoc, append-nil}
-use Rattle.std.specs.Prelude.{slice_get, IfSome, OnOk, IfOk, ℤ}
-use Rattle.std.specs.Int.{w32, cast_signed}
-use Rattle.std.proofs.lemmas.List.{take_more, take_all, map-append, get_or_read}
+use Rattle.std.specs.Prelude.{slice_get, IfSome, OnOk, IfOk}
+use Rattle.std.proofs.lemmas.List.{take_more, take_all, get_or_read}
 use Rattle.model.specs.State.{Thread, new_thread}
 use Rattle.heap.specs.java_threads.Table.{ThreadTable, thread_at}
 use Rattle.thread_stacks.specs.Stacks.{ShownEntry}
@@ -17,8 +16,8 @@ use Rattle.machine_state.specs.declared.state.Shared.{Shared}
 use Rattle.kept_states.specs.declared.numbered.GlobalNumbers.{GlobalNumbers}
 use Rattle.kept_states.specs.declared.numbered.Numbered.{Numbered}
 use Rattle.kept_states.specs.declared.globals.Globals.{Globals}
-use Rattle.kept_states.specs.Rows.{statuses_row, ArePushed}
-use Rattle.kept_states.specs.States.{AreThreads, AreThreadsBehind, IsThreadWritten, AreThreadsPushed, IsThreadAdded, globals_row, AreGlobals, AreNumbersWritten, IsPrintedWritten, AreGlobalsWritten, IsStateRow, IsSharedRead}
+use Rattle.kept_states.specs.Rows.{statuses_row}
+use Rattle.kept_states.specs.States.{AreThreads, AreThreadsBehind, IsThreadWritten, AreThreadsPushed, IsThreadAdded, globals_row, AreGlobals, AreNumbersWritten, AreGlobalsWritten, IsStateRow, IsSharedRead}
 use Rattle.kept_states.specs.Kept.{IsNumbered, IsThreadSame, IsState, IsStateAdded, IsRowMade}
 use Rattle.kept_states.specs.declared.states.KeptStates.{KeptStates}
 use Rattle.kept_states.proofs.One.{threads_stay}
@@ -56,9 +55,7 @@ globals_stay old new numbers s grows a = record {
   statics = grows.kept numbers.statics s.statics.items a.statics;
   statuses = grows.kept numbers.statuses (statuses_row s.statuses.items) a.statuses;
   ready = grows.kept numbers.ready (flags_row s.ready.items) a.ready;
-  printed_row = a.printed_row;
-  printed = grows.kept numbers.printed a.printed_row a.printed;
-  printed_are = a.printed_are;
+  printed = grows.kept numbers.printed s.printed.items a.printed;
 }
 
 pub numbered_stays : (old new : List (List ℕ)) (n : Numbered) → Grows old new → IsNumbered old n → IsNumbered new n
@@ -95,49 +92,19 @@ ready_same parts before s is same =
     same_written parts before.numbers.ready (flags_row before.shared.ready.items) (flags_row s.ready.items) is.each.ready (ap flags_row same)
 
 pub printed_same : (parts : List (List ℕ)) (before : Numbered) (s : Shared) → IsNumbered parts before → before.shared.printed.items ≡ s.printed.items
-    → IsPrintedWritten s.printed.items before.numbers.printed parts parts
-printed_same parts before s is same = record {
-  grows = grows_not parts;
-  row = is.each.printed_row;
-  stands = is.each.printed;
-  are = sym same ∙ is.each.printed_are;
-}
+    → IsWritten s.printed.items before.numbers.printed parts parts
+printed_same parts before s is same = same_written parts before.numbers.printed before.shared.printed.items s.printed.items is.each.printed same
 
 pub globals_same : (parts : List (List ℕ)) (before : Numbered) (s : Shared) (numbers : GlobalNumbers) → IsNumbered parts before
     → globals_row before.shared before.numbers ≡ globals_row s numbers → IsWritten (globals_row s numbers) before.globals parts parts
 globals_same parts before s numbers is same =
     same_written parts before.globals (globals_row before.shared before.numbers) (globals_row s numbers) is.globals same
 
-pub printed_written : (ints : List ℤ) (row : List ℕ) (number : ℕ) (old new : List (List ℕ)) → ArePushed ints [] row → IsWritten row number old new
-    → IsPrintedWritten ints number old new
-printed_written ints row number old new p w = record {
-  grows = w.grows;
-  row = p.words;
-  stands = w.stands ∙ ap (λ (r : List ℕ). Some r) p.new_is;
-  are = p.are;
-}
-
 pub heap_is_before : (parts : List (List ℕ)) (n : Numbered) (h : NumberedHeap) → IsNumbered parts n → h.objects.now ≡ n.objects.items
     → h.heap.now ≡ n.shared.heap → h.number ≡ n.heap → AreBefore parts h
 heap_is_before parts n h is objects heap number = record {
   are = subst (λ (ns : List ℕ). IsHeapKept parts ns h.heap.now) (sym objects) (subst (λ (x : Heap). IsHeapKept parts n.objects.items x) (sym heap) is.objects);
   stands = subst (λ (ns : List ℕ). StandsFor parts h.number ns) (sym objects) (subst (λ (k : ℕ). StandsFor parts k n.objects.items) (sym number) is.heap);
-}
-
--- ---- ints
-
-pub no_ints : (words : List ℕ) → ArePushed [] words words
-no_ints words = record { words = []; new_is = sym (append-nil words); are = refl }
-
-pub int_more : (ints : List ℤ) (at : ℕ) (int : ℤ) (word : ℕ) (old mid new : List ℕ) → at < length ints → int ≡ get_or ints at int
-    → ArePushed (take at ints) old mid → int ≡ cast_signed w32 word → new ≡ mid ++ word ∷ [] → ArePushed (take (at + 1) ints) old new
-int_more ints at int word old mid new there is p bits step = record {
-  words = p.words ++ word ∷ [];
-  new_is = step ∙ ap (λ (ns : List ℕ). ns ++ word ∷ []) p.new_is ∙ append_assoc old p.words (word ∷ []);
-  are = take_more ints at int there
-      ∙ ap (λ (x : ℤ). take at ints ++ x ∷ []) (sym is ∙ bits)
-      ∙ ap (λ (xs : List ℤ). xs ++ cast_signed w32 word ∷ []) p.are
-      ∙ sym (map-append (λ (n : ℕ). cast_signed w32 n) p.words (word ∷ []));
 }
 
 -- ---- threads
@@ -288,7 +255,7 @@ row_of parts row n is m = record {
 
 pub all_written : (s : Shared) (numbers : GlobalNumbers) (a b c d e : List (List ℕ)) → IsWritten s.statics.items numbers.statics a b
     → IsWritten (statuses_row s.statuses.items) numbers.statuses b c → IsWritten (flags_row s.ready.items) numbers.ready c d
-    → IsPrintedWritten s.printed.items numbers.printed d e → AreNumbersWritten s numbers a e
+    → IsWritten s.printed.items numbers.printed d e → AreNumbersWritten s numbers a e
 all_written s numbers a b c d e statics statuses ready printed =
     let third : Grows c e = grows_on c d e ready.grows printed.grows in
     let second : Grows b e = grows_on b c e statuses.grows third in
@@ -298,9 +265,7 @@ all_written s numbers a b c d e statics statuses ready printed =
         statics = second.kept numbers.statics s.statics.items statics.stands;
         statuses = third.kept numbers.statuses (statuses_row s.statuses.items) statuses.stands;
         ready = printed.grows.kept numbers.ready (flags_row s.ready.items) ready.stands;
-        printed_row = printed.row;
         printed = printed.stands;
-        printed_are = printed.are;
       };
     }
 

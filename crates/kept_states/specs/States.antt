@@ -1,5 +1,5 @@
 -- A state as a list of numbers of its parts (own).
-use Rattle.std.specs.Prelude.{◌≡◌, ℕ, List, [], ◌∷◌, ◌++◌, take, slice_index_or, ℤ}
+use Rattle.std.specs.Prelude.{◌≡◌, ℕ, List, [], ◌∷◌, ◌++◌, take, slice_index_or}
 use Rattle.model.specs.State.{Thread}
 use Rattle.heap.specs.java_threads.Table.{ThreadTable, thread_at}
 use Rattle.thread_stacks.specs.Stacks.{ShownEntry}
@@ -10,7 +10,7 @@ use Rattle.kept_parts.specs.Threads.{IsThreadRow, IsThreadRead}
 use Rattle.machine_state.specs.declared.state.Shared.{Shared}
 use Rattle.kept_states.specs.declared.globals.Globals.{Globals}
 use Rattle.kept_states.specs.declared.numbered.GlobalNumbers.{GlobalNumbers}
-use Rattle.kept_states.specs.Rows.{statuses_row, ints_of}
+use Rattle.kept_states.specs.Rows.{statuses_row}
 
 -- ---- threads
 
@@ -53,26 +53,12 @@ pub record AreGlobals (parts : List (List ℕ)) (numbers : GlobalNumbers) (s : S
   pub statics : StandsFor parts numbers.statics s.statics.items
   pub statuses : StandsFor parts numbers.statuses (statuses_row s.statuses.items)
   pub ready : StandsFor parts numbers.ready (flags_row s.ready.items)
-  pub printed_row : List ℕ
-  pub printed : StandsFor parts numbers.printed printed_row
-  pub printed_are : s.printed.items ≡ ints_of printed_row
+  pub printed : StandsFor parts numbers.printed s.printed.items
 
 -- these numbers were written
 pub record AreNumbersWritten (s : Shared) (numbers : GlobalNumbers) (old new : List (List ℕ)) : Type 0 where
   pub grows : Grows old new
   pub each : AreGlobals new numbers s
-
--- the number of a row of ints was written
-pub record IsPrintedWritten (ints : List ℤ) (number : ℕ) (old new : List (List ℕ)) : Type 0 where
-  pub grows : Grows old new
-  pub row : List ℕ
-  pub stands : StandsFor new number row
-  pub are : ints ≡ ints_of row
-
-pub record IsPrintedRead (parts : List (List ℕ)) (number : ℕ) (ints : List ℤ) : Type 0 where
-  pub row : List ℕ
-  pub stands : StandsFor parts number row
-  pub are : ints ≡ ints_of row
 
 -- the number of the row of such numbers was written
 pub record AreGlobalsWritten (s : Shared) (number : ℕ) (old new : List (List ℕ)) : Type 0 where

@@ -4,12 +4,12 @@ ghost use Rattle.std.specs.Prelude.{◌≡◌, [], ◌∷◌, ◌++◌, IfSome, 
 ghost use Rattle.word_table.specs.Lists.{IsWritten};
 ghost use Rattle.kept_parts.specs.Rows.{flags_row};
 ghost use Rattle.kept_states.specs.Rows.{statuses_row};
-ghost use Rattle.kept_states.specs.States.{globals_row, AreGlobalsWritten, IsPrintedWritten, AreNumbersWritten};
+ghost use Rattle.kept_states.specs.States.{globals_row, AreGlobalsWritten, AreNumbersWritten};
 ghost use Rattle.kept_states.specs.Kept.{IsNumbered};
 
 use crate::numbered::{GlobalNumbers, Numbered};
 use crate::shared_rows::{
-    are_same_flags, are_same_ints, are_same_statuses, are_same_words, push_ints, push_statuses,
+    are_same_flags, are_same_statuses, are_same_units, are_same_words, push_statuses, push_units,
 };
 use kept_parts::reader::Reader;
 use kept_parts::rows::{push, push_flags};
@@ -137,7 +137,7 @@ fn ready_number(
     parts.write(row.as_slice())
 }
 
-#[tactic(auto, using(crate::proofs::Written::printed_same, crate::proofs::Written::printed_written))]
+#[tactic(auto, using(crate::proofs::Written::printed_same))]
 fn printed_number(
     parts: &mut WordTable,
     row: &mut Vec<u32>,
@@ -145,15 +145,15 @@ fn printed_number(
     before: Option<&Numbered>,
 ) -> Result<u32, AllocError>
     requires { IfSome before (λ b. IsNumbered parts.old b.now) }
-    ensures { IfOk result (λ number. IsPrintedWritten shared.now.printed.items number parts.old parts.new) }
+    ensures { IfOk result (λ number. IsWritten shared.now.printed.items number parts.old parts.new) }
 {
     if let Some(before) = before {
-        if are_same_ints(before.shared.printed.as_slice(), shared.printed.as_slice()) {
+        if are_same_units(before.shared.printed.as_slice(), shared.printed.as_slice()) {
             return Ok(before.numbers.printed);
         }
     }
     row.clear();
-    push_ints(row, shared.printed.as_slice())?;
+    push_units(row, shared.printed.as_slice())?;
     parts.write(row.as_slice())
 }
 

@@ -5,11 +5,11 @@ ghost use Rattle.word_table.specs.Lists.{StandsFor};
 ghost use Rattle.kept_parts.specs.Rows.{flags_row};
 ghost use Rattle.kept_states.specs.Rows.{statuses_row};
 ghost use Rattle.kept_states.specs.Kept.{IsNumbered};
-ghost use Rattle.kept_states.specs.States.{IsPrintedRead, IsSharedRead};
+ghost use Rattle.kept_states.specs.States.{IsSharedRead};
 
 use crate::globals::{Globals, read_globals};
 use crate::numbered::Numbered;
-use crate::shared_rows::{read_ints, read_statuses};
+use crate::shared_rows::{read_statuses, read_units};
 use crate::threads::read_threads;
 use kept_parts::heap_rows::read_heap;
 use kept_parts::rows::read_flags;
@@ -55,11 +55,11 @@ fn ready_of(alloc: Global, parts: &WordTable, number: u32) -> Result<Vec<bool>, 
     Ok(ready)
 }
 
-fn printed_of(alloc: Global, parts: &WordTable, number: u32) -> Result<Vec<i32>, AllocError>
-    ensures { IfOk result (λ printed. IsPrintedRead parts.now number printed.items) }
+fn printed_of(alloc: Global, parts: &WordTable, number: u32) -> Result<Vec<u16>, AllocError>
+    ensures { IfOk result (λ printed. StandsFor parts.now number printed.items) }
 {
     let row = part(parts, number)?;
-    let printed = read_ints(alloc, row)?;
+    let printed = read_units(alloc, row)?;
     Ok(printed)
 }
 

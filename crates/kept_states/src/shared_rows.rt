@@ -1,8 +1,7 @@
 //! What threads share beside objects, as rows of words.
 
 ghost use Rattle.std.specs.Prelude.{◌≡◌, ◌++◌, OnOk, IfOk, IsTrue};
-ghost use Rattle.std.specs.Int.{w32, cast_signed};
-ghost use Rattle.kept_states.specs.Rows.{status_code, statuses_row, ints_of, ArePushed};
+ghost use Rattle.kept_states.specs.Rows.{status_code, statuses_row};
 
 use kept_parts::rows::push;
 use machine_state::ClassStatus;
@@ -53,37 +52,34 @@ pub(crate) fn read_statuses(alloc: Global, row: &[u32]) -> Result<Vec<ClassStatu
     Ok(statuses)
 }
 
-/// The word of an int, by its bits.
-fn word_of(int: i32) -> Result<u32, AllocError>
-    ensures { IfOk result (λ word. int ≡ cast_signed w32 word) }
+/// UTF-16 units, a word each.
+pub(crate) fn push_units(row: &mut Vec<u32>, units: &[u16]) -> Result<(), AllocError>
+    ensures { OnOk result (row.new.items ≡ row.old.items ++ units.now) }
 {
-    let word = int.cast_unsigned();
-    if word.cast_signed() == int {
-        Ok(word)
-    } else {
-        Err(AllocError)
-    }
-}
-
-/// Ints, by their bits.
-#[tactic(auto, using(crate::proofs::Written::no_ints, crate::proofs::Written::int_more))]
-pub(crate) fn push_ints(row: &mut Vec<u32>, ints: &[i32]) -> Result<(), AllocError>
-    ensures { OnOk result (ArePushed ints.now row.old.items row.new.items) }
-{
-    'ints: for int in ints {
-        push(row, word_of(*int)?)?;
+    'units: for unit in units {
+        push(row, u32::from(*unit))?;
     }
     Ok(())
 }
 
-pub(crate) fn read_ints(alloc: Global, row: &[u32]) -> Result<Vec<i32>, AllocError>
-    ensures { IfOk result (λ ints. ints.items ≡ ints_of row.now) }
+/// The unit of a word. An error where it is none.
+fn unit_of(word: u32) -> Result<u16, AllocError>
+    ensures { IfOk result (λ unit. unit ≡ word) }
 {
-    let mut ints = Vec::with_capacity(alloc, row.len())?;
-    'words: for word in row {
-        ints.push(word.cast_signed())?;
+    match u16::try_from(word) {
+        Ok(unit) => Ok(unit),
+        Err(_) => Err(AllocError),
     }
-    Ok(ints)
+}
+
+pub(crate) fn read_units(alloc: Global, row: &[u32]) -> Result<Vec<u16>, AllocError>
+    ensures { IfOk result (λ units. units.items ≡ row.now) }
+{
+    let mut units = Vec::with_capacity(alloc, row.len())?;
+    'words: for word in row {
+        units.push(unit_of(*word)?)?;
+    }
+    Ok(units)
 }
 
 pub(crate) fn are_same_words(one: &[u32], other: &[u32]) -> bool
@@ -119,7 +115,7 @@ pub(crate) fn are_same_flags(one: &[bool], other: &[bool]) -> bool
     one == other
 }
 
-pub(crate) fn are_same_ints(one: &[i32], other: &[i32]) -> bool
+pub(crate) fn are_same_units(one: &[u16], other: &[u16]) -> bool
     ensures { IsTrue result → one.now ≡ other.now }
 {
     one == other

@@ -1,10 +1,10 @@
 pub mod RunMethods
-mod BuiltIns
+pub mod BuiltIns
 pub mod Calling
 pub mod Receivers
 pub mod Selecting
 pub mod ClassObjects
 mod Prints
 pub mod Directs
-mod Statics
+pub mod Statics
 mod Plain

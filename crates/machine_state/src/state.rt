@@ -28,8 +28,8 @@ pub struct Shared {
     pub ready: Vec<bool>,
     /// The threads by their numbers, but for their stacks.
     pub threads: Threads,
-    /// The numbers that were printed, the first of them first.
-    pub printed: Vec<i32>,
+    /// The UTF-16 units that were printed, the first of them first.
+    pub printed: Vec<u16>,
     /// By the numbers of the threads.
     pub stacks: Vec<ThreadStack>,
 }

@@ -1,9 +1,7 @@
-mod Quick
-mod BuiltIns
-mod Meant
-mod Enabled
-mod Instructed
-mod PrintedMember
-mod Statics
-mod Tops
-mod Ends
+pub mod Quick
+pub mod BuiltIns
+pub mod Meant
+pub mod Enabled
+pub mod Instructed
+pub mod Tops
+pub mod Ends

@@ -54,7 +54,11 @@ system_class =
 
 abbrev pub print_stream_methods : List Declared
 print_stream_methods =
-    declared native_method (codes "println") (codes "(I)V")
+    declared native_method (codes "println") (codes "()V")
+    ∷ declared native_method (codes "println") (codes "(C)V")
+    ∷ declared native_method (codes "println") (codes "(I)V")
+    ∷ declared native_method (codes "print") (codes "(C)V")
+    ∷ declared native_method (codes "print") (codes "(I)V")
     ∷ []
 
 abbrev pub print_stream_class : FileTree

@@ -3,10 +3,15 @@
 use Rattle.std.specs.Prelude.{ℕ, List, [], ◌∷◌, ◌++◌, Option, Some, None, Bool, true, false, not, ◌&&◌, ◌||◌, if◌then◌else◌, nat_lt, codes, find, is_some, length, slice_get, unwrap_or}
 use Rattle.std.specs.Option.{option_map}
 use Rattle.model.specs.declared.event.Event.{Event}
-use Rattle.model.specs.Names.{Name, Member, member_eq, java_lang_object, java_lang_thread, thread_target, println_int, constructor_name}
-use Rattle.model.specs.Ints.{signed}
+use Rattle.model.specs.Names.{Name, Member, member_eq, java_lang_object, java_lang_thread, java_io_print_stream, thread_target, println_int, constructor_name}
+use Rattle.std.specs.Fmt.{signed_decimal}
+use Rattle.model.specs.declared.print_method.PrintMethod.{PrintMethod}
+use Rattle.model.specs.declared.print_method.PrintMethod.TheVariants.{Println, PrintlnChar, PrintlnInt, PrintChar, PrintInt}
+use Rattle.model.specs.declared.instr.Conversion.TheVariants.{ToChar}
+use Rattle.model.specs.Ints.{signed, converted}
+use Rattle.model.specs.Texts.{Text, int_line}
 use Rattle.model.specs.Operands.{Slots, Carrier}
-use Rattle.model.specs.State.{Waiter, Notified, Interrupted, ThreadStatus, Running, Waiting, Relock, Ended, Thread, WorldOf, new_thread}
+use Rattle.model.specs.State.{Waiter, Notified, Interrupted, ThreadStatus, Running, Waiting, Relock, Ended, WorldOf, new_thread}
 use Rattle.model.specs.Outcomes.{OutcomeOf, Raises, Interrupts, Waits, IllegalMonitorState, IllegalThreadState, Starts, Joins}
 use Rattle.model.specs.Monitors as monitors
 use Rattle.model.specs.Monitors.{monitor_at}
@@ -29,7 +34,7 @@ pub data BuiltInMethod : Type 0 where
   ThreadCurrentThread : BuiltInMethod
   ThreadJoin : BuiltInMethod
   ThreadIsAlive : BuiltInMethod
-  PrintStreamPrintln : BuiltInMethod
+  PrintStreamPrints : PrintMethod → BuiltInMethod
 
 -- ---- by their names
 
@@ -38,6 +43,9 @@ of_object name = record { class = java_lang_object; name = name; descriptor = co
 
 abbrev pub of_thread : Name → Name → Member
 of_thread name descriptor = record { class = java_lang_thread; name = name; descriptor = descriptor }
+
+abbrev pub of_print_stream : Name → Name → Member
+of_print_stream name descriptor = record { class = java_io_print_stream; name = name; descriptor = descriptor }
 
 abbrev pub built_in_methods : List (Member × BuiltInMethod)
 built_in_methods =
@@ -53,7 +61,11 @@ built_in_methods =
     ∷ (of_thread (codes "currentThread") (codes "()Ljava/lang/Thread;"), ThreadCurrentThread)
     ∷ (of_thread (codes "join") (codes "()V"), ThreadJoin)
     ∷ (of_thread (codes "isAlive") (codes "()Z"), ThreadIsAlive)
-    ∷ (println_int, PrintStreamPrintln)
+    ∷ (of_print_stream (codes "println") (codes "()V"), PrintStreamPrints Println)
+    ∷ (of_print_stream (codes "println") (codes "(C)V"), PrintStreamPrints PrintlnChar)
+    ∷ (println_int, PrintStreamPrints PrintlnInt)
+    ∷ (of_print_stream (codes "print") (codes "(C)V"), PrintStreamPrints PrintChar)
+    ∷ (of_print_stream (codes "print") (codes "(I)V"), PrintStreamPrints PrintInt)
     ∷ []
 
 abbrev pub is_row_of : Member → Member × BuiltInMethod → Bool
@@ -127,10 +139,18 @@ join_by false next world slots rest = pushing next [] world slots rest
 abbrev pub bit : Bool → ℕ
 bit b = if b then 1 else 0
 
--- ---- println
+-- ---- println, print (own: all streams are one text)
 
-abbrev pub with_printed : {A : Type 0} → WorldOf A → ℕ → WorldOf A
-with_printed world bits = record world { printed = world.printed ++ signed bits ∷ [] }
+-- what is printed where the bits are on top of the stack: an int in decimal, a char as its unit
+abbrev pub printed_by : PrintMethod → ℕ → Text
+printed_by Println bits = 10 ∷ []
+printed_by PrintlnChar bits = converted ToChar bits ∷ 10 ∷ []
+printed_by PrintlnInt bits = int_line bits
+printed_by PrintChar bits = converted ToChar bits ∷ []
+printed_by PrintInt bits = signed_decimal (signed bits)
+
+abbrev pub with_printed : {A : Type 0} → WorldOf A → Text → WorldOf A
+with_printed world text = record world { printed = world.printed ++ text }
 
 -- ---- the table
 
@@ -175,5 +195,5 @@ built_in_does C ThreadCurrentThread next event world slots ops rest = pushing ne
 built_in_does C ThreadJoin next event world slots ops rest = join_by (is_alive world (object_of C ops 0)) next world slots rest
 -- .., objectref -> .., result
 built_in_does C ThreadIsAlive next event world slots ops rest = pushing next (C.int (bit (is_alive world (object_of C ops 0))) ∷ []) world slots rest
--- .., objectref, value -> ..
-built_in_does C PrintStreamPrintln next event world slots ops rest = pushing next [] (with_printed world (int_operand C ops 0)) slots rest
+-- .., objectref, [value] -> ..
+built_in_does C (PrintStreamPrints method) next event world slots ops rest = pushing next [] (with_printed world (printed_by method (int_operand C ops 0))) slots rest

@@ -1,5 +1,5 @@
 -- The types that descriptors and class constants name (JVMS 4.3, 4.4.1), and those that the verifier has for them.
-use Rattle.std.specs.Prelude.{ℕ, zero, suc, List, [], ◌∷◌, Option, Some, None, Bool, true, false, ◌==◌, if◌then◌else◌, map}
+use Rattle.std.specs.Prelude.{ℕ, zero, suc, List, [], ◌∷◌, Option, Some, None, ◌==◌, if◌then◌else◌, map}
 use Rattle.std.specs.Option.{option_map_or}
 use Rattle.model.specs.Names.{Name, java_lang_object}
 use Rattle.model.specs.Descriptors.{ElementType, FieldType, MethodType}

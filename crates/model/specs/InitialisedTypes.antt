@@ -1,6 +1,6 @@
 -- Types of objects whose constructor was not called yet (JVMS 4.10.1.4, 4.10.2.4): what `new` and a call of a constructor do
 -- to the other copies.
-use Rattle.std.specs.Prelude.{ℕ, List, [], ◌∷◌, Bool, true, false, ◌&&◌, ◌||◌, ◌==◌, if◌then◌else◌}
+use Rattle.std.specs.Prelude.{ℕ, Bool, false, ◌&&◌, ◌==◌, if◌then◌else◌}
 use Rattle.model.specs.Names.{Name, name_eq}
 use Rattle.model.specs.ReferenceTypes.{ClassType}
 use Rattle.model.specs.Types.{VerificationType, Unusable, IntType, NullType, OfType, Uninitialised, UninitialisedThis}

@@ -31,6 +31,7 @@ pub mod TypeOrder
 pub mod TypeJoin
 pub mod Ints
 pub mod Rows
+pub mod Texts
 pub mod State
 pub mod Monitors
 pub mod Opening

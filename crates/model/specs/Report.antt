@@ -1,7 +1,10 @@
 -- The text of a report (own).
-use Rattle.std.specs.Prelude.{◌≡◌, ℕ, suc, ℤ, pos, negsuc, List, [], ◌∷◌, ◌++◌, codes, refl}
+use Rattle.std.specs.Prelude.{◌≡◌, ℕ, suc, ℤ, pos, negsuc, List, [], ◌∷◌, ◌++◌, ◌==◌, if◌then◌else◌, codes, refl}
 use Rattle.std.specs.List.{flat_map}
+use Rattle.std.specs.Char.{encode_utf8}
+use Rattle.std.specs.Char.Utf16.{utf16_chars}
 use Rattle.std.specs.Fmt.{digits, decimal, signed_decimal}
+use Rattle.model.specs.Texts.{Text, printed_lines, number_line}
 use Rattle.model.specs.declared.end.End.{End}
 use Rattle.model.specs.declared.end.End.TheVariants as ends
 use Rattle.model.specs.declared.end.RunCause.{RunCause}
@@ -41,9 +44,13 @@ signed_number z = signed_decimal z
 abbrev pub line : List ℕ → List ℕ
 line text = text ++ 10 ∷ []
 
+-- the bytes of a class's name, on one line: a line feed as a backslash and an n
+abbrev pub on_one_line : List ℕ → List ℕ
+on_one_line name = flat_map (λ byte. if byte == 10 then codes "\\n" else byte ∷ []) name
+
 abbrev pub thread_word : ThreadEnd → List ℕ
 thread_word Ended = codes "ended"
-thread_word (Threw name) = codes "threw " ++ name
+thread_word (Threw name) = codes "threw " ++ on_one_line name
 thread_word Blocked = codes "blocked"
 thread_word Waiting = codes "waiting"
 thread_word Joining = codes "joining"
@@ -73,18 +80,23 @@ end_words (ends.Refused i cause) = codes "refused " ++ (number i ++ (codes " " +
 end_words ends.Quiet = codes "quiet"
 end_words ends.Budget = codes "budget"
 
--- the numbers that were printed, the threads by their numbers, how many events were done, and why no more were
-abbrev pub report_text : List ℤ → List ThreadEnd → ℕ → End → List ℕ
+-- the text that was printed, the threads by their numbers, how many events were done, and why no more were
+abbrev pub report_text : Text → List ThreadEnd → ℕ → End → List ℕ
 report_text printed threads events end =
-    flat_map (λ z. line (signed_number z)) printed ++ (thread_lines 0 threads ++ (line (codes "events " ++ number events) ++ line (codes "end " ++ end_words end)))
+    printed_lines printed ++ (thread_lines 0 threads ++ (line (codes "events " ++ number events) ++ line (codes "end " ++ end_words end)))
 
 -- ---- examples
 
-prints_seven : report_text (pos 7 ∷ []) (Ended ∷ []) 8 ends.Quiet ≡ codes "7\nthread 0 ended\nevents 8\nend quiet\n"
-unfolding digits
+prints_seven : report_text (number_line (pos 7)) (Ended ∷ []) 8 ends.Quiet ≡ codes "7\nthread 0 ended\nevents 8\nend quiet\n"
+unfolding digits utf16_chars encode_utf8
 prints_seven = refl
 
-prints_least : report_text (negsuc 2147483647 ∷ []) (Threw (codes "java/lang/Error") ∷ Waiting ∷ []) 12 (ends.Refused 12 causes.Threads)
+prints_least : report_text (number_line (negsuc 2147483647)) (Threw (codes "java/lang/Error") ∷ Waiting ∷ []) 12 (ends.Refused 12 causes.Threads)
     ≡ codes "-2147483648\nthread 0 threw java/lang/Error\nthread 1 waiting\nevents 12\nend refused 12 threads\n"
-unfolding digits
+unfolding digits utf16_chars encode_utf8
 prints_least = refl
+
+-- a line that isn't ended, and a class whose name has a line feed
+prints_a_part : report_text (codes "a") (Threw (codes "a\nb") ∷ []) 5 ends.Budget ≡ codes "a\nthread 0 threw a\\nb\nevents 5\nend budget\n"
+unfolding digits utf16_chars encode_utf8
+prints_a_part = refl

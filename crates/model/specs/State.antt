@@ -1,8 +1,9 @@
 -- What a run keeps (JVMS 2.5, 2.6; JLS 17): at the carrier `values` with the kind of each value, at `words` without.
-use Rattle.std.specs.Prelude.{ℕ, ℤ, List, Option, None, Bool, false, map}
+use Rattle.std.specs.Prelude.{ℕ, List, Option, None, Bool, false, map}
 use Rattle.model.specs.Names.{Name, Member}
 use Rattle.model.specs.ReferenceTypes.{Primitive, ReferenceType, ClassType, PrimitiveArray, ReferenceArray}
 use Rattle.model.specs.Operands.{Slots}
+use Rattle.model.specs.Texts.{Text}
 use Rattle.model.specs.declared.value.Value.{Value}
 
 -- an object: its class and its fields, each by the class that declares it; or the elements of an array
@@ -86,14 +87,14 @@ abbrev pub StackOf : Type 0 → Type 0
 StackOf A = List (StackEntryOf A)
 
 -- what the threads share: objects by their references, the static fields of the files, the classes of the files, monitors
--- by the references of their objects, the threads in starting order, and the numbers printed
+-- by the references of their objects, the threads in starting order, and the text printed
 pub record WorldOf (A : Type 0) : Type 0 where
   pub heap : List (ObjectOf A)
   pub statics : List (Member × A)
   pub classes : List (Name × ClassStatus)
   pub monitors : List Monitor
   pub threads : List Thread
-  pub printed : List ℤ
+  pub printed : Text
 
 -- the stacks stand in the order of the threads
 pub record StateOf (A : Type 0) : Type 0 where

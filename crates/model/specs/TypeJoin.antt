@@ -3,10 +3,9 @@ use Rattle.std.specs.Prelude.{ℕ, zero, suc, List, [], ◌∷◌, Option, Some,
 use Rattle.std.specs.Option.{option_map, option_map_or, option_and_then}
 use Rattle.model.specs.Names.{Name, java_lang_object}
 use Rattle.model.specs.Classes.{Program, classes_of, superclass_of, is_subclass}
-use Rattle.model.specs.ReferenceTypes.{Primitive, primitive_number, ReferenceType, ClassType, PrimitiveArray, ReferenceArray}
+use Rattle.model.specs.ReferenceTypes.{primitive_number, ReferenceType, ClassType, PrimitiveArray, ReferenceArray}
 use Rattle.model.specs.Types.{VerificationType, Unusable, IntType, NullType, OfType, Uninitialised, UninitialisedThis}
 use Rattle.model.specs.InitialisedTypes.{is_uninitialised, is_uninitialised_this}
-use Rattle.model.specs.Operands.{Slots}
 use Rattle.model.specs.TypeOrder.{FrameType}
 
 -- u is the least above s and t; or nothing is above both

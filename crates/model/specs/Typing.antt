@@ -1,7 +1,7 @@
 -- Typings (JVMS 4.10.2): frame types at the offsets of a method's code that agree with each instruction. What is promised is
 -- that such frame types exist; how they are found is no part of the definition.
 use Rattle.std.specs.Prelude.{◌≡◌, ℕ, ◌≤◌, ◌-◌, List, [], ◌∷◌, ◌++◌, Option, Some, None, Bool, true, false, not, ◌&&◌, ◌||◌, ◌==◌, if◌then◌else◌, length, map, replicate, unwrap_or, IsTrue}
-use Rattle.std.specs.Option.{option_and_then, option_map_or}
+use Rattle.std.specs.Option.{option_map_or}
 use Rattle.std.specs.List.{list_any, AllByRecursion}
 use Rattle.model.specs.declared.class_file.ExceptionEntry.{ExceptionEntry}
 use Rattle.model.specs.declared.instr.Instr.{Instr}
@@ -9,7 +9,7 @@ use Rattle.model.specs.declared.instr.Instr.TheVariants as instr
 use Rattle.model.specs.declared.instr.Invocation.TheVariants as invocation
 use Rattle.model.specs.declared.value.Value.{Value}
 use Rattle.model.specs.Names.{Name, name_eq, Member, constructor_name, initialiser_name, java_lang_throwable}
-use Rattle.model.specs.Tree.{Entry, MethodTree}
+use Rattle.model.specs.Tree.{Entry}
 use Rattle.model.specs.Pool.{class_name_at, method_at}
 use Rattle.model.specs.AccessFlags.{is_static_method}
 use Rattle.model.specs.Classes.{Program, Body, body_of}

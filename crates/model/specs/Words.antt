@@ -1,10 +1,9 @@
 -- States without the kinds of their values (own): an int by its bits, null and an unset variable as 0, a reference r as r + 1.
-use Rattle.std.specs.Prelude.{◌≡◌, ℕ, List, map}
-use Rattle.model.specs.declared.value.Value.{Value}
+use Rattle.std.specs.Prelude.{◌≡◌, ℕ, map}
 use Rattle.model.specs.Names.{Member}
 use Rattle.model.specs.Classes.{Program}
 use Rattle.model.specs.Operands.{Slots, word_of}
-use Rattle.model.specs.State.{ObjectOf, Instance, Primitives, References, PlaceOf, FrameOf, StackEntryOf, Invocation, Initialisation, StackOf, WorldOf, StateOf, State}
+use Rattle.model.specs.State.{ObjectOf, Instance, Primitives, References, FrameOf, StackEntryOf, Invocation, Initialisation, StackOf, WorldOf, StateOf, State}
 use Rattle.model.specs.WellTyped.{IsWellTyped}
 
 -- ---- what a function on values makes of a state

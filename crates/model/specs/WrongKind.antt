@@ -1,5 +1,5 @@
 -- When a thread meets a missing instruction, or an operand that is missing or of a wrong kind: what verification rules out.
-use Rattle.std.specs.Prelude.{ℕ, List, [], ◌∷◌, Option, Some, None, Bool, true, false, not, slice_get}
+use Rattle.std.specs.Prelude.{ℕ, List, [], ◌∷◌, Option, Some, None, Bool, false, not, slice_get}
 use Rattle.std.specs.Option.{option_and_then}
 use Rattle.model.specs.declared.value.Value.{Value}
 use Rattle.model.specs.Classes.{Program, Body, body_of}

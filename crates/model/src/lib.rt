@@ -28,6 +28,7 @@ mod instr;
 mod limits;
 mod monitor_answer;
 mod primitive;
+mod print_method;
 mod report;
 mod value;
 
@@ -43,5 +44,6 @@ pub use instr::{
 pub use limits::Limits;
 pub use monitor_answer::MonitorAnswer;
 pub use primitive::Primitive;
+pub use print_method::PrintMethod;
 pub use report::{EndState, Report};
 pub use value::Value;

@@ -19,11 +19,11 @@ pub enum EndState {
     Runnable,
 }
 
-/// The numbers that were printed, in order, the state of each thread by its number, and how many events were
+/// The UTF-16 units that were printed, in order, the state of each thread by its number, and how many events were
 /// done.
 #[derive(Drop, PartialEq, Eq)]
 pub struct Report {
-    pub printed: Vec<i32>,
+    pub printed: Vec<u16>,
     pub threads: Vec<EndState>,
     pub events: u64,
 }

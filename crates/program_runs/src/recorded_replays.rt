@@ -3,7 +3,7 @@
 //! # Proved
 //!
 //! - `records_replay` (`DoRecordsReplay`): a replay of the events that a run has recorded, over the same accepted files
-//!   and within the same limits, prints the same numbers, and its threads end alike, after as many events; unless it
+//!   and within the same limits, prints the same text, and its threads end alike, after as many events; unless it
 //!   stops for want of memory. It ends with `Quiet` where the run did, and else with `Schedule`.
 
 ghost use Rattle.program_runs.specs.recorded_replays.Same.{DoRecordsReplay};

@@ -20,7 +20,7 @@
 //! - Of lists of states and outcomes (`IsSearched`): where the opening state is among the states, each of them is
 //!   reached by a run, each reduced step of one, with whatever pick, leads to one of them, and the outcomes are those
 //!   of the ones in which no thread may step, then each outcome of a run that ends so is listed, and each that is
-//!   listed some run has (`closed_searches_are_complete`). An outcome is the numbers printed and how each thread
+//!   listed some run has (`closed_searches_are_complete`). An outcome is the text printed and how each thread
 //!   stands.
 //!
 //! # Not proved

@@ -7,6 +7,7 @@ pub mod interleavings;
 pub mod laws;
 pub mod monitor_counts;
 pub mod object_counts;
+pub mod printed_texts;
 pub mod searches;
 pub mod soundness;
 pub mod typed_runs;

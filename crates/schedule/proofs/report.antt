@@ -1,1 +1,2 @@
 mod ThreadLines
+mod Units

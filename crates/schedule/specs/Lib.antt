@@ -1,6 +1,7 @@
 pub mod FileExamples
 pub mod Files
 pub mod growing_text
+pub mod report
 pub mod Joined
 pub mod Names
 pub mod Outcomes

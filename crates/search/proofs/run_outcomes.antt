@@ -1,3 +1,6 @@
+mod LineLaws
+mod Ties
+mod IntLines
 mod Orders
 mod Lists
 pub mod Places

@@ -9,7 +9,7 @@ use Rattle.model.specs.declared.instr.Returned.{Returned}
 use Rattle.model.specs.declared.instr.Returned.TheVariants as returned
 use Rattle.model.specs.declared.value.Value.{Value}
 use Rattle.model.specs.Arrays.{is_negative, made_array, in_range, at_index, may_stand_in, if_storable, load_of, store_of}
-use Rattle.model.specs.BuiltInMethods.{BuiltInMethod, Construct, ConstructWithTarget, ObjectWait, ObjectNotify, ObjectNotifyAll, ThreadStart, ThreadInterrupt, ThreadIsInterrupted, ThreadInterrupted, ThreadYield, ThreadCurrentThread, ThreadJoin, ThreadIsAlive, PrintStreamPrintln, built_in_method, object_of, wait_by, if_owner, start_by, join_by, built_in_does}
+use Rattle.model.specs.BuiltInMethods.{BuiltInMethod, Construct, ConstructWithTarget, ObjectWait, ObjectNotify, ObjectNotifyAll, ThreadStart, ThreadInterrupt, ThreadIsInterrupted, ThreadInterrupted, ThreadYield, ThreadCurrentThread, ThreadJoin, ThreadIsAlive, PrintStreamPrints, built_in_method, object_of, wait_by, if_owner, start_by, join_by, built_in_does}
 use Rattle.model.specs.Calls.{Chosen, Fails, Runs, runs, invoked, return_of}
 use Rattle.model.specs.Classes.{Program, Body, body_of}
 use Rattle.model.specs.Meanings.{local_meaning, meaning_of}
@@ -111,7 +111,7 @@ module _ (files : Program) (site : Site) (t : ℕ) (world : World) (thread : Thr
   built_in_told ThreadCurrentThread next = tt
   built_in_told ThreadJoin next = join_told (is_alive world (object_of values ops 0)) next
   built_in_told ThreadIsAlive next = tt
-  built_in_told PrintStreamPrintln next = tt
+  built_in_told (PrintStreamPrints print) next = tt
 
   runs_told : (r : ℕ) (method : Member) (o : Option Body) → Told (runs values files site (next_event t) world slots ops rest r method o)
   runs_told r method None = built_in_told (built_in_method method) site.next

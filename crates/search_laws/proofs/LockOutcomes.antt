@@ -9,7 +9,7 @@ use Rattle.model.specs.declared.instr.Returned.{Returned}
 use Rattle.model.specs.declared.instr.Returned.TheVariants as returned
 use Rattle.model.specs.declared.value.Value.{Value}
 use Rattle.model.specs.Arrays.{is_negative, made_array, in_range, at_index, may_stand_in, if_storable, load_of, store_of}
-use Rattle.model.specs.BuiltInMethods.{BuiltInMethod, Construct, ConstructWithTarget, ObjectWait, ObjectNotify, ObjectNotifyAll, ThreadStart, ThreadInterrupt, ThreadIsInterrupted, ThreadInterrupted, ThreadYield, ThreadCurrentThread, ThreadJoin, ThreadIsAlive, PrintStreamPrintln, built_in_method, object_of, wait_by, notified_one, notified, notified_all, if_owner, start_by, interrupted_in, interrupted_on, join_by, built_in_may, built_in_does}
+use Rattle.model.specs.BuiltInMethods.{BuiltInMethod, Construct, ConstructWithTarget, ObjectWait, ObjectNotify, ObjectNotifyAll, ThreadStart, ThreadInterrupt, ThreadIsInterrupted, ThreadInterrupted, ThreadYield, ThreadCurrentThread, ThreadJoin, ThreadIsAlive, PrintStreamPrints, built_in_method, object_of, wait_by, notified_one, notified, notified_all, if_owner, start_by, interrupted_in, interrupted_on, join_by, built_in_may, built_in_does}
 use Rattle.model.specs.Calls.{Chosen, Fails, Runs, runs, invoked, may_run, may_invoke, return_of}
 use Rattle.model.specs.Classes.{Program, Body, body_of}
 use Rattle.model.specs.MonitorMeanings.{left, may_enter_object}
@@ -187,7 +187,7 @@ module _ (t r : ℕ) (change : Monitor → Monitor) (c : IsChange t change) wher
     built_in_is ThreadCurrentThread next slots ops rest = refl
     built_in_is ThreadJoin next slots ops rest = join_is (is_alive w (object_of values ops 0)) next slots rest
     built_in_is ThreadIsAlive next slots ops rest = refl
-    built_in_is PrintStreamPrintln next slots ops rest = refl
+    built_in_is (PrintStreamPrints print) next slots ops rest = refl
 
     -- an event that may be done may be done there
     built_in_may_same : (method : BuiltInMethod) (ops : List Value) → built_in_may values method event (f w) ops ≡ built_in_may values method event w ops
@@ -207,7 +207,7 @@ module _ (t r : ℕ) (change : Monitor → Monitor) (c : IsChange t change) wher
     built_in_may_same ThreadCurrentThread ops = refl
     built_in_may_same ThreadJoin ops = refl
     built_in_may_same ThreadIsAlive ops = refl
-    built_in_may_same PrintStreamPrintln ops = refl
+    built_in_may_same (PrintStreamPrints print) ops = refl
 
     -- ---- the table
 

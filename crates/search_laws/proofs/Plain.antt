@@ -6,7 +6,7 @@ use Rattle.model.specs.declared.instr.ArrayKind.{ArrayKind}
 use Rattle.model.specs.declared.instr.ArrayKind.TheVariants as array_kind
 use Rattle.model.specs.declared.value.Value.{Value}
 use Rattle.model.specs.Arrays.{made_array, in_range, at_index, may_stand_in, if_storable, load_of, store_of}
-use Rattle.model.specs.BuiltInMethods.{BuiltInMethod, Construct, ConstructWithTarget, ObjectWait, ObjectNotify, ObjectNotifyAll, ThreadStart, ThreadInterrupt, ThreadIsInterrupted, ThreadInterrupted, ThreadYield, ThreadCurrentThread, ThreadJoin, ThreadIsAlive, PrintStreamPrintln, object_of, wait_by, if_owner, start_by, join_by, built_in_does}
+use Rattle.model.specs.BuiltInMethods.{BuiltInMethod, Construct, ConstructWithTarget, ObjectWait, ObjectNotify, ObjectNotifyAll, ThreadStart, ThreadInterrupt, ThreadIsInterrupted, ThreadInterrupted, ThreadYield, ThreadCurrentThread, ThreadJoin, ThreadIsAlive, PrintStreamPrints, object_of, wait_by, if_owner, start_by, join_by, built_in_does}
 use Rattle.model.specs.Classes.{Program}
 use Rattle.model.specs.MonitorMeanings.{left}
 use Rattle.model.specs.Meanings.{local_meaning}
@@ -91,7 +91,7 @@ built_in_plain ThreadYield next event world slots ops rest = tt
 built_in_plain ThreadCurrentThread next event world slots ops rest = tt
 built_in_plain ThreadJoin next event world slots ops rest = join_plain (is_alive world (object_of values ops 0)) next world slots rest
 built_in_plain ThreadIsAlive next event world slots ops rest = tt
-built_in_plain PrintStreamPrintln next event world slots ops rest = tt
+built_in_plain (PrintStreamPrints print) next event world slots ops rest = tt
 
 module _ (files : Program) (site : Site) (event : Event) (world : World) (slots : Slots Value) (ops rest : List Value) where
   pub load_plain : (kind : ArrayKind) → IsPlain ((load_of values files site kind).does event world slots ops rest)

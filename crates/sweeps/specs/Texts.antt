@@ -2,6 +2,9 @@
 use Rattle.std.specs.Prelude.{◌≡◌, ◌+◌, ◌-◌, ◌==◌, ◌&&◌, ℕ, suc, pos, Bool, true, false, List, [], ◌∷◌, ◌++◌, codes, count_by, min, refl}
 use Rattle.std.specs.Fmt.{digits}
 use Rattle.std.specs.List.{flat_map}
+use Rattle.std.specs.Char.{encode_utf8}
+use Rattle.std.specs.Char.Utf16.{utf16_chars}
+use Rattle.model.specs.Texts.{number_line}
 use Rattle.model.specs.Report.{Ended as ended, Blocked as blocked, line, number}
 use Rattle.run_laws.specs.interleavings.Ends.{Outcome}
 use Rattle.search.specs.search_reports.Reports.{outcome_text}
@@ -96,7 +99,7 @@ sweep_text policy first words t end = tally_text policy first t ++ end_text end 
 -- ---- examples
 
 abbrev prints : ℕ → Outcome
-prints n = record { printed = pos n ∷ []; ends = ended ∷ [] }
+prints n = record { printed = number_line (pos n); ends = ended ∷ [] }
 
 abbrev stuck : Outcome
 stuck = record { printed = []; ends = blocked ∷ [] }
@@ -108,7 +111,7 @@ tells_all : sweep_text seeded.Mixed 1 [] (record {
   events = 40;
 }) ends.Done
     ≡ codes "outcome 1\n7\nthread 0 ended\nruns 3 of 6, first seed 1\noutcome 2\nthread 0 blocked\nruns 1 of 6, first seed 5\noutcomes 2\nbudget 2 runs, first seed 2\nruns 6, seeds 1..6\nevents 40\nonce 1\nunseen at most 4 in 6 runs of mixed\nsweep done\n"
-unfolding digits
+unfolding digits utf16_chars encode_utf8
 tells_all = refl
 
 tells_seed : end_text ends.Found 17 (codes " A.class") ≡ codes "sweep found\njvm run --seed 17 A.class\n"

@@ -40,7 +40,7 @@ fn push_outcome(
     ensures { OnOk result (text.new.items ≡ text.old.items ++ outcome_text number (told_by outcome.now)) }
 {
     push_line(text, format!(in alloc; "outcome {number}")?.as_bytes())?;
-    push_printed(alloc, text, &outcome.printed)?;
+    push_printed(text, &outcome.printed)?;
     push_threads(alloc, text, &outcome.threads)
 }
 
@@ -278,7 +278,7 @@ fn push_end(
     }
 }
 
-/// The text of what has come of a sweep by a policy. Each outcome by its number, from 1 on, with the printed numbers
+/// The text of what has come of a sweep by a policy. Each outcome by its number, from 1 on, with the printed text
 /// and the threads as a report has them, and how many runs have shown it; how many outcomes there are; how many runs
 /// the budget or a limit has ended; how many runs and events there were; how many outcomes were met once, and how many
 /// of further runs show another one, at most; and why there are no more runs. Where one shows what is wanted the last

@@ -1,5 +1,5 @@
 -- Each line of a trace is one line.
-use Rattle.std.proofs.Common.{◌≡◌, ◌==◌, ◌-◌, ◌*◌, ◌/◌, ◌%◌, ℕ, zero, suc, List, [], ◌∷◌, ◌++◌, true, false, Bool, replicate, length, codes, refl, ap, sym, ◌∙◌, append_assoc, not, nat_lt, min, ◌&&◌, arith}
+use Rattle.std.proofs.Common.{◌≡◌, ◌==◌, ◌-◌, ◌*◌, ◌/◌, ◌%◌, ℕ, zero, suc, List, [], ◌∷◌, ◌++◌, Option, Some, None, true, false, Bool, replicate, length, take, codes, refl, ap, sym, ◌∙◌, append_assoc, not, nat_lt, min, ◌&&◌, arith}
 use Rattle.std.specs.Prelude.{◌||◌, if◌then◌else◌, nat_le}
 use Rattle.std.specs.Fmt.{digits, digits_onto, digit_glyph}
 use Rattle.std.specs.List.{flat_map}
@@ -10,11 +10,13 @@ use Rattle.model.specs.Listing.{hex_byte, hex_digit, hex_short}
 use Rattle.model.specs.Names.{Member, Name}
 use Rattle.model.specs.Report.{number, line}
 use Rattle.model.specs.State.{Invocation, Initialisation, StackOf}
+use Rattle.model.specs.Texts.{Text}
 use Rattle.listings.specs.printed_names.Printed.{printed, printed_byte}
 use Rattle.traces.specs.declared.form.Form.{Form}
 use Rattle.traces.specs.declared.form.Form.TheVariants.{Plain, Columns, Json}
 use Rattle.traces.specs.JsonTexts.{escape, escaped, quoted, member, text_member, units}
-use Rattle.traces.specs.Lines.{IsOneLine, is_within_line, class_in, end_words, frame_in, head_words, in_seven, indent, instruction_words, line_words, method_members, method_words, nowhere_in, part, place_in}
+use Rattle.traces.specs.Quotations.{quotation, shown, shown_units}
+use Rattle.traces.specs.Lines.{IsOneLine, is_within_line, class_in, did, end_words, frame_in, head_words, in_seven, indent, instruction_words, line_words, method_members, method_words, nowhere_in, part, place_in}
 
 abbrev Is : List ℕ → Type 0
 Is text = is_within_line text ≡ true
@@ -156,6 +158,24 @@ parts Json mark key (x ∷ words) marked named = text_members key (x ∷ words) 
 parts Plain mark key (x ∷ words) marked named = both mark (printed (x ∷ words)) marked (printed_texts (x ∷ words))
 parts Columns mark key (x ∷ words) marked named = both mark (printed (x ∷ words)) marked (printed_texts (x ∷ words))
 
+shown_texts : (units : List ℕ) → Is (shown_units units)
+shown_texts units = all_of shown each units
+  where
+    each : (u : ℕ) → Is (shown u)
+    each u = chosen (u == 10) (codes "\\n") (escape u) refl (escapes u)
+
+quotations : (text : List ℕ) → Is (quotation text)
+quotations text =
+    both (codes "\"") (if nat_le (length text) 40 then shown_units text ++ codes "\"" else shown_units (take 40 text) ++ codes "..\"") refl
+    (chosen (nat_le (length text) 40) (shown_units text ++ codes "\"") (shown_units (take 40 text) ++ codes "..\"")
+    (both (shown_units text) (codes "\"") (shown_texts text) refl) (both (shown_units (take 40 text)) (codes "..\"") (shown_texts (take 40 text)) refl))
+
+dids : (form : Form) (words : List ℕ) (text : Option Text) → Is (did form words text)
+dids form words None = parts form (codes " | ") (codes "did") words refl refl
+dids Json words (Some text) = text_members (codes "did") (words ++ quotation text) refl
+dids Plain words (Some text) = both (codes " | ") (printed words ++ quotation text) refl (both (printed words) (quotation text) (printed_texts words) (quotations text))
+dids Columns words (Some text) = both (codes " | ") (printed words ++ quotation text) refl (both (printed words) (quotation text) (printed_texts words) (quotations text))
+
 -- ---- the line
 
 -- before its end
@@ -178,17 +198,17 @@ begins : (form : Form) (words text : List ℕ) → Is words → text ≡ words +
 begins form words text is e =
     (words ++ bracket form, e ∙ ap (λ (l : List ℕ). words ++ l) (ends form) ∙ sym (append_assoc words (bracket form) (10 ∷ [])), both words (bracket form) is (brackets form))
 
-pub is_one_line : {A : Type 0} (form : Form) (trees : Program) (n t : ℕ) (stack : StackOf A) (source deed : List ℕ)
-    → IsOneLine (line_words form trees n t stack source deed)
-is_one_line form trees n t stack source deed =
+pub is_one_line : {A : Type 0} (form : Form) (trees : Program) (n t : ℕ) (stack : StackOf A) (source deed : List ℕ) (text : Option Text)
+    → IsOneLine (line_words form trees n t stack source deed text)
+is_one_line form trees n t stack source deed text =
     let a = head_words form n t in
     let b = place_in form stack in
     let c = part form (codes " ") (codes "source") source in
     let d = part form (codes " ") (codes "instruction") (instruction_words trees stack) in
-    let e = part form (codes " | ") (codes "did") deed in
+    let e = did form deed text in
     begins form (a ++ (b ++ (c ++ (d ++ e)))) (a ++ (b ++ (c ++ (d ++ (e ++ end_words form)))))
     (both a (b ++ (c ++ (d ++ e))) (heads form n t)
     (both b (c ++ (d ++ e)) (places form stack)
     (both c (d ++ e) (parts form (codes " ") (codes "source") source refl refl)
-    (both d e (parts form (codes " ") (codes "instruction") (instruction_words trees stack) refl refl) (parts form (codes " | ") (codes "did") deed refl refl)))))
+    (both d e (parts form (codes " ") (codes "instruction") (instruction_words trees stack) refl refl) (dids form deed text)))))
     (simp append_assoc)

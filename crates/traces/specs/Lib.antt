@@ -1,4 +1,5 @@
 pub mod JsonTexts
 pub mod Lines
 pub mod Methods
+pub mod Quotations
 pub mod traced_events

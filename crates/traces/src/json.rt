@@ -96,7 +96,7 @@ fn hex_digits(n: u16) -> [u8; 4]
 }
 
 /// A code unit as it stands in a string.
-fn push_unit(text: &mut Vec<u8>, unit: u16) -> Result<(), AllocError>
+pub(crate) fn push_unit(text: &mut Vec<u8>, unit: u16) -> Result<(), AllocError>
     ensures { OnOk result (text.new.items ≡ text.old.items ++ escape unit) }
 {
     if unit == 0x22 || unit == 0x5c {

@@ -7,8 +7,9 @@
 //! - `push_line`, memory aside: what it adds is one line, with a line feed at its end and no other, whatever bytes the
 //!   names of the class files have (`IsOneLine`), and a line by `IsLine`, in the form that is asked for. Number and
 //!   thread are those of the event; method and offset of the frame on top, or the class on top, and the instruction are
-//!   those of the stack that was seen. Outside of JSON a name is written as `printed` of `listings` has it. What a line
-//!   says that the event did, and of the line of the source, nothing else is promised.
+//!   those of the stack that was seen. Outside of JSON a name is written as `printed` of `listings` has it, and a text
+//!   that the event printed stands in quotation marks by `quotation`. What a line says that the event did, and of the
+//!   line of the source, nothing else is promised.
 //! - `push_fold`, memory aside: what it adds are the words of the line of a run of local instructions, whole, by the
 //!   numbers that it is given (`fold_words`).
 //! - `ProgramNames`: `class_name` is the name of the class of a number; `push_method`, memory aside, adds the method of
@@ -26,6 +27,7 @@ mod numbers;
 mod objects;
 mod parts;
 mod places;
+mod quotations;
 mod sorts;
 mod sources;
 mod threads;

@@ -6,10 +6,10 @@ ghost use Rattle.traces.specs.Lines.{AddsLine};
 
 use crate::form::Form;
 use crate::names::ProgramNames;
-use crate::parts::{Part, push_end, push_head, push_part};
+use crate::parts::{Part, push_did, push_end, push_head, push_part};
 use crate::places::{push_instruction, push_place, push_source};
 use crate::sorts::{Sort, sort_of};
-use crate::traced_events::{Before, told_of};
+use crate::traced_events::{Before, Deed, Told, told_of};
 use crate::words::Words;
 use classfile::Reference;
 use machine_state::Shared;
@@ -36,11 +36,6 @@ const INSTRUCTION: Part = Part {
     key: "instruction",
 };
 
-const DEED: Part = Part {
-    mark: " | ",
-    key: "did",
-};
-
 /// The field that an instruction names.
 fn field_of<'a>(method: &MethodCode<'a>, instr: Instr) -> Option<Reference<'a>> {
     match instr {
@@ -60,13 +55,13 @@ fn instr_before<'a>(
     Some((method, instr))
 }
 
-/// What an event did.
+/// What an event did, but for a text that it printed.
 fn push_deed(
     text: &mut Vec<u8>,
     names: &ProgramNames<'_>,
     shared: &Shared,
     before: &Before,
-    event: Event,
+    told: Told,
 ) -> Result<(), AllocError> {
     let (field, sort) = match instr_before(names, before) {
         Some((method, instr)) => (field_of(&method, instr), sort_of(method.file(), instr)),
@@ -78,7 +73,15 @@ fn push_deed(
         field,
         sort,
     };
-    words.push(text, before, told_of(before, shared, names.program, event))
+    words.push(text, before, told)
+}
+
+/// The text that an event printed, if it is to be told behind words.
+fn text_printed<'a>(before: &Before, shared: &'a Shared, deed: Deed) -> Option<&'a [u16]> {
+    match deed {
+        Deed::PrintsText => shared.printed.get(before.printed..),
+        _ => None,
+    }
 }
 
 /// Writes the line of an event behind a text, by what was seen before it and the state after it: the event's number
@@ -105,7 +108,13 @@ pub fn push_line(
     push_instruction(spare, names, before)?;
     push_part(text, line.form, INSTRUCTION, spare.as_slice())?;
     spare.clear();
-    push_deed(spare, names, shared, before, line.event)?;
-    push_part(text, line.form, DEED, spare.as_slice())?;
+    let told = told_of(before, shared, names.program, line.event);
+    push_deed(spare, names, shared, before, told)?;
+    push_did(
+        text,
+        line.form,
+        spare,
+        text_printed(before, shared, told.deed),
+    )?;
     push_end(text, line.form)
 }

@@ -297,6 +297,7 @@ impl Words<'_, '_, '_, '_> {
                 push_words(text, "prints ")?;
                 push_signed(text, number)
             }
+            Deed::PrintsText => push_words(text, "prints "),
             Deed::Waits { .. }
             | Deed::Notifies { .. }
             | Deed::NotifiesAll
@@ -310,7 +311,7 @@ impl Words<'_, '_, '_, '_> {
     }
 
     /// Adds what an event did, with the exception that is pending since, and the end of the thread. `, ` stands between
-    /// two parts.
+    /// two parts. A text that was printed is to stand behind these words.
     pub(crate) fn push(
         &self,
         text: &mut Vec<u8>,

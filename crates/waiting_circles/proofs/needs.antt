@@ -1,12 +1,9 @@
 pub mod Begun
-pub mod BuiltIns
 pub mod Classes
 pub mod Directs
 pub mod Entered
 pub mod Framed
 pub mod Instructed
 pub mod Linked
-pub mod Meant
-pub mod Quick
 pub mod Receivers
 pub mod Tops

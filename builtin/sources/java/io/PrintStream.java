@@ -4,5 +4,13 @@ package java.io;
 public class PrintStream {
     private PrintStream() {}
 
+    public native void println();
+
+    public native void println(char unit);
+
     public native void println(int number);
+
+    public native void print(char unit);
+
+    public native void print(int number);
 }

@@ -55,7 +55,7 @@ static MEMBERS: [Cure; 43] = [
     (
         "java/io/PrintStream",
         "",
-        ": System.out has println(int) alone; print ints, one a line",
+        ": System.out prints ints and chars, and nothing else; print these",
     ),
     (
         SYSTEM,

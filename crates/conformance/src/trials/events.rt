@@ -23,7 +23,7 @@ const THREADS: u16 = 4;
 /// The picks with which one is tried.
 const PICKS: [u16; 3] = [0, 1, u16::MAX];
 
-/// A report: what it says of the printed numbers and the threads, how many events were done, and why there were no
+/// A report: what it says of the printed text and the threads, how many events were done, and why there were no
 /// more.
 #[derive(Clone, Copy)]
 struct ReportParts<'a> {

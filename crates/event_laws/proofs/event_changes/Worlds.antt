@@ -8,7 +8,7 @@ use Rattle.model.specs.Outcomes.{OutcomeOf, Goes, Raises, Throws, Interrupts, Ca
 use Rattle.model.specs.Monitors as monitors
 use Rattle.model.specs.Worlds.{thread_at, thread_of, is_alive, is_owner, with_monitors, with_interrupted, with_status, woken, all_woken, waiters_of}
 use Rattle.model.specs.Sites.{pushing}
-use Rattle.model.specs.BuiltInMethods.{BuiltInMethod, Construct, ConstructWithTarget, ObjectWait, ObjectNotify, ObjectNotifyAll, ThreadStart, ThreadInterrupt, ThreadIsInterrupted, ThreadInterrupted, ThreadYield, ThreadCurrentThread, ThreadJoin, ThreadIsAlive, PrintStreamPrintln, object_of, waiting, wait_by, notified_one, notified, notified_all, if_owner, start_by, interrupted_in, interrupted_on, join_by, built_in_does}
+use Rattle.model.specs.BuiltInMethods.{BuiltInMethod, Construct, ConstructWithTarget, ObjectWait, ObjectNotify, ObjectNotifyAll, ThreadStart, ThreadInterrupt, ThreadIsInterrupted, ThreadInterrupted, ThreadYield, ThreadCurrentThread, ThreadJoin, ThreadIsAlive, PrintStreamPrints, object_of, waiting, wait_by, notified_one, notified, notified_all, if_owner, start_by, interrupted_in, interrupted_on, join_by, built_in_does}
 use Rattle.event_laws.proofs.event_changes.Changed.{Keeps, Leaves, keeps_same, keeps_then, keeps_thread, keeps_status, leaves_of, leaves_started}
 
 -- what an instruction leaves of a world
@@ -128,4 +128,4 @@ module _ {A : Type 0} where
     built_in_leaves C ThreadCurrentThread next event slots ops rest = leaves_it world
     built_in_leaves C ThreadJoin next event slots ops rest = join_leaves (is_alive world (object_of C ops 0)) next slots rest
     built_in_leaves C ThreadIsAlive next event slots ops rest = leaves_it world
-    built_in_leaves C PrintStreamPrintln next event slots ops rest = leaves_same world _ refl refl
+    built_in_leaves C (PrintStreamPrints print) next event slots ops rest = leaves_same world _ refl refl

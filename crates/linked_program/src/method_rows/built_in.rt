@@ -9,6 +9,7 @@ ghost use Rattle.linked_program.specs.method_rows.BuiltIns.{declared_member, ent
 
 use classfile::Reference;
 use linked_code::BuiltInMethod;
+use model::PrintMethod;
 
 /// A method of a built-in class that has no code.
 #[derive(Clone, Copy)]
@@ -20,7 +21,7 @@ struct Declared {
 }
 
 /// All but the constructors without parameters.
-const DECLARED: [Declared; 13] = [
+const DECLARED: [Declared; 17] = [
     Declared {
         class: b"java/lang/Object",
         name: b"wait",
@@ -96,8 +97,32 @@ const DECLARED: [Declared; 13] = [
     Declared {
         class: b"java/io/PrintStream",
         name: b"println",
+        descriptor: b"()V",
+        method: BuiltInMethod::PrintStreamPrints(PrintMethod::Println),
+    },
+    Declared {
+        class: b"java/io/PrintStream",
+        name: b"println",
+        descriptor: b"(C)V",
+        method: BuiltInMethod::PrintStreamPrints(PrintMethod::PrintlnChar),
+    },
+    Declared {
+        class: b"java/io/PrintStream",
+        name: b"println",
         descriptor: b"(I)V",
-        method: BuiltInMethod::PrintStreamPrintln,
+        method: BuiltInMethod::PrintStreamPrints(PrintMethod::PrintlnInt),
+    },
+    Declared {
+        class: b"java/io/PrintStream",
+        name: b"print",
+        descriptor: b"(C)V",
+        method: BuiltInMethod::PrintStreamPrints(PrintMethod::PrintChar),
+    },
+    Declared {
+        class: b"java/io/PrintStream",
+        name: b"print",
+        descriptor: b"(I)V",
+        method: BuiltInMethod::PrintStreamPrints(PrintMethod::PrintInt),
     },
 ];
 

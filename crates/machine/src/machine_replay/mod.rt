@@ -3,7 +3,7 @@
 //! # Proved
 //!
 //! - `replay` (`IsReplay`), memory aside, for the linked program of all accepted files (`IsProgramOf`) and every
-//!   schedule: some beginning of the schedule's events was done, and no limit stood at any of them; printed numbers and
+//!   schedule: some beginning of the schedule's events was done, and no limit stood at any of them; printed text and
 //!   thread states are those of the state that `run` gives after them, the number of events is theirs, and the text of
 //!   the report is their `meaning` with this end. The end is one of four:
 //!   - `Schedule`: all events were done, and some thread has an event that is enabled;

@@ -1,4 +1,4 @@
-//! What a machine shows, as a report tells it: how each thread stands, and the numbers that were printed (JVMS 2.6,
+//! What a machine shows, as a report tells it: how each thread stands, and what was printed (JVMS 2.6,
 //! 2.10, 5.5; JLS 17).
 //!
 //! # Proved

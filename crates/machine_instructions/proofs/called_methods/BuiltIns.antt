@@ -4,12 +4,15 @@ use Rattle.std.specs.Prelude.{unwrap_or, codes}
 use Rattle.std.specs.Option.{option_map_or}
 use Rattle.std.specs.List.{list_all}
 use Rattle.std.proofs.lemmas.Option.{same_Some}
+use Rattle.model.specs.declared.print_method.PrintMethod.{PrintMethod}
+use Rattle.model.specs.declared.print_method.PrintMethod.TheVariants.{Println, PrintlnChar, PrintlnInt, PrintChar, PrintInt}
 use Rattle.model.specs.Names.{Member, member_eq, constructor_name, println_int}
 use Rattle.model.specs.AccessFlags.{is_private_method}
 use Rattle.model.specs.BuiltIn.{built_in_classes}
 use Rattle.model.specs.Classes.{Program}
 use Rattle.model.specs.Calls.{is_one}
-use Rattle.model.specs.BuiltInMethods.{BuiltInMethod, Construct, ConstructWithTarget, PrintStreamPrintln, of_thread, built_in_methods, is_row_of, built_in_method}
+use Rattle.model.specs.Lookup.{is_static_method}
+use Rattle.model.specs.BuiltInMethods.{BuiltInMethod, Construct, ConstructWithTarget, PrintStreamPrints, of_thread, of_print_stream, built_in_methods, is_row_of, built_in_method}
 use Rattle.run_laws.proofs.laws.Found.{found_passes, found_has, every_all}
 use Rattle.run_laws.proofs.laws.Classes.{members_same}
 
@@ -17,9 +20,16 @@ use Rattle.run_laws.proofs.laws.Classes.{members_same}
 abbrev pub target_constructor : Member
 target_constructor = of_thread constructor_name (codes "(Ljava/lang/Runnable;)V")
 
+abbrev pub print_member : PrintMethod → Member
+print_member Println = of_print_stream (codes "println") (codes "()V")
+print_member PrintlnChar = of_print_stream (codes "println") (codes "(C)V")
+print_member PrintlnInt = println_int
+print_member PrintChar = of_print_stream (codes "print") (codes "(C)V")
+print_member PrintInt = of_print_stream (codes "print") (codes "(I)V")
+
 abbrev pub member_for : BuiltInMethod → Option Member
 member_for ConstructWithTarget = Some target_constructor
-member_for PrintStreamPrintln = Some println_int
+member_for (PrintStreamPrints print) = Some (print_member print)
 member_for _ = None
 
 abbrev is_known : Member × BuiltInMethod → Bool
@@ -45,3 +55,11 @@ known method is e = by (find (is_row_of method) built_in_methods) refl e
 pub target_is_public : (files : Program) → is_one is_private_method files target_constructor ≡ false
 unfolding built_in_classes
 target_is_public files = refl
+
+pub print_is_no_static : (files : Program) (print : PrintMethod) → is_one is_static_method files (print_member print) ≡ false
+unfolding built_in_classes
+print_is_no_static files Println = refl
+print_is_no_static files PrintlnChar = refl
+print_is_no_static files PrintlnInt = refl
+print_is_no_static files PrintChar = refl
+print_is_no_static files PrintInt = refl

@@ -121,7 +121,7 @@ module _ (trees : Program) (heap : List (ObjectOf ℕ)) (stack : List ℕ) (n r 
   arguments_of method.ThreadCurrentThread e = tt
   arguments_of method.ThreadJoin e = refers method.ThreadJoin e 0 refl is_any refl
   arguments_of method.ThreadIsAlive e = refers method.ThreadIsAlive e 0 refl is_any refl
-  arguments_of method.PrintStreamPrintln e = let within = slice_get_within (take (n + 1) stack) n (suc r) word in omega (arith, within)
+  arguments_of (method.PrintStreamPrints print) e = let within = slice_get_within (take (n + 1) stack) n (suc r) word in omega (arith, within)
 
 -- ---- an instruction where a thread runs
 

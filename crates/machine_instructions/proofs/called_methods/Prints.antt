@@ -1,10 +1,12 @@
 -- A call of println.
 use Rattle.std.proofs.Common.{◌≡◌, ◌<◌, ◌≤◌, ◌+◌, ◌==◌, ℕ, List, [], ◌∷◌, length, take, drop, true, Option, Some, None, Ok, refl, sym, ap, subst, ◌∙◌, arith}
 use Rattle.std.specs.Prelude.{slice_index_or, is_some}
+use Rattle.model.specs.declared.print_method.PrintMethod.TheVariants.{PrintlnInt}
 use Rattle.model.specs.Classes.{Program}
 use Rattle.model.specs.LimitStands.{Bounds}
 use Rattle.model.specs.Operands.{words, word_reference}
 use Rattle.model.specs.Outcomes.{not_null}
+use Rattle.model.specs.Texts.{int_line}
 use Rattle.model.specs.BuiltInMethods.{with_printed}
 use Rattle.model.specs.Sites.{MeaningOf, Site, pushing, int_operand}
 use Rattle.model.specs.Meanings.{println_meaning}
@@ -55,7 +57,7 @@ module _ (trees : Program) (p : LinkedProgram) (bounds : Bounds) (inflated : Lis
   next_is next h = subst (λ s. IsPlaceBehind s next) is.is_stack h (place_within trees p bounds inflated t old from state frame rest code site meaning linked.Println is)
 
   pub calling : (next : ℕ) → IsPlaceBehind from next
-      → IsCalling trees p bounds inflated t old from state frame rest method.PrintStreamPrintln 2 next behind
+      → IsCalling trees p bounds inflated t old from state frame rest (method.PrintStreamPrints PrintlnInt) 2 next behind
   calling next h =
       record {
         program = is.program;
@@ -73,7 +75,7 @@ module _ (trees : Program) (p : LinkedProgram) (bounds : Bounds) (inflated : Lis
   event_with frames pick o =
       enabled_if (pick == 0)
       (become trees frames t state.world frame rest
-      (not_null o (λ r. pushing behind [] (with_printed state.world (int_operand words (take 2 stack) 0)) frame.place.slots (drop 2 stack))))
+      (not_null o (λ r. pushing behind [] (with_printed state.world (int_line (int_operand words (take 2 stack) 0))) frame.place.slots (drop 2 stack))))
 
   printing_event : (frames pick : ℕ) → instruction_event trees frames (record { thread = t; pick = pick }) state.world frame rest meaning
       ≡ event_with frames pick (object_under 1 from)
@@ -83,7 +85,7 @@ module _ (trees : Program) (p : LinkedProgram) (bounds : Bounds) (inflated : Lis
 
   pub prints : (frames pick : ℕ) (found : Option ℕ) → found ≡ object_under 1 from → is_some found ≡ true
       → instruction_event trees frames (record { thread = t; pick = pick }) state.world frame rest meaning
-      ≡ call_event trees frames (record { thread = t; pick = pick }) state.world frame rest method.PrintStreamPrintln 2 behind
+      ≡ call_event trees frames (record { thread = t; pick = pick }) state.world frame rest (method.PrintStreamPrints PrintlnInt) 2 behind
   prints frames pick found e some =
       let r = some_of found some in
       printing_event frames pick ∙ ap (event_with frames pick) (sym e ∙ r.1)

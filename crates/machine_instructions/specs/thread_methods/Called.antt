@@ -47,7 +47,7 @@ AreArguments trees heap operands method.ThreadYield = Unit {0}
 AreArguments trees heap operands method.ThreadCurrentThread = Unit {0}
 AreArguments trees heap operands method.ThreadJoin = RefersTo heap operands 0 is_any
 AreArguments trees heap operands method.ThreadIsAlive = RefersTo heap operands 0 is_any
-AreArguments trees heap operands method.PrintStreamPrintln = 0 < length operands
+AreArguments trees heap operands (method.PrintStreamPrints print) = 0 < length operands
 
 -- The frame on top of a thread, whose stack is lent, calls a method that takes so many words. The place behind the call has this
 -- offset.

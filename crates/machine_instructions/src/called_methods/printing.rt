@@ -10,13 +10,14 @@ use crate::called_methods::frames::{place_behind, raised, receiver};
 use crate::thread_methods::run_built_in;
 use linked_code::BuiltInMethod;
 use machine_state::{Effect, EventRefusal, MachineException, Shared};
+use model::PrintMethod;
 use thread_stacks::ThreadStack;
 
-/// `invokevirtual` of PrintStream.println(int): the number on top is printed; null under it is a NullPointerException.
+/// `invokevirtual` of PrintStream.println(int): the number on top is printed, and a line feed; null under it is a NullPointerException.
 ///
 /// # Errors
 ///
-/// Where there is no memory for the number. Nothing has changed then.
+/// Where there is no memory for these. Nothing has changed then.
 pub fn println(
     shared: &mut Shared,
     stack: &mut ThreadStack,
@@ -39,7 +40,7 @@ pub fn println(
         stack,
         thread,
         pick,
-        BuiltInMethod::PrintStreamPrintln,
+        BuiltInMethod::PrintStreamPrints(PrintMethod::PrintlnInt),
         2,
         next,
     )

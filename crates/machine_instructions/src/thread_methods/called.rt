@@ -42,7 +42,9 @@ fn run_unpicked(
         }
         BuiltInMethod::ThreadJoin => lives::join(shared, stack, thread, operands, next),
         BuiltInMethod::ThreadIsAlive => lives::ask_alive(shared, stack, operands, next),
-        BuiltInMethod::PrintStreamPrintln => printing::print_line(shared, stack, operands, next),
+        BuiltInMethod::PrintStreamPrints(print) => {
+            printing::print(shared, stack, print, operands, next)
+        }
     }
 }
 

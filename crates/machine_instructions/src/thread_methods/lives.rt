@@ -42,7 +42,7 @@ pub(crate) fn start(
     ensures { (t : ℕ) → DoesUnpicked method.ThreadStart operands next t result shared.old shared.new stack.old
         stack.new }
 {
-    let spare = spare(&shared.stacks)?;
+    let spare = spare(&shared.stacks, 1)?;
     let started = events::start(&mut shared.threads, object(stack, 0))?;
     if !started {
         return Ok(Effect::Raises(MachineException::IllegalThreadState));

@@ -14,7 +14,7 @@
 //!
 //! # Wrong bodies
 //!
-//! - `thread_methods-prints-twice`: a printed number is kept twice; refused by `DoesUnpicked` of `print_line`.
+//! - `thread_methods-prints-twice`: a line feed is printed twice; refused by the clause of `push_line`.
 
 mod called;
 mod growth;

@@ -1,5 +1,5 @@
 -- What is kept shows one state at most.
-use Rattle.std.proofs.Common.{◌≡◌, ℕ, ℤ, suc, List, [], ◌∷◌, Option, refl, sym, ap, ◌∙◌, subst}
+use Rattle.std.proofs.Common.{◌≡◌, ℕ, suc, List, [], ◌∷◌, Option, refl, sym, ap, ◌∙◌, subst}
 use Rattle.std.specs.Prelude.{map}
 use Rattle.std.proofs.lemmas.Option.{same_Some}
 use Rattle.model.specs.Names.{Name, Member}
@@ -166,7 +166,7 @@ module _ (files : Program) (p : LinkedProgram) where
 
 -- ---- a state
 
-abbrev world_of : List (ObjectOf ℕ) → List (Member × ℕ) → List (Name × ClassStatus) → List Monitor → List Thread → List ℤ → WorldOf ℕ
+abbrev world_of : List (ObjectOf ℕ) → List (Member × ℕ) → List (Name × ClassStatus) → List Monitor → List Thread → List ℕ → WorldOf ℕ
 world_of heap statics classes monitors threads printed = record { heap = heap; statics = statics; classes = classes; monitors = monitors; threads = threads; printed = printed }
 
 module _ (files : Program) (p : LinkedProgram) (one other : Shared) (alike : AreAlike one other) where

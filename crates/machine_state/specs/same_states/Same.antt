@@ -7,7 +7,7 @@ use Rattle.linked_code.specs.declared.program.LinkedProgram.{LinkedProgram}
 use Rattle.machine_state.specs.declared.state.Shared.{Shared}
 use Rattle.machine_state.specs.state_events.Whole.{IsShown}
 
--- Objects with their monitors, static fields, classes, threads with their stacks, and the numbers printed are the same.
+-- Objects with their monitors, static fields, classes, threads with their stacks, and the text printed are the same.
 pub record AreAlike (one other : Shared) : Type 0 where
   pub objects : one.heap.objects ≡ other.heap.objects
   pub monitors : one.heap.locks.monitors ≡ other.heap.locks.monitors

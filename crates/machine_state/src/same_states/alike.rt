@@ -30,7 +30,7 @@ fn same_statuses(one: &[ClassStatus], other: &[ClassStatus]) -> bool
     true
 }
 
-fn same_printed(one: &[i32], other: &[i32]) -> bool
+fn same_printed(one: &[u16], other: &[u16]) -> bool
     ensures { IsTrue result ↔ (one.now ≡ other.now) }
 {
     one == other

@@ -4,7 +4,7 @@
 //! # Proved
 //!
 //! - `are_alike` answers true exactly where the objects with their monitors, static fields, classes, threads, stacks
-//!   and numbers printed are the same. Two states of a machine of which these are the same show the same words,
+//!   and the text printed are the same. Two states of a machine of which these are the same show the same words,
 //!   whichever locks are inflated (`words_are_told`).
 
 mod alike;

@@ -19,6 +19,7 @@ use Rattle.model.specs.Meanings.{local_or, meaning_of}
 use Rattle.model.specs.Operands.{words}
 use Rattle.model.specs.Sites.{MeaningOf, Site}
 use Rattle.model.specs.State.{WorldOf}
+use Rattle.run_laws.proofs.laws.Found.{every_all}
 use Rattle.run_laws.proofs.laws.Classes.{names_same}
 use Rattle.linked_code.specs.declared.instruction.LinkedInstruction.{LinkedInstruction}
 use Rattle.linked_code.specs.declared.instruction.LinkedInstruction.TheVariants as linked
@@ -95,7 +96,7 @@ not_found method file (row ∷ rows) h =
 
 rows_built_in : AllByRecursion (λ (row : Member × BuiltInMethod). is_built_in row.0.class ≡ true) built_in_methods
 unfolding built_in_classes
-rows_built_in = (refl, (refl, (refl, (refl, (refl, (refl, (refl, (refl, (refl, (refl, (refl, (refl, (refl, tt)))))))))))))
+rows_built_in = every_all (λ (row : Member × BuiltInMethod). is_built_in row.0.class) built_in_methods refl
 
 constructs : (method : Member) → is_built_in method.class ≡ false → built_in_method method ≡ Construct
 constructs method file = ap (λ (o : Option (Member × BuiltInMethod)). unwrap_or (option_map (λ (row : Member × BuiltInMethod). row.1) o) Construct) (not_found method file built_in_methods rows_built_in)

@@ -1,5 +1,5 @@
 -- The end of a thread, after its event.
-use Rattle.std.proofs.Common.{◌≡◌, ◌≤◌, ℕ, ℤ, List, [], ◌∷◌, Bool, true, false, ◌||◌, length, refl, sym, ap, subst, ◌∙◌, inl, inr, ◌==◌, arith, eqb-true}
+use Rattle.std.proofs.Common.{◌≡◌, ◌≤◌, ℕ, List, [], ◌∷◌, Bool, true, false, ◌||◌, length, refl, sym, ap, subst, ◌∙◌, inl, inr, ◌==◌, arith, eqb-true}
 use Rattle.std.specs.Prelude.{nat_lt}
 use Rattle.std.proofs.lemmas.List.{length-set, set_past, get_or_past}
 use Rattle.std.proofs.lemmas.Bool.{false≢true}
@@ -128,7 +128,7 @@ refused_settled t trees bounds inflated world from stepped told r =
     }
   where
     -- by what is printed after it
-    takes : List ℤ → Bool
+    takes : List ℕ → Bool
     takes printed =
         takes_shared r.cost || (has_grown (shown_counts from) (operand_counts r.next.stack) || nat_lt (length world.printed) (length printed))
 

@@ -52,7 +52,7 @@ built_in_stays built_in.ThreadYield next t world slots ops rest = tt
 built_in_stays built_in.ThreadCurrentThread next t world slots ops rest = tt
 built_in_stays built_in.ThreadJoin next t world slots ops rest = join_stays (is_alive world (object_of words ops 0)) next world slots rest
 built_in_stays built_in.ThreadIsAlive next t world slots ops rest = tt
-built_in_stays built_in.PrintStreamPrintln next t world slots ops rest = tt
+built_in_stays (built_in.PrintStreamPrints print) next t world slots ops rest = tt
 
 -- where a member waits, the first may be picked; else nothing is
 notify_may : (owner : Bool) (n : ℕ) → (if owner && nat_lt 0 n then nat_lt 0 n else true) ≡ true
@@ -79,7 +79,7 @@ built_in_allowed method.ThreadYield n t world ops = refl
 built_in_allowed method.ThreadCurrentThread n t world ops = refl
 built_in_allowed method.ThreadJoin n t world ops = absurd (n refl)
 built_in_allowed method.ThreadIsAlive n t world ops = refl
-built_in_allowed method.PrintStreamPrintln n t world ops = refl
+built_in_allowed (method.PrintStreamPrints print) n t world ops = refl
 
 -- a join that may not be done is one of a thread that is alive
 join_held : (alive interrupted : Bool) (next : ℕ) (world : WorldOf ℕ) (slots : Slots ℕ) (rest : List ℕ)
@@ -103,7 +103,7 @@ held_by built_in.ThreadInterrupted next t world slots ops rest h = absurd (true�
 held_by built_in.ThreadYield next t world slots ops rest h = absurd (true≢false h)
 held_by built_in.ThreadCurrentThread next t world slots ops rest h = absurd (true≢false h)
 held_by built_in.ThreadIsAlive next t world slots ops rest h = absurd (true≢false h)
-held_by built_in.PrintStreamPrintln next t world slots ops rest h = absurd (true≢false h)
+held_by (built_in.PrintStreamPrints print) next t world slots ops rest h = absurd (true≢false h)
 
 module _ (trees : Program) (site : Site) (t : ℕ) (world : WorldOf ℕ) (slots : Slots ℕ) (ops rest : List ℕ) (object : ℕ) where
   run_held : (m : Member) (body : Option Body) → may_run words (event_of t) world ops m body ≡ false

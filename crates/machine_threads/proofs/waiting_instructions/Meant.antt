@@ -23,6 +23,7 @@ use Rattle.model.specs.State.{WorldOf, type_of}
 use Rattle.model.specs.Worlds.{object_at}
 use Rattle.model.specs.DescribedTypes.{type_named}
 use Rattle.model.specs.Types.{Want, AReceiver}
+use Rattle.run_laws.proofs.laws.Found.{every_all}
 use Rattle.run_laws.proofs.laws.Classes.{names_same}
 use Rattle.run_laws.proofs.laws.Operations.{Operation, OfRow, GetSystemOut, GetStatic, PutStatic, GetField, PutField, Println, CallVirtual, CallConstructor, CallSpecial, CallStatic, CallInterface, Return, LoadClass, LoadString, New, NewArray, NewReferenceArray, ArrayLength, LoadElement, StoreElement, CheckCast, InstanceOf, Throw, MonitorEnter, MonitorExit, operation, OfMeaning, each_meaning}
 use Rattle.machine_state.specs.linked_frames.Frames.{event_of}
@@ -57,7 +58,7 @@ not_found method file (row ∷ rows) h =
 
 rows_built_in : AllByRecursion (λ (row : Member × BuiltInMethod). is_built_in row.0.class ≡ true) built_in_methods
 unfolding built_in_classes
-rows_built_in = (refl, (refl, (refl, (refl, (refl, (refl, (refl, (refl, (refl, (refl, (refl, (refl, (refl, tt)))))))))))))
+rows_built_in = every_all (λ (row : Member × BuiltInMethod). is_built_in row.0.class) built_in_methods refl
 
 constructs : (method : Member) → is_built_in method.class ≡ false → built_in_method method ≡ Construct
 constructs method file = ap (λ (o : Option (Member × BuiltInMethod)). unwrap_or (option_map (λ (row : Member × BuiltInMethod). row.1) o) Construct) (not_found method file built_in_methods rows_built_in)

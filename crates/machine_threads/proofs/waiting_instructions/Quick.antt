@@ -16,6 +16,7 @@ use Rattle.model.specs.Outcomes.{OutcomeOf, Goes, Raises, Throws, Interrupts, Ca
 use Rattle.model.specs.ReferenceTypes.{Primitive, ReferenceType, PrimitiveArray, ReferenceArray}
 use Rattle.model.specs.Rows.{Row}
 use Rattle.model.specs.Opening.{first_of}
+use Rattle.model.specs.Texts.{int_line}
 use Rattle.model.specs.BuiltInMethods.{with_printed}
 use Rattle.model.specs.Sites.{MeaningOf, Site, pushing, operand, referent, int_operand}
 use Rattle.model.specs.State.{ObjectOf, Primitives, References, FrameOf, StackOf, WorldOf}
@@ -98,7 +99,7 @@ module _ (trees : Program) (site : Site) (next : ℕ) where
   quick_put_field named field = record { may = λ t world ops. refl; stays = λ t world slots ops rest. not_null_stays (referent words ops 1) (λ r. pushing next [] (with_object world r (with_field field (put_value words field (operand words ops 0)) (object_at world r))) slots rest) (λ r. tt) }
 
   pub quick_println : IsQuick (println_meaning words next)
-  quick_println = record { may = λ t world ops. refl; stays = λ t world slots ops rest. not_null_stays (referent words ops 1) (λ r. pushing next [] (with_printed world (int_operand words ops 0)) slots rest) (λ r. tt) }
+  quick_println = record { may = λ t world ops. refl; stays = λ t world slots ops rest. not_null_stays (referent words ops 1) (λ r. pushing next [] (with_printed world (int_line (int_operand words ops 0))) slots rest) (λ r. tt) }
 
   pub quick_return : (descriptor : Name) (kind : Returned) → IsQuick (return_of words trees descriptor kind)
   quick_return descriptor returned.Nothing = record { may = λ t world ops. refl; stays = λ t world slots ops rest. tt }

@@ -8,7 +8,7 @@ use Rattle.model.specs.Outcomes.{OutcomeOf, Goes, Raises, Throws, Interrupts, Ca
 use Rattle.model.specs.Monitors as monitors
 use Rattle.model.specs.Worlds.{thread_at, thread_of, is_alive, is_owner, with_monitors, woken, all_woken, waiters_of}
 use Rattle.model.specs.Sites.{pushing}
-use Rattle.model.specs.BuiltInMethods.{BuiltInMethod, Construct, ConstructWithTarget, ObjectWait, ObjectNotify, ObjectNotifyAll, ThreadStart, ThreadInterrupt, ThreadIsInterrupted, ThreadInterrupted, ThreadYield, ThreadCurrentThread, ThreadJoin, ThreadIsAlive, PrintStreamPrintln, object_of, wait_by, notified_one, notified, notified_all, if_owner, start_by, interrupted_in, interrupted_on, join_by, built_in_does}
+use Rattle.model.specs.BuiltInMethods.{BuiltInMethod, Construct, ConstructWithTarget, ObjectWait, ObjectNotify, ObjectNotifyAll, ThreadStart, ThreadInterrupt, ThreadIsInterrupted, ThreadInterrupted, ThreadYield, ThreadCurrentThread, ThreadJoin, ThreadIsAlive, PrintStreamPrints, object_of, wait_by, notified_one, notified, notified_all, if_owner, start_by, interrupted_in, interrupted_on, join_by, built_in_does}
 use Rattle.monitor_laws.specs.owners.Owners.{KeepsOwners}
 use Rattle.monitor_laws.proofs.owners.Monitors.{any_keeps, call_changes, call_keeps, as_owner_keeps}
 
@@ -123,4 +123,4 @@ module _ {A : Type 0} where
     built_in_kept p C ThreadCurrentThread next event slots ops rest = same_kept p world.monitors
     built_in_kept p C ThreadJoin next event slots ops rest = join_kept p (object_of C ops 0) (is_alive world (object_of C ops 0)) next slots rest
     built_in_kept p C ThreadIsAlive next event slots ops rest = same_kept p world.monitors
-    built_in_kept p C PrintStreamPrintln next event slots ops rest = same_kept p world.monitors
+    built_in_kept p C (PrintStreamPrints print) next event slots ops rest = same_kept p world.monitors

@@ -2,7 +2,17 @@
 
 use model::{End, EndState, Report, RunCause};
 use schedule::report::text;
+use std::alloc::{AllocError, Global};
 use std::test::Fail;
+
+/// The units of a text of ASCII.
+fn units(alloc: Global, text: &str) -> Result<Vec<u16>, AllocError> {
+    let mut units = Vec::new(alloc);
+    for byte in text.as_bytes() {
+        units.push(u16::from(*byte))?;
+    }
+    Ok(units)
+}
 
 #[test]
 fn a_report_has_a_line_for_each_state(rt: HostRuntime) -> Result<(), Fail> {
@@ -21,7 +31,7 @@ fn a_report_has_a_line_for_each_state(rt: HostRuntime) -> Result<(), Fail> {
     ];
     for (state, words) in states {
         let report = Report {
-            printed: vec![in alloc; -2147483648, 0, 7]?,
+            printed: units(alloc, "-2147483648\n0\n7\n")?,
             threads: vec![in alloc; EndState::Ended, state]?,
             events: 41,
         };
@@ -31,6 +41,22 @@ fn a_report_has_a_line_for_each_state(rt: HostRuntime) -> Result<(), Fail> {
         let found = text(alloc, &report, &End::NotEnabled(41))?;
         assert!(rt; found.as_slice() == want.as_bytes(), "{words}");
     }
+    Ok(())
+}
+
+/// Pairs and halves of them, and a last line without a line feed; and a class whose name has one.
+#[test]
+fn a_report_is_utf8_in_whole_lines(rt: HostRuntime) -> Result<(), Fail> {
+    let alloc = rt.alloc();
+    let report = Report {
+        printed: vec![in alloc; 0xD83D, 0xDE00, 0xDE00, 0x20AC, 0xE9, 0xD83D, 0x41, 0xD83D]?,
+        threads: vec![in alloc; EndState::Threw(b"A\nthread 0 ended".to_vec(alloc)?)]?,
+        events: 3,
+    };
+    let found = text(alloc, &report, &End::Budget)?;
+    let want =
+        "\u{1F600}?\u{20AC}\u{E9}?A?\nthread 0 threw A\\nthread 0 ended\nevents 3\nend budget\n";
+    assert!(rt; found.as_slice() == want.as_bytes());
     Ok(())
 }
 

@@ -26,8 +26,8 @@ pub trait Gate {
     /// These events are recorded so far. Those that are shown later have them in front.
     fn watch_record(&self, _events: &RecordedEvents) {}
 
-    /// These numbers are printed so far. Those that are shown later have them in front.
-    fn watch_output(&self, _printed: &[i32]) {}
+    /// These units are printed so far. Those that are shown later have them in front.
+    fn watch_output(&self, _printed: &[u16]) {}
 
     /// Whether no more are to be done.
     fn is_over(&self) -> bool

@@ -4,7 +4,7 @@
 //!
 //! - `run_workers` (`IsRecordWithin`), for all accepted files, limits and budgets, any number of workers and any quantum:
 //!   where the workers end and there is memory, the record names the class files and the limits that were handed in;
-//!   the printed numbers and the threads of its report are those of the state to which `run` leads by its events, at
+//!   the printed text and the threads of its report are those of the state to which `run` leads by its events, at
 //!   none of which a limit stood; they are no more than the budget; and the text of the report is their `meaning` with
 //!   the end, which is one of three:
 //!   - `Quiet`: no thread has an event that is enabled;

@@ -9,7 +9,7 @@ use Rattle.model.specs.Monitors as monitors
 use Rattle.model.specs.Monitors.{unlocked, owns, monitor_at}
 use Rattle.model.specs.Worlds.{thread_at, thread_of, is_alive, is_owner, with_monitors, with_entry, entry_cost, with_exit, with_status, with_interrupted, woken, all_woken, waiters_of}
 use Rattle.model.specs.Sites.{pushing}
-use Rattle.model.specs.BuiltInMethods.{BuiltInMethod, Construct, ConstructWithTarget, ObjectWait, ObjectNotify, ObjectNotifyAll, ThreadStart, ThreadInterrupt, ThreadIsInterrupted, ThreadInterrupted, ThreadYield, ThreadCurrentThread, ThreadJoin, ThreadIsAlive, PrintStreamPrintln, object_of, waiting, wait_by, notified_one, notified, notified_all, if_owner, start_by, interrupted_in, interrupted_on, join_by, built_in_does}
+use Rattle.model.specs.BuiltInMethods.{BuiltInMethod, Construct, ConstructWithTarget, ObjectWait, ObjectNotify, ObjectNotifyAll, ThreadStart, ThreadInterrupt, ThreadIsInterrupted, ThreadInterrupted, ThreadYield, ThreadCurrentThread, ThreadJoin, ThreadIsAlive, PrintStreamPrints, object_of, waiting, wait_by, notified_one, notified, notified_all, if_owner, start_by, interrupted_in, interrupted_on, join_by, built_in_does}
 use Rattle.run_laws.specs.monitor_counts.Counts.{is_fat_after, IsStatusCounted, AreMonitorsCounted, Returns as ReturnsTo}
 use Rattle.run_laws.proofs.monitor_counts.Counted.{Each, fat_still, fat_joined, counted_more, owner_entries, enter_counted, exit_counted, wait_counted, notify_counted, emptied_counted, interrupt_counted, relock_counted, as_owner_counted, with_one, with_same, more_threads, called}
 
@@ -160,4 +160,4 @@ module _ {A : Type 0} where
     built_in_counted C ThreadCurrentThread next event slots ops rest = h
     built_in_counted C ThreadJoin next event slots ops rest = join_counted (is_alive world (object_of C ops 0)) next slots rest
     built_in_counted C ThreadIsAlive next event slots ops rest = h
-    built_in_counted C PrintStreamPrintln next event slots ops rest = h
+    built_in_counted C (PrintStreamPrints print) next event slots ops rest = h

@@ -10,7 +10,7 @@ use Rattle.model.specs.Monitors as monitors
 use Rattle.model.specs.Outcomes.{OutcomeOf, Goes, Raises, Throws, Interrupts, Calls, Returns, Waits, not_null}
 use Rattle.model.specs.Worlds.{thread_at, thread_of, is_alive, object_at, with_object, with_field, is_owner, with_monitors, woken, all_woken, waiters_of}
 use Rattle.model.specs.Sites.{operand, pushing}
-use Rattle.model.specs.BuiltInMethods.{BuiltInMethod, Construct, ConstructWithTarget, ObjectWait, ObjectNotify, ObjectNotifyAll, ThreadStart, ThreadInterrupt, ThreadIsInterrupted, ThreadInterrupted, ThreadYield, ThreadCurrentThread, ThreadJoin, ThreadIsAlive, PrintStreamPrintln, object_of, wait_by, notified_one, notified, notified_all, if_owner, start_by, interrupted_in, interrupted_on, join_by, built_in_does}
+use Rattle.model.specs.BuiltInMethods.{BuiltInMethod, Construct, ConstructWithTarget, ObjectWait, ObjectNotify, ObjectNotifyAll, ThreadStart, ThreadInterrupt, ThreadIsInterrupted, ThreadInterrupted, ThreadYield, ThreadCurrentThread, ThreadJoin, ThreadIsAlive, PrintStreamPrints, object_of, wait_by, notified_one, notified, notified_all, if_owner, start_by, interrupted_in, interrupted_on, join_by, built_in_does}
 use Rattle.run_laws.specs.object_counts.Bounds.{made}
 
 -- ---- lists
@@ -119,4 +119,4 @@ module _ {A : Type 0} where
   built_in_counted C ThreadCurrentThread next event world slots ops rest = unchanged (length world.heap)
   built_in_counted C ThreadJoin next event world slots ops rest = join_counted (is_alive world (object_of C ops 0)) next world slots rest
   built_in_counted C ThreadIsAlive next event world slots ops rest = unchanged (length world.heap)
-  built_in_counted C PrintStreamPrintln next event world slots ops rest = unchanged (length world.heap)
+  built_in_counted C (PrintStreamPrints print) next event world slots ops rest = unchanged (length world.heap)

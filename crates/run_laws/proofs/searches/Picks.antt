@@ -11,7 +11,7 @@ use Rattle.model.specs.declared.instr.Returned.{Returned}
 use Rattle.model.specs.declared.instr.Returned.TheVariants as returned
 use Rattle.model.specs.Names.{Name, Member}
 use Rattle.model.specs.Arrays.{load_of, store_of}
-use Rattle.model.specs.BuiltInMethods.{BuiltInMethod, Construct, ConstructWithTarget, ObjectWait, ObjectNotify, ObjectNotifyAll, ThreadStart, ThreadInterrupt, ThreadIsInterrupted, ThreadInterrupted, ThreadYield, ThreadCurrentThread, ThreadJoin, ThreadIsAlive, PrintStreamPrintln, built_in_method, built_in_may, built_in_does, if_owner, object_of}
+use Rattle.model.specs.BuiltInMethods.{BuiltInMethod, Construct, ConstructWithTarget, ObjectWait, ObjectNotify, ObjectNotifyAll, ThreadStart, ThreadInterrupt, ThreadIsInterrupted, ThreadInterrupted, ThreadYield, ThreadCurrentThread, ThreadJoin, ThreadIsAlive, PrintStreamPrints, built_in_method, built_in_may, built_in_does, if_owner, object_of}
 use Rattle.model.specs.Calls.{Chosen, Fails, Runs, invoked, runs, may_run, may_invoke, return_of, call_on, of_receiver, parameter_count}
 use Rattle.model.specs.Classes.{Program, Body, body_of}
 use Rattle.model.specs.ClassInitialisation.{Look, IsReady, IsNew, IsHeld, HasFailed, look_by, status_of}
@@ -86,7 +86,7 @@ module _ {A : Type 0} where
     built_in_lower ThreadCurrentThread t k next world ops e = none_past k e
     built_in_lower ThreadJoin t k next world ops e = none_past k (and_parts _ _ e).0
     built_in_lower ThreadIsAlive t k next world ops e = none_past k e
-    built_in_lower PrintStreamPrintln t k next world ops e = none_past k e
+    built_in_lower (PrintStreamPrints print) t k next world ops e = none_past k e
 
     module _ (files : Program) (site : Site) where
       run_lower : (method : Member) (o : Option Body) (t k : ℕ) (world : WorldOf A) (ops : List A) (object : ℕ)

@@ -8,7 +8,7 @@ use Rattle.std.proofs.lemmas.List.{reverse-reverse}
 use Rattle.model.specs.declared.event.Event.{Event}
 use Rattle.model.specs.declared.value.Value.{Value}
 use Rattle.model.specs.declared.value.Value.TheVariants as value
-use Rattle.model.specs.Names.{Name, Member, java_lang_object, java_lang_runnable, java_lang_thread, constructor_name, thread_target, println_int}
+use Rattle.model.specs.Names.{Name, Member, java_lang_object, java_lang_runnable, java_lang_thread, java_io_print_stream, constructor_name, thread_target, println_int}
 use Rattle.model.specs.DescriptorScan.{method_type, field_type, parameters_at, field_at, element_at}
 use Rattle.model.specs.BuiltIn.{built_in_classes}
 use Rattle.model.specs.Classes.{Program}
@@ -23,7 +23,9 @@ use Rattle.model.specs.Frames.{at_offset, at_call}
 use Rattle.model.specs.Sites.{pushing, operand, int_operand}
 use Rattle.model.specs.Calls.{parameter_count, result_types}
 use Rattle.model.specs.BuiltInMethods
-use Rattle.model.specs.BuiltInMethods.{BuiltInMethod, Construct, ConstructWithTarget, ObjectWait, ObjectNotify, ObjectNotifyAll, ThreadStart, ThreadInterrupt, ThreadIsInterrupted, ThreadInterrupted, ThreadYield, ThreadCurrentThread, ThreadJoin, ThreadIsAlive, PrintStreamPrintln, of_object, of_thread, built_in_methods, is_row_of, built_in_may, built_in_does, wait_by, waiting, notified, notified_all, if_owner, with_started, start_by, interrupted_on, join_by, bit, with_printed, object_of}
+use Rattle.model.specs.declared.print_method.PrintMethod.{PrintMethod}
+use Rattle.model.specs.declared.print_method.PrintMethod.TheVariants.{Println, PrintlnChar, PrintlnInt, PrintChar, PrintInt}
+use Rattle.model.specs.BuiltInMethods.{BuiltInMethod, Construct, ConstructWithTarget, ObjectWait, ObjectNotify, ObjectNotifyAll, ThreadStart, ThreadInterrupt, ThreadIsInterrupted, ThreadInterrupted, ThreadYield, ThreadCurrentThread, ThreadJoin, ThreadIsAlive, PrintStreamPrints, of_object, of_thread, of_print_stream, printed_by, built_in_methods, is_row_of, built_in_may, built_in_does, wait_by, waiting, notified, notified_all, if_owner, with_started, start_by, interrupted_on, join_by, bit, with_printed, object_of}
 use Rattle.model.specs.Typing.{has_no_receiver, argument_types}
 use Rattle.model.specs.WellTyped.{has_type, is_object_in, are_typed, Ready, Awaits}
 use Rattle.run_laws.proofs.laws.Lists.{Pairwise, pairs_of, pair_get, get_front}
@@ -63,9 +65,14 @@ module _ (files : Program) where
   unfolding method_type parameters_at field_at element_at field_type
   target_results = refl
 
-  println_results : result_types files println_int ≡ []
+  -- methods of PrintStream with a parameter
+  int_printed_results : (name : Name) → result_types files (of_print_stream name (codes "(I)V")) ≡ []
   unfolding method_type parameters_at field_at element_at field_type
-  println_results = refl
+  int_printed_results name = refl
+
+  char_printed_results : (name : Name) → result_types files (of_print_stream name (codes "(C)V")) ≡ []
+  unfolding method_type parameters_at field_at element_at field_type
+  char_printed_results name = refl
 
   wait_arguments : argument_types files (of_object (codes "wait")) ≡ OfType (ClassType java_lang_object) ∷ []
   unfolding method_type parameters_at field_at element_at field_type built_in_classes
@@ -221,6 +228,11 @@ module _ (files : Program) (linked : Linked files) (event : Event) (w : World) (
   joined e true = tt
   joined e false = carries [] w [] (ap (result_types files) e ∙ void_results files java_lang_thread (codes "join")) (self_keeps files w c.fits) refl
 
+  printed : (print : PrintMethod) (m : Member) → result_types files m ≡ [] → method ≡ m → Typed (PrintStreamPrints print)
+  printed print m void e =
+      let text = printed_by print (int_operand values ops 0) in
+      carries [] (with_printed w text) [] (ap (result_types files) e ∙ void) (printed_keeps files w c.fits text) refl
+
   on_rows : AllByRecursion (λ (row : Member × BuiltInMethod). method ≡ row.0 → Typed row.1) built_in_methods
   on_rows = (
     λ e. waited e (is_owner w event.thread (object_of values ops 0)) (thread_at w event.thread).interrupted refl,
@@ -247,8 +259,20 @@ module _ (files : Program) (linked : Linked files) (event : Event) (w : World) (
                         (
                           λ e. carries (IntType ∷ []) w (value.Int (bit (is_alive w (object_of values ops 0))) ∷ []) (ap (result_types files) e ∙ bit_results files (codes "isAlive")) (self_keeps files w c.fits) refl,
                           (
-                            λ e. carries [] (with_printed w (int_operand values ops 0)) [] (ap (result_types files) e ∙ println_results files) (printed_keeps files w c.fits (int_operand values ops 0)) refl,
-                            tt,
+                            printed Println (of_print_stream (codes "println") (codes "()V")) (void_results files java_io_print_stream (codes "println")),
+                            (
+                              printed PrintlnChar (of_print_stream (codes "println") (codes "(C)V")) (char_printed_results files (codes "println")),
+                              (
+                                printed PrintlnInt println_int (int_printed_results files (codes "println")),
+                                (
+                                  printed PrintChar (of_print_stream (codes "print") (codes "(C)V")) (char_printed_results files (codes "print")),
+                                  (
+                                    printed PrintInt (of_print_stream (codes "print") (codes "(I)V")) (int_printed_results files (codes "print")),
+                                    tt,
+                                  ),
+                                ),
+                              ),
+                            ),
                           ),
                         ),
                       ),

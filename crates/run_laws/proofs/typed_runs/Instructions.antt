@@ -22,6 +22,7 @@ use Rattle.model.specs.Step.{ops_of}
 use Rattle.model.specs.Typing.{Reaches, constructs_this, marked}
 use Rattle.model.specs.TypeOrder.{FrameType}
 use Rattle.model.specs.Objects.{any_object}
+use Rattle.model.specs.Texts.{int_line}
 use Rattle.model.specs.BuiltInMethods.{with_printed}
 use Rattle.model.specs.Calls.{of_class}
 use Rattle.model.specs.Meanings.{local_meaning, get_static_of, put_static_of, get_field_of, put_field_of, println_meaning}
@@ -159,11 +160,11 @@ module _ (files : Program) (event : Event) (w : World) (f : Frame) (site : Site)
   pub println_typed : Allows files f h.ready.stopped.stands site (println_meaning values site.next)
       → Does files event w f (println_meaning values site.next)
   println_typed a =
-      let bits = int_operand values (ops_of values (println_meaning values site.next) f.place.slots) 0 in
+      let text = int_line (int_operand values (ops_of values (println_meaning values site.next) f.place.slots) 0) in
       not_null_typed files event.thread w f site h (ClassType java_io_print_stream) (operand values (ops_of values (println_meaning values site.next) f.place.slots) 1)
-      (λ r. pushing site.next [] (with_printed w bits) f.place.slots (under (println_meaning values site.next).wants f.place.slots))
+      (λ r. pushing site.next [] (with_printed w text) f.place.slots (under (println_meaning values site.next).wants f.place.slots))
       (met files event.thread w f site h _ a 1)
-      (λ r o q e b. pushes files event.thread w f site h _ a [] _ a.leads.0 Free (with_printed w bits) [] (printed_keeps files w h.fits bits) refl)
+      (λ r o q e b. pushes files event.thread w f site h _ a [] _ a.leads.0 Free (with_printed w text) [] (printed_keeps files w h.fits text) refl)
 
   pub throw_typed : Allows files f h.ready.stopped.stands site (throw_meaning values) → Does files event w f (throw_meaning values)
   throw_typed a =

@@ -16,6 +16,7 @@ use Rattle.model.specs.Calls.{result_types}
 use Rattle.model.specs.Monitors.{Answered, unlocked, owns, monitor_at, monitor_enter, monitor_exit, monitor_relock, as_entrant, as_owner, relock_from, owned, released, answers_done}
 use Rattle.model.specs.Worlds.{no_thread, thread_at, with_thread, with_begun, with_interrupted, allocated, with_object, with_static, with_entry, with_exit, with_monitors}
 use Rattle.model.specs.Monitors as monitors
+use Rattle.model.specs.Texts.{Text}
 use Rattle.model.specs.BuiltInMethods.{with_printed}
 use Rattle.model.specs.ClassInitialisation.{with_class_status}
 use Rattle.model.specs.WellTyped.{is_object_in, is_field_typed, is_object_typed, are_typed, is_waiting_for, Ready}
@@ -167,8 +168,8 @@ module _ (files : Program) (world : World) (fits : Fits files world) where
         threads = stay_self world.threads;
       }
 
-  pub printed_keeps : (bits : ℕ) → Keeps files world (with_printed world bits)
-  printed_keeps bits =
+  pub printed_keeps : (text : Text) → Keeps files world (with_printed world text)
+  printed_keeps text =
       record {
         extends = extends_self _;
         fits = record { heap = fits.heap; statics = fits.statics; monitors = fits.monitors; wait_sets = fits.wait_sets; opened = fits.opened };

@@ -19,7 +19,7 @@ use Rattle.model.specs.Worlds.{with_monitors, thread_at, object_at, with_object,
 use Rattle.model.specs.Monitors as monitors
 use Rattle.model.specs.Sites.{operand, int_operand}
 use Rattle.model.specs.Calls.{parameter_count, is_one}
-use Rattle.model.specs.BuiltInMethods.{BuiltInMethod, Construct, ConstructWithTarget, ObjectWait, ObjectNotify, ObjectNotifyAll, ThreadStart, ThreadInterrupt, ThreadIsInterrupted, ThreadInterrupted, ThreadYield, ThreadCurrentThread, ThreadJoin, ThreadIsAlive, PrintStreamPrintln, built_in_methods, is_row_of, built_in_method, wait_by, notified_one, notified, if_owner, start_by, interrupted_in, interrupted_on, may_join, notified_all, bit, join_by, with_printed, object_of, built_in_may, built_in_does}
+use Rattle.model.specs.BuiltInMethods.{BuiltInMethod, Construct, ConstructWithTarget, ObjectWait, ObjectNotify, ObjectNotifyAll, ThreadStart, ThreadInterrupt, ThreadIsInterrupted, ThreadInterrupted, ThreadYield, ThreadCurrentThread, ThreadJoin, ThreadIsAlive, PrintStreamPrints, printed_by, built_in_methods, is_row_of, built_in_method, wait_by, notified_one, notified, if_owner, start_by, interrupted_in, interrupted_on, may_join, notified_all, bit, join_by, with_printed, object_of, built_in_may, built_in_does}
 use Rattle.model.specs.Words.{map_slots}
 use Rattle.run_laws.specs.word_runs.Words.{map_outcome}
 use Rattle.run_laws.proofs.laws.Found.{found_passes, found_has, every_all}
@@ -43,7 +43,7 @@ receiver_place ThreadYield = None
 receiver_place ThreadCurrentThread = None
 receiver_place ThreadJoin = Some 0
 receiver_place ThreadIsAlive = Some 0
-receiver_place PrintStreamPrintln = None
+receiver_place (PrintStreamPrints print) = None
 
 -- it is the receiver, under the parameters, and the method is not static
 abbrev is_placed : Program → Member × BuiltInMethod → Bool
@@ -99,7 +99,7 @@ module _ (event : Event) (world : World) where
   may_words ThreadCurrentThread ops a = refl
   may_words ThreadJoin ops a = ap (λ o. (event.pick == 0) && may_join world event.thread o) (a 0 refl)
   may_words ThreadIsAlive ops a = refl
-  may_words PrintStreamPrintln ops a = refl
+  may_words (PrintStreamPrints print) ops a = refl
 
   module _ (next : ℕ) (slots : Slots Value) (rest : List Value) where
     abbrev Carries : BuiltInMethod → List Value → Type 0
@@ -184,5 +184,5 @@ module _ (event : Event) (world : World) where
         ap (λ o. join_by (is_alive world o) next (world_words world) (map_slots word_of slots) (map word_of rest)) (a 0 refl) ∙ join_words (is_alive world (object_of values ops 0))
     does_words ThreadIsAlive ops a =
         pushes_words world _ (value.Int (bit (is_alive world (object_of values ops 0)))) rest slots.locals next (ap (λ o. bit (is_alive world o)) (a 0 refl))
-    does_words PrintStreamPrintln ops a =
-        becomes_words _ (with_printed world (int_operand values ops 0)) rest slots.locals next (ap (λ n. with_printed (world_words world) n) (int_words ops 0))
+    does_words (PrintStreamPrints print) ops a =
+        becomes_words _ (with_printed world (printed_by print (int_operand values ops 0))) rest slots.locals next (ap (λ n. with_printed (world_words world) (printed_by print n)) (int_words ops 0))

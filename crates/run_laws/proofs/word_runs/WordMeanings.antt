@@ -16,6 +16,7 @@ use Rattle.model.specs.State.{types_of, World, WorldOf}
 use Rattle.model.specs.Outcomes.{Cost, Free, Makes, OutcomeOf, Goes, Raises, Throws, Arithmetic, not_null}
 use Rattle.model.specs.Opening.{first_of, new_instance}
 use Rattle.model.specs.Worlds.{allocated, object_at, with_object, value_in, fields_of, with_field, with_static, put_value, is_owner}
+use Rattle.model.specs.Texts.{int_line}
 use Rattle.model.specs.BuiltInMethods.{with_printed}
 use Rattle.model.specs.Sites.{MeaningOf, Site, operand, referent, int_operand}
 use Rattle.model.specs.Objects.{any_object, cast, instance_bit, new_meaning, check_cast_meaning, instance_of_meaning, object_meaning}
@@ -198,9 +199,9 @@ module _ (files : Program) where
         does = λ event world slots rest q.
             let ops = ops_of values (println_meaning values next) slots in
             not_null_words (referent words (map word_of ops) 1) (referent values ops 1) _
-            (λ r. Goes Free (with_printed world (int_operand values ops 0)) (record { locals = slots.locals; stack = rest }) next)
+            (λ r. Goes Free (with_printed world (int_line (int_operand values ops 0))) (record { locals = slots.locals; stack = rest }) next)
             (referent_words files (types_of world.heap) (println_meaning values next).wants.pops ops 1 _ q refl refl)
-            (λ r. becomes_words _ (with_printed world (int_operand values ops 0)) rest slots.locals next (ap (λ n. with_printed (world_words world) n) (int_words ops 0)));
+            (λ r. becomes_words _ (with_printed world (int_line (int_operand values ops 0))) rest slots.locals next (ap (λ n. with_printed (world_words world) (int_line n)) (int_words ops 0)));
       }
 
   -- ---- objects

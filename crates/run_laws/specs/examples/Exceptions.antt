@@ -7,7 +7,7 @@ use Rattle.model.specs.State.{State, types_of}
 use Rattle.model.specs.Outcomes.{Makes}
 use Rattle.model.specs.Step.{next_by, thread_at}
 use Rattle.run_laws.specs.examples.Bytes.{hex}
-use Rattle.run_laws.specs.examples.Runs.{event_of, after, then_stepped, numbers_in, stacks_in, cost_of}
+use Rattle.run_laws.specs.examples.Runs.{event_of, after, then_stepped, printed_in, stacks_in, cost_of}
 use Rattle.run_laws.specs.examples.PrintsSeven.{file_with}
 
 -- the type of the exception that is pending in thread 0
@@ -25,7 +25,7 @@ pub record Throws (code : List ℕ) (events : ℕ) (class : Name) : Type 0 where
   pub pending : pending_in (after_next code events) ≡ Some (ClassType class)
   pub stays : stacks_in (after_next code events) ≡ stacks_in (after (file_with code) events)
   pub costs : option_and_then cost_of (then_stepped (file_with code) (after (file_with code) events) (event_of 0)) ≡ Some (Makes 0)
-  pub silent : numbers_in (after_next code events) ≡ Some []
+  pub silent : printed_in (after_next code events) ≡ Some []
 
 pub record Exceptions : Type 0 where
   -- iconst_1, iconst_0, idiv, pop, return

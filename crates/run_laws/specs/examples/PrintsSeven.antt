@@ -9,7 +9,7 @@ use Rattle.model.specs.Outcomes.{Cost, Free}
 use Rattle.model.specs.declared.value.Value.{Value}
 use Rattle.model.specs.declared.value.Value.TheVariants as value
 use Rattle.run_laws.specs.examples.Bytes.{hex}
-use Rattle.run_laws.specs.examples.Runs.{frames, event_of, after, then_stepped, numbers_in, stacks_in, cost_of, Prints, with_main}
+use Rattle.run_laws.specs.examples.Runs.{frames, event_of, after, then_stepped, printed_in, stacks_in, cost_of, Prints, with_main}
 
 abbrev pub prints_seven_bytes : List ℕ
 prints_seven_bytes =
@@ -74,8 +74,8 @@ pub record EventByEvent : Type 0 where
   pub main_begun : stacks_in (after prints_seven_file 4) ≡ Some (main_at 0 [])
   pub stream_pushed : stacks_in (after prints_seven_file 5) ≡ Some (main_at 3 (value.Reference 0 ∷ []))
   pub seven_pushed : stacks_in (after prints_seven_file 6) ≡ Some (main_at 5 (value.Int 7 ∷ value.Reference 0 ∷ []))
-  pub not_yet : numbers_in (after prints_seven_file 6) ≡ Some []
+  pub not_yet : printed_in (after prints_seven_file 6) ≡ Some []
   pub printed : stacks_in (after prints_seven_file 7) ≡ Some (main_at 8 [])
-  pub seven : numbers_in (after prints_seven_file 7) ≡ Some (pos 7 ∷ [])
+  pub seven : printed_in (after prints_seven_file 7) ≡ Some (codes "7\n")
   pub returned : stacks_in (after prints_seven_file 8) ≡ Some ([] ∷ [])
   pub costs : map cost_after (0 ∷ 1 ∷ 2 ∷ 3 ∷ 4 ∷ 5 ∷ 6 ∷ 7 ∷ []) ≡ replicate 8 (Some Free)

@@ -1,11 +1,13 @@
 -- What the examples say of files and of their runs.
 use Rattle.std.specs.Prelude.{◌≡◌, ℕ, ℤ, List, [], ◌∷◌, Option, Some, None, map, replicate}
+use Rattle.std.specs.List.{flat_map}
 use Rattle.std.specs.Option.{option_map}
 use Rattle.model.specs.declared.event.Event.{Event}
 use Rattle.model.specs.declared.value.Value.{Value}
 use Rattle.model.specs.Tree.{Entry, FileTree, CodeOf}
 use Rattle.model.specs.Spelling.{Layout}
 use Rattle.model.specs.Operands.{values}
+use Rattle.model.specs.Texts.{Text, number_line}
 use Rattle.model.specs.State.{State, StackOf, ThreadStatus, Ended, Thread}
 use Rattle.model.specs.Outcomes.{Cost}
 use Rattle.model.specs.Report as report
@@ -29,8 +31,9 @@ after file n = run (file ∷ []) frames (replicate n (event_of 0))
 abbrev pub then_stepped : FileTree → Option State → Event → Option (SteppedOf State)
 then_stepped file state event = option_map (λ s. stepped values (file ∷ []) frames s event) state
 
-abbrev pub numbers_in : Option State → Option (List ℤ)
-numbers_in state = option_map (λ (s : State). s.world.printed) state
+-- the text that was printed
+abbrev pub printed_in : Option State → Option Text
+printed_in state = option_map (λ (s : State). s.world.printed) state
 
 abbrev pub statuses_in : Option State → Option (List ThreadStatus)
 statuses_in state = option_map (λ (s : State). map (λ (t : Thread). t.status) s.world.threads) state
@@ -45,12 +48,12 @@ cost_of WrongKind = None
 cost_of (Next cost next) = Some cost
 
 -- The bytes are those of a file. After so many events of thread 0, and not before, main has ended with no exception,
--- and these numbers were printed; the report says so by this text.
+-- and these numbers were printed, each on a line; the report says so by this text.
 pub record Prints (bytes : List ℕ) (file : FileTree) (events : ℕ) (printed : List ℤ) (text : List ℕ) : Type 0 where
   pub layout : Layout bytes file
-  pub numbers : numbers_in (after file events) ≡ Some printed
+  pub numbers : printed_in (after file events) ≡ Some (flat_map number_line printed)
   pub threads : statuses_in (after file events) ≡ Some (Ended None ∷ [])
-  pub reported : report.report_text printed (report.Ended ∷ []) events ends.Quiet ≡ text
+  pub reported : report.report_text (flat_map number_line printed) (report.Ended ∷ []) events ends.Quiet ≡ text
   pub then_over : then_stepped file (after file events) (event_of 0) ≡ Some NotEnabled
 
 -- A public class with a public static main alone, whose Code has no handlers and no attributes. `this_class`, `super_class`,

@@ -1,7 +1,9 @@
 -- Runs in which the first thread in an order that has a step takes each event.
 use Rattle.std.specs.Prelude.{◌≡◌, ℕ, zero, suc, ℤ, List, [], ◌∷◌, Option, Some, None}
+use Rattle.std.specs.List.{flat_map}
 use Rattle.model.specs.Classes.{Program}
 use Rattle.model.specs.Operands.{values}
+use Rattle.model.specs.Texts.{Text, number_line}
 use Rattle.model.specs.State.{State}
 use Rattle.model.specs.Opening.{opening}
 use Rattle.model.specs.Step.{step}
@@ -33,10 +35,10 @@ state_after files threads (suc n) state = if_step state (first_step files state 
 abbrev pub state_at_end : Program → List ℕ → ℕ → State
 state_at_end files threads n = state_after files threads n (opening values files)
 
--- the numbers printed, and how the threads stand then
-abbrev pub shown : Program → State → List ℤ × List ThreadEnd
+-- the text printed, and how the threads stand then
+abbrev pub shown : Program → State → Text × List ThreadEnd
 shown files state = (state.world.printed, thread_ends files frames state)
 
--- by the threads in this order, in so many events
+-- by the threads in this order, in so many events; the numbers are printed, each on a line
 abbrev pub Runs : Program → List ℕ → ℕ → List ℤ → List ThreadEnd → Type 0
-Runs files threads n printed ends = shown files (state_at_end files threads n) ≡ (printed, ends)
+Runs files threads n printed ends = shown files (state_at_end files threads n) ≡ (flat_map number_line printed, ends)

@@ -1,7 +1,8 @@
 -- How runs end, and lists of all such ends (own).
-use Rattle.std.specs.Prelude.{◌≡◌, ℕ, ℤ, List, Some, slice_get, IsTrue}
+use Rattle.std.specs.Prelude.{◌≡◌, ℕ, List, Some, slice_get, IsTrue}
 use Rattle.model.specs.declared.event.Event.{Event}
 use Rattle.model.specs.Classes.{Program}
+use Rattle.model.specs.Texts.{Text}
 use Rattle.model.specs.Operands.{values}
 use Rattle.model.specs.Opening.{opening}
 use Rattle.model.specs.Report.{ThreadEnd}
@@ -10,9 +11,9 @@ use Rattle.model.specs.Run.{run, is_quiet}
 use Rattle.model.specs.Meaning.{thread_ends}
 use Rattle.run_laws.specs.interleavings.Reduced.{reduced_step}
 
--- what a run that has ended leaves to be seen: the numbers printed, and how each thread stands
+-- what a run that has ended leaves to be seen: the text printed, and how each thread stands
 pub record Outcome : Type 0 where
-  pub printed : List ℤ
+  pub printed : Text
   pub ends : List ThreadEnd
 
 abbrev pub outcome_of : Program → ℕ → State → Outcome

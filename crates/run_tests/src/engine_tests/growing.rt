@@ -57,9 +57,9 @@ impl Gate for Witness {
         }
     }
 
-    fn watch_output(&self, printed: &[i32]) {
+    fn watch_output(&self, printed: &[u16]) {
         match printed {
-            [7] => self.note(4),
+            [0x37, 0x0A] => self.note(4),
             _ => {}
         }
     }

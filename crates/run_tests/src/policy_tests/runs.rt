@@ -50,14 +50,26 @@ fn schedule_line(alloc: Global, recorded: &Recorded) -> Result<String, Fail> {
     }
 }
 
+/// The unit behind each number that is printed.
+const LINE_FEED: u16 = 10;
+
+/// What was printed, without the line feed behind the last number.
+fn printed_numbers(printed: &[u16]) -> &[u16] {
+    match printed.split_last() {
+        Some((last, others)) if *last == LINE_FEED => others,
+        _ => printed,
+    }
+}
+
 /// What was printed, and how each thread stands.
 fn outcome(alloc: Global, report: &Report) -> Result<String, AllocError> {
     let mut text = String::new(alloc);
-    for (place, number) in report.printed.iter().enumerate() {
-        if place > 0 {
-            text.push(' ')?;
-        }
-        text.push_str(format!(in alloc; "{number}")?.as_str())?;
+    for unit in printed_numbers(&report.printed) {
+        text.push(if *unit == LINE_FEED {
+            ' '
+        } else {
+            char::from_u32(u32::from(*unit)).unwrap_or('?')
+        })?;
     }
     for (place, state) in report.threads.iter().enumerate() {
         text.push(if place > 0 { ' ' } else { '|' })?;

@@ -1,7 +1,7 @@
 //! Bursts, checked out of a world and committed.
 
 use crate::worker_tests::files::{LOST_UPDATE, POPS_EIGHT, POPS_SEVEN, WIDE_INCREMENT};
-use crate::worker_tests::program::{is_of, limits, verified};
+use crate::worker_tests::program::{is_of, is_printed, limits, verified};
 use engines::Open;
 use model::End;
 use program_runs::workers::run_workers;
@@ -116,7 +116,7 @@ fn one_worker_commits_bursts(rt: HostRuntime) -> Result<(), Fail> {
     let verified = verified(rt.alloc(), &LOST_UPDATE)?;
     let recorded = run_workers(&rt, rt.alloc(), verified, limits()?, 100_000, 1, 1, &Open)?;
     assert_eq!(rt; recorded.end, End::Quiet);
-    assert!(rt; recorded.report.printed.as_slice() == [2].as_slice());
+    assert!(rt; is_printed(&recorded.report.printed, "2\n"));
     assert!(rt; is_of(recorded.schedule.entries(), &BY_ONE));
     Ok(())
 }

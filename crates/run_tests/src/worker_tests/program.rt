@@ -48,3 +48,17 @@ pub(crate) fn is_of(entries: &[ScheduleEntry], wanted: &[(u16, u32)]) -> bool {
     }
     true
 }
+
+/// Whether a run printed a text of ASCII.
+pub(crate) fn is_printed(printed: &[u16], text: &str) -> bool {
+    let bytes = text.as_bytes();
+    if printed.len() != bytes.len() {
+        return false;
+    }
+    for (unit, byte) in printed.iter().zip(bytes) {
+        if *unit != u16::from(*byte) {
+            return false;
+        }
+    }
+    true
+}

@@ -1,7 +1,7 @@
 //! Runs by workers, and replays of what they record.
 
 use crate::worker_tests::files::{COUNTER_UNDER_LOCK, LOST_UPDATE};
-use crate::worker_tests::program::{limits, verified};
+use crate::worker_tests::program::{is_printed, limits, verified};
 use engines::Open;
 use made_files::class_builder::PRINTS_SEVEN;
 use model::{End, Limits};
@@ -20,8 +20,8 @@ struct Row {
     ways: &'static [Way],
     times: u32,
     budget: u32,
-    /// One of these lists of numbers is printed.
-    printed: &'static [&'static [i32]],
+    /// One of these texts is printed.
+    printed: &'static [&'static str],
     events: u64,
     end: End,
 }
@@ -37,7 +37,7 @@ static ROWS: [Row; 5] = [
         ways: &[(4, 1)],
         times: 100,
         budget: 100_000,
-        printed: &[&[1], &[2]],
+        printed: &["1\n", "2\n"],
         events: 42,
         end: End::Quiet,
     },
@@ -46,7 +46,7 @@ static ROWS: [Row; 5] = [
         ways: &WAYS,
         times: 3,
         budget: 100_000,
-        printed: &[&[2000]],
+        printed: &["2000\n"],
         events: 32_044,
         end: End::Quiet,
     },
@@ -55,7 +55,7 @@ static ROWS: [Row; 5] = [
         ways: &WAYS,
         times: 1,
         budget: 0,
-        printed: &[&[]],
+        printed: &[""],
         events: 0,
         end: End::Budget,
     },
@@ -64,7 +64,7 @@ static ROWS: [Row; 5] = [
         ways: &WAYS,
         times: 1,
         budget: 3,
-        printed: &[&[]],
+        printed: &[""],
         events: 3,
         end: End::Budget,
     },
@@ -74,7 +74,7 @@ static ROWS: [Row; 5] = [
         ways: &WAYS,
         times: 1,
         budget: 8,
-        printed: &[&[7]],
+        printed: &["7\n"],
         events: 8,
         end: End::Quiet,
     },
@@ -83,7 +83,7 @@ static ROWS: [Row; 5] = [
 /// Whether a run came to what a row says.
 fn is_as(recorded: &Recorded, row: &Row) -> bool {
     for printed in row.printed {
-        if recorded.report.printed.as_slice() == *printed {
+        if is_printed(&recorded.report.printed, *printed) {
             return recorded.report.events == row.events && recorded.end == row.end;
         }
     }

@@ -1,8 +1,7 @@
 //! The lines of a report.
 
 ghost use Rattle.std.specs.Prelude.{◌≡◌, ◌++◌, OnOk, codes, map};
-ghost use Rattle.std.specs.List.{flat_map};
-ghost use Rattle.model.specs.Report.{end_state_of, end_words, line, number, signed_number, thread_line, thread_lines, thread_word};
+ghost use Rattle.model.specs.Report.{end_state_of, end_words, line, number, on_one_line, thread_line, thread_lines, thread_word};
 
 use model::{End, EndState};
 use std::alloc::{AllocError, Global};
@@ -16,12 +15,16 @@ pub fn push_line(text: &mut Vec<u8>, words: &[u8]) -> Result<(), AllocError>
     Ok(())
 }
 
-/// A line for each printed number.
-pub fn push_printed(alloc: Global, text: &mut Vec<u8>, printed: &[i32]) -> Result<(), AllocError>
-    ensures { OnOk result (text.new.items ≡ text.old.items ++ flat_map (λ z. line (signed_number z)) printed.now) }
+/// A name on one line: a line feed in it is a backslash and an `n`.
+fn push_on_one_line(text: &mut Vec<u8>, name: &[u8]) -> Result<(), AllocError>
+    ensures { OnOk result (text.new.items ≡ text.old.items ++ on_one_line name.now) }
 {
-    for number in printed {
-        push_line(text, format!(in alloc; "{number}")?.as_bytes())?;
+    for byte in name {
+        if *byte == b'\n' {
+            text.extend_from_slice(b"\\n")?;
+        } else {
+            text.push(*byte)?;
+        }
     }
     Ok(())
 }
@@ -34,7 +37,9 @@ fn push_state(text: &mut Vec<u8>, state: &EndState) -> Result<(), AllocError>
         EndState::Ended => push_line(text, b"ended"),
         EndState::Threw(name) => {
             text.extend_from_slice(b"threw ")?;
-            push_line(text, name)
+            push_on_one_line(text, name)?;
+            text.push(b'\n')?;
+            Ok(())
         }
         EndState::Blocked => push_line(text, b"blocked"),
         EndState::Waiting => push_line(text, b"waiting"),

@@ -1,13 +1,15 @@
 -- The order of outcomes is a total order, and tells them apart.
-use Rattle.std.proofs.Common.{◌≡◌, ℕ, zero, suc, ℤ, List, [], ◌∷◌, refl, sym, ap, ◌∙◌}
+use Rattle.std.proofs.Common.{◌≡◌, ℕ, zero, suc, List, [], ◌∷◌, refl, sym, ap, ◌∙◌}
 use Rattle.std.specs.Cmp.{IsTotalOrder}
 use Rattle.std.specs.Cmp.Lexicographic.{slice_cmp}
-use Rattle.std.specs.Ordering.{nat_cmp, int_cmp, ordering_then}
+use Rattle.std.specs.Ordering.{nat_cmp, ordering_then}
 use Rattle.std.specs.declared.cmp.Ordering.{Ordering}
 use Rattle.std.specs.declared.cmp.Ordering.TheVariants.{Less, Equal, Greater}
-use Rattle.std.proofs.lemmas.Cmp.{ranked, int_ranked, nat_cmp_total, int_cmp_total, nat_list_cmp_total, lists_total, on_total, then_total}
+use Rattle.std.proofs.lemmas.Cmp.{nat_cmp_total, nat_list_cmp_total, lists_total, on_total, then_total}
 use Rattle.model.specs.Report.{ThreadEnd, Ended, Threw, Blocked, Waiting, Joining, Initialising, Runnable}
 use Rattle.run_laws.specs.interleavings.Ends.{Outcome}
+use Rattle.search.specs.run_outcomes.Lines.{ints_below, line_cmp, lines_of, text_cmp}
+use Rattle.search.proofs.run_outcomes.Ties.{both_equal, same_lists, same_number}
 use Rattle.search.specs.run_outcomes.Outcomes.{rank_of, exception_of, end_cmp, outcome_cmp}
 
 -- ---- a total order
@@ -15,32 +17,16 @@ use Rattle.search.specs.run_outcomes.Outcomes.{rank_of, exception_of, end_cmp, o
 ends_total : IsTotalOrder end_cmp
 ends_total = then_total (on_total rank_of nat_cmp_total) (on_total exception_of nat_list_cmp_total)
 
+lines_total : IsTotalOrder line_cmp
+lines_total = then_total (on_total ints_below nat_cmp_total) nat_list_cmp_total
+
+texts_total : IsTotalOrder text_cmp
+texts_total = then_total (on_total lines_of (lists_total lines_total)) nat_list_cmp_total
+
 pub outcomes_total : IsTotalOrder outcome_cmp
-outcomes_total = then_total (on_total (λ (o : Outcome). o.printed) (lists_total int_cmp_total)) (on_total (λ (o : Outcome). o.ends) (lists_total ends_total))
+outcomes_total = then_total (on_total (λ (o : Outcome). o.printed) texts_total) (on_total (λ (o : Outcome). o.ends) (lists_total ends_total))
 
 -- ---- what is equal in it is the same
-
-both_equal : (one other : Ordering) → ordering_then one other ≡ Equal → (one ≡ Equal) × (other ≡ Equal)
-both_equal Less other e = absurd cc
-both_equal Equal other e = (refl, e)
-both_equal Greater other e = absurd cc
-
-module _ {X : Type 0} (cmp : X → X → Ordering) (same : (x y : X) → cmp x y ≡ Equal → x ≡ y) where
-  same_lists : (xs ys : List X) → slice_cmp cmp xs ys ≡ Equal → xs ≡ ys
-  same_lists [] [] e = refl
-  same_lists [] (y ∷ ys) e = absurd cc
-  same_lists (x ∷ xs) [] e = absurd cc
-  same_lists (x ∷ xs) (y ∷ ys) e =
-      let both = both_equal (cmp x y) (slice_cmp cmp xs ys) e in
-      let first = same x y both.0 in
-      let others = same_lists xs ys both.1 in
-      ap (λ z. z ∷ xs) first ∙ ap (λ zs. y ∷ zs) others
-
-same_number : (x y : ℕ) → nat_cmp x y ≡ Equal → x ≡ y
-same_number x y e = ranked x y Equal (sym e)
-
-same_integer : (x y : ℤ) → int_cmp x y ≡ Equal → x ≡ y
-same_integer x y e = int_ranked x y Equal (sym e)
 
 -- a standing, by its rank and its exception
 end_at : ℕ → List ℕ → ThreadEnd
@@ -71,7 +57,8 @@ same_end one other e =
 
 pub same_outcome : (one other : Outcome) → outcome_cmp one other ≡ Equal → one ≡ other
 same_outcome one other e =
-    let both = both_equal (slice_cmp int_cmp one.printed other.printed) (slice_cmp end_cmp one.ends other.ends) e in
-    let printed = same_lists int_cmp same_integer one.printed other.printed both.0 in
+    let both = both_equal (text_cmp one.printed other.printed) (slice_cmp end_cmp one.ends other.ends) e in
+    let units = both_equal (slice_cmp line_cmp (lines_of one.printed) (lines_of other.printed)) (slice_cmp nat_cmp one.printed other.printed) both.0 in
+    let printed = same_lists nat_cmp same_number one.printed other.printed units.1 in
     let ends = same_lists end_cmp same_end one.ends other.ends both.1 in
     ap (λ l. let o : Outcome = record { printed = l; ends = one.ends } in o) printed ∙ ap (λ l. let o : Outcome = record { printed = other.printed; ends = l } in o) ends

@@ -4,10 +4,12 @@ use Rattle.std.specs.Cmp.Lexicographic.{slice_cmp}
 use Rattle.std.specs.List.{flat_map, insert, list_any}
 use Rattle.std.specs.List.Sorted.{IsStrictlySortedBy}
 use Rattle.std.specs.BTreeSet.{insert_key}
-use Rattle.std.specs.Ordering.{eq_by_cmp, nat_cmp, int_cmp, ordering_then}
+use Rattle.std.specs.Ordering.{eq_by_cmp, nat_cmp, ordering_then}
 use Rattle.std.specs.declared.cmp.Ordering.{Ordering}
 use Rattle.model.specs.Report.{ThreadEnd, Ended, Threw, Blocked, Waiting, Joining, Initialising, Runnable, end_state_of, line, signed_number}
+use Rattle.model.specs.Texts.{encoded, printed_lines}
 use Rattle.run_laws.specs.interleavings.Ends.{Outcome, Has}
+use Rattle.search.specs.run_outcomes.Lines.{text_cmp}
 use Rattle.search.specs.declared.run_outcomes.outcomes.Outcome.{Outcome as TheOutcome}
 use Rattle.search.specs.declared.run_outcomes.wanted.Wanted.{Wanted}
 use Rattle.search.specs.declared.run_outcomes.wanted.Wanted.TheVariants as wanted
@@ -33,7 +35,7 @@ abbrev pub has_thrown : ThreadEnd → Bool
 has_thrown (Threw name) = Bool.true
 has_thrown end = false
 
--- the text of printed numbers, each on a line
+-- the bytes of ints that are printed, each on a line
 abbrev pub printed_text : List ℤ → List ℕ
 printed_text printed = flat_map (λ z. line (signed_number z)) printed
 
@@ -41,8 +43,8 @@ abbrev pub IsWanted : Wanted → Outcome → Type 0
 IsWanted wanted.Nothing o = ⊥
 IsWanted wanted.Stuck o = IsTrue (list_any is_stuck o.ends)
 IsWanted wanted.Uncaught o = IsTrue (list_any has_thrown o.ends)
-IsWanted (wanted.Printed text) o = printed_text o.printed ≡ text.items
-IsWanted (wanted.PrintedOther text) o = printed_text o.printed ≡ text.items → ⊥
+IsWanted (wanted.Printed text) o = encoded o.printed ≡ text.items
+IsWanted (wanted.PrintedOther text) o = printed_lines o.printed ≡ text.items → ⊥
 
 -- ---- their order
 
@@ -64,9 +66,9 @@ exception_of end = []
 abbrev pub end_cmp : ThreadEnd → ThreadEnd → Ordering
 end_cmp one other = ordering_then (nat_cmp (rank_of one) (rank_of other)) (slice_cmp nat_cmp (exception_of one) (exception_of other))
 
--- by the numbers printed, the first that differ, and by how the threads stand, the first that differ
+-- by what was printed, and by how the threads stand, the first that differ
 abbrev pub outcome_cmp : Outcome → Outcome → Ordering
-outcome_cmp one other = ordering_then (slice_cmp int_cmp one.printed other.printed) (slice_cmp end_cmp one.ends other.ends)
+outcome_cmp one other = ordering_then (text_cmp one.printed other.printed) (slice_cmp end_cmp one.ends other.ends)
 
 -- whether they are the same, where neither comes first
 abbrev pub is_same : Outcome → Outcome → Bool

@@ -1,17 +1,19 @@
 -- The text of what a search answers (own).
 use Rattle.std.specs.Prelude.{◌≡◌, ℕ, suc, pos, List, [], ◌∷◌, ◌++◌, Bool, false, length, map, codes, refl}
 use Rattle.std.specs.Fmt.{digits}
+use Rattle.std.specs.Char.{encode_utf8}
+use Rattle.std.specs.Char.Utf16.{utf16_chars}
 use Rattle.model.specs.declared.end.End.TheVariants as ends
+use Rattle.model.specs.Texts.{number_line, printed_lines}
 use Rattle.model.specs.Report.{Ended, end_state_of, number, line, thread_lines, report_text}
 use Rattle.run_laws.specs.interleavings.Ends.{Outcome}
 use Rattle.search.specs.declared.kinds.Kinds.{Kinds}
-use Rattle.search.specs.run_outcomes.Outcomes.{printed_text}
 use Rattle.search.specs.declared.search_reports.answers.Answer.{Answer}
 use Rattle.search.specs.declared.search_reports.answers.Answer.TheVariants as answer
 
--- the numbers that were printed, and the threads by their numbers
+-- what was printed, and the threads by their numbers
 abbrev pub outcome_lines : Outcome → List ℕ
-outcome_lines o = printed_text o.printed ++ thread_lines 0 o.ends
+outcome_lines o = printed_lines o.printed ++ thread_lines 0 o.ends
 
 -- an outcome with its number
 abbrev pub outcome_text : ℕ → Outcome → List ℕ
@@ -70,11 +72,11 @@ two_kinds : Kinds
 two_kinds = record { race = Bool.true; uncaught = false; deadlock = Bool.true }
 
 two_ended : ℕ → Outcome
-two_ended n = record { printed = pos n ∷ []; ends = Ended ∷ Ended ∷ [] }
+two_ended n = record { printed = number_line (pos n); ends = Ended ∷ Ended ∷ [] }
 
 lists_both : search_text (answer.Complete (two_ended 1 ∷ two_ended 2 ∷ []) two_kinds) false 40
     ≡ codes "outcome 1\n1\nthread 0 ended\nthread 1 ended\noutcome 2\n2\nthread 0 ended\nthread 1 ended\noutcomes 2\nkind race\nkind deadlock\nstates 40\nof runs that end\nsearch complete\n"
-unfolding digits two_ended two_kinds
+unfolding digits two_ended two_kinds utf16_chars encode_utf8
 lists_both = refl
 
 lists_none : search_text (answer.Complete [] no_kinds) false 3

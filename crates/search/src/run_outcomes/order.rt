@@ -2,10 +2,10 @@
 
 ghost use Rattle.std.specs.Prelude.{◌≡◌, map};
 ghost use Rattle.std.specs.Cmp.Lexicographic.{slice_cmp};
-ghost use Rattle.std.specs.Ordering.{int_cmp};
 ghost use Rattle.model.specs.Report.{end_state_of};
 ghost use Rattle.search.specs.run_outcomes.Outcomes.{told_by, rank_of, exception_of, end_cmp, outcome_cmp};
 
+use crate::run_outcomes::lines::compare_printed;
 use crate::run_outcomes::outcomes::Outcome;
 use model::EndState;
 use std::cmp::Ordering;
@@ -60,12 +60,6 @@ fn compare_threads(one: &[EndState], other: &[EndState]) -> Ordering
         }
     }
     one.len().cmp(&other.len())
-}
-
-fn compare_printed(one: &[i32], other: &[i32]) -> Ordering
-    ensures { result ≡ slice_cmp int_cmp one.now other.now }
-{
-    one.cmp(other)
 }
 
 /// Which of two outcomes comes first in a list.

@@ -9,16 +9,16 @@ use std::alloc::{AllocError, Global};
 use std::cmp::Ordering;
 use std::marker::Model;
 
-/// The numbers that a run printed, the first of them first, and how its threads stand when none of them may go on, by
-/// their numbers.
+/// The UTF-16 units that a run printed, the first of them first, and how its threads stand when none of them may go on,
+/// by their numbers.
 #[derive(Drop)]
 pub struct Outcome {
-    pub printed: Vec<i32>,
+    pub printed: Vec<u16>,
     pub threads: Vec<EndState>,
 }
 
-/// Outcomes, each of them once. They are in the order of the numbers that were printed, and where these are the same
-/// in that of how the threads stand.
+/// Outcomes, each of them once. They are in the order of the lines that were printed, and where these are the same in
+/// that of how the threads stand. Of lines those that are ints come first, in their order.
 #[derive(Drop)]
 pub struct Outcomes {
     listed: Vec<Outcome>,

@@ -7,7 +7,7 @@ use crate::run_outcomes::order::compare;
 use crate::run_outcomes::outcomes::Outcome;
 
 impl Outcome {
-    /// Whether another outcome is the same: the same numbers were printed, and the threads stand the same.
+    /// Whether another outcome is the same: the same text was printed, and the threads stand the same.
     pub fn is_same(&self, other: &Outcome) -> bool
         ensures is { result ≡ is_same (told_by self.now) (told_by other.now) }
         ensures equal { IsTrue result ↔ (told_by self.now ≡ told_by other.now) }

@@ -3,12 +3,13 @@
 ghost use Rattle.std.specs.Prelude.{◌≡◌, ◌↔◌, IfOk, IsTrue};
 ghost use Rattle.std.specs.List.{list_any};
 ghost use Rattle.model.specs.Report.{end_state_of};
+ghost use Rattle.model.specs.Texts.{encoded, printed_lines};
 ghost use Rattle.search.specs.run_outcomes.Outcomes.{told_by, IsWanted};
 ghost use Rattle.search.specs.run_outcomes.Outcomes as spec;
 
 use crate::run_outcomes::outcomes::Outcome;
 use model::EndState;
-use schedule::report::push_printed;
+use schedule::report::{push_printed, push_text};
 use std::alloc::{AllocError, Global};
 
 /// The outcome that a search is to find.
@@ -20,9 +21,9 @@ pub enum Wanted {
     Stuck,
     /// A thread ended with an exception that nothing caught.
     Uncaught,
-    /// The run printed this text: each number in decimal, and a line feed behind it.
+    /// The run printed this text, in UTF-8.
     Printed(Vec<u8>),
-    /// Another text than this is.
+    /// A report shows another text than this of what was printed: there the last line has a line feed.
     PrintedOther(Vec<u8>),
 }
 
@@ -62,11 +63,20 @@ fn are_same(one: &[u8], other: &[u8]) -> bool
 
 /// Whether a text is what was printed. The only error is a want of memory.
 fn is_printed(alloc: Global, outcome: &Outcome, text: &[u8]) -> Result<bool, AllocError>
-    ensures { IfOk result (λ b. IsTrue b ↔ (spec.printed_text outcome.now.printed.items ≡ text.now)) }
+    ensures { IfOk result (λ b. IsTrue b ↔ (encoded outcome.now.printed.items ≡ text.now)) }
 {
     let mut printed = Vec::new(alloc);
-    push_printed(alloc, &mut printed, &outcome.printed)?;
+    push_text(&mut printed, &outcome.printed)?;
     Ok(are_same(&printed, text))
+}
+
+/// Whether a text is what a report shows of what was printed. The only error is a want of memory.
+fn is_shown(alloc: Global, outcome: &Outcome, text: &[u8]) -> Result<bool, AllocError>
+    ensures { IfOk result (λ b. IsTrue b ↔ (printed_lines outcome.now.printed.items ≡ text.now)) }
+{
+    let mut shown = Vec::new(alloc);
+    push_printed(&mut shown, &outcome.printed)?;
+    Ok(are_same(&shown, text))
 }
 
 impl Wanted {
@@ -79,7 +89,7 @@ impl Wanted {
             Wanted::Stuck => Ok(any_is_stuck(&outcome.threads)),
             Wanted::Uncaught => Ok(any_has_thrown(&outcome.threads)),
             Wanted::Printed(text) => is_printed(alloc, outcome, text),
-            Wanted::PrintedOther(text) => Ok(!is_printed(alloc, outcome, text)?),
+            Wanted::PrintedOther(text) => Ok(!is_shown(alloc, outcome, text)?),
         }
     }
 }

@@ -114,7 +114,7 @@ impl Answer {
 
 impl SearchReport {
     /// The text of what a search answers. Where a run was found it is the text of the run's report. Where all outcomes
-    /// are known, it is a line `outcome` with a number for each of them, from 1 on, behind it the printed numbers and
+    /// are known, it is a line `outcome` with a number for each of them, from 1 on, behind it the printed text and
     /// the threads as a report has them, behind these a line `outcomes` with their number, and a line `kind` for each
     /// kind that some run shows, in the order `race`, `uncaught`, `deadlock`. Then come a line `states` with their
     /// number; where all outcomes are known, a line `of runs that end`, and one that there is no data race, if there is

@@ -19,7 +19,7 @@ fn push_outcome(
     ensures { OnOk result (text.new.items ≡ text.old.items ++ outcome_text place (told_by outcome.now)) }
 {
     push_line(text, format!(in alloc; "outcome {place}")?.as_bytes())?;
-    push_printed(alloc, text, &outcome.printed)?;
+    push_printed(text, &outcome.printed)?;
     push_threads(alloc, text, &outcome.threads)
 }
 

@@ -35,6 +35,8 @@ pub struct Before {
     pub(crate) called: Option<u32>,
     /// The threads that wait on the object of a notify, in the order in which they joined.
     pub(crate) waiting: Vec<u16>,
+    /// How many units were printed.
+    pub(crate) printed: usize,
 }
 
 /// The operands on top of a frame, the topmost first.
@@ -88,6 +90,7 @@ impl Before {
             receiver: 0,
             called: None,
             waiting: Vec::new(alloc),
+            printed: 0,
         }
     }
 
@@ -100,6 +103,7 @@ impl Before {
     fn look_at_stack(&mut self, shared: &Shared, program: &LinkedProgram, stack: &ThreadStack)
         ensures { IsSeen program.now stack.now self.new.frame self.new.class }
     {
+        self.printed = shared.printed.len();
         self.frames = stack.frame_count();
         self.operands = operands_of(stack.frame());
         self.instruction = instruction_of(self.rule, program, stack);

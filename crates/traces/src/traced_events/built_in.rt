@@ -3,8 +3,8 @@
 use crate::traced_events::before::Before;
 use crate::traced_events::deed::Deed;
 use linked_code::{BuiltInMethod, LinkedProgram, MethodBody};
-use machine_state::Shared;
 use machine_state::method_selection::method_at;
+use model::PrintMethod;
 
 /// The built-in method of a number, if it is one.
 pub(crate) fn built_in_called(
@@ -17,18 +17,22 @@ pub(crate) fn built_in_called(
     }
 }
 
-/// The last number that was printed.
-pub(crate) fn printed(shared: &Shared) -> Deed {
-    match shared.printed.last() {
-        Some(number) => Deed::Prints { number: *number },
-        None => Deed::Nothing,
+/// What a method of PrintStream printed. An int was on top of the frame.
+pub(crate) fn print_deed(before: &Before, method: PrintMethod) -> Deed {
+    match method {
+        PrintMethod::PrintlnInt => Deed::Prints {
+            number: before.operands[0].cast_signed(),
+        },
+        PrintMethod::Println
+        | PrintMethod::PrintlnChar
+        | PrintMethod::PrintChar
+        | PrintMethod::PrintInt => Deed::PrintsText,
     }
 }
 
 /// What a call of a built-in method did: `top` is the word on top after it, and `pick` that of its event.
 pub(crate) fn built_in_deed(
     before: &Before,
-    shared: &Shared,
     method: u32,
     built_in: BuiltInMethod,
     top: u32,
@@ -50,6 +54,6 @@ pub(crate) fn built_in_deed(
         | BuiltInMethod::ThreadInterrupted
         | BuiltInMethod::ThreadCurrentThread
         | BuiltInMethod::ThreadIsAlive => Deed::Pushes { word: top },
-        BuiltInMethod::PrintStreamPrintln => printed(shared),
+        BuiltInMethod::PrintStreamPrints(method) => print_deed(before, method),
     }
 }

@@ -97,10 +97,13 @@ pub enum Deed {
     },
     /// The event let other threads go first.
     Yields,
-    /// The event printed a number.
+    /// The event printed a number, with a line feed behind it.
     Prints {
         number: i32,
     },
+    /// The event printed a text, which is the last part of what was printed so far: `Before` tells where it begins. It
+    /// did nothing else.
+    PrintsText,
     /// An exception was caught, by a handler at this offset.
     Catches {
         exception: u32,

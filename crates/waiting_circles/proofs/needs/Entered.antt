@@ -28,8 +28,8 @@ use Rattle.machine_state.specs.linked_frames.Frames.{IsRunning, event_of}
 use Rattle.machine_state.proofs.linked_frames.Frames.{meaning_is}
 use Rattle.machine_instructions.specs.called_methods.Frames.{object_under}
 use Rattle.machine_instructions.proofs.called_methods.Calling.{under_is}
-use Rattle.waiting_circles.proofs.needs.BuiltIns.{built_in_stays}
-use Rattle.waiting_circles.proofs.needs.Quick.{Stays}
+use Rattle.machine_threads.proofs.waiting_instructions.BuiltIns.{built_in_stays}
+use Rattle.machine_threads.proofs.waiting_instructions.Quick.{Stays}
 use Rattle.waiting_circles.specs.Needs.{entered_of, outcome_at}
 
 -- what is no call enters none

@@ -29,8 +29,8 @@ use Rattle.machine_state.specs.linked_frames.Frames.{IsRunning, event_of}
 use Rattle.machine_state.proofs.linked_frames.Frames.{meaning_is}
 use Rattle.machine_instructions.specs.called_methods.Frames.{object_under}
 use Rattle.machine_instructions.proofs.called_methods.Calling.{under_is}
-use Rattle.waiting_circles.proofs.needs.Meant.{IsCall, joins, enters}
-use Rattle.waiting_circles.proofs.needs.Quick.{IsQuick}
+use Rattle.machine_threads.proofs.waiting_instructions.Meant.{IsCall, joins, enters}
+use Rattle.machine_threads.proofs.waiting_instructions.Quick.{IsQuick}
 use Rattle.waiting_circles.specs.Needs.{outcome_at}
 use Rattle.waiting_circles.proofs.needs.Entered.{stays_none}
 use Rattle.waiting_circles.proofs.needs.Framed.{none_needed}

@@ -13,8 +13,8 @@ use Rattle.linked_code.specs.Linked.{IsLinked}
 use Rattle.linked_code.specs.declared.instruction.LinkedInstruction.{LinkedInstruction}
 use Rattle.linked_code.specs.declared.instruction.LinkedInstruction.TheVariants as linked
 use Rattle.linked_code.specs.declared.program.LinkedProgram.{LinkedProgram}
-use Rattle.waiting_circles.proofs.needs.Meant.{IsCall, calls_static, calls_virtual, calls_interface, calls_special, calls_constructor}
-use Rattle.waiting_circles.proofs.needs.Quick.{IsQuick, quick_row, quick_system_out, quick_get_static, quick_put_static, quick_get_field, quick_put_field, quick_println, quick_return, quick_object, quick_new, quick_primitives, quick_references, quick_length, quick_load, quick_store, quick_cast, quick_instance, quick_throw, quick_exit}
+use Rattle.machine_threads.proofs.waiting_instructions.Meant.{IsCall, calls_static, calls_virtual, calls_interface, calls_special, calls_constructor}
+use Rattle.machine_threads.proofs.waiting_instructions.Quick.{IsQuick, quick_row, quick_system_out, quick_get_static, quick_put_static, quick_get_field, quick_put_field, quick_println, quick_return, quick_object, quick_new, quick_primitives, quick_references, quick_length, quick_load, quick_store, quick_cast, quick_instance, quick_throw, quick_exit}
 
 -- ---- what an instruction means
 

@@ -76,7 +76,13 @@ pub(crate) static CLASSES: [BuiltInClass; 30] = [
         operands: &[],
         fields: &[],
         coded: &[],
-        natives: &[Declared(0x0101, b"println", b"(I)V")],
+        natives: &[
+            Declared(0x0101, b"println", b"()V"),
+            Declared(0x0101, b"println", b"(C)V"),
+            Declared(0x0101, b"println", b"(I)V"),
+            Declared(0x0101, b"print", b"(C)V"),
+            Declared(0x0101, b"print", b"(I)V"),
+        ],
     },
     BuiltInClass {
         flags: 0x0021,

@@ -1,6 +1,8 @@
 use Rattle.std.proofs.Common.{refl, [], ◌∷◌}
 use Rattle.std.specs.Prelude.{codes}
 use Rattle.std.specs.Fmt.{digits}
+use Rattle.std.specs.Char.{encode_utf8}
+use Rattle.std.specs.Char.Utf16.{utf16_chars}
 use Rattle.model.specs.Names.{main_of, thread_run}
 use Rattle.model.specs.OpcodeTable.{low_form, high_form}
 use Rattle.model.specs.Instruction.{wide_at, table_switch_at, lookup_switch_at}
@@ -21,7 +23,7 @@ table =
     ∷ (run_of_t, run_of_t_types) ∷ (thread_run, run_types) ∷ []
 
 pub returns : goal.returns
-unfolding low_form high_form wide_at table_switch_at lookup_switch_at starts_from built_in_classes opening_heap digits element_at field_at field_type parameters_at method_type
+unfolding low_form high_form wide_at table_switch_at lookup_switch_at starts_from built_in_classes opening_heap digits element_at field_at field_type parameters_at method_type utf16_chars encode_utf8
 returns c =
     record {
       holds = record {

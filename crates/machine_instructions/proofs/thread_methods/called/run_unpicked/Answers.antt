@@ -78,7 +78,7 @@ returns-in-ThreadIsAlive c =
     subst (λ m. DoesUnpicked m c.args.operands c.args.next c.args.thread c.ask_alive.result c.args.shared.now c.args.shared.now c.args.stack.now c.ask_alive.new.stack)
     (sym c.in-ThreadIsAlive.is) (c.ask_alive.ensures c.args.thread)
 
-pub returns-in-PrintStreamPrintln : goal.returns-in-PrintStreamPrintln
-returns-in-PrintStreamPrintln c =
-    subst (λ m. DoesUnpicked m c.args.operands c.args.next c.args.thread c.print_line.result c.args.shared.now c.print_line.new.shared c.args.stack.now c.print_line.new.stack)
-    (sym c.in-PrintStreamPrintln.is) (c.print_line.ensures c.args.thread)
+pub returns-in-PrintStreamPrints : goal.returns-in-PrintStreamPrints
+returns-in-PrintStreamPrints c =
+    subst (λ m. DoesUnpicked m c.args.operands c.args.next c.args.thread c.print.result c.args.shared.now c.print.new.shared c.args.stack.now c.print.new.stack)
+    (sym c.in-PrintStreamPrints.is) (c.print.ensures c.args.thread)

@@ -1,6 +1,6 @@
 use Rattle.std.proofs.Common.{refl, sym}
 use Rattle.model.specs.Calls.{Runs}
-use Rattle.machine_threads.proofs.waiting_instructions.Statics.{callee, invoking, static_event}
+use Rattle.machine_instructions.proofs.called_methods.Statics.{callee, invoking, static_event}
 use Rattle.machine_threads.proofs.waiting_instructions.Enabled.{stands_same}
 use Rattle.machine_threads.proofs.waiting_instructions.direct_calls.static_standing.Goals as goal
 
