@@ -57,7 +57,7 @@ TOPICS = {
     " StopFlag",
     "waiting": "OneSlot BoundedBuffer PingPong Barrier Semaphore NestedEntries Notified ReadersWriter Workers",
     "threads": "Interrupts InterruptedJoin Holder FailingInitialisers CrossedInitialisers",
-    "prints": "Letters Surrogates Unfinished NoStream OneLine",
+    "prints": "Hello Letters Surrogates Unfinished NoStream Quoted OneLine Words TwoVoices",
 }
 
 # Further cases of a program.

@@ -26,7 +26,7 @@ sys.dont_write_bytecode = True
 sys.path.insert(0, str(pathlib.Path(__file__).resolve().parent.parent))
 
 from oracle.frames import Frame
-from oracle.kinds import KINDS, kinds_of, race_line
+from oracle.kinds import KINDS, first_endless, kinds_of, race_line
 from oracle.lessons import LESSONS, class_files
 from oracle.machine import Machine, status_of, text_of, thread_lines
 from oracle.schedules import Event
@@ -252,22 +252,32 @@ def search(
 ) -> Tuple[str, int, Optional[Numbered]]:
     """What `jvm search` prints, its status, and the machine that was found. Where the search isn't reduced there are
     more states, and no event is followed by others."""
-    met = {at(files, ()).key()}
+    met = {at(files, ()).key(): 0}
     states: List[Tuple[Event, ...]] = [()]
+    led: List[Set[int]] = []
     seen = Seen(goal)
     for events in states:
+        led.append(set())
         for after, machine in following(files, events, is_reduced):
             key = machine.key()
             if key not in met:
                 if len(states) == most:
                     return last_lines(states, "gave up"), 5, None
-                met.add(key)
+                met[key] = len(states)
                 states.append(after)
+            led[-1].add(met[key])
         machine = at(files, events)
         if seen.is_found(machine):
             return text_of(machine, end_of(machine)) + last_lines(states, "found"), 1, machine
+    endless = first_endless(led)
+    if endless is not None:
+        if goal in ("endless", "any"):
+            machine = at(files, states[endless])
+            return text_of(machine, end_of(machine)) + last_lines(states, "found"), 1, machine
+        seen.kinds.add("endless")
     scope = ["of runs that end"] if "race" in seen.kinds else ["of runs that end", race_line(at(files, ()), files)]
-    return seen.text() + last_lines(states, "complete", scope), 4 if "deadlock" in seen.kinds else 0, None
+    status = 4 if seen.kinds & {"deadlock", "endless"} else 0
+    return seen.text() + last_lines(states, "complete", scope), status, None
 
 
 def end_of(machine: Numbered) -> str:
@@ -312,11 +322,22 @@ PROGRAMS = [
     ("kinds/CircleBesideLoop", "--for race"),
     ("kinds/CircleBesideLoop", "--for output="),
     ("kinds/ClassesBesideLoop", "--for deadlock"),
+    ("kinds/PrintsInOneLine", "--for output=-17"),
+    ("kinds/PrintsInOneLine", "--for output=-7,1"),
+    ("kinds/PrintsWords", "--for output=10"),
     ("kinds/ThrowsBesideLoop", "--for uncaught"),
     ("kinds/ThrowsBesideLoop", "--for any"),
     ("kinds/WaitsBesideLoop", "--for any"),
     ("kinds/AllKinds", "--for uncaught"),
     ("kinds/AllKinds", "--for deadlock"),
+    ("kinds/AllKinds", "--for endless"),
+    ("kinds/CircleBesideLoop", "--for endless"),
+    ("kinds/FlagOnceSeen", "--for endless"),
+    ("kinds/FlagOnceSeen", "--for endless --states 4"),
+    ("kinds/FlagThatIsSet", "--for endless"),
+    ("kinds/FlagThatIsSet", "--for any"),
+    ("kinds/LoopsForEver", "--for any"),
+    ("kinds/TwoThatYield", "--for endless"),
 ]
 
 # The texts that printed numbers are compared with, by their lines.

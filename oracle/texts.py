@@ -15,6 +15,27 @@ def units_of(text: str) -> List[int]:
     return [int.from_bytes(data[at : at + 2], "big") for at in range(0, len(data), 2)]
 
 
+def decoded(data: bytes) -> List[int]:
+    """The units that the bytes of a Utf8 entry spell (JVMS 4.4.7). A byte that begins none is a unit by itself."""
+    units: List[int] = []
+    at = 0
+    while at < len(data):
+        size = next((size for size, first in ((2, 0xC0), (3, 0xE0)) if is_unit(data[at : at + size], size, first)), 1)
+        unit = data[at] & (0xFF, 0x1F, 0x0F)[size - 1]
+        for byte in data[at + 1 : at + size]:
+            unit = unit << 6 | byte & 0x3F
+        units.append(unit)
+        at += size
+    return units
+
+
+def is_unit(data: bytes, size: int, first: int) -> bool:
+    """Whether bytes are a unit of so many, of which the first is this one and some bits more."""
+    bits = 5 if size == 2 else 4
+    is_first = len(data) == size and data[0] >> bits == first >> bits
+    return is_first and all(byte >> 6 == 2 for byte in data[1:])
+
+
 def in_utf8(units: Sequence[int]) -> str:
     """Units in UTF-8, a character for each byte; a surrogate without its other half is a question mark."""
     data = b"".join(unit.to_bytes(2, "big") for unit in units)

@@ -4,13 +4,15 @@ import json
 import re
 from typing import Dict, List, Match, Sequence, Union
 
+from oracle.texts import decoded
+
 # What a member of a line of JSON has: a text of class files, or a number.
 Part = Union[str, int]
 
 
 def java_text(text: str) -> str:
     """A text of class files, a character for each byte, as the UTF-16 code units that it spells (JVMS 4.4.7)."""
-    return text.encode("latin-1").replace(b"\xc0\x80", b"\0").decode("utf-8", "surrogatepass")
+    return "".join(map(chr, decoded(text.encode("latin-1"))))
 
 
 class Spelled(str):

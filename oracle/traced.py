@@ -60,7 +60,7 @@ class Traced(Machine):
         texts = [value for one in self.classes.values() for sort, value in one.pool.values() if sort == "string"]
         self.next = 3 + len(self.classes) + len(dict.fromkeys(texts))
         for place, text in enumerate(dict.fromkeys(texts)):
-            self.numbers[id(self.strings.setdefault(text, Object("java/lang/String")))] = 3 + len(self.classes) + place
+            self.numbers[id(self.string(text))] = 3 + len(self.classes) + place
         given = list(self.classes.values())[-len(files) :]
         self.sources = {one.name: lines for one, lines in zip(given, map(Lines, files))}
         self.named = {id(one.object): one.name for one in self.classes.values()}

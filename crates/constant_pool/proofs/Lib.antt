@@ -1,4 +1,5 @@
 mod Places
+pub mod Units
 pub mod TextLaws
 pub mod PoolLaws
 pub mod Passing

@@ -1,4 +1,4 @@
 mod Enabled
-mod Tops
+pub mod Tops
 mod Statuses
-mod States
+pub mod States

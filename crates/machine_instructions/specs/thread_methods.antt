@@ -1,3 +1,4 @@
 pub mod Called
 pub mod Moves
 pub mod Growth
+pub mod Printed

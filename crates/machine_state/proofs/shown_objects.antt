@@ -1,2 +1,4 @@
 pub mod Slots
 pub mod Objects
+pub mod Strings
+pub mod New

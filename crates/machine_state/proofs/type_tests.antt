@@ -1,2 +1,2 @@
-mod Numbered
+pub mod Numbered
 mod Typed

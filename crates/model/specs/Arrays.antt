@@ -11,7 +11,7 @@ use Rattle.model.specs.ReferenceTypes.{Primitive, Boolean, Char, Byte, Short, In
 use Rattle.model.specs.Types.{VerificationType, IntType, NullType, OfType, Want, AnInt, AReference, AnArray, AByteArray}
 use Rattle.model.specs.DescribedTypes.{type_named, made_type, component_type}
 use Rattle.model.specs.Operands.{Slots, Carrier}
-use Rattle.model.specs.State.{ObjectOf, Instance, Primitives, References, types_of, WorldOf}
+use Rattle.model.specs.State.{ObjectOf, Instance, Primitives, References, Characters, types_of, WorldOf}
 use Rattle.model.specs.Outcomes.{OutcomeOf, Raises, ArrayIndexOutOfBounds, NegativeArraySize, ArrayStore, Makes, not_null}
 use Rattle.model.specs.Worlds.{allocated, object_at, with_object, elements_of, with_element, kept_value}
 use Rattle.model.specs.Sites.{MeaningOf, Site, picks_none, wants_of, to_next, pushing, pushing_at, operand, referent, int_operand}
@@ -113,6 +113,7 @@ abbrev pub kept_by : {A : Type 0} → Carrier A → ObjectOf A → A → A
 kept_by C (Instance class fields) value = value
 kept_by C (Primitives of elements) value = kept_value C of value
 kept_by C (References of elements) value = value
+kept_by C (Characters text) value = value
 
 -- The element is written, narrowed to what the array holds; faults as for loads.
 abbrev pub store_int_meaning : {A : Type 0} → Carrier A → Site → Want → MeaningOf A
@@ -132,6 +133,7 @@ abbrev pub may_stand_in : {A : Type 0} → Carrier A → Program → WorldOf A �
 may_stand_in C files world (Instance class fields) value = false
 may_stand_in C files world (Primitives of elements) value = false
 may_stand_in C files world (References of elements) value = C.is_instance files (types_of world.heap) of value
+may_stand_in C files world (Characters text) value = false
 
 abbrev pub if_storable : {A : Type 0} → Bool → OutcomeOf A → OutcomeOf A
 if_storable true done = done

@@ -57,8 +57,10 @@ print_stream_methods =
     declared native_method (codes "println") (codes "()V")
     ∷ declared native_method (codes "println") (codes "(C)V")
     ∷ declared native_method (codes "println") (codes "(I)V")
+    ∷ declared native_method (codes "println") (codes "(Ljava/lang/String;)V")
     ∷ declared native_method (codes "print") (codes "(C)V")
     ∷ declared native_method (codes "print") (codes "(I)V")
+    ∷ declared native_method (codes "print") (codes "(Ljava/lang/String;)V")
     ∷ []
 
 abbrev pub print_stream_class : FileTree

@@ -6,7 +6,7 @@ use Rattle.model.specs.declared.event.Event.{Event}
 use Rattle.model.specs.Names.{Name, Member, member_eq, java_lang_object, java_lang_thread, java_io_print_stream, thread_target, println_int, constructor_name}
 use Rattle.std.specs.Fmt.{signed_decimal}
 use Rattle.model.specs.declared.print_method.PrintMethod.{PrintMethod}
-use Rattle.model.specs.declared.print_method.PrintMethod.TheVariants.{Println, PrintlnChar, PrintlnInt, PrintChar, PrintInt}
+use Rattle.model.specs.declared.print_method.PrintMethod.TheVariants.{Println, PrintlnChar, PrintlnInt, PrintlnString, PrintChar, PrintInt, PrintString}
 use Rattle.model.specs.declared.instr.Conversion.TheVariants.{ToChar}
 use Rattle.model.specs.Ints.{signed, converted}
 use Rattle.model.specs.Texts.{Text, int_line}
@@ -15,7 +15,7 @@ use Rattle.model.specs.State.{Waiter, Notified, Interrupted, ThreadStatus, Runni
 use Rattle.model.specs.Outcomes.{OutcomeOf, Raises, Interrupts, Waits, IllegalMonitorState, IllegalThreadState, Starts, Joins}
 use Rattle.model.specs.Monitors as monitors
 use Rattle.model.specs.Monitors.{monitor_at}
-use Rattle.model.specs.Worlds.{thread_at, with_status, with_interrupted, thread_of, is_alive, is_interrupted, object_at, with_object, with_field, is_owner, with_monitors, woken, all_woken, waiters_of}
+use Rattle.model.specs.Worlds.{thread_at, with_status, with_interrupted, thread_of, is_alive, is_interrupted, object_at, with_object, with_field, is_owner, text_of, with_monitors, woken, all_woken, waiters_of}
 use Rattle.model.specs.Sites.{picks_none, pushing, pushing_at, operand, referent, int_operand}
 
 pub data BuiltInMethod : Type 0 where
@@ -64,8 +64,10 @@ built_in_methods =
     ∷ (of_print_stream (codes "println") (codes "()V"), PrintStreamPrints Println)
     ∷ (of_print_stream (codes "println") (codes "(C)V"), PrintStreamPrints PrintlnChar)
     ∷ (println_int, PrintStreamPrints PrintlnInt)
+    ∷ (of_print_stream (codes "println") (codes "(Ljava/lang/String;)V"), PrintStreamPrints PrintlnString)
     ∷ (of_print_stream (codes "print") (codes "(C)V"), PrintStreamPrints PrintChar)
     ∷ (of_print_stream (codes "print") (codes "(I)V"), PrintStreamPrints PrintInt)
+    ∷ (of_print_stream (codes "print") (codes "(Ljava/lang/String;)V"), PrintStreamPrints PrintString)
     ∷ []
 
 abbrev pub is_row_of : Member → Member × BuiltInMethod → Bool
@@ -141,13 +143,20 @@ bit b = if b then 1 else 0
 
 -- ---- println, print (own: all streams are one text)
 
--- what is printed where the bits are on top of the stack: an int in decimal, a char as its unit
-abbrev pub printed_by : PrintMethod → ℕ → Text
-printed_by Println bits = 10 ∷ []
-printed_by PrintlnChar bits = converted ToChar bits ∷ 10 ∷ []
-printed_by PrintlnInt bits = int_line bits
-printed_by PrintChar bits = converted ToChar bits ∷ []
-printed_by PrintInt bits = signed_decimal (signed bits)
+-- a String is its text, and null the word `null`
+abbrev pub string_shown : {A : Type 0} → WorldOf A → Option ℕ → Text
+string_shown world None = codes "null"
+string_shown world (Some r) = text_of (object_at world r)
+
+-- what is printed of the operand on top of the stack: an int in decimal, a char as its unit
+abbrev pub printed_by : {A : Type 0} → Carrier A → PrintMethod → WorldOf A → List A → Text
+printed_by C Println world ops = 10 ∷ []
+printed_by C PrintlnChar world ops = converted ToChar (int_operand C ops 0) ∷ 10 ∷ []
+printed_by C PrintlnInt world ops = int_line (int_operand C ops 0)
+printed_by C PrintlnString world ops = string_shown world (referent C ops 0) ++ 10 ∷ []
+printed_by C PrintChar world ops = converted ToChar (int_operand C ops 0) ∷ []
+printed_by C PrintInt world ops = signed_decimal (signed (int_operand C ops 0))
+printed_by C PrintString world ops = string_shown world (referent C ops 0)
 
 abbrev pub with_printed : {A : Type 0} → WorldOf A → Text → WorldOf A
 with_printed world text = record world { printed = world.printed ++ text }
@@ -196,4 +205,4 @@ built_in_does C ThreadJoin next event world slots ops rest = join_by (is_alive w
 -- .., objectref -> .., result
 built_in_does C ThreadIsAlive next event world slots ops rest = pushing next (C.int (bit (is_alive world (object_of C ops 0))) ∷ []) world slots rest
 -- .., objectref, [value] -> ..
-built_in_does C (PrintStreamPrints method) next event world slots ops rest = pushing next [] (with_printed world (printed_by method (int_operand C ops 0))) slots rest
+built_in_does C (PrintStreamPrints method) next event world slots ops rest = pushing next [] (with_printed world (printed_by C method world ops)) slots rest

@@ -6,11 +6,11 @@ use Rattle.model.specs.declared.end.End.{End}
 use Rattle.model.specs.declared.instr.Instr.{Instr}
 use Rattle.model.specs.declared.instr.Instr.TheVariants as instr
 use Rattle.model.specs.declared.value.Value.{Value}
-use Rattle.model.specs.Names.{Name}
+use Rattle.model.specs.Names.{Name, java_lang_string}
 use Rattle.model.specs.Classes.{Program, Body, body_of}
 use Rattle.model.specs.Operands.{values}
 use Rattle.model.specs.State as state
-use Rattle.model.specs.State.{State, Thread, ThreadStatus, ObjectOf, Instance, Primitives, References, Frame, StackOf, Invocation, Initialisation, World, WorldOf}
+use Rattle.model.specs.State.{State, Thread, ThreadStatus, ObjectOf, Instance, Primitives, References, Characters, Frame, StackOf, Invocation, Initialisation, World, WorldOf}
 use Rattle.model.specs.ClassInitialisation.{look_at, is_held}
 use Rattle.model.specs.Meanings.{MeaningOf, Site, site_at, meaning_of}
 use Rattle.model.specs.Step.{ops_of, initial_class}
@@ -22,6 +22,7 @@ abbrev pub class_name_in : {A : Type 0} → ObjectOf A → Name
 class_name_in (Instance class fields) = class
 class_name_in (Primitives of elements) = []
 class_name_in (References of elements) = []
+class_name_in (Characters text) = java_lang_string
 
 -- how a thread ended: with an exception of a class, or without one
 abbrev pub ended_by : {A : Type 0} → WorldOf A → Option ℕ → ThreadEnd

@@ -1,5 +1,5 @@
 -- The opening state of a program (own): the objects, fields and classes that there are before any event.
-use Rattle.std.specs.Prelude.{ℕ, ◌+◌, List, [], ◌∷◌, ◌++◌, map, filter, length}
+use Rattle.std.specs.Prelude.{if◌then◌else◌, ℕ, ◌+◌, List, [], ◌∷◌, ◌++◌, map, filter, length}
 use Rattle.std.specs.List.{flat_map, position_or_len}
 use Rattle.model.specs.BuiltInNumbers.{first_class_reference}
 use Rattle.model.specs.Names.{Name, name_eq, Member, java_lang_class, java_lang_string, java_lang_thread, java_io_print_stream}
@@ -9,8 +9,9 @@ use Rattle.model.specs.ReferenceTypes.{ClassType}
 use Rattle.model.specs.DescribedTypes.{DeclaredType, DeclaredInt, DeclaredReference, field_declared}
 use Rattle.model.specs.Lookup.{is_static_field, field_member, instance_fields}
 use Rattle.model.specs.StringConstants.{string_texts}
+use Rattle.model.specs.Texts.{decoded}
 use Rattle.model.specs.Operands.{Carrier}
-use Rattle.model.specs.State.{ObjectOf, Instance, References, NotInitialised, StateOf, new_thread}
+use Rattle.model.specs.State.{ObjectOf, Instance, References, Characters, NotInitialised, StateOf, new_thread}
 use Rattle.model.specs.Monitors.{unlocked}
 
 -- ---- fields and what they begin with (JVMS 2.3, 2.4)
@@ -26,9 +27,9 @@ first_of C field = first_value C (field_declared field.descriptor)
 abbrev pub with_first : {A : Type 0} → Carrier A → Member → Member × A
 with_first C field = (field, first_of C field)
 
--- an object as `new` makes it, with the fields of its class and of its superclasses
+-- an object as `new` makes it, with the fields of its class and of its superclasses; a String is empty
 abbrev pub new_instance : {A : Type 0} → Carrier A → Program → Name → ObjectOf A
-new_instance C files class = Instance class (map (with_first C) (instance_fields files class))
+new_instance C files class = if name_eq class java_lang_string then Characters [] else Instance class (map (with_first C) (instance_fields files class))
 
 abbrev pub static_fields_in : FileTree → List Member
 static_fields_in file = map (field_member (name_of file) file.pool) (filter is_static_field file.fields)
@@ -63,7 +64,7 @@ opening_heap C files =
     Instance java_io_print_stream []
     ∷ References (ClassType java_lang_string) []
     ∷ new_instance C files java_lang_thread
-    ∷ (map (λ file. Instance java_lang_class []) (classes_of files) ++ map (λ text. Instance java_lang_string []) (string_texts files))
+    ∷ (map (λ file. Instance java_lang_class []) (classes_of files) ++ map (λ bytes. Characters (decoded bytes)) (string_texts files))
 
 -- ---- the state
 

@@ -1,21 +1,23 @@
 -- What a run keeps (JVMS 2.5, 2.6; JLS 17): at the carrier `values` with the kind of each value, at `words` without.
 use Rattle.std.specs.Prelude.{ℕ, List, Option, None, Bool, false, map}
-use Rattle.model.specs.Names.{Name, Member}
+use Rattle.model.specs.Names.{Name, Member, java_lang_string}
 use Rattle.model.specs.ReferenceTypes.{Primitive, ReferenceType, ClassType, PrimitiveArray, ReferenceArray}
 use Rattle.model.specs.Operands.{Slots}
 use Rattle.model.specs.Texts.{Text}
 use Rattle.model.specs.declared.value.Value.{Value}
 
--- an object: its class and its fields, each by the class that declares it; or the elements of an array
+-- an object: its class and its fields, each by the class that declares it; or the elements of an array; or the text of a String
 pub data ObjectOf (A : Type 0) : Type 0 where
   Instance : (class : Name) (fields : List (Member × A)) → ObjectOf A
   Primitives : (of : Primitive) (elements : List A) → ObjectOf A
   References : (of : ReferenceType) (elements : List A) → ObjectOf A
+  Characters : (text : Text) → ObjectOf A
 
 abbrev pub type_of : {A : Type 0} → ObjectOf A → ReferenceType
 type_of (Instance class fields) = ClassType class
 type_of (Primitives of elements) = PrimitiveArray of
 type_of (References of elements) = ReferenceArray of
+type_of (Characters text) = ClassType java_lang_string
 
 -- the types of the objects, by their references
 abbrev pub types_of : {A : Type 0} → List (ObjectOf A) → List ReferenceType

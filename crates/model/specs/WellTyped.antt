@@ -11,7 +11,7 @@ use Rattle.model.specs.ReferenceTypes.{ReferenceType, ClassType}
 use Rattle.model.specs.Types.{VerificationType, Unusable, IntType, NullType, OfType, Uninitialised, UninitialisedThis, is_int_value, is_value_below}
 use Rattle.model.specs.DescribedTypes.{field_declared, made_type, verification_type}
 use Rattle.model.specs.TypeOrder.{FrameType, pairwise}
-use Rattle.model.specs.State.{ObjectOf, Instance, Primitives, References, types_of, Waiter, Monitor, ThreadStatus, Running, Waiting, Relock, Ended, Thread, Frame, Invocation, Initialisation, StackOf, State}
+use Rattle.model.specs.State.{ObjectOf, Instance, Primitives, References, Characters, types_of, Waiter, Monitor, ThreadStatus, Running, Waiting, Relock, Ended, Thread, Frame, Invocation, Initialisation, StackOf, State}
 use Rattle.model.specs.Operands.{values}
 use Rattle.model.specs.Opening.{opening_heap}
 use Rattle.model.specs.Calls.{result_types}
@@ -50,6 +50,7 @@ abbrev pub is_object_typed : Program → List ReferenceType → ObjectOf Value �
 is_object_typed files objects (Instance class fields) = list_all (is_field_typed files objects) fields
 is_object_typed files objects (Primitives of elements) = list_all is_int_value elements
 is_object_typed files objects (References of elements) = list_all (has_type files objects (OfType (made_type files of))) elements
+is_object_typed files objects (Characters text) = true
 
 -- ---- frames
 

@@ -3,7 +3,7 @@ use Rattle.std.specs.Prelude.{◌≡◌, ℕ, map}
 use Rattle.model.specs.Names.{Member}
 use Rattle.model.specs.Classes.{Program}
 use Rattle.model.specs.Operands.{Slots, word_of}
-use Rattle.model.specs.State.{ObjectOf, Instance, Primitives, References, FrameOf, StackEntryOf, Invocation, Initialisation, StackOf, WorldOf, StateOf, State}
+use Rattle.model.specs.State.{ObjectOf, Instance, Primitives, References, Characters, FrameOf, StackEntryOf, Invocation, Initialisation, StackOf, WorldOf, StateOf, State}
 use Rattle.model.specs.WellTyped.{IsWellTyped}
 
 -- ---- what a function on values makes of a state
@@ -15,6 +15,7 @@ abbrev pub map_object : {A B : Type 0} → (A → B) → ObjectOf A → ObjectOf
 map_object f (Instance class fields) = Instance class (map (map_field f) fields)
 map_object f (Primitives of elements) = Primitives of (map f elements)
 map_object f (References of elements) = References of (map f elements)
+map_object f (Characters text) = Characters text
 
 abbrev pub map_slots : {A B : Type 0} → (A → B) → Slots A → Slots B
 map_slots f s = record { locals = map f s.locals; stack = map f s.stack }

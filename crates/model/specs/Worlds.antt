@@ -1,8 +1,9 @@
 -- Reading and changing what the threads share (JVMS 2.5; JLS 17): threads, objects and their fields, and monitors.
+use Rattle.model.specs.Texts.{Text}
 use Rattle.std.specs.Prelude.{ℕ, ◌%◌, ◌^◌, List, [], ◌∷◌, ◌++◌, Option, Some, None, Bool, true, false, ◌==◌, if◌then◌else◌, slice_get, slice_index_or, slice_set}
 use Rattle.std.specs.Option.{option_map_or}
 use Rattle.std.specs.List.{position}
-use Rattle.model.specs.Names.{Name, Member, member_eq, java_lang_object}
+use Rattle.model.specs.Names.{Name, Member, member_eq, java_lang_object, java_lang_string}
 use Rattle.model.specs.declared.instr.Conversion.TheVariants.{ToByte, ToShort}
 use Rattle.model.specs.declared.monitor_answer.MonitorAnswer.{MonitorAnswer}
 use Rattle.model.specs.declared.monitor_answer.MonitorAnswer.TheVariants.{Done, Held, NotOwner}
@@ -12,7 +13,7 @@ use Rattle.model.specs.Descriptors.{ElementType, FieldType}
 use Rattle.model.specs.DescriptorScan.{field_type}
 use Rattle.model.specs.ReferenceTypes.{Primitive, Boolean, Char, Byte, Short, Int}
 use Rattle.model.specs.Operands.{Carrier}
-use Rattle.model.specs.State.{ObjectOf, Instance, Primitives, References, Monitor, Waiter, WakeCause, ThreadStatus, Running, Waiting, Relock, Ended, Thread, WorldOf, new_thread}
+use Rattle.model.specs.State.{ObjectOf, Instance, Primitives, References, Characters, Monitor, Waiter, WakeCause, ThreadStatus, Running, Waiting, Relock, Ended, Thread, WorldOf, new_thread}
 use Rattle.model.specs.Outcomes.{Cost, Enters}
 use Rattle.model.specs.Monitors as monitors
 use Rattle.model.specs.Monitors.{Answered, unlocked, owns, monitor_at}
@@ -94,6 +95,7 @@ abbrev pub class_of_object : {A : Type 0} → ObjectOf A → Name
 class_of_object (Instance class fields) = class
 class_of_object (Primitives of elements) = java_lang_object
 class_of_object (References of elements) = java_lang_object
+class_of_object (Characters text) = java_lang_string
 
 -- ---- fields, each with its value
 
@@ -109,11 +111,13 @@ abbrev pub fields_of : {A : Type 0} → ObjectOf A → List (Member × A)
 fields_of (Instance class fields) = fields
 fields_of (Primitives of elements) = []
 fields_of (References of elements) = []
+fields_of (Characters text) = []
 
 abbrev pub with_field : {A : Type 0} → Member → A → ObjectOf A → ObjectOf A
 with_field field value (Instance class fields) = Instance class (with_value field value fields)
 with_field field value (Primitives of elements) = Primitives of elements
 with_field field value (References of elements) = References of elements
+with_field field value (Characters text) = Characters text
 
 abbrev pub with_static : {A : Type 0} → WorldOf A → Member → A → WorldOf A
 with_static world field value = record world { statics = with_value field value world.statics }
@@ -124,11 +128,22 @@ abbrev pub elements_of : {A : Type 0} → ObjectOf A → List A
 elements_of (Instance class fields) = []
 elements_of (Primitives of elements) = elements
 elements_of (References of elements) = elements
+elements_of (Characters text) = []
 
 abbrev pub with_element : {A : Type 0} → ℕ → A → ObjectOf A → ObjectOf A
 with_element index value (Instance class fields) = Instance class fields
 with_element index value (Primitives of elements) = Primitives of (slice_set elements index value)
 with_element index value (References of elements) = References of (slice_set elements index value)
+with_element index value (Characters text) = Characters text
+
+-- ---- texts
+
+-- the text of a String
+abbrev pub text_of : {A : Type 0} → ObjectOf A → Text
+text_of (Instance class fields) = []
+text_of (Primitives of elements) = []
+text_of (References of elements) = []
+text_of (Characters text) = text
 
 -- ---- what is kept of a stored int (JVMS 2.11.1)
 

@@ -9,8 +9,12 @@ pub enum PrintMethod {
     PrintlnChar,
     /// `println(int)`
     PrintlnInt,
+    /// `println(String)`
+    PrintlnString,
     /// `print(char)`
     PrintChar,
     /// `print(int)`
     PrintInt,
+    /// `print(String)`
+    PrintString,
 }

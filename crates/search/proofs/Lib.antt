@@ -1,5 +1,6 @@
 mod Shown
 mod Behind
+mod Marks
 mod Schedules
 mod Growth
 mod Kept

@@ -1,2 +1,3 @@
 mod Bridge
+mod EndlessStates
 mod KindsMet

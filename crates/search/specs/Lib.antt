@@ -1,3 +1,5 @@
+pub mod Edges
+pub mod Endless
 pub mod GivingUp
 pub mod Kinds
 pub mod Machines

@@ -18,7 +18,7 @@ use Rattle.model.specs.Operands.{Slots, values}
 use Rattle.model.specs.Outcomes.{OutcomeOf, Goes, Raises, Throws, Interrupts, Calls, Returns, Waits}
 use Rattle.model.specs.ReferenceTypes.{ReferenceType, ClassType, PrimitiveArray, ReferenceArray, is_subtype}
 use Rattle.model.specs.Sites.{MeaningOf, Site, operand, referent, int_operand}
-use Rattle.model.specs.State.{ObjectOf, Instance, Primitives, References, type_of, World}
+use Rattle.model.specs.State.{ObjectOf, Instance, Primitives, References, type_of, World, Characters}
 use Rattle.model.specs.Worlds.{is_owner, object_at, class_of_object}
 use Rattle.run_laws.proofs.laws.Operations.{Operation, OfRow, GetSystemOut, GetStatic, PutStatic, GetField, PutField, Println, CallVirtual, CallConstructor, CallSpecial, CallStatic, CallInterface, Return, LoadClass, LoadString, New, NewArray, NewReferenceArray, ArrayLength, LoadElement, StoreElement, CheckCast, InstanceOf, Throw, MonitorEnter, MonitorExit, operation, OfMeaning, each_meaning}
 use Rattle.search_laws.specs.Waits.{callee_entered}
@@ -34,6 +34,7 @@ class_by : (o : ObjectOf Value) → class_of_object o ≡ class_of_type (type_of
 class_by (Instance class fields) = refl
 class_by (Primitives of elements) = refl
 class_by (References of elements) = refl
+class_by (Characters text) = refl
 
 pub same_class : (before after : World) (r : ℕ) → type_of (object_at after r) ≡ type_of (object_at before r)
     → class_of_object (object_at after r) ≡ class_of_object (object_at before r)

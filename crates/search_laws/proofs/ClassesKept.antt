@@ -15,6 +15,7 @@ use Rattle.model.specs.Run.{run_from}
 use Rattle.model.specs.State.{ClassStatus, NotInitialised, InProgress, Initialised, Erroneous, StackOf, World, State}
 use Rattle.model.specs.Step.{PartOf, part, end_of, step}
 use Rattle.model.specs.Worlds.{thread_at, value_in}
+use Rattle.search_laws.specs.Texts.{KeepsTexts, AreTextsKept}
 use Rattle.run_laws.proofs.laws.Classes.{names_same}
 use Rattle.run_laws.proofs.typed_runs.Threads.{get_set_at, get_set_other}
 use Rattle.search_laws.specs.KeptStates.{IsReached}
@@ -22,7 +23,7 @@ use Rattle.search_laws.specs.Lengths.{KeepsLengths, AreLengthsKept}
 use Rattle.search_laws.specs.Writes.{Variables, Statics, WritesAtMost, KeepsVariables, AreVariablesKept}
 use Rattle.search_laws.proofs.ClassesHeld.{initialising, ClassChange, Kept, Begun, Left, IsEffect, OnEffect, event_effect, end_spares}
 use Rattle.search_laws.proofs.Events.{IsDone, done_of, state_with}
-use Rattle.search_laws.proofs.Variables.{keeps_on, lengths_of}
+use Rattle.search_laws.proofs.Variables.{keeps_on, lengths_of, texts_of}
 use Rattle.search_laws.proofs.Runs.{first_of}
 
 -- ---- the list of statuses
@@ -292,6 +293,10 @@ module _ (trees : Program) (frames : ℕ) (state next : State) (event : Event) (
   pub lengths_next : KeepsLengths state.world.heap next.world.heap
   lengths_next = lengths_of all state.world.heap next.world.heap (variables_next all (λ going variables q. refl))
 
+  -- Strings keep their texts
+  pub texts_next : KeepsTexts state.world.heap next.world.heap
+  texts_next = texts_of all state.world.heap next.world.heap (variables_next all (λ going variables q. refl))
+
   module _ (h : AreClassesHeld state) where
     own : Holds state.world.classes u (initialising d.stack)
     own = h u d.stack d.there
@@ -360,6 +365,9 @@ module _ (trees : Program) (frames : ℕ) where
 
 pub lengths_kept : AreLengthsKept
 lengths_kept files frames state next event e = lengths_next files frames state next event e
+
+pub texts_kept : AreTextsKept
+texts_kept files frames state next event e = texts_next files frames state next event e
 
 pub variables_kept : AreVariablesKept
 variables_kept files frames writes state next event stack there at_most e =

@@ -22,7 +22,7 @@ use Rattle.model.specs.Report.{ThreadEnd, Threw, Blocked, Waiting, Joining, Init
 use Rattle.model.specs.Report as report
 use Rattle.model.specs.Run.{run_from, may_step}
 use Rattle.model.specs.State as state
-use Rattle.model.specs.State.{ObjectOf, Instance, Primitives, References, type_of, types_of, Frame, Invocation, Initialisation, StackOf, Thread, ThreadStatus, World, State, StateOf}
+use Rattle.model.specs.State.{ObjectOf, Instance, Primitives, References, type_of, types_of, Frame, Invocation, Initialisation, StackOf, Thread, ThreadStatus, World, State, StateOf, Characters}
 use Rattle.model.specs.Step.{NotEnabled, Next, PartOf, stepped, step, ops_of, thread_event}
 use Rattle.model.specs.Types.{is_object_below}
 use Rattle.model.specs.WellTyped.{IsWellTyped}
@@ -142,6 +142,7 @@ name_by_type None = refl
 name_by_type (Some (Instance class fields)) = refl
 name_by_type (Some (Primitives of elements)) = refl
 name_by_type (Some (References of elements)) = refl
+name_by_type (Some (Characters text)) = refl
 
 class_by_type : (world : World) (r : ℕ) (type : ReferenceType) → slice_get (types_of world.heap) r ≡ Some type → class_at world r ≡ type_name type
 class_by_type world r type e =

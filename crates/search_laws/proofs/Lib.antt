@@ -15,6 +15,7 @@ pub mod Owners
 pub mod Spares
 pub mod ClassesHeld
 pub mod ClassesKept
+pub mod ConstantTexts
 pub mod Operands
 pub mod Plain
 pub mod Callees

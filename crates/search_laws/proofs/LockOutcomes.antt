@@ -1,5 +1,5 @@
 -- A monitor that a thread owns is changed by the thread: what instructions of the others do commutes with that.
-use Rattle.std.proofs.Common.{◌≡◌, ℕ, List, [], Bool, true, false, ◌==◌, ◌&&◌, nat_lt, length, if◌then◌else◌, Option, Some, None, refl, ap, ◌∙◌}
+use Rattle.std.proofs.Common.{◌≡◌, ℕ, List, [], Bool, true, false, ◌==◌, ◌&&◌, nat_lt, length, if◌then◌else◌, Option, Some, None, refl, ap, ◌∙◌, ◌∷◌, ◌++◌}
 use Rattle.std.specs.Prelude.{replicate, is_some, slice_get}
 use Rattle.std.proofs.lemmas.Bool.{and_parts, and_from}
 use Rattle.model.specs.declared.event.Event.{Event}
@@ -9,7 +9,7 @@ use Rattle.model.specs.declared.instr.Returned.{Returned}
 use Rattle.model.specs.declared.instr.Returned.TheVariants as returned
 use Rattle.model.specs.declared.value.Value.{Value}
 use Rattle.model.specs.Arrays.{is_negative, made_array, in_range, at_index, may_stand_in, if_storable, load_of, store_of}
-use Rattle.model.specs.BuiltInMethods.{BuiltInMethod, Construct, ConstructWithTarget, ObjectWait, ObjectNotify, ObjectNotifyAll, ThreadStart, ThreadInterrupt, ThreadIsInterrupted, ThreadInterrupted, ThreadYield, ThreadCurrentThread, ThreadJoin, ThreadIsAlive, PrintStreamPrints, built_in_method, object_of, wait_by, notified_one, notified, notified_all, if_owner, start_by, interrupted_in, interrupted_on, join_by, built_in_may, built_in_does}
+use Rattle.model.specs.BuiltInMethods.{BuiltInMethod, Construct, ConstructWithTarget, ObjectWait, ObjectNotify, ObjectNotifyAll, ThreadStart, ThreadInterrupt, ThreadIsInterrupted, ThreadInterrupted, ThreadYield, ThreadCurrentThread, ThreadJoin, ThreadIsAlive, PrintStreamPrints, built_in_method, object_of, wait_by, notified_one, notified, notified_all, if_owner, start_by, interrupted_in, interrupted_on, join_by, built_in_may, built_in_does, printed_by, string_shown, with_printed}
 use Rattle.model.specs.Calls.{Chosen, Fails, Runs, runs, invoked, may_run, may_invoke, return_of}
 use Rattle.model.specs.Classes.{Program, Body, body_of}
 use Rattle.model.specs.MonitorMeanings.{left, may_enter_object}
@@ -25,6 +25,8 @@ use Rattle.model.specs.Outcomes.{Cost, Free, Makes, Enters, Joins, OutcomeOf, Go
 use Rattle.model.specs.Sites.{MeaningOf, Site, operand, referent, int_operand, pushing, pushing_at}
 use Rattle.model.specs.State.{ObjectOf, Primitives, References, Monitor, Waiter, Notified, Interrupted, ThreadStatus, Running, Waiting, Relock, Ended, World}
 use Rattle.model.specs.Worlds.{allocated, fields_of, thread_at, is_owner, is_done, object_at, with_status, with_interrupted, all_woken, with_monitors, with_entry, with_exit, entry_cost, may_enter, thread_of, is_alive, waiters_of}
+use Rattle.model.specs.declared.print_method.PrintMethod.{PrintMethod}
+use Rattle.model.specs.declared.print_method.PrintMethod.TheVariants.{Println, PrintlnChar, PrintlnInt, PrintlnString, PrintChar, PrintInt, PrintString}
 use Rattle.run_laws.proofs.laws.Operations.{Operation, OfRow, GetSystemOut, GetStatic, PutStatic, GetField, PutField, Println, CallVirtual, CallConstructor, CallSpecial, CallStatic, CallInterface, Return, LoadClass, LoadString, New, NewArray, NewReferenceArray, ArrayLength, LoadElement, StoreElement, CheckCast, InstanceOf, Throw, MonitorEnter, MonitorExit, operation, OfMeaning, each_meaning}
 use Rattle.search_laws.proofs.Locks.{IsChange, with_change, Owned, owned_apart, entered_apart, owner_same, waiters_same, count_same, answer_same, called_same, interrupted_same, allocated_same, woken_same}
 
@@ -162,6 +164,20 @@ module _ (t r : ℕ) (change : Monitor → Monitor) (c : IsChange t change) wher
     join_is true next slots rest = refl
     join_is false next slots rest = refl
 
+    -- what is printed is of operands, and of a text
+    shown_same : (o : Option ℕ) → string_shown (f w) o ≡ string_shown w o
+    shown_same None = refl
+    shown_same (Some object) = refl
+
+    printed_same : (print : PrintMethod) (ops : List Value) → printed_by values print (f w) ops ≡ printed_by values print w ops
+    printed_same Println ops = refl
+    printed_same PrintlnChar ops = refl
+    printed_same PrintlnInt ops = refl
+    printed_same PrintlnString ops = ap (λ text. text ++ 10 ∷ []) (shown_same (referent values ops 0))
+    printed_same PrintChar ops = refl
+    printed_same PrintInt ops = refl
+    printed_same PrintString ops = shown_same (referent values ops 0)
+
     built_in_is : (method : BuiltInMethod) (next : ℕ) (slots : Slots Value) (ops rest : List Value)
         → Is (built_in_does values method next event (f w) slots ops rest) (built_in_does values method next event w slots ops rest)
     built_in_is Construct next slots ops rest = refl
@@ -187,7 +203,8 @@ module _ (t r : ℕ) (change : Monitor → Monitor) (c : IsChange t change) wher
     built_in_is ThreadCurrentThread next slots ops rest = refl
     built_in_is ThreadJoin next slots ops rest = join_is (is_alive w (object_of values ops 0)) next slots rest
     built_in_is ThreadIsAlive next slots ops rest = refl
-    built_in_is (PrintStreamPrints print) next slots ops rest = refl
+    built_in_is (PrintStreamPrints print) next slots ops rest =
+        goes_is Free Free (with_printed w (printed_by values print w ops)) (with_printed (f w) (printed_by values print (f w) ops)) _ next refl (ap (with_printed (f w)) (printed_same print ops))
 
     -- an event that may be done may be done there
     built_in_may_same : (method : BuiltInMethod) (ops : List Value) → built_in_may values method event (f w) ops ≡ built_in_may values method event w ops

@@ -6,8 +6,9 @@ use Rattle.std.proofs.lemmas.List.{length-set}
 use Rattle.std.proofs.lemmas.Option.{get_or_from_slice_get}
 use Rattle.model.specs.declared.value.Value.{Value}
 use Rattle.model.specs.Names.{Member, member_eq, thread_target}
-use Rattle.model.specs.State.{ObjectOf, Instance, Primitives, References}
+use Rattle.model.specs.State.{ObjectOf, Instance, Primitives, References, Characters}
 use Rattle.model.specs.Worlds.{no_object, value_in, with_element, with_field, with_value}
+use Rattle.search_laws.specs.Texts.{KeepsTexts}
 use Rattle.run_laws.proofs.laws.Classes.{members_same}
 use Rattle.run_laws.proofs.laws.Lists.{get_front}
 use Rattle.run_laws.proofs.typed_runs.Threads.{get_set_at, get_set_other}
@@ -33,7 +34,7 @@ module _ (writes : Variables → Bool) where
   Keeps = KeepsVariables writes
 
   pub unchanged : (o : ObjectOf Value) → IsUnchanged writes o o
-  unchanged o = record { lengths = refl; fields = λ field first n k. refl; elements = λ n. refl }
+  unchanged o = record { lengths = refl; fields = λ field first n k. refl; elements = λ n. refl; texts = refl }
 
   pub unchanged_on : (one two three : ObjectOf Value) → IsUnchanged writes one two → IsUnchanged writes two three → IsUnchanged writes one three
   unchanged_on one two three h g =
@@ -41,6 +42,7 @@ module _ (writes : Variables → Bool) where
         lengths = g.lengths ∙ h.lengths;
         fields = λ field first n k. g.fields field first n k ∙ h.fields field first n k;
         elements = λ n. g.elements n ∙ h.elements n;
+        texts = g.texts ∙ h.texts;
       }
 
   pub keeps_same : (heap : List (ObjectOf Value)) → Keeps heap heap
@@ -75,9 +77,10 @@ module _ (writes : Variables → Bool) where
       → ((other : Member) → writes (Fields other) ≡ false → member_eq thread_target other ≡ false → member_eq field other ≡ false)
       → IsUnchanged writes o (with_field field value o)
   put_beside field value (Instance class fields) h =
-      record { lengths = refl; fields = λ other first n k. value_other field other first value (h other n k) fields; elements = λ n. refl }
+      record { lengths = refl; fields = λ other first n k. value_other field other first value (h other n k) fields; elements = λ n. refl; texts = refl }
   put_beside field value (Primitives of elements) h = unchanged (Primitives of elements)
   put_beside field value (References of elements) h = unchanged (References of elements)
+  put_beside field value (Characters text) h = unchanged (Characters text)
 
   pub field_put : (field : Member) (value : Value) (o : ObjectOf Value) → writes (Fields field) ≡ true → IsUnchanged writes o (with_field field value o)
   field_put field value o w = put_beside field value o (λ other n k. by other n (member_eq field other) refl)
@@ -92,9 +95,13 @@ module _ (writes : Variables → Bool) where
   pub element_put : (index : ℕ) (value : Value) (o : ObjectOf Value) → writes Elements ≡ true → IsUnchanged writes o (with_element index value o)
   element_put index value (Instance class fields) w = unchanged (Instance class fields)
   element_put index value (Primitives of elements) w =
-      record { lengths = length-set elements index value; fields = λ field first n k. refl; elements = λ n. absurd (true≢false (sym w ∙ n)) }
+      record { lengths = length-set elements index value; fields = λ field first n k. refl; elements = λ n. absurd (true≢false (sym w ∙ n)); texts = refl }
   element_put index value (References of elements) w =
-      record { lengths = length-set elements index value; fields = λ field first n k. refl; elements = λ n. absurd (true≢false (sym w ∙ n)) }
+      record { lengths = length-set elements index value; fields = λ field first n k. refl; elements = λ n. absurd (true≢false (sym w ∙ n)); texts = refl }
+  element_put index value (Characters text) w = unchanged (Characters text)
 
   pub lengths_of : (before after : List (ObjectOf Value)) → Keeps before after → KeepsLengths before after
   lengths_of before after h r old e = let x = h r old e in (x.0, (x.1.0, x.1.1.lengths))
+
+  pub texts_of : (before after : List (ObjectOf Value)) → Keeps before after → KeepsTexts before after
+  texts_of before after h r old e = let x = h r old e in (x.0, (x.1.0, x.1.1.texts))

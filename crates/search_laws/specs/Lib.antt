@@ -4,6 +4,7 @@ pub mod Verdicts
 pub mod Ends
 pub mod Preemptions
 pub mod Lengths
+pub mod Texts
 pub mod OwnEvents
 pub mod Waits
 pub mod OwnSteps

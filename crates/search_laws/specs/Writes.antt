@@ -16,7 +16,7 @@ use Rattle.model.specs.Run.{run_from}
 use Rattle.model.specs.Sites.{Site, site_at}
 use Rattle.model.specs.State.{ObjectOf, Frame, Invocation, StackOf, Thread, NotInitialised, World, State}
 use Rattle.model.specs.Step.{step}
-use Rattle.model.specs.Worlds.{thread_at, elements_of, fields_of, value_in}
+use Rattle.model.specs.Worlds.{thread_at, elements_of, fields_of, value_in, text_of}
 use Rattle.run_laws.specs.interleavings.Local.{is_going}
 use Rattle.search_laws.specs.Alone.{AreOfOthers}
 
@@ -79,12 +79,13 @@ AreWritesOfOthers files frames writes state t =
 
 -- ---- what stays where these at most are written
 
--- The field `target` of Thread is left out, which a constructor of the machine puts.
+-- The field `target` of Thread is left out, which a constructor of the machine puts. A String keeps its text.
 pub record IsUnchanged (writes : Variables → Bool) (old new : ObjectOf Value) : Type 0 where
   pub lengths : length (elements_of new) ≡ length (elements_of old)
   pub fields : (field : Member) (first : Value) → IsFalse (writes (Fields field)) → IsFalse (member_eq thread_target field)
       → value_in first field (fields_of new) ≡ value_in first field (fields_of old)
   pub elements : IsFalse (writes Elements) → elements_of new ≡ elements_of old
+  pub texts : text_of new ≡ text_of old
 
 -- each object is there, with what it had
 abbrev pub KeepsVariables : (Variables → Bool) → List (ObjectOf Value) → List (ObjectOf Value) → Type 0

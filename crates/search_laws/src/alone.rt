@@ -17,7 +17,9 @@
 //!   state is alone behind each event of another thread (`what_is_alone_stays`).
 //! - Where no other thread has an event, as where all others wait for one, its event is alone whatever it does, if it
 //!   has a single one and is in no conflict (`sole_events_are_alone`).
-//! - Each event leaves each object there, and each array as many elements as it had (`arrays_keep_their_lengths`).
+//! - Each event leaves each object there, each array as many elements as it had (`arrays_keep_their_lengths`), and each
+//!   String its text (`strings_keep_their_texts`). So in each state of a run the String of a constant has the text of
+//!   the constant (`constants_keep_their_texts`).
 //!   Fields that the instruction of the thread doesn't put keep their values, and elements do where it stores none.
 //!   Left out are the field `target` of `Thread`, which a constructor of the machine puts, and static fields of a class
 //!   whose initialisation hasn't begun (`variables_that_are_not_written_are_kept`).
@@ -52,6 +54,7 @@ ghost use Rattle.search_laws.specs.OwnEvents.{AreLocalEventsOwn, AreOwnEventsAlo
 ghost use Rattle.search_laws.specs.OwnSteps.{AreOwnStepsOwn};
 ghost use Rattle.search_laws.specs.OwnedMonitors.{AreOwnedMonitorsAlone};
 ghost use Rattle.search_laws.specs.Releases.{AreReleasesAlone};
+ghost use Rattle.search_laws.specs.Texts.{AreTextsKept, HaveConstantsTexts};
 ghost use Rattle.search_laws.specs.Writes.{AreVariablesKept, AreWritesOfProgramKept};
 
 use monitor_laws::owners::owners_are_kept;
@@ -74,6 +77,16 @@ pub fn sole_events_are_alone()
 /// Each event leaves each object there, and each array as many elements as it had.
 pub fn arrays_keep_their_lengths()
     ensures holds { AreLengthsKept }
+{}
+
+/// Each event leaves each String its text.
+pub fn strings_keep_their_texts()
+    ensures holds { AreTextsKept }
+{}
+
+/// In each state of a run, the String of a constant has the text of the constant.
+pub fn constants_keep_their_texts()
+    ensures holds { HaveConstantsTexts }
 {}
 
 /// Each event leaves the fields that its instruction doesn't put, and the elements where it stores none.

@@ -10,7 +10,11 @@ public class PrintStream {
 
     public native void println(int number);
 
+    public native void println(String text);
+
     public native void print(char unit);
 
     public native void print(int number);
+
+    public native void print(String text);
 }

@@ -6,7 +6,8 @@
 //!   `first_with_too_many_fields` answers the first file whose class has more than 65,535 instance fields. Memory
 //!   aside.
 //! - `TextSet`, memory aside: it is the list of the texts that were added, each once, in the order in which they came;
-//!   `add_texts` adds those of a file's string constants, and `number_of` is a text's place in the list.
+//!   `add_texts` adds those of a file's string constants, `number_of` is a text's place in the list, and `text` the one
+//!   at a place.
 
 mod climb;
 mod fields;

@@ -1,6 +1,6 @@
 //! The texts of string constants of all files, each once.
 
-ghost use Rattle.std.specs.Prelude.{◌≡◌, [], length, option_map, position, OnOk};
+ghost use Rattle.std.specs.Prelude.{◌≡◌, [], length, option_map, position, slice_get, OnOk};
 ghost use Rattle.std.specs.Option.{option_to_list};
 ghost use Rattle.std.specs.List.{list_any};
 ghost use Rattle.constant_pool.specs.View.{entry_of};
@@ -52,6 +52,16 @@ impl TextSet {
         ensures { result ≡ position (name_eq text.now) self.now }
     {
         self.texts.get_index_of(text)
+    }
+
+    /// The text of a number.
+    pub fn text(&self, number: usize) -> Option<&[u8]>
+        ensures { option_map (λ t. t.now) result ≡ slice_get self.now number }
+    {
+        match self.texts.get_index(number) {
+            Some(text) => Some(text.as_slice()),
+            None => None,
+        }
     }
 
     /// Whether a text is there.

@@ -21,7 +21,7 @@ struct Declared {
 }
 
 /// All but the constructors without parameters.
-const DECLARED: [Declared; 17] = [
+const DECLARED: [Declared; 19] = [
     Declared {
         class: b"java/lang/Object",
         name: b"wait",
@@ -114,6 +114,12 @@ const DECLARED: [Declared; 17] = [
     },
     Declared {
         class: b"java/io/PrintStream",
+        name: b"println",
+        descriptor: b"(Ljava/lang/String;)V",
+        method: BuiltInMethod::PrintStreamPrints(PrintMethod::PrintlnString),
+    },
+    Declared {
+        class: b"java/io/PrintStream",
         name: b"print",
         descriptor: b"(C)V",
         method: BuiltInMethod::PrintStreamPrints(PrintMethod::PrintChar),
@@ -123,6 +129,12 @@ const DECLARED: [Declared; 17] = [
         name: b"print",
         descriptor: b"(I)V",
         method: BuiltInMethod::PrintStreamPrints(PrintMethod::PrintInt),
+    },
+    Declared {
+        class: b"java/io/PrintStream",
+        name: b"print",
+        descriptor: b"(Ljava/lang/String;)V",
+        method: BuiltInMethod::PrintStreamPrints(PrintMethod::PrintString),
     },
 ];
 

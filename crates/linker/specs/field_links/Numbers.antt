@@ -1,10 +1,11 @@
 -- The numbers of the classes and texts that constant pools name.
-use Rattle.std.specs.Prelude.{◌≡◌, ℕ, ◌<◌, ◌^◌, List, Option, None, length, position, slice_get, slice_index_or}
+use Rattle.std.specs.Prelude.{◌≡◌, ℕ, ◌<◌, ◌^◌, List, Option, None, map, position, slice_get, slice_index_or}
 use Rattle.std.specs.Option.{option_and_then}
 use Rattle.model.specs.Tree.{FileTree}
 use Rattle.model.specs.Names.{Name, name_eq}
 use Rattle.model.specs.Pool.{class_name_at, string_at}
 use Rattle.model.specs.StringConstants.{string_texts}
+use Rattle.model.specs.Texts.{Text, decoded}
 use Rattle.model.specs.Classes.{Program}
 use Rattle.hierarchy.specs.Places.{class_at, place_of}
 
@@ -49,8 +50,9 @@ SayNumbers files rows = (class index : ℕ) → index < 2 ^ 16 → number_at row
 pub record StringTables : Type 0 where
   -- for each class, by the indices of its constant pool
   pub rows : List (List (Option ℕ))
-  pub count : ℕ
+  -- in UTF-16 code units, by their numbers
+  pub texts : List Text
 
 pub record AreStringNumbers (files : Program) (tables : StringTables) : Type 0 where
   pub rows : SayNumbers files tables.rows
-  pub count : tables.count ≡ length (string_texts files)
+  pub texts : tables.texts ≡ map decoded (string_texts files)

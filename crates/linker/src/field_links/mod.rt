@@ -8,7 +8,7 @@
 //!   an object, in the class that declares it. The slot is the same in the objects of all subclasses (`KeepsSlots`).
 //!   `slot_count` and `static_count` are the lengths of the definitions' lists.
 //! - `ClassNumbers` and `StringNumbers`: a Class entry by the place of its class, a String entry by the place of its
-//!   text among all texts. - The getters take no memory.
+//!   text among all texts; `into_texts` gives these in UTF-16 code units (`decoded`). - The getters take no memory.
 
 mod chain;
 mod class_numbers;

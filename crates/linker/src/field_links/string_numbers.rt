@@ -5,22 +5,25 @@ ghost use Rattle.std.specs.Option.{option_and_then};
 ghost use Rattle.model.specs.Classes.{Program};
 ghost use Rattle.model.specs.Pool.{string_at};
 ghost use Rattle.model.specs.StringConstants.{string_texts};
+ghost use Rattle.model.specs.Texts.{decoded};
 ghost use Rattle.classfile.specs.View.{file_of};
 ghost use Rattle.linker.specs.field_links.Numbers.{number_in, text_number, string_number, IsStringRow, SayNumbers, AreStringNumbers};
 
 use classfile::ClassFile;
+use constant_pool::modified_utf8::decode;
 use hierarchy::ClassSet;
 use link_conditions::limits_of_linking::{TextSet, add_texts};
 use std::alloc::{AllocError, Global};
 use std::marker::Model;
 
-/// For each String of the constant pools of a program's classes the number of its text, and how many texts there are.
-/// Equal texts of all files have one number; they count from 0 in the order of the files.
+/// For each String of the constant pools of a program's classes the number of its text, and the texts. Equal texts of
+/// all files have one number; they count from 0 in the order of the files.
 #[derive(Drop)]
 pub struct StringNumbers {
     /// For each class those that its constant pool has, by their index.
     rows: Vec<Vec<Option<usize>>>,
-    count: usize,
+    /// Each in UTF-16 code units.
+    texts: Vec<Vec<u16>>,
 }
 
 impl Model for StringNumbers {
@@ -29,7 +32,10 @@ impl Model for StringNumbers {
 
     ghost Value = { StringTables };
 
-    ghost view = { λ s. record { rows = map (λ row. row.items) s.rows.items; count = s.count } };
+    ghost view = { λ s. record {
+      rows = map (λ row. row.items) s.rows.items;
+      texts = map (λ text. text.items) s.texts.items;
+    } };
 }
 
 /// The texts of the string constants of files.
@@ -44,6 +50,20 @@ fn all_texts(alloc: Global, set: &ClassSet) -> Result<TextSet, AllocError>
         add_texts(alloc, &mut texts, file)?;
     }
     Ok(texts)
+}
+
+/// The texts in their order, in UTF-16 code units.
+fn decoded_texts(alloc: Global, texts: &TextSet) -> Result<Vec<Vec<u16>>, AllocError>
+    ensures { IfOk result (λ all. map (λ text. text.items) all.items ≡ map decoded texts.now) }
+{
+    let mut all = Vec::new(alloc);
+    for number in 0..texts.count() {
+        let Some(bytes) = texts.text(number) else {
+            return Ok(all);
+        };
+        all.push(decode(alloc, bytes)?)?;
+    }
+    Ok(all)
 }
 
 /// The number of the text of the String of an index.
@@ -104,10 +124,9 @@ impl StringNumbers {
         ensures { IfOk result (λ numbers. AreStringNumbers set.now numbers) }
     {
         let texts = all_texts(alloc, set)?;
-        let rows = number_rows(alloc, set, &texts)?;
         Ok(StringNumbers {
-            rows,
-            count: texts.count(),
+            rows: number_rows(alloc, set, &texts)?,
+            texts: decoded_texts(alloc, &texts)?,
         })
     }
 
@@ -126,6 +145,14 @@ impl StringNumbers {
     pub fn count(&self) -> usize
         ensures { (files : Program) → AreStringNumbers files self.now → result ≡ length (string_texts files) }
     {
-        self.count
+        self.texts.len()
+    }
+
+    /// The texts in their order, in UTF-16 code units.
+    pub fn into_texts(self) -> Vec<Vec<u16>>
+        ensures { (files : Program) → AreStringNumbers files self
+            → map (λ text. text.items) result.items ≡ map decoded (string_texts files) }
+    {
+        self.texts
     }
 }

@@ -21,7 +21,6 @@ use Rattle.model.specs.Worlds.{is_done, may_enter, entry_cost, with_entry, with_
 use Rattle.model.specs.Step as step
 use Rattle.model.specs.Step.{SteppedOf, NotEnabled, WrongKind, Next, PartOf, part, is_enabled_by, settled, with_part, enabled_if, needing, needing_class, entering, pushed, leaving, unwound, failed, handler_in, initialiser_event, before, initialisation_event, pending_event, after_wait, relock_event, thread_event, thread_at}
 use Rattle.run_laws.specs.word_reports.Reports.{may_step_of}
-use Rattle.linked_code.specs.Numbers.{IsClassIf}
 use Rattle.machine_state.specs.linked_frames.Frames.{event_of}
 use Rattle.machine.specs.thread_standings.Parts.{end_by, call_may_begin}
 use Rattle.machine_threads.specs.declared.waiting_instructions.kinds.Standing.{Standing}
@@ -105,10 +104,6 @@ super_enabled trees frames t class world rest o e =
     needed_class trees t (before trees class) world (Initialisation class Super ∷ rest) _
     (initialiser_enabled trees frames t class world (Initialisation class End ∷ rest) (body_of trees (initialiser_of class)))
     ∙ ap (λ p. not (is_held (look_at t world p))) e
-
-pub none_first : (trees : Program) (o : Option Name) → IsClassIf trees None o → o ≡ None
-none_first trees None h = refl
-none_first trees (Some class) h = absurd h
 
 -- ---- the first call of a thread
 

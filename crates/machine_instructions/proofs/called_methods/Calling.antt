@@ -29,7 +29,6 @@ use Rattle.linked_code.specs.Selection.{IsChosenAt}
 use Rattle.run_laws.specs.word_operands.Operands.{word_meets}
 use Rattle.run_laws.specs.word_operands.Receivers.{is_any, has_class_below, is_null_or, receiver, IsReceived}
 use Rattle.run_laws.proofs.word_operands.Objects.{received}
-use Rattle.run_laws.proofs.word_runs.WordBuiltIns.{receiver_place, placed}
 use Rattle.run_laws.proofs.typed_threads.Threads.{tables_counted}
 use Rattle.thread_stacks.specs.Stacks.{ShownEntry}
 use Rattle.machine_state.specs.shown_stacks.Shown.{offset_at}
@@ -42,7 +41,7 @@ use Rattle.machine_state.proofs.linked_frames.Frames.{top_shown, finds, meaning_
 use Rattle.machine_instructions.specs.thread_methods.Called.{RefersTo, AreArguments}
 use Rattle.machine_instructions.specs.called_methods.Frames.{object_under, raised_by}
 use Rattle.machine_instructions.specs.called_methods.Invoked.{IsInvoking, invoked_event}
-use Rattle.machine_instructions.proofs.called_methods.BuiltIns.{target_constructor, member_for, known}
+use Rattle.machine_instructions.proofs.called_methods.BuiltIns.{target_constructor, member_for, known, receiver_place, placed}
 use Rattle.machine_instructions.proofs.called_methods.RunMethods.{raises}
 
 -- ---- lists and words

@@ -4,7 +4,7 @@ use Rattle.std.specs.Prelude.{slice_get, option_map}
 use Rattle.std.proofs.lemmas.Option.{same_Some}
 use Rattle.model.specs.Classes.{Program}
 use Rattle.model.specs.ReferenceTypes.{ClassType, is_subtype}
-use Rattle.model.specs.State.{ObjectOf, Instance, Primitives, References, type_of}
+use Rattle.model.specs.State.{ObjectOf, Instance, Primitives, References, Characters, type_of}
 use Rattle.model.specs.Worlds.{class_of_object}
 use Rattle.model.specs.Calls.{selected, if_implements}
 use Rattle.heap.specs.declared.kind.ObjectKind.{ObjectKind}
@@ -22,6 +22,7 @@ pub class_same : (m : ObjectOf ℕ) → receiver_class (type_of m) ≡ class_of_
 class_same (Instance class fields) = refl
 class_same (Primitives of elements) = refl
 class_same (References of elements) = refl
+class_same (Characters text) = refl
 
 module _ (p : LinkedProgram) (objects : List Object) (object : ℕ) where
   module _ (trees : Program) (heap : List (ObjectOf ℕ)) (shows : ShowsObjects trees p.components.items objects heap) (receiver : ObjectOf ℕ) (there : slice_get heap object ≡ Some receiver) where

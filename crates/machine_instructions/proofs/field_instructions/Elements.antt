@@ -14,7 +14,7 @@ use Rattle.model.specs.Objects.{any_object}
 use Rattle.model.specs.Operands.{words, word_reference, pops_meet}
 use Rattle.model.specs.Outcomes.{Free, NullPointer, ArrayIndexOutOfBounds, OutcomeOf, not_null}
 use Rattle.model.specs.State as model
-use Rattle.model.specs.State.{ObjectOf, Instance, Primitives, References, FrameOf, StackOf, WorldOf, StateOf, type_of, types_of}
+use Rattle.model.specs.State.{ObjectOf, Instance, Primitives, References, Characters, FrameOf, StackOf, WorldOf, StateOf, type_of, types_of}
 use Rattle.model.specs.Worlds.{no_object, object_at, with_object, elements_of, with_element}
 use Rattle.model.specs.Arrays.{in_range, at_index, element_at, stored, kept_by, load_meaning, an_int, its_component, load_of, store_int_meaning, store_of, array_length_meaning}
 use Rattle.model.specs.Sites.{MeaningOf, Site, pushing}
@@ -45,21 +45,25 @@ use Rattle.machine_instructions.proofs.field_instructions.Referred.{meets_first,
 module _ (trees : Program) where
   array_of_ints : (of : Primitive) (m : ObjectOf ℕ) → is_assignable trees (type_of m) (PrimitiveArray of) ≡ true → is_array m ≡ true
   array_of_ints of (Instance class fields) e = absurd (false≢true e)
+  array_of_ints of (Characters text) e = absurd (false≢true e)
   array_of_ints of (Primitives own elements) e = refl
   array_of_ints of (References own elements) e = refl
 
   array_of_references : (of : ReferenceType) (m : ObjectOf ℕ) → is_assignable trees (type_of m) (ReferenceArray of) ≡ true → is_array m ≡ true
   array_of_references of (Instance class fields) e = absurd (false≢true e)
+  array_of_references of (Characters text) e = absurd (false≢true e)
   array_of_references of (Primitives own elements) e = refl
   array_of_references of (References own elements) e = refl
 
   array_of_bytes : (m : ObjectOf ℕ) → is_byte_array_type (type_of m) ≡ true → is_array m ≡ true
   array_of_bytes (Instance class fields) e = absurd (false≢true e)
+  array_of_bytes (Characters text) e = absurd (false≢true e)
   array_of_bytes (Primitives own elements) e = refl
   array_of_bytes (References own elements) e = refl
 
   array_of_any : (m : ObjectOf ℕ) → is_array_type (type_of m) ≡ true → is_array m ≡ true
   array_of_any (Instance class fields) e = absurd (false≢true e)
+  array_of_any (Characters text) e = absurd (false≢true e)
   array_of_any (Primitives own elements) e = refl
   array_of_any (References own elements) e = refl
 
@@ -68,6 +72,7 @@ keeps : (m : ObjectOf ℕ) (word : ℕ) → kept_by words m word ≡ kept_in m w
 keeps (Instance class fields) word = refl
 keeps (Primitives own elements) word = refl
 keeps (References own elements) word = refl
+keeps (Characters text) word = refl
 
 module _ (trees : Program) (p : LinkedProgram) (bounds : Bounds) (inflated : List ℕ) (t : ℕ) (old : Shared) (stack : List ShownEntry) (state : StateOf ℕ) (frame : FrameOf ℕ) (rest : StackOf ℕ) (code : LinkedCode) (site : Site) (meaning : MeaningOf ℕ) (instruction : LinkedInstruction) (is : IsRunning trees p bounds inflated t old stack state frame rest code site meaning instruction) where
   -- the array that a word refers to

@@ -13,7 +13,7 @@ use Rattle.model.specs.Opening.{first_of}
 use Rattle.model.specs.Operands.{words, word_reference}
 use Rattle.model.specs.Outcomes.{NullPointer, not_null}
 use Rattle.model.specs.State as model
-use Rattle.model.specs.State.{ObjectOf, Instance, Primitives, References, FrameOf, StackOf, WorldOf, StateOf, type_of, types_of}
+use Rattle.model.specs.State.{Instance, FrameOf, StackOf, WorldOf, StateOf, type_of, types_of}
 use Rattle.model.specs.Worlds.{no_object, object_at, with_object, fields_of, with_field, value_in, put_value, kept}
 use Rattle.model.specs.Sites.{MeaningOf, Site, pushing}
 use Rattle.model.specs.Meanings.{get_field_of, put_field_of, owner_want}
@@ -31,6 +31,7 @@ use Rattle.linked_code.specs.Linked.{IsLinked, offset_in}
 use Rattle.run_laws.specs.word_operands.Operands.{is_word_with, word_meets}
 use Rattle.thread_stacks.specs.Stacks.{ShownFrame, ShownEntry, IsTopFrame, with_top}
 use Rattle.machine_state.specs.shown_objects.Laws.{IsField}
+use Rattle.machine_state.proofs.shown_objects.Strings.{instance_with}
 use Rattle.machine_state.proofs.shown_objects.Objects.{are_fields}
 use Rattle.machine_state.specs.declared.answers.Effect.{Effect}
 use Rattle.machine_state.specs.declared.refusals.EventRefusal.{EventRefusal}
@@ -42,12 +43,6 @@ use Rattle.machine_instructions.specs.Leaving.{Leaves}
 use Rattle.machine_instructions.specs.field_instructions.Puts as puts
 use Rattle.machine_instructions.proofs.field_instructions.OnTop.{pops_met, lent_shows, operand_is, goes_on, IsShownAfter, done, done_or_refused}
 use Rattle.machine_instructions.proofs.field_instructions.Referred.{meets_first, meets_second, referred, with_objects}
-
--- what is of the type of a class is an instance of it
-instance_of : (m : ObjectOf ℕ) (class : Name) → type_of m ≡ ClassType class → (fields : List (Member × ℕ)) × (m ≡ Instance class fields)
-instance_of (Instance c fields) class e = let is : c ≡ class = cc in (fields, ap (λ x. Instance x fields) is)
-instance_of (Primitives of elements) class e = absurd cc
-instance_of (References of elements) class e = absurd cc
 
 module _ (trees : Program) (p : LinkedProgram) (bounds : Bounds) (inflated : List ℕ) (t : ℕ) (old : Shared) (stack : List ShownEntry)
     (state : StateOf ℕ) (frame : FrameOf ℕ) (rest : StackOf ℕ) (code : LinkedCode) (site : Site) (meaning : MeaningOf ℕ) where
@@ -64,7 +59,7 @@ module _ (trees : Program) (p : LinkedProgram) (bounds : Bounds) (inflated : Lis
     held type field n r slots e =
         let m = referred state.world.heap (λ t. is_assignable trees t type) r e in
         let c = slots (type_of m.object) m.passes in
-        let i = instance_of m.object c.0 c.1 in
+        let i = instance_with trees m.object c.0 field n c.1 c.2 in
         let there : slice_get state.world.heap r ≡ Some (Instance c.0 i.0) = m.there ∙ ap (λ x. Some x) i.1 in
         record {
           class = c.0;

@@ -1,21 +1,137 @@
--- What the methods of PrintStream print is never nothing.
-use Rattle.std.proofs.Common.{◌≡◌, ◌<◌, ◌+◌, ◌^◌, ℕ, ℤ, pos, negsuc, [], ◌∷◌, ◌++◌, length, length-append, FitsSigned, rules, arith, refl}
+-- What the methods of PrintStream print, by words and by the definitions.
+use Rattle.std.proofs.Common.{◌≡◌, ◌<◌, ◌≤◌, ◌+◌, ◌%◌, ◌^◌, ◌==◌, ◌⊎◌, inl, inr, ℕ, ℤ, pos, negsuc, zero, suc, List, [], ◌∷◌, ◌++◌, Bool, true, false, if◌then◌else◌, Some, None, map, length, length-append, FitsSigned, eqb-true, rules, arith, refl, sym, ap, subst, ◌∙◌}
+use Rattle.std.specs.Prelude.{slice_get, slice_index_or}
+use Rattle.std.specs.List.{All}
 use Rattle.std.specs.Fmt.{signed_decimal}
 use Rattle.std.specs.Int.{w32}
 use Rattle.std.proofs.Math.Facts.{sfits_to_z}
-use Rattle.std.proofs.lemmas.Fmt.{decimal_nonempty}
+use Rattle.std.proofs.lemmas.Bool.{true≢false}
+use Rattle.std.proofs.lemmas.Fmt.{decimal_nonempty, length_signed_le}
+use Rattle.std.proofs.lemmas.List.Elements.{All-head, All-tail}
+use Rattle.std.proofs.lemmas.Option.{same_Some}
 use Rattle.model.specs.declared.print_method.PrintMethod.{PrintMethod}
-use Rattle.model.specs.declared.print_method.PrintMethod.TheVariants.{Println, PrintlnChar, PrintlnInt, PrintChar, PrintInt}
-use Rattle.model.specs.Ints.{signed}
-use Rattle.model.specs.BuiltInMethods.{printed_by}
+use Rattle.model.specs.declared.print_method.PrintMethod.TheVariants.{Println, PrintlnChar, PrintlnInt, PrintlnString, PrintChar, PrintInt, PrintString}
+use Rattle.model.specs.declared.instr.Conversion.TheVariants.{ToChar}
+use Rattle.model.specs.BuiltInNumbers.{string_number}
+use Rattle.model.specs.Names.{Name, name_eq, java_lang_string}
+use Rattle.model.specs.Classes.{Program, name_of}
+use Rattle.model.specs.Linkable.{IsLinkable}
+use Rattle.model.specs.Ints.{signed, converted}
+use Rattle.model.specs.Texts.{Text, int_line}
+use Rattle.model.specs.BuiltInMethods.{string_shown, printed_by}
+use Rattle.model.specs.Operands.{words, word_reference}
+use Rattle.model.specs.State.{ObjectOf, Instance, Primitives, References, Characters, WorldOf}
+use Rattle.model.specs.Worlds.{no_object, text_of}
+use Rattle.heap.specs.declared.kind.ObjectKind.{ObjectKind}
+use Rattle.heap.specs.declared.kind.ObjectKind.TheVariants as kind
+use Rattle.heap.specs.Heap.{Object}
+use Rattle.linked_code.specs.declared.types.LinkedType.{LinkedType}
+use Rattle.linked_code.specs.Numbers.{IsClassAt}
+use Rattle.machine_state.specs.shown_objects.Shown.{cells_of, AreUnits, IsKindOf, ShowsObjects}
+use Rattle.machine_state.proofs.shown_objects.Strings.{string_at}
+use Rattle.machine_state.proofs.type_tests.Numbered.{string_numbered}
+use Rattle.machine_instructions.specs.thread_methods.Printed.{is_string, units_of, units_at, unit_in, string_by, printed_of, IsRoomFor}
+
+-- ---- numbers
 
 number_some : (z : ℤ) → FitsSigned w32 z → 0 < length (signed_decimal z)
 number_some (pos n) fits = decimal_nonempty n (omega (arith, fits))
 number_some (negsuc n) fits = omega arith
 
-pub prints_some : (print : PrintMethod) (bits : ℕ) → bits < 2 ^ 32 → 0 < length (printed_by print bits)
-prints_some Println bits h = omega arith
-prints_some PrintlnChar bits h = omega arith
-prints_some PrintlnInt bits h = omega (arith, length-append (signed_decimal (signed bits)) (10 ∷ []))
-prints_some PrintChar bits h = omega arith
-prints_some PrintInt bits h = number_some (signed bits) (sfits_to_z {w = w32} {n = bits} (search (rules, h)))
+number_short : (z : ℤ) → FitsSigned w32 z → length (signed_decimal z) ≤ 11
+number_short (pos n) fits = length_signed_le 10 (pos n) (omega (arith, fits)) (omega (arith, fits))
+number_short (negsuc n) fits = length_signed_le 10 (negsuc n) (omega (arith, fits)) (omega (arith, fits))
+
+-- what has no String as its operand has room in twelve units
+pub has_room : (print : PrintMethod) (objects : List Object) (word : ℕ) → word < 2 ^ 32
+    → (print ≡ Println) ⊎ ((print ≡ PrintlnChar) ⊎ ((print ≡ PrintlnInt) ⊎ ((print ≡ PrintChar) ⊎ (print ≡ PrintInt))))
+    → IsRoomFor 12 (printed_of print objects word)
+has_room print objects word h is = by is
+  where
+    z : ℤ
+    z = signed word
+
+    fits : FitsSigned w32 z
+    fits = sfits_to_z {w = w32} {n = word} (search (rules, h))
+
+    one : length (int_line word) ≡ length (signed_decimal z) + 1
+    one = length-append (signed_decimal z) (10 ∷ [])
+
+    of : (m : PrintMethod) → print ≡ m → IsRoomFor 12 (printed_of m objects word) → IsRoomFor 12 (printed_of print objects word)
+    of m e = subst (λ n. IsRoomFor 12 (printed_of n objects word)) (sym e)
+
+    by : (print ≡ Println) ⊎ ((print ≡ PrintlnChar) ⊎ ((print ≡ PrintlnInt) ⊎ ((print ≡ PrintChar) ⊎ (print ≡ PrintInt))))
+        → IsRoomFor 12 (printed_of print objects word)
+    by (inl e) = of Println e (record { enough = omega arith; needed = λ n. omega arith })
+    by (inr (inl e)) = of PrintlnChar e (record { enough = omega arith; needed = λ n. omega arith })
+    by (inr (inr (inl e))) = of PrintlnInt e (record { enough = omega (arith, one, number_short z fits); needed = λ n. omega (arith, one) })
+    by (inr (inr (inr (inl e)))) = of PrintChar e (record { enough = omega arith; needed = λ n. omega arith })
+    by (inr (inr (inr (inr e)))) = of PrintInt e (record { enough = omega (arith, number_short z fits); needed = λ n. number_some z fits })
+
+-- ---- Strings
+
+units_same : (text : Text) → AreUnits text → map unit_in text ≡ text
+units_same [] h = refl
+units_same (u ∷ text) h =
+    let small : u < 2 ^ 16 = All-head (λ unit. unit < 2 ^ 16) u text h in
+    let same : unit_in u ≡ u = omega (arith, small) in
+    λ i. same i ∷ units_same text (All-tail (λ unit. unit < 2 ^ 16) u text h) i
+
+module _ (files : List (List ℕ)) (trees : Program) (linkable : IsLinkable files trees) (components : List LinkedType) where
+  -- the class of that number is String
+  named_string : (number : ℕ) (class : Name) → IsClassAt trees number class → number ≡ string_number → class ≡ java_lang_string
+  named_string number class at e =
+      let string = string_at trees in
+      let same : at.0 ≡ string.0 = same_Some at.0 string.0 (sym at.1 ∙ ap (slice_get _) e ∙ string.1) in
+      sym at.2 ∙ ap name_of same ∙ string.2
+
+  by_kind : (k : ObjectKind) (m : ObjectOf ℕ) (ws : List ℕ) → IsKindOf trees components k m → ws ≡ cells_of m
+      → map unit_in (if is_string k then ws else []) ≡ text_of m
+  by_kind (kind.Instance number) (Instance class fields) ws is e = by (number == string_number) refl
+    where
+      by : (b : Bool) → (number == string_number) ≡ b → map unit_in (if b then ws else []) ≡ []
+      by true n =
+          let named = named_string number class is.0 (eqb-true number string_number n) in
+          absurd (true≢false (ap (λ c. name_eq c java_lang_string) (sym named) ∙ is.2))
+      by false n = refl
+  by_kind (kind.Instance number) (Characters text) ws is e =
+      (λ i. map unit_in (if string_numbered files trees linkable number is.0 i == string_number then e i else []))
+      ∙ units_same text is.1
+  by_kind (kind.Instance number) (Primitives of elements) ws is e = absurd is
+  by_kind (kind.Instance number) (References of elements) ws is e = absurd is
+  by_kind kind.Ints (Instance class fields) ws is e = absurd is
+  by_kind kind.Ints (Primitives of elements) ws is e = refl
+  by_kind kind.Ints (References of elements) ws is e = absurd is
+  by_kind kind.Ints (Characters text) ws is e = absurd is
+  by_kind (kind.Narrow narrow) (Instance class fields) ws is e = absurd is
+  by_kind (kind.Narrow narrow) (Primitives of elements) ws is e = refl
+  by_kind (kind.Narrow narrow) (References of elements) ws is e = absurd is
+  by_kind (kind.Narrow narrow) (Characters text) ws is e = absurd is
+  by_kind (kind.References number) (Instance class fields) ws is e = absurd is
+  by_kind (kind.References number) (Primitives of elements) ws is e = absurd is
+  by_kind (kind.References number) (References of elements) ws is e = refl
+  by_kind (kind.References number) (Characters text) ws is e = absurd is
+
+  texts : (os : List Object) (ms : List (ObjectOf ℕ)) → ShowsObjects trees components os ms → (r : ℕ)
+      → map unit_in (units_of (slice_get os r)) ≡ text_of (slice_index_or ms r no_object)
+  texts [] [] h r = refl
+  texts [] (m ∷ ms) h r = absurd h
+  texts (o ∷ os) [] h r = absurd h
+  texts (o ∷ os) (m ∷ ms) h zero = by_kind o.kind m o.words h.0.kind h.0.words
+  texts (o ∷ os) (m ∷ ms) h (suc r) = texts os ms h.1 r
+
+  module _ (objects : List Object) (world : WorldOf ℕ) (shows : ShowsObjects trees components objects world.heap) where
+    string_is : (word : ℕ) → string_by objects word ≡ string_shown world (word_reference word)
+    string_is zero = refl
+    string_is (suc r) = texts objects world.heap shows r
+
+    -- so what is printed is what the definitions say
+    pub printed_is : (print : PrintMethod) (word : ℕ) (ops : List ℕ) → word ≡ slice_index_or ops 0 0
+        → printed_of print objects word ≡ printed_by words print world ops
+    printed_is Println word ops e = refl
+    printed_is PrintlnChar word ops e = ap (λ w. converted ToChar w ∷ 10 ∷ []) e
+    printed_is PrintlnInt word ops e = ap int_line e
+    printed_is PrintlnString word ops e = ap (λ text. text ++ 10 ∷ []) (string_is word ∙ ap (λ w. string_shown world (word_reference w)) e)
+    printed_is PrintChar word ops e = ap (λ w. converted ToChar w ∷ []) e
+    printed_is PrintInt word ops e = ap (λ w. signed_decimal (signed w)) e
+    printed_is PrintString word ops e = string_is word ∙ ap (λ w. string_shown world (word_reference w)) e

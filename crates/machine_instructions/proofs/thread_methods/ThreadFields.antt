@@ -7,11 +7,11 @@ use Rattle.std.proofs.lemmas.Grind.{flat_map-append}
 use Rattle.std.specs.Prelude.{position}
 use Rattle.std.specs.Option.{option_map_or}
 use Rattle.std.specs.List.{flat_map}
-use Rattle.model.specs.Names.{Name, Member, name_eq, member_eq, java_lang_object, java_lang_thread, thread_target}
+use Rattle.model.specs.Names.{Name, Member, name_eq, member_eq, java_lang_object, java_lang_string, java_lang_thread, thread_target}
 use Rattle.model.specs.BuiltIn.{built_in_classes}
 use Rattle.model.specs.Classes.{Program, superclass_of, classes_of, is_within, is_subclass, lineage_of}
 use Rattle.model.specs.Lookup.{own_instance_fields, instance_fields}
-use Rattle.model.specs.State.{ObjectOf, Instance, Primitives, References}
+use Rattle.model.specs.State.{ObjectOf, Instance, Primitives, References, Characters}
 use Rattle.run_laws.specs.laws.Steps.{ends, Rooted}
 use Rattle.run_laws.proofs.laws.Classes.{names_same}
 use Rattle.run_laws.proofs.laws.RootedOf.{ends_above, on_super_of}
@@ -85,6 +85,11 @@ module _ (files : Program) where
   unfolding built_in_classes
   object_below = refl
 
+  -- nor is a String
+  string_below : is_subclass files java_lang_string java_lang_thread ≡ false
+  unfolding built_in_classes
+  string_below = refl
+
   -- the instance that a Thread is
   pub instance : (object : ObjectOf ℕ) → has_class_below files java_lang_thread object ≡ true
       → (class : Name) × ((fields : List (Member × ℕ)) × (object ≡ Instance class fields)
@@ -92,3 +97,4 @@ module _ (files : Program) where
   instance (Instance class fields) h = (class, (fields, refl, h))
   instance (Primitives of elements) h = absurd (false≢true (sym object_below ∙ h))
   instance (References of elements) h = absurd (false≢true (sym object_below ∙ h))
+  instance (Characters text) h = absurd (false≢true (sym string_below ∙ h))

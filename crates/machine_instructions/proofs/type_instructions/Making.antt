@@ -1,15 +1,11 @@
 -- Instructions that make an object.
 use Rattle.std.proofs.Common.{◌≡◌, ◌+◌, ◌<◌, ◌≤◌, ◌^◌, ℕ, suc, List, [], ◌∷◌, Some, Result, Ok, Err, Bool, true, false, length, drop, replicate, refl, sym, ap, subst, arith, ◌∙◌, inl}
-use Rattle.std.specs.Prelude.{map, slice_index_or}
+use Rattle.std.specs.Prelude.{slice_index_or}
 use Rattle.std.proofs.lemmas.Bool.{lt-leb, le-leb}
-use Rattle.std.proofs.lemmas.List.{length-map}
-use Rattle.model.specs.Names.{Member}
 use Rattle.model.specs.Classes.{Program}
 use Rattle.model.specs.LimitStands.{Bounds}
 use Rattle.model.specs.ReferenceTypes.{ReferenceType}
-use Rattle.model.specs.DescribedTypes.{DeclaredType, DeclaredInt, DeclaredReference, field_declared}
-use Rattle.model.specs.Lookup.{instance_fields}
-use Rattle.model.specs.Opening.{first_value, with_first, new_instance}
+use Rattle.model.specs.Opening.{new_instance}
 use Rattle.model.specs.Operands.{words}
 use Rattle.model.specs.Outcomes.{Makes, Goes}
 use Rattle.model.specs.Arrays.{is_negative, made_array, array_meaning}
@@ -32,7 +28,8 @@ use Rattle.model.specs.Primitives.{primitive_of}
 use Rattle.model.specs.declared.primitive.Primitive.{Primitive}
 use Rattle.model.specs.declared.primitive.Primitive.TheVariants as primitive
 use Rattle.linked_code.specs.Objects.{IsNew}
-use Rattle.machine_state.specs.shown_objects.Shown.{names_of, words_in, ShowsObject}
+use Rattle.machine_state.specs.shown_objects.Shown.{ShowsObject}
+use Rattle.machine_state.proofs.shown_objects.New.{new_fields, new_shown}
 use Rattle.thread_stacks.specs.Stacks.{ShownFrame, ShownEntry, with_top}
 use Rattle.machine_state.specs.declared.answers.Effect.{Effect}
 use Rattle.machine_state.specs.declared.answers.Effect.TheVariants as effect
@@ -49,20 +46,6 @@ use Rattle.machine_instructions.specs.Leaving.{gone_on}
 use Rattle.machine_instructions.specs.type_instructions.Leaving.{IsUnmade, LeavesNew}
 use Rattle.machine_instructions.specs.type_instructions.Arrays.{kind_of_array, AreArrays}
 use Rattle.machine_instructions.proofs.type_instructions.Events.{IsEvent, DoesSo, own_after, slots_after, place_small, operand_is, operands_there, unchanged, event_by, goes_on, shows_after, stays}
-
--- ---- fields of a new instance are 0 or null
-
-first_zero : (d : DeclaredType) → first_value words d ≡ 0
-first_zero DeclaredInt = refl
-first_zero (DeclaredReference type) = refl
-
-first_names : (fields : List Member) → names_of (map (with_first words) fields) ≡ fields
-first_names [] = refl
-first_names (f ∷ fields) = ap (λ l. f ∷ l) (first_names fields)
-
-first_words : (fields : List Member) → replicate (length fields) 0 ≡ words_in (map (with_first words) fields)
-first_words [] = refl
-first_words (f ∷ fields) = ap (λ l. 0 ∷ l) (first_words fields) ∙ ap (λ w. w ∷ words_in (map (with_first words) fields)) (sym (first_zero (field_declared f.descriptor)))
 
 module _ {trees : Program} {p : LinkedProgram} {bounds : Bounds} {inflated : List ℕ} {t : ℕ} {shared : Shared} {stack : List
     ShownEntry} {state : StateOf ℕ} {frame : FrameOf ℕ} {rest : StackOf ℕ} {code : LinkedCode} {site : Site} {meaning : MeaningOf
@@ -126,10 +109,9 @@ module _ {trees : Program} {p : LinkedProgram} {bounds : Bounds} {inflated : Lis
       → DoesSo is frames result (with_heap after) (with_top to stack)
   makes_object class fields new frames after from to top result left =
       let object = new_instance words trees new.named in
-      let members = instance_fields trees new.named in
-      let count : length (fields_of object) ≡ fields = length-map members (with_first words) ∙ sym new.counted in
+      let count : length (fields_of object) ≡ fields = new_fields trees new.named ∙ sym new.counted in
       let shows : ShowsObject trees p.components.items (fresh (kind.Instance class) fields) object =
-      record { kind = (new.numbered, first_names members); words = ap (λ n. replicate n 0) new.counted ∙ first_words members }
+      new_shown trees new.named p.components.items class fields new.numbered new.counted
       in
       let results = suc (length state.world.heap) ∷ [] in
       makes frames (kind.Instance class) fields 0 object shows

@@ -14,7 +14,7 @@ use Rattle.model.specs.Objects.{any_object}
 use Rattle.model.specs.Arrays.{in_range, at_index, may_stand_in, if_storable, stored, store_reference_meaning}
 use Rattle.model.specs.Sites.{MeaningOf, Site}
 use Rattle.model.specs.Meanings.{meaning_of}
-use Rattle.model.specs.State.{ObjectOf, Instance, Primitives, References, types_of, FrameOf, StackOf, StateOf, WorldOf}
+use Rattle.model.specs.State.{ObjectOf, Instance, Primitives, References, Characters, types_of, FrameOf, StackOf, StateOf, WorldOf}
 use Rattle.model.specs.Step.{become}
 use Rattle.model.specs.Worlds.{no_object, object_at, with_object, elements_of, with_element}
 use Rattle.heap.specs.declared.kind.ObjectKind.{ObjectKind}
@@ -62,16 +62,20 @@ store_tested p objects r word answer component is tests files trees linkable lin
     by (kind.References number) (References type elements) h t =
         subst (λ c. TestsIf p objects word c answer) h.1 t files trees linkable linked (linked.components number h.0 h.1).tested world.heap type shows h.2
     by (kind.Instance number) (Instance class fields) h t = t
+    by (kind.Instance number) (Characters text) h t = t
     by kind.Ints (Primitives of elements) h t = t
     by (kind.Narrow narrow) (Primitives of elements) h t = t
     by (kind.References number) (Instance class fields) h t = absurd h
     by (kind.References number) (Primitives of elements) h t = absurd h
+    by (kind.References number) (Characters text) h t = absurd h
     by (kind.Instance number) (Primitives of elements) h t = absurd h
     by (kind.Instance number) (References of elements) h t = absurd h
     by kind.Ints (Instance class fields) h t = absurd h
     by kind.Ints (References of elements) h t = absurd h
+    by kind.Ints (Characters text) h t = absurd h
     by (kind.Narrow narrow) (Instance class fields) h t = absurd h
     by (kind.Narrow narrow) (References of elements) h t = absurd h
+    by (kind.Narrow narrow) (Characters text) h t = absurd h
 
     at : (os : List Object) (ms : List (ObjectOf ℕ)) → ShowsObjects trees p.components.items os ms
         → (k : ℕ) → TestsIf p objects word (option_and_then (component_in p.components.items) (slice_get os k)) answer
@@ -104,6 +108,7 @@ held : (trees : Program) (heap : List (ObjectOf ℕ)) (r : ℕ)
 held trees [] r e = absurd (false≢true e)
 held trees (Instance class fields ∷ heap) zero e = absurd (false≢true e)
 held trees (Primitives of elements ∷ heap) zero e = absurd (false≢true e)
+held trees (Characters text ∷ heap) zero e = absurd (false≢true e)
 held trees (References of elements ∷ heap) zero e = record { array = References of elements; there = refl; is_array = refl; keeps = λ word. refl }
 held trees (m ∷ heap) (suc r) e = let h = held trees heap r e in record { array = h.array; there = h.there; is_array = h.is_array; keeps = h.keeps }
 

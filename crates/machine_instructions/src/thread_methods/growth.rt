@@ -1,6 +1,6 @@
 //! Vectors that grow in two steps, so that what was there stays as it was until nothing can fail.
 
-ghost use Rattle.std.specs.Prelude.{ℕ, ◌≡◌, ◌+◌, ◌<◌, ◌≤◌, ◌∷◌, ◌^◌, [], ◌++◌, IfOk};
+ghost use Rattle.std.specs.Prelude.{ℕ, ◌≡◌, ◌+◌, ◌<◌, ◌≤◌, ◌∷◌, ◌^◌, [], ◌++◌, IfOk, IfErr};
 ghost use Rattle.std.specs.Vec.{vec_len, vec_capacity};
 ghost use Rattle.machine_instructions.specs.thread_methods.Growth.{IsSpare};
 
@@ -9,8 +9,9 @@ use std::alloc::AllocError;
 /// A larger vector with no items, where there is no room for so many more.
 #[inline]
 pub(crate) fn spare<T: Drop>(items: &Vec<T>, more: usize) -> Result<Option<Vec<T>>, AllocError>
-    requires { more < 2 ^ 16 }
-    ensures { IfOk result (λ spare. IsSpare items.now more spare) }
+    requires { more ≤ 2 ^ 63 }
+    ensures larger { IfOk result (λ spare. IsSpare items.now more spare) }
+    ensures needed { IfErr result (λ error. 0 < more) }
 {
     let count = items.len();
     if more <= items.capacity() - count {

@@ -6,7 +6,7 @@ use Rattle.std.proofs.lemmas.List.Sums.{sum_by-cons}
 use Rattle.model.specs.declared.end.RunCause.{RunCause}
 use Rattle.model.specs.declared.end.RunCause.TheVariants as cause
 use Rattle.model.specs.Classes.{Program}
-use Rattle.model.specs.State.{ObjectOf, Instance, Primitives, References, Monitor, WorldOf}
+use Rattle.model.specs.State.{ObjectOf, Instance, Primitives, References, Characters, Monitor, WorldOf}
 use Rattle.model.specs.Monitors.{unlocked}
 use Rattle.model.specs.Worlds.{allocated}
 use Rattle.model.specs.LimitStands.{Bounds, cells_of, objects_made, cells_made}
@@ -31,6 +31,7 @@ cells_are : (object : ObjectOf ℕ) → length (shown.cells_of object) ≡ cells
 cells_are (Instance class fields) = length-map fields (λ (f : Member × ℕ). f.1)
 cells_are (Primitives of elements) = refl
 cells_are (References of elements) = refl
+cells_are (Characters text) = refl
 
 all_cells : (trees : Program) (components : List LinkedType) (os : List Object) (ms : List (ObjectOf ℕ))
     → ShowsObjects trees components os ms

@@ -25,7 +25,7 @@ pub some_first : (trees : Program) (first : ℕ) (o : Option Name) → IsClassIf
 some_first trees first None h = absurd h
 some_first trees first (Some superclass) h = (superclass, refl, h)
 
-none_first : (trees : Program) (o : Option Name) → IsClassIf trees None o → o ≡ None
+pub none_first : (trees : Program) (o : Option Name) → IsClassIf trees None o → o ≡ None
 none_first trees None h = refl
 none_first trees (Some superclass) h = absurd h
 

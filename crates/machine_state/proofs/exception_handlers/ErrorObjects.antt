@@ -3,12 +3,12 @@ use Rattle.std.proofs.Common.{◌≡◌, ◌∙◌, ℕ, zero, suc, Bool, true, 
 use Rattle.std.specs.Prelude.{◌||◌, slice_get}
 use Rattle.std.specs.List.{list_any, AllByRecursion}
 use Rattle.std.proofs.lemmas.Bool.{or_from}
-use Rattle.model.specs.Names.{Name, name_eq, java_lang_error}
+use Rattle.model.specs.Names.{Name, name_eq, java_lang_error, java_lang_string}
 use Rattle.model.specs.BuiltIn.{built_in_classes}
 use Rattle.model.specs.Classes.{Program, classes_of, is_interface, superclass_of, is_within, is_subclass, implements, all_superinterfaces}
 use Rattle.model.specs.Linkable.{IsLinkable}
 use Rattle.model.specs.ReferenceTypes.{ReferenceType, ClassType, is_subclass_or_implements}
-use Rattle.model.specs.State.{ObjectOf, Instance, Primitives, References, type_of, types_of}
+use Rattle.model.specs.State.{ObjectOf, Instance, Primitives, References, Characters, type_of, types_of}
 use Rattle.model.specs.Types.{is_object_of}
 use Rattle.std.specs.Option.{option_map_or}
 use Rattle.run_laws.proofs.laws.Classes.{names_same}
@@ -67,15 +67,19 @@ module _ (trees : Program) (components : List LinkedType) where
   typed (kind.Instance number) (Instance class fields) is = (class, refl, is.0)
   typed (kind.Instance number) (Primitives element elements) is = absurd is
   typed (kind.Instance number) (References element elements) is = absurd is
+  typed (kind.Instance number) (Characters text) is = (java_lang_string, refl, is.0)
   typed kind.Ints (Instance class fields) is = absurd is
   typed kind.Ints (Primitives element elements) is = refl
   typed kind.Ints (References element elements) is = refl
+  typed kind.Ints (Characters text) is = absurd is
   typed (kind.Narrow narrow) (Instance class fields) is = absurd is
   typed (kind.Narrow narrow) (Primitives element elements) is = refl
   typed (kind.Narrow narrow) (References element elements) is = refl
+  typed (kind.Narrow narrow) (Characters text) is = absurd is
   typed (kind.References number) (Instance class fields) is = absurd is
   typed (kind.References number) (Primitives element elements) is = refl
   typed (kind.References number) (References element elements) is = refl
+  typed (kind.References number) (Characters text) is = absurd is
 
   pub type_by : (os : List Object) (ms : List (ObjectOf ℕ)) → ShowsObjects trees components os ms → (r : ℕ)
       → IsTypeBy trees (class_in (option_map kind_of (slice_get os r))) (slice_get (types_of ms) r)

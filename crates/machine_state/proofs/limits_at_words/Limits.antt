@@ -10,7 +10,7 @@ use Rattle.model.specs.declared.end.RunCause.TheVariants as cause
 use Rattle.model.specs.declared.value.Value.{Value}
 use Rattle.model.specs.Classes.{Program}
 use Rattle.model.specs.Operands.{words, values, word_of}
-use Rattle.model.specs.State.{ObjectOf, Instance, Primitives, References, World, StateOf, State}
+use Rattle.model.specs.State.{ObjectOf, Instance, Primitives, References, Characters, World, StateOf, State}
 use Rattle.model.specs.Opening.{opening_heap}
 use Rattle.model.specs.Outcomes.{Cost, Free, Makes, Starts, Enters, Joins}
 use Rattle.model.specs.Step.{SteppedOf, NotEnabled, WrongKind, Next, stepped}
@@ -34,6 +34,7 @@ cells_same : (o : ObjectOf Value) → cells_of (map_object word_of o) ≡ cells_
 cells_same (Instance class fields) = length-map fields (map_field word_of)
 cells_same (Primitives of elements) = length-map elements word_of
 cells_same (References of elements) = length-map elements word_of
+cells_same (Characters text) = refl
 
 all_cells_same : (os : List (ObjectOf Value)) → sum_by cells_of (map (map_object word_of) os) ≡ sum_by cells_of os
 all_cells_same os =

@@ -13,7 +13,7 @@ use Rattle.model.specs.ReferenceTypes.{ClassType}
 use Rattle.model.specs.Types.{VerificationType, Unusable, IntType, NullType, OfType, Uninitialised, UninitialisedThis, is_usable, is_int_value}
 use Rattle.model.specs.DescribedTypes.{DeclaredType, DeclaredInt, DeclaredReference, field_declared, verification_type, made_type}
 use Rattle.model.specs.Operands.{word_of}
-use Rattle.model.specs.State.{ObjectOf, Instance, Primitives, References, types_of, ThreadStatus, Running, Waiting, Relock, Ended, Thread, StackOf, StateOf}
+use Rattle.model.specs.State.{ObjectOf, Instance, Primitives, References, Characters, types_of, ThreadStatus, Running, Waiting, Relock, Ended, Thread, StackOf, StateOf}
 use Rattle.model.specs.Worlds.{has_ended}
 use Rattle.model.specs.WellTyped.{has_type, is_object_in, is_field_typed, is_object_typed, are_typed, IsStackTyped, IsThreadTyped, AreThreadsTyped}
 use Rattle.model.specs.Words.{map_object}
@@ -77,6 +77,7 @@ module _ (files : Program) (heap : List (ObjectOf Value)) (few : length heap < 2
   cells_fit (Primitives of elements) h = λ k v e. int_fits (length heap) v (all_at is_int_value elements k v h e)
   cells_fit (References of elements) h =
       λ k v e. usable_fits (OfType (made_type files of)) v refl (all_at (has_type files (types_of heap) (OfType (made_type files of))) elements k v h e)
+  cells_fit (Characters text) h = λ k v e. absurd cc
 
   -- ---- threads
 

@@ -3,7 +3,7 @@ use Rattle.std.proofs.Common.{◌≡◌, ◌⊎◌, inl, inr, ℕ, refl, sym, su
 use Rattle.model.specs.Names.{java_lang_object}
 use Rattle.model.specs.BuiltIn.{built_in_classes}
 use Rattle.model.specs.Classes.{Program}
-use Rattle.model.specs.State.{Instance, Primitives, References}
+use Rattle.model.specs.State.{Instance, Primitives, References, Characters}
 use Rattle.heap.specs.declared.kind.NarrowKind.{NarrowKind}
 use Rattle.heap.specs.declared.kind.ObjectKind.{ObjectKind}
 use Rattle.heap.specs.declared.kind.ObjectKind.TheVariants as kind
@@ -19,16 +19,19 @@ ints : IsReceiverClass kind.Ints 0
 ints files components (Instance class fields) is = absurd is
 ints files components (Primitives of elements) is = object_is_first files
 ints files components (References of elements) is = absurd is
+ints files components (Characters text) is = absurd is
 
 narrow : (of : NarrowKind) → IsReceiverClass (kind.Narrow of) 0
 narrow of files components (Instance class fields) is = absurd is
 narrow of files components (Primitives type elements) is = object_is_first files
 narrow of files components (References type elements) is = absurd is
+narrow of files components (Characters text) is = absurd is
 
 references : (of : ℕ) → IsReceiverClass (kind.References of) 0
 references of files components (Instance class fields) is = absurd is
 references of files components (Primitives type elements) is = absurd is
 references of files components (References type elements) is = object_is_first files
+references of files components (Characters text) is = absurd is
 
 -- an array is of one of these kinds
 pub of_array : (of : ObjectKind) → (of ≡ kind.Ints)

@@ -55,7 +55,7 @@ module _ (trees : Program) (p : LinkedProgram) (bounds : Bounds) (inflated : Lis
     class = exception_class (shown_exception fault)
 
     shows : ShowsObject trees p.components.items (fresh (kind.Instance number) 0) (Instance class [])
-    shows = record { kind = (subst (λ n. IsClassAt trees n class) (sym number_is) (numbered trees fault).class, sym (numbered trees fault).fields); words = refl }
+    shows = record { kind = (subst (λ n. IsClassAt trees n class) (sym number_is) (numbered trees fault).class, sym (numbered trees fault).fields, (numbered trees fault).other); words = refl }
 
     -- the threads with the exception pending in one, after another change of them
     abbrev pub pending_in : (change : List Thread → List Thread) (t : ℕ) → List Thread → ℕ → List Thread

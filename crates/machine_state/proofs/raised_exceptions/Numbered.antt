@@ -8,17 +8,17 @@ use Rattle.machine_state.specs.raised_exceptions.Raised.{IsNumbered}
 
 pub numbered : (trees : Program) (fault : MachineException) → IsNumbered trees fault
 unfolding built_in_classes
-numbered trees exception.NullPointer = record { class = (_, refl, refl); fields = refl }
-numbered trees exception.Arithmetic = record { class = (_, refl, refl); fields = refl }
-numbered trees exception.ArrayIndexOutOfBounds = record { class = (_, refl, refl); fields = refl }
-numbered trees exception.NegativeArraySize = record { class = (_, refl, refl); fields = refl }
-numbered trees exception.ArrayStore = record { class = (_, refl, refl); fields = refl }
-numbered trees exception.ClassCast = record { class = (_, refl, refl); fields = refl }
-numbered trees exception.IllegalMonitorState = record { class = (_, refl, refl); fields = refl }
-numbered trees exception.IllegalThreadState = record { class = (_, refl, refl); fields = refl }
-numbered trees exception.InterruptedWait = record { class = (_, refl, refl); fields = refl }
-numbered trees exception.IncompatibleClassChange = record { class = (_, refl, refl); fields = refl }
-numbered trees exception.AbstractMethod = record { class = (_, refl, refl); fields = refl }
-numbered trees exception.StackOverflow = record { class = (_, refl, refl); fields = refl }
-numbered trees exception.NoClassDefFound = record { class = (_, refl, refl); fields = refl }
-numbered trees exception.ExceptionInInitializer = record { class = (_, refl, refl); fields = refl }
+numbered trees exception.NullPointer = record { class = (_, refl, refl); other = refl; fields = refl }
+numbered trees exception.Arithmetic = record { class = (_, refl, refl); other = refl; fields = refl }
+numbered trees exception.ArrayIndexOutOfBounds = record { class = (_, refl, refl); other = refl; fields = refl }
+numbered trees exception.NegativeArraySize = record { class = (_, refl, refl); other = refl; fields = refl }
+numbered trees exception.ArrayStore = record { class = (_, refl, refl); other = refl; fields = refl }
+numbered trees exception.ClassCast = record { class = (_, refl, refl); other = refl; fields = refl }
+numbered trees exception.IllegalMonitorState = record { class = (_, refl, refl); other = refl; fields = refl }
+numbered trees exception.IllegalThreadState = record { class = (_, refl, refl); other = refl; fields = refl }
+numbered trees exception.InterruptedWait = record { class = (_, refl, refl); other = refl; fields = refl }
+numbered trees exception.IncompatibleClassChange = record { class = (_, refl, refl); other = refl; fields = refl }
+numbered trees exception.AbstractMethod = record { class = (_, refl, refl); other = refl; fields = refl }
+numbered trees exception.StackOverflow = record { class = (_, refl, refl); other = refl; fields = refl }
+numbered trees exception.NoClassDefFound = record { class = (_, refl, refl); other = refl; fields = refl }
+numbered trees exception.ExceptionInInitializer = record { class = (_, refl, refl); other = refl; fields = refl }

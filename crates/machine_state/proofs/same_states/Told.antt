@@ -1,14 +1,16 @@
 -- What is kept shows one state at most.
-use Rattle.std.proofs.Common.{◌≡◌, ℕ, suc, List, [], ◌∷◌, Option, refl, sym, ap, ◌∙◌, subst}
+use Rattle.std.proofs.Common.{◌≡◌, ℕ, suc, List, [], ◌∷◌, Option, true, false, refl, sym, ap, ◌∙◌, subst}
 use Rattle.std.specs.Prelude.{map}
+use Rattle.std.proofs.lemmas.Bool.{true≢false}
 use Rattle.std.proofs.lemmas.Option.{same_Some}
-use Rattle.model.specs.Names.{Name, Member}
+use Rattle.model.specs.Names.{Name, Member, name_eq, java_lang_string}
 use Rattle.model.specs.Classes.{Program, name_of}
 use Rattle.model.specs.Lookup.{instance_fields}
 use Rattle.model.specs.ReferenceTypes.{ReferenceType, ClassType, PrimitiveArray}
 use Rattle.model.specs.DescribedTypes.{arrays}
+use Rattle.model.specs.Texts.{Text}
 use Rattle.model.specs.State as model
-use Rattle.model.specs.State.{ObjectOf, Instance, Primitives, References, ClassStatus, Monitor, Thread, FrameOf, StackEntryOf, StackOf, Phase, WorldOf, StateOf}
+use Rattle.model.specs.State.{ObjectOf, Instance, Primitives, References, Characters, ClassStatus, Monitor, Thread, FrameOf, StackEntryOf, StackOf, Phase, WorldOf, StateOf}
 use Rattle.heap.specs.declared.kind.ObjectKind.{ObjectKind}
 use Rattle.heap.specs.declared.kind.ObjectKind.TheVariants as kind
 use Rattle.heap.specs.Heap.{Object}
@@ -86,27 +88,45 @@ module _ (files : Program) (components : List LinkedType) where
       let names = n ∙ (ap (instance_fields files) same ∙ sym m) in
       ap (λ (c : Name). Instance c fields) same ∙ ap (λ (l : List (Member × ℕ)). Instance other l) (pairs fields others names e)
 
+  -- an instance of another class is no String
+  no_string : {P : Type 0} (number : ℕ) (class : Name) → IsClassAt files number class → name_eq class java_lang_string ≡ false
+      → IsClassAt files number java_lang_string → P
+  no_string number class a plain b =
+      let same = class_once files number class java_lang_string a b in
+      absurd (true≢false (ap (λ c. name_eq c java_lang_string) (sym same) ∙ plain))
+
   by_kind : (k : ObjectKind) (one other : ObjectOf ℕ) → IsKindOf files components k one → IsKindOf files components k other
       → cells_of one ≡ cells_of other → one ≡ other
   by_kind (kind.Instance number) (Instance class fields) (Instance other others) a b e = instances number class other fields others a.0 b.0 a.1 b.1 e
   by_kind (kind.Instance number) (Instance class fields) (Primitives of elements) a b e = absurd b
   by_kind (kind.Instance number) (Instance class fields) (References of elements) a b e = absurd b
+  by_kind (kind.Instance number) (Instance class fields) (Characters text) a b e = no_string number class a.0 a.2 b.0
+  by_kind (kind.Instance number) (Characters text) (Instance class fields) a b e = no_string number class b.0 b.2 a.0
+  by_kind (kind.Instance number) (Characters text) (Characters others) a b e = ap (λ (t : Text). Characters t) e
+  by_kind (kind.Instance number) (Characters text) (Primitives of elements) a b e = absurd b
+  by_kind (kind.Instance number) (Characters text) (References of elements) a b e = absurd b
   by_kind (kind.Instance number) (Primitives of elements) other a b e = absurd a
   by_kind (kind.Instance number) (References of elements) other a b e = absurd a
   by_kind kind.Ints (Primitives of elements) (Primitives to others) a b e = ap (λ t. Primitives t elements) (a ∙ sym b) ∙ ap (λ l. Primitives to l) e
   by_kind kind.Ints (Primitives of elements) (Instance other others) a b e = absurd b
   by_kind kind.Ints (Primitives of elements) (References to others) a b e = absurd b
+  by_kind kind.Ints (Primitives of elements) (Characters text) a b e = absurd b
+  by_kind kind.Ints (Characters text) other a b e = absurd a
   by_kind kind.Ints (Instance class fields) other a b e = absurd a
   by_kind kind.Ints (References of elements) other a b e = absurd a
   by_kind (kind.Narrow narrow) (Primitives of elements) (Primitives to others) a b e = ap (λ t. Primitives t elements) (a ∙ sym b) ∙ ap (λ l. Primitives to l) e
   by_kind (kind.Narrow narrow) (Primitives of elements) (Instance other others) a b e = absurd b
   by_kind (kind.Narrow narrow) (Primitives of elements) (References to others) a b e = absurd b
+  by_kind (kind.Narrow narrow) (Primitives of elements) (Characters text) a b e = absurd b
+  by_kind (kind.Narrow narrow) (Characters text) other a b e = absurd a
   by_kind (kind.Narrow narrow) (Instance class fields) other a b e = absurd a
   by_kind (kind.Narrow narrow) (References of elements) other a b e = absurd a
   by_kind (kind.References number) (References of elements) (References to others) a b e =
       ap (λ t. References t elements) (type_once files components number of to a b) ∙ ap (λ l. References to l) e
   by_kind (kind.References number) (References of elements) (Instance other others) a b e = absurd b
   by_kind (kind.References number) (References of elements) (Primitives to others) a b e = absurd b
+  by_kind (kind.References number) (References of elements) (Characters text) a b e = absurd b
+  by_kind (kind.References number) (Characters text) other a b e = absurd a
   by_kind (kind.References number) (Instance class fields) other a b e = absurd a
   by_kind (kind.References number) (Primitives of elements) other a b e = absurd a
 

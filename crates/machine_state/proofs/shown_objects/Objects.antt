@@ -6,7 +6,7 @@ use Rattle.model.specs.Names.{Name, Member}
 use Rattle.model.specs.Classes.{Program}
 use Rattle.model.specs.Lookup.{instance_fields}
 use Rattle.model.specs.Opening.{static_fields}
-use Rattle.model.specs.State.{ObjectOf, Instance, Primitives, References}
+use Rattle.model.specs.State.{ObjectOf, Instance, Primitives, References, Characters}
 use Rattle.model.specs.Worlds.{value_in, with_value, elements_of, with_element, kept}
 use Rattle.heap.specs.declared.kind.NarrowKind.TheVariants as narrow
 use Rattle.heap.specs.declared.kind.ObjectKind.{ObjectKind}
@@ -63,6 +63,7 @@ kept_is files components (kind.Instance number) (References of elements) w h a =
 kept_is files components kind.Ints (References of elements) w h a = absurd h
 kept_is files components (kind.Narrow n) (References of elements) w h a = absurd h
 kept_is files components (kind.References number) (References of elements) w h a = refl
+kept_is files components k (Characters text) w h a = absurd cc
 
 -- the class and the names of an instance
 pub record IsInstance (files : Program) (components : List LinkedType) (k : ObjectKind) (class : Name)
@@ -72,7 +73,7 @@ pub record IsInstance (files : Program) (components : List LinkedType) (k : Obje
 
 instance_is : (files : Program) (components : List LinkedType) (k : ObjectKind) (class : Name) (fields : List (Member × ℕ))
     → IsKindOf files components k (Instance class fields) → IsInstance files components k class fields
-instance_is files components (kind.Instance number) class fields h = record { names = h.1; again = λ others e. (h.0, e ∙ h.1) }
+instance_is files components (kind.Instance number) class fields h = record { names = h.1; again = λ others e. (h.0, e ∙ h.1, h.2) }
 instance_is files components kind.Ints class fields h = absurd h
 instance_is files components (kind.Narrow n) class fields h = absurd h
 instance_is files components (kind.References number) class fields h = absurd h
@@ -89,16 +90,19 @@ still_kind files components (kind.Instance number) (References of elements) i v 
 still_kind files components kind.Ints (References of elements) i v h = absurd h
 still_kind files components (kind.Narrow n) (References of elements) i v h = absurd h
 still_kind files components (kind.References number) (References of elements) i v h = h
+still_kind files components k (Characters text) i v h = h
 
 cells_are : (m : ObjectOf ℕ) → is_array m ≡ true → elements_of m ≡ cells_of m
 cells_are (Instance class fields) a = absurd cc
 cells_are (Primitives of elements) a = refl
 cells_are (References of elements) a = refl
+cells_are (Characters text) a = absurd cc
 
 set_cells : (m : ObjectOf ℕ) (i v : ℕ) → is_array m ≡ true → cells_of (with_element i v m) ≡ slice_set (cells_of m) i v
 set_cells (Instance class fields) i v a = absurd cc
 set_cells (Primitives of elements) i v a = refl
 set_cells (References of elements) i v a = refl
+set_cells (Characters text) i v a = absurd cc
 
 module _ (files : Program) (components : List LinkedType) where
   pub shown_at : (os : List Object) (ms : List (ObjectOf ℕ)) (r : ℕ) (m : ObjectOf ℕ) → ShowsObjects files components os ms

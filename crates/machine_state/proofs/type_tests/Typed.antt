@@ -1,10 +1,10 @@
 -- The types of objects, by number.
 use Rattle.std.proofs.Common.{◌≡◌, ◌∙◌, ◌<◌, ◌^◌, ℕ, zero, suc, Bool, false, List, [], ◌∷◌, Option, Some, None, refl, sym, ap, subst}
 use Rattle.std.specs.Prelude.{option_map, slice_get}
-use Rattle.model.specs.Names.{Name}
+use Rattle.model.specs.Names.{Name, java_lang_string}
 use Rattle.model.specs.Classes.{Program}
 use Rattle.model.specs.ReferenceTypes.{ReferenceType, PrimitiveArray, ReferenceArray}
-use Rattle.model.specs.State.{ObjectOf, Instance, Primitives, References, type_of, types_of}
+use Rattle.model.specs.State.{ObjectOf, Instance, Primitives, References, Characters, type_of, types_of}
 use Rattle.model.specs.Types.{is_object_of}
 use Rattle.heap.specs.Heap.{Object, kind_of}
 use Rattle.heap.specs.declared.kind.NarrowKind.TheVariants as narrow
@@ -38,6 +38,12 @@ type_of_kind : (files : Program) (components : List LinkedType)
     → (of : ObjectKind) (object : ObjectOf ℕ) → IsKindOf files components of object → HasType files components of object
 type_of_kind files components small (kind.Instance number) (Instance class fields) is =
     record { own = record { dimensions = 0; element = element.Class number }; is_of_kind = (small number class is.0, refl); is_type = record { class = class; numbered = is.0; is = refl } }
+type_of_kind files components small (kind.Instance number) (Characters text) is =
+    record {
+      own = record { dimensions = 0; element = element.Class number };
+      is_of_kind = (small number java_lang_string is.0, refl);
+      is_type = record { class = java_lang_string; numbered = is.0; is = refl };
+    }
 type_of_kind files components small kind.Ints (Primitives of elements) is =
     record { own = record { dimensions = 1; element = element.Primitive linked.Int }; is_of_kind = refl; is_type = record { around = 0; count = refl; is = ap (λ p. PrimitiveArray p) is } }
 type_of_kind files components small (kind.Narrow narrow.Boolean) (Primitives of elements) is =
@@ -54,10 +60,13 @@ type_of_kind files components small (kind.Instance number) (Primitives of elemen
 type_of_kind files components small (kind.Instance number) (References of elements) is = absurd is
 type_of_kind files components small kind.Ints (Instance class fields) is = absurd is
 type_of_kind files components small kind.Ints (References of elements) is = absurd is
+type_of_kind files components small kind.Ints (Characters text) is = absurd is
 type_of_kind files components small (kind.Narrow narrow) (Instance class fields) is = absurd is
 type_of_kind files components small (kind.Narrow narrow) (References of elements) is = absurd is
+type_of_kind files components small (kind.Narrow narrow) (Characters text) is = absurd is
 type_of_kind files components small (kind.References number) (Instance class fields) is = absurd is
 type_of_kind files components small (kind.References number) (Primitives of elements) is = absurd is
+type_of_kind files components small (kind.References number) (Characters text) is = absurd is
 
 -- the test by numbers is that of types
 pub tested : AreTypesTested → (p : LinkedProgram) (of : ObjectKind) (type : LinkedType) (answer : Bool)

@@ -1,11 +1,11 @@
 -- The references of a well-typed state: each is that of an object that is there, and its word r + 1 is one of 32 bits.
-use Rattle.std.specs.Prelude.{◌≡◌, ℕ, ◌+◌, ◌<◌, ◌^◌, List, Some, map, length, slice_get, IsTrue, IsFalse}
+use Rattle.std.specs.Prelude.{◌≡◌, ℕ, ◌+◌, ◌<◌, ◌^◌, List, [], Some, map, length, slice_get, IsTrue, IsFalse}
 use Rattle.model.specs.declared.value.Value.{Value}
 use Rattle.model.specs.Names.{Member}
 use Rattle.model.specs.Classes.{Program}
 use Rattle.model.specs.Types.{VerificationType, is_usable}
 use Rattle.model.specs.Operands.{reference_of}
-use Rattle.model.specs.State.{ObjectOf, Instance, Primitives, References, types_of, ThreadStatus, Running, Waiting, Relock, Ended, Thread, Frame, StateOf, State}
+use Rattle.model.specs.State.{ObjectOf, Instance, Primitives, References, Characters, types_of, ThreadStatus, Running, Waiting, Relock, Ended, Thread, Frame, StateOf, State}
 use Rattle.model.specs.Worlds.{has_ended}
 use Rattle.model.specs.WellTyped.{Stopped, Ready, Awaits, IsWellTyped}
 use Rattle.model.specs.Words.{AreWellTypedWords}
@@ -22,11 +22,12 @@ IsFitting objects value = (r : ℕ) → reference_of value ≡ Some r → Fits o
 abbrev pub AreFitting : ℕ → List Value → Type 0
 AreFitting objects vs = (k : ℕ) (value : Value) → slice_get vs k ≡ Some value → IsFitting objects value
 
--- the values of the fields or elements of an object
+-- the values of the fields or elements of an object; the units of a text are no values
 abbrev pub cell_values : ObjectOf Value → List Value
 cell_values (Instance class fields) = map (λ (field : Member × Value). field.1) fields
 cell_values (Primitives of elements) = elements
 cell_values (References of elements) = elements
+cell_values (Characters text) = []
 
 -- what stands where a typing has a type that may be used (JVMS 4.10.1); a variable that may not be read holds anything
 abbrev pub AreSlotsFitting : ℕ → List VerificationType → List Value → Type 0

@@ -1,6 +1,7 @@
 -- Exceptions that the machine makes, with no call of a constructor (JVMS 2.10).
-use Rattle.std.specs.Prelude.{◌≡◌, ℕ, List, [], Result}
+use Rattle.std.specs.Prelude.{◌≡◌, ℕ, List, [], false, Result}
 use Rattle.model.specs.BuiltInNumbers.{abstract_method_error, arithmetic_exception, array_index_out_of_bounds_exception, array_store_exception, class_cast_exception, exception_in_initializer_error, illegal_monitor_state_exception, illegal_thread_state_exception, incompatible_class_change_error, interrupted_exception, negative_array_size_exception, no_class_def_found_error, null_pointer_exception, stack_overflow_error}
+use Rattle.model.specs.Names.{name_eq, java_lang_string}
 use Rattle.model.specs.Classes.{Program}
 use Rattle.model.specs.Lookup.{instance_fields}
 use Rattle.model.specs.State.{StackOf, WorldOf}
@@ -39,9 +40,10 @@ class_number exception.StackOverflow = stack_overflow_error
 class_number exception.NoClassDefFound = no_class_def_found_error
 class_number exception.ExceptionInInitializer = exception_in_initializer_error
 
--- it is the class of the exception, and has no fields
+-- it is the class of the exception, which is not String, and has no fields
 pub record IsNumbered (trees : Program) (fault : MachineException) : Type 0 where
   pub class : IsClassAt trees (class_number fault) (exception_class (shown_exception fault))
+  pub other : name_eq (exception_class (shown_exception fault)) java_lang_string ≡ false
   pub fields : instance_fields trees (exception_class (shown_exception fault)) ≡ []
 
 abbrev pub AreNumbered : Type 0

@@ -4,7 +4,7 @@ use Rattle.model.specs.Names.{Name, Member}
 use Rattle.model.specs.Classes.{Program}
 use Rattle.model.specs.Lookup.{instance_fields}
 use Rattle.model.specs.Opening.{static_fields}
-use Rattle.model.specs.State.{ObjectOf, Instance, Primitives, References}
+use Rattle.model.specs.State.{ObjectOf, Instance, Primitives, References, Characters}
 use Rattle.model.specs.Worlds.{value_in, with_value, with_field, elements_of, with_element, kept}
 use Rattle.heap.specs.Heap.{Object, words_at, word_at, put_field, put_element}
 use Rattle.linked_code.specs.declared.types.LinkedType.{LinkedType}
@@ -47,12 +47,14 @@ abbrev pub is_array : ObjectOf ℕ → Bool
 is_array (Instance class fields) = false
 is_array (Primitives of elements) = true
 is_array (References of elements) = true
+is_array (Characters text) = false
 
 -- what the array keeps of a word that is stored in it
 abbrev pub kept_in : ObjectOf ℕ → ℕ → ℕ
 kept_in (Instance class fields) word = word
 kept_in (Primitives of elements) word = kept of word
 kept_in (References of elements) word = word
+kept_in (Characters text) word = word
 
 -- the elements are the words, and what is stored is kept as it is to be
 pub record HasElements (files : Program) (components : List LinkedType) (shown : List Object) (objects : List (ObjectOf ℕ)) (r : ℕ)

@@ -1,11 +1,13 @@
 -- When a heap of words and a list of words show the objects and the static fields of a state over words.
-use Rattle.std.specs.Prelude.{◌≡◌, ℕ, List, [], ◌∷◌, map}
-use Rattle.model.specs.Names.{Member}
+use Rattle.std.specs.Prelude.{◌≡◌, ◌<◌, ◌^◌, ℕ, List, [], ◌∷◌, false, map}
+use Rattle.std.specs.List.{All}
+use Rattle.model.specs.Names.{Member, name_eq, java_lang_string}
 use Rattle.model.specs.Classes.{Program}
 use Rattle.model.specs.Lookup.{instance_fields}
 use Rattle.model.specs.Opening.{static_fields}
 use Rattle.model.specs.ReferenceTypes.{Primitive, Boolean, Char, Byte, Short, Int}
-use Rattle.model.specs.State.{ObjectOf, Instance, Primitives, References}
+use Rattle.model.specs.Texts.{Text}
+use Rattle.model.specs.State.{ObjectOf, Instance, Primitives, References, Characters}
 use Rattle.heap.specs.declared.kind.NarrowKind.{NarrowKind}
 use Rattle.heap.specs.declared.kind.NarrowKind.TheVariants as narrow
 use Rattle.heap.specs.declared.kind.ObjectKind.{ObjectKind}
@@ -23,11 +25,12 @@ words_in fields = map (λ (f : Member × ℕ). f.1) fields
 
 -- ---- objects
 
--- the words of an object: its fields in their order, or its elements
+-- the words of an object: its fields in their order, or its elements, or the units of its text
 abbrev pub cells_of : ObjectOf ℕ → List ℕ
 cells_of (Instance class fields) = words_in fields
 cells_of (Primitives of elements) = elements
 cells_of (References of elements) = elements
+cells_of (Characters text) = text
 
 abbrev pub primitive_in : NarrowKind → Primitive
 primitive_in narrow.Boolean = Boolean
@@ -35,10 +38,16 @@ primitive_in narrow.Char = Char
 primitive_in narrow.Byte = Byte
 primitive_in narrow.Short = Short
 
--- What an object is. An instance has the fields of its class in the order of their slots; what an array of references holds
--- has the number of its type in a table.
+-- each unit is one of 16 bits
+abbrev pub AreUnits : Text → Type 0
+AreUnits text = All (λ unit. unit < 2 ^ 16) text
+
+-- What an object is. An instance has the fields of its class in the order of their slots, but for that of a String, whose words
+-- are its text; what an array of references holds has the number of its type in a table.
 abbrev pub IsKindOf : Program → List LinkedType → ObjectKind → ObjectOf ℕ → Type 0
-IsKindOf files components (kind.Instance number) (Instance class fields) = IsClassAt files number class × (names_of fields ≡ instance_fields files class)
+IsKindOf files components (kind.Instance number) (Instance class fields) =
+    IsClassAt files number class × (names_of fields ≡ instance_fields files class) × (name_eq class java_lang_string ≡ false)
+IsKindOf files components (kind.Instance number) (Characters text) = IsClassAt files number java_lang_string × AreUnits text
 IsKindOf files components kind.Ints (Primitives of elements) = of ≡ Int
 IsKindOf files components (kind.Narrow narrow) (Primitives of elements) = of ≡ primitive_in narrow
 IsKindOf files components (kind.References number) (References of elements) = IsTypeAt files components number of

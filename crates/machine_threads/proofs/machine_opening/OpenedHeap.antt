@@ -1,14 +1,15 @@
 -- The objects of the opening heap are those of the definitions.
-use Rattle.std.proofs.Common.{◌≡◌, ℕ, suc, ◌≤◌, List, [], ◌∷◌, ◌++◌, map, length, replicate, refl, sym, ap, subst, ◌∙◌}
-use Rattle.model.specs.Names.{Member, java_lang_class, java_lang_string, java_lang_thread, java_io_print_stream, thread_target}
+use Rattle.std.proofs.Common.{Vec, Global, ◌≡◌, ℕ, suc, ◌≤◌, List, [], ◌∷◌, ◌++◌, map, length, replicate, refl, sym, ap, subst, ◌∙◌}
+use Rattle.model.specs.Names.{Member, java_lang_class, java_lang_thread, java_io_print_stream, thread_target}
 use Rattle.model.specs.Tree.{FileTree}
 use Rattle.model.specs.BuiltIn.{built_in_classes}
 use Rattle.model.specs.Classes.{Program, classes_of}
 use Rattle.model.specs.DescribedTypes.{DeclaredType, DeclaredInt, DeclaredReference, field_declared}
 use Rattle.model.specs.Lookup.{instance_fields}
 use Rattle.model.specs.StringConstants.{string_texts}
+use Rattle.model.specs.Texts.{Text, decoded}
 use Rattle.model.specs.Operands.{words}
-use Rattle.model.specs.State.{ObjectOf, Instance}
+use Rattle.model.specs.State.{ObjectOf, Instance, Characters}
 use Rattle.model.specs.Opening.{first_value, with_first, new_instance, opening_heap}
 use Rattle.heap.specs.declared.kind.ObjectKind.TheVariants as kind
 use Rattle.heap.specs.Heap.{Object, fresh}
@@ -18,10 +19,11 @@ use Rattle.linked_code.specs.declared.types.LinkedType.{LinkedType}
 use Rattle.linked_code.specs.Numbers.{IsClassAt}
 use Rattle.linked_code.specs.Programs.{AreClasses, IsLinkedProgram}
 use Rattle.run_laws.proofs.object_counts.Bounded.{openings_fit}
-use Rattle.machine_state.specs.shown_objects.Shown.{names_of, words_in, ShowsObject, ShowsObjects}
+use Rattle.machine_state.specs.shown_objects.Shown.{names_of, words_in, AreUnits, ShowsObject, ShowsObjects}
+use Rattle.machine_state.proofs.shown_objects.Strings.{string_at, decoded_units}
 use Rattle.machine_state.proofs.shown_objects.Objects.{counted}
 use Rattle.machine_state.specs.Shown.{IsProgram}
-use Rattle.machine_threads.specs.machine_opening.Opened.{opening_objects}
+use Rattle.machine_threads.specs.machine_opening.Opened.{opening_objects, string_object}
 use Rattle.model.specs.BuiltInNumbers.{class_number, print_stream_number, string_number, thread_number}
 
 -- ---- lists that are shown
@@ -70,24 +72,34 @@ thread_at trees = (_, refl, refl)
 module _ (trees : Program) (components : List LinkedType) where
   shows_print_stream : ShowsObject trees components (fresh (kind.Instance print_stream_number) 0) (Instance java_io_print_stream [])
   unfolding built_in_classes
-  shows_print_stream = record { kind = ((_, refl, refl), refl); words = refl }
+  shows_print_stream = record { kind = ((_, refl, refl), refl, refl); words = refl }
 
   shows_class : ShowsObject trees components (fresh (kind.Instance class_number) 0) (Instance java_lang_class [])
   unfolding built_in_classes
-  shows_class = record { kind = ((_, refl, refl), refl); words = refl }
+  shows_class = record { kind = ((_, refl, refl), refl, refl); words = refl }
 
-  shows_string : ShowsObject trees components (fresh (kind.Instance string_number) 0) (Instance java_lang_string [])
-  unfolding built_in_classes
-  shows_string = record { kind = ((_, refl, refl), refl); words = refl }
+  shows_string : (units text : Text) → AreUnits text → units ≡ text → ShowsObject trees components (string_object units) (Characters text)
+  shows_string units text small same = record { kind = (string_at trees, small); words = same }
 
   shows_thread : ShowsObject trees components (fresh (kind.Instance thread_number) 1) (new_instance words trees java_lang_thread)
   shows_thread =
       record {
-        kind = (thread_at trees, first_names (instance_fields trees java_lang_thread));
+        kind = (thread_at trees, first_names (instance_fields trees java_lang_thread), refl);
         words =
             sym (ap (λ (fields : List Member). replicate (length fields) 0) (thread_fields trees))
             ∙ first_words (instance_fields trees java_lang_thread);
       }
+
+module _ (trees : Program) (components : List LinkedType) where
+  texts_shown : {X : Type 0} (units_of : X → Text) (texts : List X) (all : List (List ℕ)) → map units_of texts ≡ map decoded all
+      → ShowsObjects trees components (map (λ text. string_object (units_of text)) texts) (map (λ bytes. Characters (decoded bytes)) all)
+  texts_shown units_of [] [] e = tt
+  texts_shown units_of [] (bytes ∷ all) e = absurd cc
+  texts_shown units_of (text ∷ texts) [] e = absurd cc
+  texts_shown units_of (text ∷ texts) (bytes ∷ all) e =
+      let first : units_of text ≡ decoded bytes = cc in
+      let rest : map units_of texts ≡ map decoded all = cc in
+      (shows_string trees components (units_of text) (decoded bytes) (decoded_units bytes) first, texts_shown units_of texts all rest)
 
 -- ---- all of them
 
@@ -100,18 +112,15 @@ class_count trees (f ∷ fs) (l ∷ ls) h = ap suc (class_count trees fs ls h.1)
 
 module _ (trees : Program) (p : LinkedProgram) (linked : IsLinkedProgram trees p) where
   rest_shown : ShowsObjects trees p.components.items
-      (replicate (length p.classes.items) (fresh (kind.Instance class_number) 0) ++ replicate p.strings (fresh (kind.Instance string_number) 0))
-      (map (λ file. Instance java_lang_class []) (classes_of trees) ++ map (λ text. Instance java_lang_string []) (string_texts trees))
+      (replicate (length p.classes.items) (fresh (kind.Instance class_number) 0) ++ map (λ text. string_object text.items) p.texts.items)
+      (map (λ file. Instance java_lang_class []) (classes_of trees) ++ map (λ bytes. Characters (decoded bytes)) (string_texts trees))
   rest_shown =
       let c = p.components.items in
       let classes =
       subst (λ n. ShowsObjects trees c (replicate n (fresh (kind.Instance class_number) 0)) (map (λ file. Instance java_lang_class []) (classes_of trees)))
       (sym (class_count trees (classes_of trees) p.classes.items linked.classes))
       (copies trees c (fresh (kind.Instance class_number) 0) (Instance java_lang_class []) (shows_class trees c) (classes_of trees)) in
-      let strings =
-      subst (λ n. ShowsObjects trees c (replicate n (fresh (kind.Instance string_number) 0)) (map (λ text. Instance java_lang_string []) (string_texts trees)))
-      (sym linked.strings)
-      (copies trees c (fresh (kind.Instance string_number) 0) (Instance java_lang_string []) (shows_string trees c) (string_texts trees)) in
+      let strings = texts_shown trees c (λ (text : Vec ℕ Global). text.items) p.texts.items (string_texts trees) linked.texts in
       both trees c _ _ _ _ classes strings
 
   pub objects_shown : ShowsObjects trees p.components.items (opening_objects p) (opening_heap words trees)

@@ -1,8 +1,9 @@
 -- The objects of the opening state, as a heap keeps them (own).
-use Rattle.std.specs.Prelude.{◌≡◌, ℕ, ◌+◌, List, [], ◌∷◌, ◌++◌, false, length, replicate}
+use Rattle.std.specs.Prelude.{◌≡◌, ℕ, ◌+◌, List, [], ◌∷◌, ◌++◌, false, length, map, replicate}
 use Rattle.model.specs.BuiltInNumbers.{class_number, print_stream_number, string_number, thread_number}
 use Rattle.model.specs.declared.limits.Limits.{Limits}
 use Rattle.model.specs.Monitors.{unlocked}
+use Rattle.model.specs.Texts.{Text}
 use Rattle.heap.specs.declared.kind.ObjectKind.TheVariants as kind
 use Rattle.heap.specs.Heap.{Object, Heap, fresh}
 use Rattle.linked_code.specs.declared.program.LinkedProgram.{LinkedProgram}
@@ -35,8 +36,12 @@ first_objects string_component =
     ∷ fresh (kind.Instance thread_number) 1
     ∷ []
 
+-- a String, whose words are the units of its text
+abbrev pub string_object : Text → Object
+string_object text = record { kind = kind.Instance string_number; words = text }
+
 -- then a Class for each class, and a String for each text
 abbrev pub opening_objects : LinkedProgram → List Object
 opening_objects p =
     first_objects p.string_component
-    ++ (replicate (length p.classes.items) (fresh (kind.Instance class_number) 0) ++ replicate p.strings (fresh (kind.Instance string_number) 0))
+    ++ (replicate (length p.classes.items) (fresh (kind.Instance class_number) 0) ++ map (λ text. string_object text.items) p.texts.items)

@@ -1,9 +1,9 @@
 //! The objects that there are before any event.
 
-ghost use Rattle.std.specs.Prelude.{◌≡◌, ◌+◌, ◌<◌, ◌≤◌, [], ◌∷◌, length, replicate, OnOk, IfOk};
+ghost use Rattle.std.specs.Prelude.{◌≡◌, ◌+◌, ◌<◌, ◌≤◌, [], ◌∷◌, length, map, replicate, OnOk, IfOk};
 ghost use Rattle.heap.specs.Heap.{fresh};
 ghost use Rattle.heap.specs.declared.kind.ObjectKind.{ObjectKind};
-ghost use Rattle.machine_threads.specs.machine_opening.Opened.{AddsObjects, opened, first_objects, opening_objects};
+ghost use Rattle.machine_threads.specs.machine_opening.Opened.{AddsObjects, opened, first_objects, opening_objects, string_object};
 
 use heap::{Heap, ObjectKind};
 use linked_code::LinkedProgram;
@@ -30,6 +30,44 @@ fn add_instances(heap: &mut Heap, class: u32, count: u32) -> Result<(), AllocErr
 {
     for _ in 0..count {
         add(heap, ObjectKind::Instance { class }, 0)?;
+    }
+    Ok(())
+}
+
+/// The units of a text as words. A text of 2^32 units has no room in a heap.
+fn words_of(alloc: Global, text: &[u16]) -> Result<Vec<u32>, AllocError>
+    ensures words { IfOk result (λ words. words.items ≡ text.now) }
+    ensures few { IfOk result (λ words. length words.items < 4294967296) }
+{
+    if text.len() >= 0x1_0000_0000 {
+        return Err(AllocError);
+    }
+    let mut words = Vec::with_capacity(alloc, text.len())?;
+    for unit in text {
+        words.push(u32::from(*unit))?;
+    }
+    Ok(words)
+}
+
+/// Adds a String of a text, behind the objects of the opening state that are there.
+fn add_string(alloc: Global, heap: &mut Heap, text: &[u16]) -> Result<(), AllocError>
+    requires { length heap.old.objects < 294967295 }
+    ensures { OnOk result (AddsObjects (string_object text.now ∷ []) heap.old heap.new) }
+{
+    let words = words_of(alloc, text)?;
+    let kind = ObjectKind::Instance {
+        class: STRING as u32,
+    };
+    heap.add_opening_words(kind, &words)
+}
+
+/// Adds a String for each text.
+fn add_strings(alloc: Global, heap: &mut Heap, texts: &[Vec<u16>]) -> Result<(), AllocError>
+    requires { length heap.old.objects + length texts.now ≤ 294967295 }
+    ensures { OnOk result (AddsObjects (map (λ text. string_object text.items) texts.now) heap.old heap.new) }
+{
+    for text in texts {
+        add_string(alloc, heap, text)?;
     }
     Ok(())
 }
@@ -69,6 +107,6 @@ pub(crate) fn opening_heap(
     let mut heap = Heap::new(alloc, limits);
     add_first(&mut heap, program.string_component)?;
     add_instances(&mut heap, CLASS as u32, program.classes.len() as u32)?;
-    add_instances(&mut heap, STRING as u32, program.strings)?;
+    add_strings(alloc, &mut heap, &program.texts)?;
     Ok(heap)
 }

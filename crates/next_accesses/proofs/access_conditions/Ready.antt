@@ -3,7 +3,7 @@ use Rattle.std.proofs.Common.{◌≡◌, ℕ, zero, suc, List, [], ◌∷◌, Op
 use Rattle.std.specs.Prelude.{slice_get, slice_index_or}
 use Rattle.std.specs.Option.{option_and_then}
 use Rattle.model.specs.Operands.{words}
-use Rattle.model.specs.State.{ObjectOf, Instance, Primitives, References, WorldOf}
+use Rattle.model.specs.State.{ObjectOf, Instance, Primitives, References, WorldOf, Characters}
 use Rattle.model.specs.Worlds.{no_object}
 use Rattle.model.specs.Arrays.{may_stand_in}
 use Rattle.heap.specs.declared.kind.ObjectKind.{ObjectKind}
@@ -43,16 +43,20 @@ store_tested p objects r word answer component is tests files trees linkable lin
     by (kind.References number) (References type elements) h t =
         subst (λ c. TestsIf p objects word c answer) h.1 t files trees linkable linked (linked.components number h.0 h.1).tested world.heap type shows h.2
     by (kind.Instance number) (Instance class fields) h t = t
+    by (kind.Instance number) (Characters text) h t = t
     by kind.Ints (Primitives of elements) h t = t
     by (kind.Narrow narrow) (Primitives of elements) h t = t
     by (kind.References number) (Instance class fields) h t = absurd h
     by (kind.References number) (Primitives of elements) h t = absurd h
+    by (kind.References number) (Characters text) h t = absurd h
     by (kind.Instance number) (Primitives of elements) h t = absurd h
     by (kind.Instance number) (References of elements) h t = absurd h
     by kind.Ints (Instance class fields) h t = absurd h
     by kind.Ints (References of elements) h t = absurd h
+    by kind.Ints (Characters text) h t = absurd h
     by (kind.Narrow narrow) (Instance class fields) h t = absurd h
     by (kind.Narrow narrow) (References of elements) h t = absurd h
+    by (kind.Narrow narrow) (Characters text) h t = absurd h
 
     at : (os : List Object) (ms : List (ObjectOf ℕ)) → ShowsObjects trees p.components.items os ms
         → (k : ℕ) → TestsIf p objects word (option_and_then (component_in p.components.items) (slice_get os k)) answer

@@ -24,7 +24,7 @@ use Rattle.model.specs.LimitStands.{Bounds}
 use Rattle.model.specs.ReferenceTypes.{PrimitiveArray, ReferenceArray, Char, Short, Int}
 use Rattle.model.specs.Types.{VerificationType, Want, AReference, AByteArray, value_meets}
 use Rattle.model.specs.Operands.{Slots, values, words, over_values, under, word_of, word_reference}
-use Rattle.model.specs.State.{ObjectOf, Instance, Primitives, References, types_of, World, WorldOf}
+use Rattle.model.specs.State.{ObjectOf, Instance, Primitives, References, types_of, World, WorldOf, Characters}
 use Rattle.model.specs.Outcomes.{Cost, OutcomeOf, Goes, not_null}
 use Rattle.model.specs.ClassInitialisation.{look_at, look_by, status_of}
 use Rattle.model.specs.Worlds.{object_at, elements_of, no_object}
@@ -92,6 +92,7 @@ array_is : (kind : ArrayKind) (o : ObjectOf ℕ) → is_array_of kind o ≡ true
 array_is kind (Instance class fields) e = absurd (false≢true e)
 array_is kind (Primitives of elements) e = refl
 array_is kind (References of elements) e = refl
+array_is kind (Characters text) e = absurd (false≢true e)
 
 index_goes : (b : Bool) (cost : Cost) (after : World) (slots : Slots Value) (to : ℕ) → goes_on (at_index b (Goes cost after slots to)) ≡ b
 index_goes true cost after slots to = refl
@@ -386,6 +387,7 @@ module _ (files : Program) (p : LinkedProgram) (bounds : Bounds) (shared : Share
     stands (Instance class fields) ws ops q e = refl
     stands (Primitives of elements) ws ops q e = refl
     stands (References of elements) ws ops q e = instance_operand files world ws ops 0 any_object of q e
+    stands (Characters text) ws ops q e = refl
 
     storable : (r : ℕ) (o : Option ℕ) (told : Bool) (word : ℕ) → MayStand p shared.heap.objects word o told → o ≡ Some r
         → told ≡ may_stand_in words files words_world (object_at words_world r) word

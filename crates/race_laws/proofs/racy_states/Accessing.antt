@@ -7,7 +7,7 @@ use Rattle.model.specs.Names.{Name, Member}
 use Rattle.model.specs.Classes.{Program}
 use Rattle.model.specs.Types.{VerificationType, Want}
 use Rattle.model.specs.Operands.{Slots, values}
-use Rattle.model.specs.State.{ObjectOf, Instance, Primitives, References, type_of, types_of, World}
+use Rattle.model.specs.State.{ObjectOf, Instance, Primitives, References, type_of, types_of, World, Characters}
 use Rattle.model.specs.Outcomes.{MachineException, Cost, OutcomeOf, Goes, Raises, NullPointer, ArrayIndexOutOfBounds, ArrayStore, not_null}
 use Rattle.model.specs.Worlds.{object_at}
 use Rattle.model.specs.Sites.{MeaningOf, Site, referent, operand, int_operand}
@@ -120,13 +120,20 @@ same_stand : (files : Program) (world other : World) (a b : ObjectOf Value) (val
 same_stand files world other (Instance c fs) (Instance d gs) value t e = refl
 same_stand files world other (Instance c fs) (Primitives q ys) value t e = refl
 same_stand files world other (Instance c fs) (References q ys) value t e = absurd (cc)
+same_stand files world other (Instance c fs) (Characters text) value t e = refl
 same_stand files world other (Primitives p xs) (Instance d gs) value t e = refl
 same_stand files world other (Primitives p xs) (Primitives q ys) value t e = refl
 same_stand files world other (Primitives p xs) (References q ys) value t e = absurd (cc)
+same_stand files world other (Primitives p xs) (Characters text) value t e = refl
 same_stand files world other (References p xs) (Instance d gs) value t e = absurd (cc)
 same_stand files world other (References p xs) (Primitives q ys) value t e = absurd (cc)
 same_stand files world other (References p xs) (References q ys) value t e =
     let g : q ≡ p = cc in ap (λ ts. values.is_instance files ts q value) t ∙ ap (λ k. values.is_instance files (types_of world.heap) k value) g
+same_stand files world other (References p xs) (Characters text) value t e = absurd (cc)
+same_stand files world other (Characters text) (Instance d gs) value t e = refl
+same_stand files world other (Characters text) (Primitives q ys) value t e = refl
+same_stand files world other (Characters text) (References q ys) value t e = absurd (cc)
+same_stand files world other (Characters text) (Characters one) value t e = refl
 
 pub load_accesses : (site : Site) (array : Want) (first : Value) (type : List VerificationType → VerificationType) → IsAccessing (load_meaning values site array first type)
 load_accesses site array first type =

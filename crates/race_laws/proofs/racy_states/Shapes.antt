@@ -3,7 +3,7 @@ use Rattle.std.proofs.Common.{◌≡◌, refl, ap, ℕ, zero, suc, List, [], ◌
 use Rattle.std.specs.Prelude.{slice_index_or, slice_set}
 use Rattle.model.specs.declared.value.Value.{Value}
 use Rattle.model.specs.Names.{Member}
-use Rattle.model.specs.State.{ObjectOf, Instance, Primitives, References, type_of, types_of, World}
+use Rattle.model.specs.State.{ObjectOf, Instance, Primitives, References, type_of, types_of, World, Characters}
 use Rattle.model.specs.Worlds.{object_at, no_object, with_object, with_field, with_static, with_element, elements_of}
 
 pub record IsSameShape (w v : World) : Type 0 where
@@ -49,11 +49,13 @@ field_type_of : (field : Member) (value : Value) (o : ObjectOf Value) → type_o
 field_type_of field value (Instance class fields) = refl
 field_type_of field value (Primitives of elements) = refl
 field_type_of field value (References of elements) = refl
+field_type_of field value (Characters text) = refl
 
 field_length : (field : Member) (value : Value) (o : ObjectOf Value) → length (elements_of (with_field field value o)) ≡ length (elements_of o)
 field_length field value (Instance class fields) = refl
 field_length field value (Primitives of elements) = refl
 field_length field value (References of elements) = refl
+field_length field value (Characters text) = refl
 
 pub shape_of_field : (w : World) (r : ℕ) (field : Member) (value : Value) → IsSameShape w (with_object w r (with_field field value (object_at w r)))
 shape_of_field w r field value =
@@ -63,11 +65,13 @@ element_type_of : (index : ℕ) (value : Value) (o : ObjectOf Value) → type_of
 element_type_of index value (Instance class fields) = refl
 element_type_of index value (Primitives of elements) = refl
 element_type_of index value (References of elements) = refl
+element_type_of index value (Characters text) = refl
 
 element_length : (index : ℕ) (value : Value) (o : ObjectOf Value) → length (elements_of (with_element index value o)) ≡ length (elements_of o)
 element_length index value (Instance class fields) = refl
 element_length index value (Primitives of elements) = length-set elements index value
 element_length index value (References of elements) = length-set elements index value
+element_length index value (Characters text) = refl
 
 pub shape_of_element : (w : World) (r index : ℕ) (value : Value) → IsSameShape w (with_object w r (with_element index value (object_at w r)))
 shape_of_element w r index value =

@@ -18,7 +18,7 @@ use Rattle.model.specs.Outcomes.{OutcomeOf, not_null}
 use Rattle.model.specs.ReferenceTypes.{ReferenceType}
 use Rattle.model.specs.Sites.{MeaningOf, Site, operand, referent, int_operand}
 use Rattle.model.specs.State as state
-use Rattle.model.specs.State.{ObjectOf, Instance, Primitives, References, type_of, types_of, StackOf, World, State}
+use Rattle.model.specs.State.{ObjectOf, Instance, Primitives, References, type_of, types_of, StackOf, World, State, Characters}
 use Rattle.model.specs.Step.{stepped, step}
 use Rattle.model.specs.Types.{is_object_of, is_value_of}
 use Rattle.model.specs.WellTyped.{Extends, IsWellTyped}
@@ -68,8 +68,10 @@ module _ (files : Program) (world later : World) (types : Extends (types_of worl
       → IsTrue (may_stand_in values files later new v)
   stands (Instance class fields) new v e h = absurd (false≢true h)
   stands (Primitives of elements) new v e h = absurd (false≢true h)
+  stands (Characters text) new v e h = absurd (false≢true h)
   stands (References of elements) (Instance class fields) v e h = absurd (cc)
   stands (References of elements) (Primitives other fewer) v e h = absurd (cc)
+  stands (References of elements) (Characters text) v e h = absurd (cc)
   stands (References of elements) (References other fewer) v e h =
       let same : other ≡ of = cc in subst (λ k. IsTrue (is_value_of files (types_of later.heap) k v)) (sym same) (value_kept of v h)
 

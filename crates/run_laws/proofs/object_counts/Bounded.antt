@@ -7,17 +7,18 @@ use Rattle.std.proofs.lemmas.List.{length-append, length-map}
 use Rattle.std.proofs.lemmas.Option.{same_Some}
 use Rattle.model.specs.declared.event.Event.{Event}
 use Rattle.model.specs.declared.end.RunCause.{RunCause}
-use Rattle.model.specs.Names.{java_lang_class, java_lang_string}
+use Rattle.model.specs.Names.{java_lang_class}
 use Rattle.model.specs.BuiltIn.{built_in_classes}
 use Rattle.model.specs.Classes.{Program, classes_of}
 use Rattle.model.specs.StringConstants.{string_texts}
 use Rattle.model.specs.Operands.{Carrier, words, values}
-use Rattle.model.specs.State.{ObjectOf, Instance, State}
+use Rattle.model.specs.State.{ObjectOf, Instance, State, Characters}
 use Rattle.model.specs.Opening.{opening, opening_heap}
 use Rattle.model.specs.Outcomes.{Cost, Free, Makes, Starts, Enters, Joins}
 use Rattle.model.specs.Step.{SteppedOf, NotEnabled, WrongKind, Next, stepped, next_by}
 use Rattle.model.specs.Run.{run_from}
 use Rattle.model.specs.LimitStands.{Bounds, opening_count, objects_made, is_crowded, inflated_by, if_next, limit_of, within_limits_from}
+use Rattle.model.specs.Texts.{decoded}
 use Rattle.run_laws.specs.object_counts.Bounds.{made, IsOpeningInRange, AreOpeningsInRange, AreObjectsInRange}
 use Rattle.run_laws.proofs.laws.Unrefused.{unrefused_of}
 use Rattle.run_laws.proofs.object_counts.CountedSteps.{StateCounted, stepped_counted}
@@ -33,10 +34,10 @@ opened_count : {A : Type 0} (C : Carrier A) (files : Program)
 unfolding opening_heap
 opened_count {A} C files =
     let classes : List (ObjectOf A) = map (λ file. Instance java_lang_class []) (classes_of files) in
-    let strings : List (ObjectOf A) = map (λ text. Instance java_lang_string []) (string_texts files) in
+    let strings : List (ObjectOf A) = map (λ bytes. Characters (decoded bytes)) (string_texts files) in
     let all : length (classes ++ strings) ≡ length classes + length strings = length-append classes strings in
     let of_classes : length classes ≡ length (classes_of files) = length-map (classes_of files) (λ file. Instance java_lang_class []) in
-    let of_strings : length strings ≡ length (string_texts files) = length-map (string_texts files) (λ text. Instance java_lang_string []) in
+    let of_strings : length strings ≡ length (string_texts files) = length-map (string_texts files) (λ bytes. Characters (decoded bytes)) in
     let both : length (classes_of files) ≡ length built_in_classes + length files = length-append built_in_classes files in
     omega (arith, all, of_classes, of_strings, both, built_in_count)
 

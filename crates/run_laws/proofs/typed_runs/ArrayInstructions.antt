@@ -15,7 +15,7 @@ use Rattle.model.specs.ReferenceTypes.{Primitive, Char, Short, Int, ReferenceTyp
 use Rattle.model.specs.Types.{VerificationType, Unusable, IntType, NullType, OfType, Uninitialised, UninitialisedThis, Want, AnyWord, AnInt, AReference, AByteArray, is_byte_array_type, is_int_value, is_of, type_meets, value_meets, is_value_below}
 use Rattle.model.specs.DescribedTypes.{made_type, component_type}
 use Rattle.model.specs.Operands.{values, over_types, operands, under}
-use Rattle.model.specs.State.{ObjectOf, Instance, Primitives, References, type_of, types_of, Frame, World}
+use Rattle.model.specs.State.{ObjectOf, Instance, Primitives, References, type_of, types_of, Frame, World, Characters}
 use Rattle.model.specs.Outcomes.{OutcomeOf, Makes, Free}
 use Rattle.model.specs.Worlds.{allocated, object_at, no_object, with_object, elements_of, with_element, kept_value}
 use Rattle.model.specs.Sites.{Site, pushing, operand, int_operand}
@@ -45,6 +45,7 @@ with_element_same : (i : ℕ) (v : Value) (o : ObjectOf Value) → type_of (with
 with_element_same i v (Instance class fields) = refl
 with_element_same i v (Primitives of elements) = refl
 with_element_same i v (References of elements) = refl
+with_element_same i v (Characters text) = refl
 
 -- an object that is there and holds no references
 record HoldsInts (heap : List (ObjectOf Value)) (r : ℕ) : Type 0 where
@@ -67,12 +68,14 @@ module _ (files : Program) (os : List ReferenceType) where
   ints_of (Instance class fields) n h = refl
   ints_of (Primitives of elements) n h = h
   ints_of (References of elements) n h = absurd (false≢true n)
+  ints_of (Characters text) n h = refl
 
   kept_typed : (i : ℕ) (v : Value) (o : ObjectOf Value) → holds_ints (type_of o) ≡ true → is_object_typed files os o ≡ true
       → is_object_typed files os (with_element i (kept_by values o v) o) ≡ true
   kept_typed i v (Instance class fields) n h = h
   kept_typed i v (Primitives of elements) n h = all_set is_int_value elements i (kept_value values of v) h refl
   kept_typed i v (References of elements) n h = absurd (false≢true n)
+  kept_typed i v (Characters text) n h = h
 
 below_primitive : (files : Program) (p : Primitive) (u : ReferenceType) → is_assignable files u (PrimitiveArray p) ≡ true
     → holds_ints u ≡ true
@@ -189,6 +192,7 @@ module _ (files : Program) (event : Event) (w : World) (f : Frame) (site : Site)
   loaded_typed b (References of elements) i e q =
       stack_above files h.linked.rooted (types_of w.heap) (OfType (made_type files of)) (OfType (made_type files b)) (slice_index_or elements i value.Null) (made_monotone files h.linked of b e)
       (all_index (has_type files (types_of w.heap) (OfType (made_type files of))) elements i value.Null q refl)
+  loaded_typed b (Characters text) i e q = absurd (false≢true e)
 
   component_typed : (type : VerificationType) (r i : ℕ) → is_of files (ReferenceArray any_object) type ≡ true
       → has_type files (types_of w.heap) type (value.Reference r) ≡ true
@@ -258,6 +262,7 @@ module _ (files : Program) (event : Event) (w : World) (f : Frame) (site : Site)
   storable_typed (Primitives of elements) i v e q = absurd (false≢true e)
   storable_typed (References of elements) i v e q =
       all_set (has_type files (types_of w.heap) (OfType (made_type files of))) elements i v q (instance_below files h.linked (types_of w.heap) of v e)
+  storable_typed (Characters text) i v e q = absurd (false≢true e)
 
   storing : (a : Allows files f h.ready.stopped.stands site (store_reference_meaning values files site)) (r i : ℕ) (v : Value)
       (o : ObjectOf Value) → slice_get w.heap r ≡ Some o → (b : Bool) → may_stand_in values files w (object_at w r) v ≡ b

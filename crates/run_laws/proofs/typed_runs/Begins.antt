@@ -13,7 +13,7 @@ use Rattle.model.specs.Lookup.{method_of, in_class, select, is_selectable}
 use Rattle.model.specs.ReferenceTypes.{ClassType, ReferenceArray, is_assignable}
 use Rattle.model.specs.Types.{is_object_below, is_value_below}
 use Rattle.model.specs.Operands.{values}
-use Rattle.model.specs.State.{ObjectOf, Instance, Primitives, References, type_of, types_of, Running, Thread, World}
+use Rattle.model.specs.State.{ObjectOf, Instance, Primitives, References, type_of, types_of, Running, Thread, World, Characters}
 use Rattle.model.specs.Opening.{arguments_reference, class_reference}
 use Rattle.model.specs.Outcomes.{AbstractMethod}
 use Rattle.model.specs.Worlds.{no_thread, no_object, thread_at, with_begun, object_at, class_of_object}
@@ -84,6 +84,8 @@ module _ (files : Program) (linked : Linked files) (accepted : AreTyped files) (
           subst (λ o. is_object_below files (ClassType class) o ≡ true) (sym (get_map type_of world.heap object (Instance c fields) e)) above
       below_thread object class (Primitives of elements) e h above = absurd (false≢true h)
       below_thread object class (References of elements) e h above = absurd (false≢true h)
+      below_thread object class (Characters text) e h above =
+          subst (λ o. is_object_below files (ClassType class) o ≡ true) (sym (get_map type_of world.heap object (Characters text) e)) above
 
       run_of_typed : (object : ℕ) → is_object_in files (types_of world.heap) java_lang_thread object ≡ true → (o : Option Member)
           → select files (class_of_object (object_at world object)) thread_run ≡ o

@@ -20,12 +20,12 @@ use Rattle.model.specs.State.{types_of, Thread, Frame, World, new_thread}
 use Rattle.model.specs.Outcomes.{OutcomeOf, Free}
 use Rattle.model.specs.Worlds.{thread_at, object_at, with_object, with_field, with_interrupted, is_owner, is_alive, is_interrupted, thread_of}
 use Rattle.model.specs.Frames.{at_offset, at_call}
-use Rattle.model.specs.Sites.{pushing, operand, int_operand}
+use Rattle.model.specs.Sites.{pushing, operand}
 use Rattle.model.specs.Calls.{parameter_count, result_types}
 use Rattle.model.specs.BuiltInMethods
 use Rattle.model.specs.declared.print_method.PrintMethod.{PrintMethod}
-use Rattle.model.specs.declared.print_method.PrintMethod.TheVariants.{Println, PrintlnChar, PrintlnInt, PrintChar, PrintInt}
-use Rattle.model.specs.BuiltInMethods.{BuiltInMethod, Construct, ConstructWithTarget, ObjectWait, ObjectNotify, ObjectNotifyAll, ThreadStart, ThreadInterrupt, ThreadIsInterrupted, ThreadInterrupted, ThreadYield, ThreadCurrentThread, ThreadJoin, ThreadIsAlive, PrintStreamPrints, of_object, of_thread, of_print_stream, printed_by, built_in_methods, is_row_of, built_in_may, built_in_does, wait_by, waiting, notified, notified_all, if_owner, with_started, start_by, interrupted_on, join_by, bit, with_printed, object_of}
+use Rattle.model.specs.declared.print_method.PrintMethod.TheVariants.{Println, PrintlnChar, PrintlnInt, PrintlnString, PrintChar, PrintInt, PrintString}
+use Rattle.model.specs.BuiltInMethods.{BuiltInMethod, Construct, ConstructWithTarget, PrintStreamPrints, of_object, of_thread, of_print_stream, printed_by, built_in_methods, is_row_of, built_in_does, wait_by, notified, notified_all, if_owner, with_started, start_by, interrupted_on, join_by, bit, with_printed, object_of}
 use Rattle.model.specs.Typing.{has_no_receiver, argument_types}
 use Rattle.model.specs.WellTyped.{has_type, is_object_in, are_typed, Ready, Awaits}
 use Rattle.run_laws.proofs.laws.Lists.{Pairwise, pairs_of, pair_get, get_front}
@@ -73,6 +73,10 @@ module _ (files : Program) where
   char_printed_results : (name : Name) → result_types files (of_print_stream name (codes "(C)V")) ≡ []
   unfolding method_type parameters_at field_at element_at field_type
   char_printed_results name = refl
+
+  string_printed_results : (name : Name) → result_types files (of_print_stream name (codes "(Ljava/lang/String;)V")) ≡ []
+  unfolding method_type parameters_at field_at element_at field_type
+  string_printed_results name = refl
 
   wait_arguments : argument_types files (of_object (codes "wait")) ≡ OfType (ClassType java_lang_object) ∷ []
   unfolding method_type parameters_at field_at element_at field_type built_in_classes
@@ -230,7 +234,7 @@ module _ (files : Program) (linked : Linked files) (event : Event) (w : World) (
 
   printed : (print : PrintMethod) (m : Member) → result_types files m ≡ [] → method ≡ m → Typed (PrintStreamPrints print)
   printed print m void e =
-      let text = printed_by print (int_operand values ops 0) in
+      let text = printed_by values print w ops in
       carries [] (with_printed w text) [] (ap (result_types files) e ∙ void) (printed_keeps files w c.fits text) refl
 
   on_rows : AllByRecursion (λ (row : Member × BuiltInMethod). method ≡ row.0 → Typed row.1) built_in_methods
@@ -265,10 +269,16 @@ module _ (files : Program) (linked : Linked files) (event : Event) (w : World) (
                               (
                                 printed PrintlnInt println_int (int_printed_results files (codes "println")),
                                 (
-                                  printed PrintChar (of_print_stream (codes "print") (codes "(C)V")) (char_printed_results files (codes "print")),
+                                  printed PrintlnString (of_print_stream (codes "println") (codes "(Ljava/lang/String;)V")) (string_printed_results files (codes "println")),
                                   (
-                                    printed PrintInt (of_print_stream (codes "print") (codes "(I)V")) (int_printed_results files (codes "print")),
-                                    tt,
+                                    printed PrintChar (of_print_stream (codes "print") (codes "(C)V")) (char_printed_results files (codes "print")),
+                                    (
+                                      printed PrintInt (of_print_stream (codes "print") (codes "(I)V")) (int_printed_results files (codes "print")),
+                                      (
+                                        printed PrintString (of_print_stream (codes "print") (codes "(Ljava/lang/String;)V")) (string_printed_results files (codes "print")),
+                                        tt,
+                                      ),
+                                    ),
                                   ),
                                 ),
                               ),

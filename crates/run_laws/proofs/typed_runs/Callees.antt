@@ -16,7 +16,7 @@ use Rattle.model.specs.ReferenceTypes.{ReferenceType, ClassType, is_assignable}
 use Rattle.model.specs.Types.{OfType, UninitialisedThis, Want, value_meets, is_value_below}
 use Rattle.model.specs.DescribedTypes.{DeclaredType, parameters_declared, declared_want, verification_type, made_type}
 use Rattle.model.specs.Operands.{values}
-use Rattle.model.specs.State.{ObjectOf, Instance, Primitives, References, type_of}
+use Rattle.model.specs.State.{ObjectOf, Instance, Primitives, References, type_of, Characters}
 use Rattle.model.specs.Worlds.{class_of_object}
 use Rattle.model.specs.Sites.{operand}
 use Rattle.model.specs.Calls.{parameter_count, argument_wants, special_class}
@@ -150,6 +150,7 @@ module _ (files : Program) (linked : Linked files) where
   object_below_class (Instance class fields) d e = e
   object_below_class (Primitives of elements) d e = subst (λ n. name_eq n java_lang_object ≡ true) (above_object files d e) (name_self java_lang_object)
   object_below_class (References of elements) d e = subst (λ n. name_eq n java_lang_object ≡ true) (above_object files d e) (name_self java_lang_object)
+  object_below_class (Characters text) d e = e
 
   -- what is of a class, as the verifier makes it, is of the classes above it
   pub named_below : (current named above : Name) → is_subclass files current named ≡ true → is_interface files named ≡ false

@@ -13,7 +13,7 @@ use Rattle.model.specs.Types.{VerificationType, AnOwner, value_meets, is_value_b
 use Rattle.model.specs.DescribedTypes.{DeclaredType, DeclaredInt, DeclaredReference, field_declared, made_type, declared_want, verification_type}
 use Rattle.model.specs.Operands.{Slots, values, over_types, over_values, operands, under}
 use Rattle.model.specs.Rows.{Row, row_wants, row_target, after_row}
-use Rattle.model.specs.State.{ObjectOf, Instance, Primitives, References, type_of, types_of, Frame, World}
+use Rattle.model.specs.State.{ObjectOf, Instance, Primitives, References, type_of, types_of, Frame, World, Characters}
 use Rattle.model.specs.Opening.{first_of}
 use Rattle.model.specs.Outcomes.{Goes, Raises, Throws, Free, Arithmetic}
 use Rattle.model.specs.Worlds.{object_at, no_object, value_in, fields_of, with_field, with_object, with_static, put_value, is_owner, with_entry, with_exit, entry_cost}
@@ -52,17 +52,20 @@ fields_typed : (files : Program) (os : List ReferenceType) (o : ObjectOf Value) 
 fields_typed files os (Instance class fields) h = h
 fields_typed files os (Primitives of elements) h = refl
 fields_typed files os (References of elements) h = refl
+fields_typed files os (Characters text) h = refl
 
 pub with_field_typed : (files : Program) (os : List ReferenceType) (field : Member) (v : Value) (o : ObjectOf Value)
     → is_field_typed files os (field, v) ≡ true → is_object_typed files os o ≡ true → is_object_typed files os (with_field field v o) ≡ true
 with_field_typed files os field v (Instance class fields) q h = with_value_typed files os field v fields q h
 with_field_typed files os field v (Primitives of elements) q h = h
 with_field_typed files os field v (References of elements) q h = h
+with_field_typed files os field v (Characters text) q h = h
 
 pub with_field_same : (field : Member) (v : Value) (o : ObjectOf Value) → type_of (with_field field v o) ≡ type_of o
 with_field_same field v (Instance class fields) = refl
 with_field_same field v (Primitives of elements) = refl
 with_field_same field v (References of elements) = refl
+with_field_same field v (Characters text) = refl
 
 -- the object of a reference is as its type says
 pub at_typed : (files : Program) (os : List ReferenceType) (heap : List (ObjectOf Value)) (r : ℕ)

@@ -9,7 +9,7 @@ use Rattle.model.specs.ReferenceTypes.{ReferenceType, ClassType}
 use Rattle.model.specs.Types.{VerificationType, OfType}
 use Rattle.model.specs.DescribedTypes.{field_declared, made_type, verification_type}
 use Rattle.model.specs.Calls.{result_types}
-use Rattle.model.specs.State.{ObjectOf, Instance, Primitives, References, ThreadStatus, Running, Waiting, Relock, Ended, Thread, Frame, Invocation, Initialisation, StackOf}
+use Rattle.model.specs.State.{ObjectOf, Instance, Primitives, References, ThreadStatus, Running, Waiting, Relock, Ended, Thread, Frame, Invocation, Initialisation, StackOf, Characters}
 use Rattle.model.specs.WellTyped.{has_type, is_object_in, is_field_typed, is_object_typed, are_typed, Stopped, Ready, Awaits, Above, Results, Instruction, Beneath, Failing, IsRunning, IsWaiting, IsStackTyped, IsThreadTyped, AreThreadsTyped}
 use Rattle.run_laws.proofs.laws.Lists.{pairwise_weaken, all_weaken}
 use Rattle.run_laws.proofs.laws.Order.{Extends, has_type_more}
@@ -40,6 +40,7 @@ module _ (files : Program) (os ps : List ReferenceType) (x : Extends os ps) wher
   object_typed_more (Primitives of elements) h = h
   object_typed_more (References of elements) h =
       all_weaken (has_type files os (OfType (made_type files of))) (has_type files ps (OfType (made_type files of))) elements (λ v q. has_type_more files os ps x (OfType (made_type files of)) v q) h
+  object_typed_more (Characters text) h = h
 
   pub object_in_more : (class : Name) (r : ℕ) → is_object_in files os class r ≡ true → is_object_in files ps class r ≡ true
   object_in_more class r h = has_type_more files os ps x (OfType (ClassType class)) (value.Reference r) h

@@ -12,7 +12,7 @@ use Rattle.model.specs.Tree.{FileTree}
 use Rattle.model.specs.StringConstants.{string_texts}
 use Rattle.model.specs.Classes.{Program, classes_of, is_named, class_of}
 use Rattle.model.specs.ReferenceTypes.{ReferenceType, ClassType}
-use Rattle.model.specs.Types.{IntType, OfType, Uninitialised, AnyWord, is_int_value, value_meets, is_object_below, is_value_of}
+use Rattle.model.specs.Types.{IntType, OfType, Uninitialised, AnyWord, is_int_value, value_meets, is_object_below, is_value_of, is_value_below}
 use Rattle.model.specs.DescriptorScan.{method_type}
 use Rattle.model.specs.Descriptors.{FieldType, MethodType}
 use Rattle.model.specs.DescribedTypes.{DeclaredType, DeclaredInt, DeclaredReference, results_declared, returned_type, declared_want, made_type, verification_type}
@@ -30,7 +30,7 @@ use Rattle.model.specs.Meanings.{system_out_meaning}
 use Rattle.model.specs.WellTyped.{has_type, is_object_in, are_typed}
 use Rattle.run_laws.proofs.laws.Lists.{of_pairs, pairs_of, pair_map_left}
 use Rattle.run_laws.proofs.laws.Order.{assignable_self, forgotten_typed}
-use Rattle.run_laws.proofs.typed_runs.Objects.{added_below, new_instance_typed}
+use Rattle.run_laws.proofs.typed_runs.Objects.{added_below, new_instance_typed, new_instance_type}
 use Rattle.run_laws.proofs.laws.Found.{found_any, found_passes}
 use Rattle.run_laws.proofs.typed_runs.OpeningObjects.{print_stream_there, class_there, string_there}
 use Rattle.run_laws.proofs.typed_runs.Changes.{OutcomeTyped}
@@ -122,7 +122,7 @@ module _ (files : Program) (event : Event) (w : World) (f : Frame) (site : Site)
       (of_pairs _ _ _ (pair_map_left (has_type files os) (forgotten site.offset) (λ s v q. forgotten_typed files h.linked.rooted os site.offset s v q) ts.locals f.place.slots.locals (pairs_of _ _ _ h.ready.stopped.locals)))
       (Makes (length (fields_of o))) (allocated w o) (value.Reference (length w.heap) ∷ [])
       (allocated_keeps files w h.fits o (new_instance_typed files (types_of (w.heap ++ o ∷ [])) class))
-      (and_from _ _ (added_below files w.heap h.fits.heap o) refl)
+      (and_from _ _ (subst (λ type. is_value_below files (types_of (w.heap ++ o ∷ [])) type (value.Reference (length w.heap)) ≡ true) (new_instance_type files os class) (added_below files w.heap h.fits.heap o)) refl)
 
   cast_typed : (type : ReferenceType) (a : Allows files f h.ready.stopped.stands site (check_cast_meaning values files site type))
       (v : Value) (b : Bool) → is_value_of files (types_of w.heap) type v ≡ b

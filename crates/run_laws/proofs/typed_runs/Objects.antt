@@ -1,5 +1,5 @@
 -- Objects and fields: what is read is of the type that is declared, and what is written keeps them so.
-use Rattle.std.proofs.Common.{◌≡◌, ℕ, zero, suc, List, [], ◌∷◌, ◌++◌, map, length, Bool, true, ◌==◌, Option, Some, None, refl, sym, subst, arith}
+use Rattle.std.proofs.Common.{◌≡◌, ℕ, zero, suc, List, [], ◌∷◌, ◌++◌, map, length, Bool, true, ◌==◌, Option, Some, None, refl, sym, subst, arith, ap}
 use Rattle.std.specs.Prelude.{slice_get, slice_set, slice_index_or, replicate, if◌then◌else◌}
 use Rattle.std.specs.List.{list_all}
 use Rattle.std.specs.Option.{option_map_or}
@@ -7,16 +7,16 @@ use Rattle.std.proofs.lemmas.Bool.{false≢true, and_parts, and_from, cond_both,
 use Rattle.std.proofs.lemmas.List.{map-append}
 use Rattle.model.specs.declared.value.Value.{Value}
 use Rattle.model.specs.declared.value.Value.TheVariants as value
-use Rattle.model.specs.Names.{Name, Member, member_eq}
+use Rattle.model.specs.Names.{Name, Member, member_eq, name_eq, java_lang_string}
 use Rattle.model.specs.Descriptors as descriptors
 use Rattle.model.specs.Descriptors.{ElementType, FieldType}
 use Rattle.model.specs.DescriptorScan.{field_type}
 use Rattle.model.specs.Classes.{Program}
-use Rattle.model.specs.ReferenceTypes.{ReferenceType, is_assignable}
+use Rattle.model.specs.ReferenceTypes.{ReferenceType, is_assignable, ClassType}
 use Rattle.model.specs.Types.{is_object_below}
 use Rattle.model.specs.DescribedTypes.{DeclaredType, DeclaredInt, DeclaredReference, element_declared, declared_with, declared_of, field_declared, verification_type}
 use Rattle.model.specs.Operands.{values}
-use Rattle.model.specs.State.{ObjectOf, References, type_of, types_of}
+use Rattle.model.specs.State.{ObjectOf, References, type_of, types_of, Characters, Instance}
 use Rattle.model.specs.Opening.{first_value, first_of, with_first, new_instance}
 use Rattle.model.specs.Lookup.{instance_fields}
 use Rattle.model.specs.Worlds.{value_in, with_value, type_kept, element_kept, put_value}
@@ -88,7 +88,15 @@ module _ (files : Program) (os : List ReferenceType) where
       (λ e. and_from _ _ g.0 (with_value_typed field v fields q g.1))
 
   pub new_instance_typed : (class : Name) → is_object_typed files os (new_instance values files class) ≡ true
-  new_instance_typed class = all_map (is_field_typed files os) (with_first values) (instance_fields files class) first_of_typed
+  new_instance_typed class =
+      cond_both (name_eq class java_lang_string) (Characters []) (Instance class (map (with_first values) (instance_fields files class))) (λ o. is_object_typed files os o ≡ true)
+      (λ e. refl) (λ e. all_map (is_field_typed files os) (with_first values) (instance_fields files class) first_of_typed)
+
+  -- it is of its class
+  pub new_instance_type : (class : Name) → type_of (new_instance values files class) ≡ ClassType class
+  new_instance_type class =
+      cond_both (name_eq class java_lang_string) (Characters []) (Instance class (map (with_first values) (instance_fields files class))) (λ o. type_of o ≡ ClassType class)
+      (λ e. ap (λ n. ClassType n) (sym (names_same class java_lang_string e))) (λ e. refl)
 
   -- ---- what is kept of a value
 

@@ -4,15 +4,16 @@ use Rattle.std.specs.List.{list_all}
 use Rattle.std.proofs.lemmas.Bool.{and_from}
 use Rattle.std.proofs.lemmas.List.{length-map}
 use Rattle.model.specs.declared.value.Value.{Value}
-use Rattle.model.specs.Names.{java_lang_class, java_lang_string, java_lang_thread}
+use Rattle.model.specs.Names.{java_lang_class, java_lang_thread}
 use Rattle.model.specs.Classes.{Program, classes_of}
 use Rattle.model.specs.ReferenceTypes.{ClassType}
 use Rattle.model.specs.Operands.{values}
 use Rattle.model.specs.StringConstants.{string_texts}
-use Rattle.model.specs.State.{ObjectOf, Instance, Thread, types_of, new_thread}
+use Rattle.model.specs.State.{ObjectOf, Instance, Thread, types_of, new_thread, Characters}
 use Rattle.model.specs.Monitors.{unlocked}
 use Rattle.model.specs.Opening.{with_first, static_fields, main_thread_reference, opening_heap, opening}
 use Rattle.model.specs.WellTyped.{is_object_typed, is_field_typed, are_wait_sets, IsWellTyped}
+use Rattle.model.specs.Texts.{decoded}
 use Rattle.run_laws.proofs.laws.Order.{extends_self, assignable_self}
 use Rattle.run_laws.proofs.typed_runs.Objects.{all_map, first_of_typed, new_instance_typed}
 use Rattle.run_laws.proofs.laws.Lists.{all_append}
@@ -22,9 +23,9 @@ unfolding opening_heap
 heap_typed files =
     let os = types_of (opening_heap values files) in
     and_from _ _ refl (and_from _ _ refl (and_from _ _ (new_instance_typed files os java_lang_thread)
-    (all_append (is_object_typed files os) (map (λ file. Instance java_lang_class []) (classes_of files)) (map (λ text. Instance java_lang_string []) (string_texts files))
+    (all_append (is_object_typed files os) (map (λ file. Instance java_lang_class []) (classes_of files)) (map (λ bytes. Characters (decoded bytes)) (string_texts files))
     (all_map (is_object_typed files os) (λ file. Instance java_lang_class []) (classes_of files) (λ file. refl))
-    (all_map (is_object_typed files os) (λ text. Instance java_lang_string []) (string_texts files) (λ text. refl)))))
+    (all_map (is_object_typed files os) (λ bytes. Characters (decoded bytes)) (string_texts files) (λ bytes. refl)))))
 
 none_wait : (threads : List Thread) (k : ℕ) (objects : List (ObjectOf Value))
     → are_wait_sets threads k (map (λ object. unlocked) objects) ≡ true

@@ -11,8 +11,9 @@ use Rattle.model.specs.Classes.{Program, classes_of, is_named}
 use Rattle.model.specs.ReferenceTypes.{ClassType, ReferenceArray}
 use Rattle.model.specs.StringConstants.{string_texts}
 use Rattle.model.specs.Operands.{values}
-use Rattle.model.specs.State.{ObjectOf, Instance, type_of, types_of}
+use Rattle.model.specs.State.{ObjectOf, Instance, type_of, types_of, Characters}
 use Rattle.model.specs.Opening.{print_stream_reference, arguments_reference, class_reference, string_reference, opening_heap}
+use Rattle.model.specs.Texts.{decoded}
 use Rattle.run_laws.proofs.laws.Lists.{get_map, get_front}
 
 -- where an element passes a test, there is one at the position of the first
@@ -63,7 +64,7 @@ module _ (files : Program) where
       let at = position_there (is_named name) (classes_of files) h in
       let e : suc (suc (suc n)) ≡ 3 + n = omega arith in
       subst (λ k. slice_get (types_of (opening_heap values files)) k ≡ Some (ClassType java_lang_class)) e
-      (in_first (λ (file : FileTree). Instance java_lang_class []) (λ (text : List ℕ). Instance java_lang_string []) (classes_of files) (string_texts files) n at.0 at.1)
+      (in_first (λ (file : FileTree). Instance java_lang_class []) (λ (bytes : List ℕ). Characters (decoded bytes)) (classes_of files) (string_texts files) n at.0 at.1)
 
   -- the String object of a text that a constant has
   pub string_there : (text : List ℕ) → list_any (name_eq text) (string_texts files) ≡ true
@@ -75,4 +76,4 @@ module _ (files : Program) where
       let at = position_there (name_eq text) (string_texts files) h in
       let e : suc (suc (suc (n + m))) ≡ 3 + n + m = omega arith in
       subst (λ k. slice_get (types_of (opening_heap values files)) k ≡ Some (ClassType java_lang_string)) e
-      (in_second (λ (file : FileTree). Instance java_lang_class []) (λ (text : List ℕ). Instance java_lang_string []) (classes_of files) (string_texts files) m at.0 at.1)
+      (in_second (λ (file : FileTree). Instance java_lang_class []) (λ (bytes : List ℕ). Characters (decoded bytes)) (classes_of files) (string_texts files) m at.0 at.1)

@@ -5,7 +5,7 @@ use Rattle.std.specs.Option.{option_map_or}
 use Rattle.std.proofs.lemmas.Bool.{false≢true, and_parts}
 use Rattle.std.proofs.lemmas.Option.{slice_get-map}
 use Rattle.model.specs.declared.instr.ArrayKind.TheVariants as array_kind
-use Rattle.model.specs.Names.{Name, name_eq, java_lang_object, println_int}
+use Rattle.model.specs.Names.{Name, name_eq, java_lang_object, println_int, java_lang_string}
 use Rattle.model.specs.DescriptorScan.{element_at, field_at, field_type, parameters_at, method_type}
 use Rattle.model.specs.Calls.{parameter_count}
 use Rattle.model.specs.Classes.{Program, is_subclass, classes_of}
@@ -13,7 +13,7 @@ use Rattle.model.specs.ReferenceTypes.{Boolean, Char, Byte, Short, Int, Referenc
 use Rattle.model.specs.Types.{Want, is_array_type, is_byte_array_type}
 use Rattle.model.specs.Operands.{pops_meet}
 use Rattle.model.specs.Objects.{any_object}
-use Rattle.model.specs.State.{ObjectOf, Instance, Primitives, References, type_of, types_of}
+use Rattle.model.specs.State.{ObjectOf, Instance, Primitives, References, type_of, types_of, Characters}
 use Rattle.run_laws.proofs.laws.Classes.{names_same, subclass_self}
 use Rattle.run_laws.specs.word_operands.Operands.{is_word_with, word_meets}
 use Rattle.run_laws.specs.word_operands.Receivers.{AreInstances, is_instance_below, has_class_below, is_array, is_array_of, is_null_or, receiver, IsReceived}
@@ -75,6 +75,7 @@ module _ (files : Program) where
       of_type (Instance c fields) h = let is : c ≡ h.0 = cc in subst (λ n. is_subclass files n class ≡ true) (sym is) h.2
       of_type (Primitives of elements) h = absurd cc
       of_type (References of elements) h = absurd cc
+      of_type (Characters text) h = let is : java_lang_string ≡ h.0 = cc in subst (λ n. is_subclass files n class ≡ true) (sym is) h.2
 
   object_below : (class : Name) → name_eq class java_lang_object ≡ true → is_subclass files java_lang_object class ≡ true
   object_below class h = subst (λ n. is_subclass files java_lang_object n ≡ true) (sym (names_same class java_lang_object h)) (subclass_self files (length (classes_of files)) java_lang_object)
@@ -85,6 +86,7 @@ module _ (files : Program) where
   class_fits class (Instance c fields) e = e
   class_fits class (Primitives of elements) e = object_below class e
   class_fits class (References of elements) e = object_below class e
+  class_fits class (Characters text) e = e
 
   -- ---- arrays
 
@@ -92,11 +94,13 @@ module _ (files : Program) where
   array_fits (Instance c fields) e = e
   array_fits (Primitives of elements) e = refl
   array_fits (References of elements) e = refl
+  array_fits (Characters text) e = e
 
   pub bytes_fit : (o : ObjectOf ℕ) → is_byte_array_type (type_of o) ≡ true → is_array_of array_kind.ByteOrBoolean o ≡ true
   bytes_fit (Instance c fields) e = e
   bytes_fit (Primitives of elements) e = e
   bytes_fit (References of elements) e = e
+  bytes_fit (Characters text) e = e
 
   pub ints_fit : (o : ObjectOf ℕ) → is_assignable files (type_of o) (PrimitiveArray Int) ≡ true → is_array_of array_kind.Int o ≡ true
   ints_fit (Instance c fields) e = e
@@ -106,6 +110,7 @@ module _ (files : Program) where
   ints_fit (Primitives Short elements) e = e
   ints_fit (Primitives Int elements) e = refl
   ints_fit (References of elements) e = e
+  ints_fit (Characters text) e = e
 
   pub chars_fit : (o : ObjectOf ℕ) → is_assignable files (type_of o) (PrimitiveArray Char) ≡ true → is_array_of array_kind.Char o ≡ true
   chars_fit (Instance c fields) e = e
@@ -115,6 +120,7 @@ module _ (files : Program) where
   chars_fit (Primitives Short elements) e = e
   chars_fit (Primitives Int elements) e = e
   chars_fit (References of elements) e = e
+  chars_fit (Characters text) e = e
 
   pub shorts_fit : (o : ObjectOf ℕ) → is_assignable files (type_of o) (PrimitiveArray Short) ≡ true → is_array_of array_kind.Short o ≡ true
   shorts_fit (Instance c fields) e = e
@@ -124,9 +130,11 @@ module _ (files : Program) where
   shorts_fit (Primitives Short elements) e = refl
   shorts_fit (Primitives Int elements) e = e
   shorts_fit (References of elements) e = e
+  shorts_fit (Characters text) e = e
 
   pub references_fit : (o : ObjectOf ℕ) → is_assignable files (type_of o) (ReferenceArray any_object) ≡ true
       → is_array_of array_kind.Reference o ≡ true
   references_fit (Instance c fields) e = e
   references_fit (Primitives of elements) e = e
   references_fit (References of elements) e = refl
+  references_fit (Characters text) e = e

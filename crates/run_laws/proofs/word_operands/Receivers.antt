@@ -26,7 +26,7 @@ use Rattle.model.specs.Objects.{any_object, check_cast_meaning, instance_of_mean
 use Rattle.model.specs.Arrays.{load_of, store_of, array_length_meaning}
 use Rattle.model.specs.ThrowMeaning.{throw_meaning}
 use Rattle.model.specs.MonitorMeanings.{monitor_enter_meaning, monitor_exit_meaning}
-use Rattle.model.specs.State.{ObjectOf, Instance, Primitives, References, type_of, types_of, FrameOf, StateOf}
+use Rattle.model.specs.State.{ObjectOf, Instance, Primitives, References, type_of, types_of, FrameOf, StateOf, Characters}
 use Rattle.model.specs.Sites.{MeaningOf, Site, site_with, site_at}
 use Rattle.model.specs.Calls.{parameter_count, argument_wants, is_one, is_instance_one, if_method, of_class, virtual_call, virtual_of, special_call, constructor_call, special_of, interface_call, interface_of}
 use Rattle.model.specs.Meanings.{get_field_of, put_field_of, owner_want, if_field, field_meaning, println_meaning, invoke_virtual_meaning, meaning_of}
@@ -314,6 +314,7 @@ module _ (files : Program) where
           by (Instance c fields) q = q
           by (Primitives of elements) q = q
           by (References of elements) q = q
+          by (Characters text) q = q
 
       by_instr : (i : Instr) → Received i
       by_instr (instr.Field access.GetField index) at m means met of e = get_field index at m means met of e

@@ -14,7 +14,7 @@ use Rattle.model.specs.ReferenceTypes.{ReferenceType}
 use Rattle.model.specs.Operands.{words, values}
 use Rattle.model.specs.Rows.{counting}
 use Rattle.model.specs.State as state
-use Rattle.model.specs.State.{ObjectOf, Instance, Primitives, References, types_of, Frame, Invocation, Initialisation, StackOf, Thread, ThreadStatus, World, State, StateOf}
+use Rattle.model.specs.State.{ObjectOf, Instance, Primitives, References, types_of, Frame, Invocation, Initialisation, StackOf, Thread, ThreadStatus, World, State, StateOf, Characters}
 use Rattle.model.specs.Worlds.{no_thread, thread_at, is_owner, with_exit}
 use Rattle.model.specs.Sites.{Site, site_at}
 use Rattle.model.specs.Step.{SteppedOf, NotEnabled, WrongKind, Next, PartOf, on_to, raised, settled, leaving, handler_in, unwound, going_event, thread_event, with_part, event_of, stepped, is_enabled_by, is_enabled}
@@ -183,6 +183,7 @@ module _ (files : Program) (rooted : Rooted files) (carries : IsCarried files) (
         class_same (Instance class fields) = refl
         class_same (Primitives of elements) = refl
         class_same (References of elements) = refl
+        class_same (Characters text) = refl
 
         by : (o : Option (ObjectOf Value)) → Threw (option_map_or class_name_in (option_map object_words o) [])
             ≡ Threw (option_map_or class_name_in o [])

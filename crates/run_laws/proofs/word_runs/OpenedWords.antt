@@ -7,10 +7,11 @@ use Rattle.model.specs.Classes.{Program, name_of, classes_of}
 use Rattle.model.specs.ReferenceTypes.{ClassType}
 use Rattle.model.specs.StringConstants.{string_texts}
 use Rattle.model.specs.Operands.{words, values, word_of}
-use Rattle.model.specs.State.{ObjectOf, Instance, References, NotInitialised, new_thread}
+use Rattle.model.specs.State.{ObjectOf, Instance, References, NotInitialised, new_thread, Characters}
 use Rattle.model.specs.Monitors.{unlocked}
 use Rattle.model.specs.Opening.{with_first, static_fields, main_thread_reference, opening_heap}
 use Rattle.model.specs.Words.{map_field}
+use Rattle.model.specs.Texts.{decoded}
 use Rattle.run_laws.specs.word_runs.Words.{IsOpenedAsWords}
 use Rattle.run_laws.proofs.laws.WordLists.{map_same}
 use Rattle.run_laws.proofs.word_runs.WordWorlds.{object_words, new_words, with_first_words}
@@ -19,10 +20,10 @@ heap_words : (files : Program) → opening_heap words files ≡ map object_words
 unfolding opening_heap
 heap_words files =
     let classes : List (ObjectOf Value) = map (λ file. Instance java_lang_class []) (classes_of files) in
-    let strings : List (ObjectOf Value) = map (λ text. Instance java_lang_string []) (string_texts files) in
+    let strings : List (ObjectOf Value) = map (λ bytes. Characters (decoded bytes)) (string_texts files) in
     let others =
-    ap (λ l. l ++ map (λ text. Instance java_lang_string []) (string_texts files)) (map_same object_words (λ file. Instance java_lang_class []) (λ file. Instance java_lang_class []) (classes_of files) (λ file. refl))
-    ∙ (ap (λ l. map object_words classes ++ l) (map_same object_words (λ text. Instance java_lang_string []) (λ text. Instance java_lang_string []) (string_texts files) (λ text. refl))
+    ap (λ l. l ++ map (λ bytes. Characters (decoded bytes)) (string_texts files)) (map_same object_words (λ file. Instance java_lang_class []) (λ file. Instance java_lang_class []) (classes_of files) (λ file. refl))
+    ∙ (ap (λ l. map object_words classes ++ l) (map_same object_words (λ bytes. Characters (decoded bytes)) (λ bytes. Characters (decoded bytes)) (string_texts files) (λ bytes. refl))
     ∙ sym (map-append object_words classes strings)) in
     λ i. Instance java_io_print_stream [] ∷ References (ClassType java_lang_string) [] ∷ new_words files java_lang_thread i ∷ others i
 

@@ -10,7 +10,7 @@ use Rattle.model.specs.Classes.{Program}
 use Rattle.model.specs.ReferenceTypes.{Primitive, ReferenceType, PrimitiveArray, ReferenceArray}
 use Rattle.model.specs.Types.{VerificationType, Want, AReference, value_meets}
 use Rattle.model.specs.Operands.{Slots, words, values, word_of}
-use Rattle.model.specs.State.{ObjectOf, Instance, Primitives, References, types_of, World}
+use Rattle.model.specs.State.{ObjectOf, Instance, Primitives, References, types_of, World, Characters}
 use Rattle.model.specs.Outcomes.{Free, Makes, OutcomeOf, Goes}
 use Rattle.model.specs.Worlds.{allocated, object_at, with_object, elements_of, with_element}
 use Rattle.model.specs.Sites.{Site, operand, referent, int_operand}
@@ -130,6 +130,7 @@ module _ (files : Program) where
   kept_words (Instance class fields) v = refl
   kept_words (Primitives of elements) v = refl
   kept_words (References of elements) v = refl
+  kept_words (Characters text) v = refl
 
   store_int_same : (site : Site) (array : Want) → is_object_want array ≡ true
       → Same files (store_int_meaning values site array) (store_int_meaning words site array)
@@ -157,6 +158,7 @@ module _ (files : Program) where
   stands_words world (Instance class fields) ws ops k below q e = refl
   stands_words world (Primitives of elements) ws ops k below q e = refl
   stands_words world (References of elements) ws ops k below q e = instance_operand files world ws ops k below of q e
+  stands_words world (Characters text) ws ops k below q e = refl
 
   storable_words : (b c : Bool) (w : OutcomeOf ℕ) (v : OutcomeOf Value) → b ≡ c → w ≡ map_outcome word_of v
       → if_storable b w ≡ map_outcome word_of (if_storable c v)

@@ -1,13 +1,13 @@
 -- Methods of the machine by their words.
-use Rattle.std.proofs.Common.{◌≡◌, ℕ, List, map, length, find, Bool, true, false, not, ◌&&◌, ◌==◌, nat_lt, is_some, if◌then◌else◌, Option, Some, None, option_map, refl, sym, ap, ◌∙◌, subst}
+use Rattle.std.proofs.Common.{◌≡◌, ℕ, List, map, length, find, Bool, true, false, not, ◌&&◌, ◌==◌, nat_lt, is_some, if◌then◌else◌, Option, Some, None, option_map, refl, sym, ap, ◌∙◌, subst, zero, suc, [], ◌∷◌, ◌++◌, reverse}
 use Rattle.std.specs.Prelude.{unwrap_or, slice_get}
 use Rattle.std.specs.Option.{option_map_or}
 use Rattle.std.specs.List.{list_all}
-use Rattle.std.proofs.lemmas.Bool.{and_parts, not-true, eqb-true}
+use Rattle.std.proofs.lemmas.Bool.{and_parts, not-true, false≢true, eqb-true}
 use Rattle.model.specs.declared.event.Event.{Event}
 use Rattle.model.specs.declared.value.Value.{Value}
 use Rattle.model.specs.declared.value.Value.TheVariants as value
-use Rattle.model.specs.Names.{Member, thread_target}
+use Rattle.model.specs.Names.{Member, thread_target, Name}
 use Rattle.model.specs.AccessFlags.{is_static_method}
 use Rattle.model.specs.BuiltIn.{built_in_classes}
 use Rattle.model.specs.DescriptorScan.{element_at, field_at, field_type, parameters_at, method_type}
@@ -15,19 +15,53 @@ use Rattle.model.specs.Classes.{Program}
 use Rattle.model.specs.Operands.{Slots, words, values, word_of}
 use Rattle.model.specs.State.{Waiter, Notified, ThreadStatus, Running, Waiting, Relock, Ended, World}
 use Rattle.model.specs.Outcomes.{Free, Goes}
-use Rattle.model.specs.Worlds.{with_monitors, thread_at, object_at, with_object, with_field, is_owner, is_alive, is_interrupted, thread_of, waiters_of}
+use Rattle.model.specs.Worlds.{with_monitors, thread_at, object_at, with_object, with_field, is_owner, is_alive, is_interrupted, thread_of, waiters_of, text_of}
 use Rattle.model.specs.Monitors as monitors
-use Rattle.model.specs.Sites.{operand, int_operand}
-use Rattle.model.specs.Calls.{parameter_count, is_one}
-use Rattle.model.specs.BuiltInMethods.{BuiltInMethod, Construct, ConstructWithTarget, ObjectWait, ObjectNotify, ObjectNotifyAll, ThreadStart, ThreadInterrupt, ThreadIsInterrupted, ThreadInterrupted, ThreadYield, ThreadCurrentThread, ThreadJoin, ThreadIsAlive, PrintStreamPrints, printed_by, built_in_methods, is_row_of, built_in_method, wait_by, notified_one, notified, if_owner, start_by, interrupted_in, interrupted_on, may_join, notified_all, bit, join_by, with_printed, object_of, built_in_may, built_in_does}
+use Rattle.model.specs.Sites.{operand, referent}
+use Rattle.model.specs.Calls.{is_one, parameter_count}
+use Rattle.model.specs.BuiltInMethods.{BuiltInMethod, Construct, ConstructWithTarget, ObjectWait, ObjectNotify, ObjectNotifyAll, ThreadStart, ThreadInterrupt, ThreadIsInterrupted, ThreadInterrupted, ThreadYield, ThreadCurrentThread, ThreadJoin, ThreadIsAlive, PrintStreamPrints, printed_by, built_in_methods, is_row_of, built_in_method, wait_by, notified_one, notified, if_owner, start_by, interrupted_in, interrupted_on, may_join, notified_all, bit, join_by, with_printed, object_of, built_in_may, built_in_does, string_shown}
 use Rattle.model.specs.Words.{map_slots}
+use Rattle.model.specs.declared.print_method.PrintMethod.{PrintMethod}
+use Rattle.model.specs.declared.print_method.PrintMethod.TheVariants.{Println, PrintlnChar, PrintlnInt, PrintlnString, PrintChar, PrintInt, PrintString}
+use Rattle.model.specs.declared.instr.Conversion.TheVariants.{ToChar}
+use Rattle.model.specs.Ints.{signed, converted}
+use Rattle.model.specs.Texts.{int_line}
+use Rattle.model.specs.ReferenceTypes.{ReferenceType}
+use Rattle.model.specs.DescribedTypes.{declared_want, parameters_declared}
+use Rattle.model.specs.Types.{Want, AReference, value_meets}
+use Rattle.model.specs.Objects.{any_object}
+use Rattle.std.proofs.lemmas.Option.{none-some}
+use Rattle.run_laws.proofs.laws.WordLists.{is_object_want}
+use Rattle.run_laws.proofs.laws.Lists.{Pairwise}
+use Rattle.std.specs.Fmt.{signed_decimal}
 use Rattle.run_laws.specs.word_runs.Words.{map_outcome}
 use Rattle.run_laws.proofs.laws.Found.{found_passes, found_has, every_all}
 use Rattle.run_laws.proofs.laws.Classes.{members_same}
-use Rattle.run_laws.proofs.word_runs.WordWorlds.{all_words, world_words, object_at_words, with_field_words, with_object_words}
-use Rattle.run_laws.proofs.word_runs.WordMeanings.{operand_words, int_words, pushes_words, becomes_words}
+use Rattle.run_laws.proofs.word_runs.WordWorlds.{all_words, world_words, object_at_words, with_field_words, with_object_words, text_words}
+use Rattle.run_laws.proofs.word_runs.WordMeanings.{operand_words, int_words, pushes_words, becomes_words, referent_words}
 
--- ---- the operand that a method of the machine takes as an object, if it has one
+-- ---- what holds of each row holds of the methods
+
+module _ (place : BuiltInMethod → Option ℕ) (none : place Construct ≡ None) (test : Member → ℕ → Bool) where
+  abbrev passes : Member × BuiltInMethod → Bool
+  passes row = option_map_or (test row.0) (place row.1) true
+
+  of_row : (row : Member × BuiltInMethod) (o : Option ℕ) (k : ℕ) → place row.1 ≡ o → o ≡ Some k → passes row ≡ true → test row.0 k ≡ true
+  of_row row None k p q t = absurd cc
+  of_row row (Some j) k p q t = let j_is : j ≡ k = cc in subst (λ i. test row.0 i ≡ true) j_is (sym (ap (λ o. option_map_or (test row.0) o true) p) ∙ t)
+
+  passed : list_all passes built_in_methods ≡ true → (method : Member) (k : ℕ) → place (built_in_method method) ≡ Some k → test method k ≡ true
+  passed all method k e = by (find (is_row_of method) built_in_methods) refl e
+    where
+      by : (o : Option (Member × BuiltInMethod)) → find (is_row_of method) built_in_methods ≡ o
+          → place (unwrap_or (option_map (λ (row : Member × BuiltInMethod). row.1) o) Construct) ≡ Some k → test method k ≡ true
+      by None f q = absurd (none-some k (sym none ∙ q))
+      by (Some row) f q =
+          let is : row.0 ≡ method = members_same row.0 method (found_passes (is_row_of method) built_in_methods row f) in
+          subst (λ m. test m k ≡ true) is
+          (of_row row (place row.1) k refl q (found_has (λ r. passes r ≡ true) (is_row_of method) built_in_methods row (every_all passes built_in_methods all) f))
+
+-- ---- the operand that a method of the machine takes as its receiver, if it has one
 
 abbrev pub receiver_place : BuiltInMethod → Option ℕ
 receiver_place Construct = None
@@ -45,11 +79,11 @@ receiver_place ThreadJoin = Some 0
 receiver_place ThreadIsAlive = Some 0
 receiver_place (PrintStreamPrints print) = None
 
--- it is the receiver, under the parameters, and the method is not static
-abbrev is_placed : Program → Member × BuiltInMethod → Bool
-is_placed files row = option_map_or (λ k. (parameter_count row.0 == k) && not (is_one is_static_method files row.0)) (receiver_place row.1) true
+-- it is under the parameters, and the method is not static
+abbrev is_placed : Program → Member → ℕ → Bool
+is_placed files method k = (parameter_count method == k) && not (is_one is_static_method files method)
 
-all_placed : (files : Program) → list_all (is_placed files) built_in_methods ≡ true
+all_placed : (files : Program) → list_all (passes receiver_place refl (is_placed files)) built_in_methods ≡ true
 unfolding built_in_classes method_type parameters_at field_at field_type element_at
 all_placed files = refl
 
@@ -58,29 +92,86 @@ pub record Placed (files : Program) (method : Member) (k : ℕ) : Type 0 where
   pub instance : is_one is_static_method files method ≡ false
 
 pub placed : (files : Program) (method : Member) (k : ℕ) → receiver_place (built_in_method method) ≡ Some k → Placed files method k
-placed files method k e = by (find (is_row_of method) built_in_methods) refl e
-  where
-    of_row : (row : Member × BuiltInMethod) (o : Option ℕ) → receiver_place row.1 ≡ o → o ≡ Some k → is_placed files row ≡ true
-        → Placed files row.0 k
-    of_row row None p q t = absurd cc
-    of_row row (Some j) p q t =
-        let here = and_parts (parameter_count row.0 == j) _ (sym (ap (λ x. option_map_or (λ k. (parameter_count row.0 == k) && not (is_one is_static_method files row.0)) x true) p) ∙ t) in
-        let j_is : j ≡ k = cc in
-        record { place = eqb-true (parameter_count row.0) j here.0 ∙ j_is; instance = not-true (is_one is_static_method files row.0) here.1 }
+placed files method k e =
+    let here = and_parts (parameter_count method == k) (not (is_one is_static_method files method)) (passed receiver_place refl (is_placed files) (all_placed files) method k e) in
+    record { place = eqb-true (parameter_count method) k here.0; instance = not-true (is_one is_static_method files method) here.1 }
 
-    by : (o : Option (Member × BuiltInMethod)) → find (is_row_of method) built_in_methods ≡ o
-        → receiver_place (unwrap_or (option_map (λ (row : Member × BuiltInMethod). row.1) o) Construct) ≡ Some k → Placed files method k
-    by None f q = absurd cc
-    by (Some row) f q =
-        let is : row.0 ≡ method = members_same row.0 method (found_passes (is_row_of method) built_in_methods row f) in
-        subst (λ m. Placed files m k) is
-        (of_row row (receiver_place row.1) refl q (found_has (λ r. is_placed files r ≡ true) (is_row_of method) built_in_methods row (every_all (is_placed files) built_in_methods (all_placed files)) f))
+-- ---- the operand that it takes as an object, which is the receiver or a String
+
+abbrev pub string_place : PrintMethod → Option ℕ
+string_place Println = None
+string_place PrintlnChar = None
+string_place PrintlnInt = None
+string_place PrintlnString = Some 0
+string_place PrintChar = None
+string_place PrintInt = None
+string_place PrintString = Some 0
+
+abbrev pub object_place : BuiltInMethod → Option ℕ
+object_place (PrintStreamPrints print) = string_place print
+object_place other = receiver_place other
+
+-- an object is wanted at a place
+abbrev pub wants_object : List Want → ℕ → Bool
+wants_object ws k = option_map_or is_object_want (slice_get ws k) false
+
+-- what a method of a descriptor wants where it is called on an object
+abbrev pub wants_on : Program → Name → Want → List Want
+wants_on files descriptor receiver = reverse (map (declared_want files) (parameters_declared descriptor)) ++ receiver ∷ []
+
+-- so is that operand, and the method is not static
+abbrev is_wanted : Program → Member → ℕ → Bool
+is_wanted files method k = wants_object (wants_on files method.descriptor (AReference any_object)) k && not (is_one is_static_method files method)
+
+all_wanted : (files : Program) → list_all (passes object_place refl (is_wanted files)) built_in_methods ≡ true
+unfolding built_in_classes method_type parameters_at field_at field_type element_at
+all_wanted files = refl
+
+pub record IsWanted (files : Program) (method : Member) (k : ℕ) : Type 0 where
+  pub object : wants_object (wants_on files method.descriptor (AReference any_object)) k ≡ true
+  pub instance : is_one is_static_method files method ≡ false
+
+pub wanted : (files : Program) (method : Member) (k : ℕ) → object_place (built_in_method method) ≡ Some k → IsWanted files method k
+wanted files method k e =
+    let here = and_parts (wants_object (wants_on files method.descriptor (AReference any_object)) k) (not (is_one is_static_method files method)) (passed object_place refl (is_wanted files) (all_wanted files) method k e) in
+    record { object = here.0; instance = not-true (is_one is_static_method files method) here.1 }
+
+-- whatever object the receiver is wanted as
+on_receiver : (ws : List Want) (v w : Want) (k : ℕ) → is_object_want w ≡ true → wants_object (ws ++ v ∷ []) k ≡ true
+    → wants_object (ws ++ w ∷ []) k ≡ true
+on_receiver [] v w zero o e = o
+on_receiver [] v w (suc k) o e = absurd (false≢true e)
+on_receiver (x ∷ ws) v w zero o e = e
+on_receiver (x ∷ ws) v w (suc k) o e = on_receiver ws v w k o e
+
+-- what is wanted as an object is so by its word
+wanted_words : (files : Program) (os : List ReferenceType) (ws : List Want) (ops : List Value) (k : ℕ)
+    → Pairwise (value_meets files os) ws ops → wants_object ws k ≡ true → referent words (map word_of ops) k ≡ referent values ops k
+wanted_words files os ws ops k q h = by (slice_get ws k) refl h
+  where
+    by : (o : Option Want) → slice_get ws k ≡ o → option_map_or is_object_want o false ≡ true
+        → referent words (map word_of ops) k ≡ referent values ops k
+    by None f e = absurd (false≢true e)
+    by (Some w) f e = referent_words files os ws ops k w q f e
 
 -- ---- what the methods do
 
--- the operands that are taken as objects are so by their words
+-- the operand that is taken as an object is so by its word
 abbrev pub Agrees : BuiltInMethod → List Value → Type 0
-Agrees method ops = (k : ℕ) → receiver_place method ≡ Some k → object_of words (map word_of ops) k ≡ object_of values ops k
+Agrees method ops = (k : ℕ) → object_place method ≡ Some k → referent words (map word_of ops) k ≡ referent values ops k
+
+-- so it is of a method that is called on an object, with the operands that its descriptor wants
+pub agrees_on : (files : Program) (os : List ReferenceType) (method : Member) (receiver : Want) (ops : List Value)
+    → is_object_want receiver ≡ true → Pairwise (value_meets files os) (wants_on files method.descriptor receiver) ops
+    → Agrees (built_in_method method) ops
+agrees_on files os method receiver ops o q =
+    λ k p.
+    wanted_words files os (wants_on files method.descriptor receiver) ops k q
+    (on_receiver (reverse (map (declared_want files) (parameters_declared method.descriptor))) (AReference any_object) receiver k o (wanted files method k p).object)
+
+as_object : (ops : List Value) (k : ℕ) → referent words (map word_of ops) k ≡ referent values ops k
+    → object_of words (map word_of ops) k ≡ object_of values ops k
+as_object ops k e = ap (λ o. unwrap_or o 0) e
 
 module _ (event : Event) (world : World) where
   pub may_words : (method : BuiltInMethod) (ops : List Value) → Agrees method ops
@@ -89,7 +180,7 @@ module _ (event : Event) (world : World) where
   may_words ConstructWithTarget ops a = refl
   may_words ObjectWait ops a = refl
   may_words ObjectNotify ops a =
-      ap (λ o. if is_owner world event.thread o && nat_lt 0 (length (waiters_of world o)) then nat_lt event.pick (length (waiters_of world o)) else event.pick == 0) (a 0 refl)
+      ap (λ o. if is_owner world event.thread o && nat_lt 0 (length (waiters_of world o)) then nat_lt event.pick (length (waiters_of world o)) else event.pick == 0) (as_object ops 0 (a 0 refl))
   may_words ObjectNotifyAll ops a = refl
   may_words ThreadStart ops a = refl
   may_words ThreadInterrupt ops a = refl
@@ -97,7 +188,7 @@ module _ (event : Event) (world : World) where
   may_words ThreadInterrupted ops a = refl
   may_words ThreadYield ops a = refl
   may_words ThreadCurrentThread ops a = refl
-  may_words ThreadJoin ops a = ap (λ o. (event.pick == 0) && may_join world event.thread o) (a 0 refl)
+  may_words ThreadJoin ops a = ap (λ o. (event.pick == 0) && may_join world event.thread o) (as_object ops 0 (a 0 refl))
   may_words ThreadIsAlive ops a = refl
   may_words (PrintStreamPrints print) ops a = refl
 
@@ -110,7 +201,7 @@ module _ (event : Event) (world : World) where
         let r = object_of values ops 1 in
         let v = operand values ops 0 in
         becomes_words _ (with_object world r (with_field thread_target v (object_at world r))) rest slots.locals next
-        (ap (λ o. with_object (world_words world) o (with_field thread_target (operand words (map word_of ops) 0) (object_at (world_words world) o))) (a 1 refl)
+        (ap (λ o. with_object (world_words world) o (with_field thread_target (operand words (map word_of ops) 0) (object_at (world_words world) o))) (as_object ops 1 (a 1 refl))
         ∙ (ap (λ n. with_object (world_words world) r (with_field thread_target n (object_at (world_words world) r))) (operand_words ops 0)
         ∙ (ap (λ o. with_object (world_words world) r (with_field thread_target (word_of v) o)) (object_at_words world r)
         ∙ (ap (λ o. with_object (world_words world) r o) (with_field_words thread_target v (object_at world r)) ∙ with_object_words world r (with_field thread_target v (object_at world r))))))
@@ -153,36 +244,54 @@ module _ (event : Event) (world : World) where
     on_words None = refl
     on_words (Some t) = in_words t (thread_at world t).status
 
+    shown_words : (o : Option ℕ) → string_shown (world_words world) o ≡ string_shown world o
+    shown_words None = refl
+    shown_words (Some r) = ap text_of (object_at_words world r) ∙ text_words (object_at world r)
+
+    string_words : (ops : List Value) → referent words (map word_of ops) 0 ≡ referent values ops 0
+        → string_shown (world_words world) (referent words (map word_of ops) 0) ≡ string_shown world (referent values ops 0)
+    string_words ops e = ap (string_shown (world_words world)) e ∙ shown_words (referent values ops 0)
+
+    printed_words : (print : PrintMethod) (ops : List Value) → Agrees (PrintStreamPrints print) ops
+        → printed_by words print (world_words world) (map word_of ops) ≡ printed_by values print world ops
+    printed_words Println ops a = refl
+    printed_words PrintlnChar ops a = ap (λ n. converted ToChar n ∷ 10 ∷ []) (int_words ops 0)
+    printed_words PrintlnInt ops a = ap int_line (int_words ops 0)
+    printed_words PrintlnString ops a = ap (λ text. text ++ 10 ∷ []) (string_words ops (a 0 refl))
+    printed_words PrintChar ops a = ap (λ n. converted ToChar n ∷ []) (int_words ops 0)
+    printed_words PrintInt ops a = ap (λ n. signed_decimal (signed n)) (int_words ops 0)
+    printed_words PrintString ops a = string_words ops (a 0 refl)
+
     pub does_words : (method : BuiltInMethod) (ops : List Value) → Agrees method ops → Carries method ops
     does_words Construct ops a = refl
     does_words ConstructWithTarget ops a = target_words ops a
     does_words ObjectWait ops a =
-        ap (λ o. wait_by (is_owner world event.thread o) (thread_at world event.thread).interrupted event.thread o (world_words world) (map word_of rest)) (a 0 refl)
+        ap (λ o. wait_by (is_owner world event.thread o) (thread_at world event.thread).interrupted event.thread o (world_words world) (map word_of rest)) (as_object ops 0 (a 0 refl))
         ∙ wait_words (is_owner world event.thread (object_of values ops 0)) (thread_at world event.thread).interrupted (object_of values ops 0)
     does_words ObjectNotify ops a =
         let object = object_of values ops 0 in
-        ap (λ o. if_owner (is_owner world event.thread o) (Goes Free (notified (world_words world) event.thread o event.pick) (record { locals = map word_of slots.locals; stack = map word_of rest }) next)) (a 0 refl)
+        ap (λ o. if_owner (is_owner world event.thread o) (Goes Free (notified (world_words world) event.thread o event.pick) (record { locals = map word_of slots.locals; stack = map word_of rest }) next)) (as_object ops 0 (a 0 refl))
         ∙ (ap (λ w. if_owner (is_owner world event.thread object) (Goes Free w (record { locals = map word_of slots.locals; stack = map word_of rest }) next)) (one_words (with_monitors world (monitors.notify object event.thread event.pick world.monitors)) object (slice_get (waiters_of world object) event.pick))
         ∙ owner_words (is_owner world event.thread object) (notified world event.thread object event.pick))
     does_words ObjectNotifyAll ops a =
         let object = object_of values ops 0 in
-        ap (λ o. if_owner (is_owner world event.thread o) (Goes Free (notified_all (world_words world) event.thread o) (record { locals = map word_of slots.locals; stack = map word_of rest }) next)) (a 0 refl)
+        ap (λ o. if_owner (is_owner world event.thread o) (Goes Free (notified_all (world_words world) event.thread o) (record { locals = map word_of slots.locals; stack = map word_of rest }) next)) (as_object ops 0 (a 0 refl))
         ∙ (ap (λ w. if_owner (is_owner world event.thread object) (Goes Free w (record { locals = map word_of slots.locals; stack = map word_of rest }) next)) (all_words object Notified (with_monitors world (monitors.notify_all object event.thread world.monitors)) (waiters_of world object))
         ∙ owner_words (is_owner world event.thread object) (notified_all world event.thread object))
     does_words ThreadStart ops a =
-        ap (λ o. start_by (is_some (thread_of world o)) next o (world_words world) (map_slots word_of slots) (map word_of rest)) (a 0 refl)
+        ap (λ o. start_by (is_some (thread_of world o)) next o (world_words world) (map_slots word_of slots) (map word_of rest)) (as_object ops 0 (a 0 refl))
         ∙ start_words (is_some (thread_of world (object_of values ops 0))) (object_of values ops 0)
     does_words ThreadInterrupt ops a =
         becomes_words _ (interrupted_on world (thread_of world (object_of values ops 0))) rest slots.locals next
-        (ap (λ o. interrupted_on (world_words world) (thread_of world o)) (a 0 refl) ∙ on_words (thread_of world (object_of values ops 0)))
+        (ap (λ o. interrupted_on (world_words world) (thread_of world o)) (as_object ops 0 (a 0 refl)) ∙ on_words (thread_of world (object_of values ops 0)))
     does_words ThreadIsInterrupted ops a =
-        pushes_words world _ (value.Int (bit (is_interrupted world (object_of values ops 0)))) rest slots.locals next (ap (λ o. bit (is_interrupted world o)) (a 0 refl))
+        pushes_words world _ (value.Int (bit (is_interrupted world (object_of values ops 0)))) rest slots.locals next (ap (λ o. bit (is_interrupted world o)) (as_object ops 0 (a 0 refl)))
     does_words ThreadInterrupted ops a = refl
     does_words ThreadYield ops a = refl
     does_words ThreadCurrentThread ops a = refl
     does_words ThreadJoin ops a =
-        ap (λ o. join_by (is_alive world o) next (world_words world) (map_slots word_of slots) (map word_of rest)) (a 0 refl) ∙ join_words (is_alive world (object_of values ops 0))
+        ap (λ o. join_by (is_alive world o) next (world_words world) (map_slots word_of slots) (map word_of rest)) (as_object ops 0 (a 0 refl)) ∙ join_words (is_alive world (object_of values ops 0))
     does_words ThreadIsAlive ops a =
-        pushes_words world _ (value.Int (bit (is_alive world (object_of values ops 0)))) rest slots.locals next (ap (λ o. bit (is_alive world o)) (a 0 refl))
+        pushes_words world _ (value.Int (bit (is_alive world (object_of values ops 0)))) rest slots.locals next (ap (λ o. bit (is_alive world o)) (as_object ops 0 (a 0 refl)))
     does_words (PrintStreamPrints print) ops a =
-        becomes_words _ (with_printed world (printed_by print (int_operand values ops 0))) rest slots.locals next (ap (λ n. with_printed (world_words world) (printed_by print n)) (int_words ops 0))
+        becomes_words _ (with_printed world (printed_by values print world ops)) rest slots.locals next (ap (with_printed (world_words world)) (printed_words print ops a))

@@ -33,7 +33,7 @@ use Rattle.run_laws.proofs.laws.Lists.{Pairwise, get_last}
 use Rattle.run_laws.proofs.laws.WordLists.{map_copies, map_reversed, is_object_want}
 use Rattle.run_laws.proofs.word_runs.WordWorlds.{world_words, object_at_words, class_words, type_words}
 use Rattle.run_laws.proofs.word_runs.WordMeanings.{operand_words, referent_words, Same}
-use Rattle.run_laws.proofs.word_runs.WordBuiltIns.{placed, Agrees, may_words, does_words}
+use Rattle.run_laws.proofs.word_runs.WordBuiltIns.{wanted, wants_on, Agrees, agrees_on, may_words, does_words}
 
 -- ---- new frames
 
@@ -55,19 +55,18 @@ abbrev ChosenAgrees : List Value → Chosen → Type 0
 ChosenAgrees ops (Fails fault) = Unit {0}
 ChosenAgrees ops (Runs method) = Agrees (built_in_method method) ops
 
--- the method that runs has as many parameters as the one that is named
-abbrev Counts : ℕ → Chosen → Type 0
-Counts n (Fails fault) = Unit {0}
-Counts n (Runs method) = parameter_count method ≡ n
+-- the method that runs has the descriptor of the one that is named
+abbrev Describes : Name → Chosen → Type 0
+Describes descriptor (Fails fault) = Unit {0}
+Describes descriptor (Runs method) = method.descriptor ≡ descriptor
 
 module _ (files : Program) where
-  counted_agrees : (n : ℕ) (ops : List Value) (chosen : Chosen) → referent words (map word_of ops) n ≡ referent values ops n
-      → Counts n chosen → ChosenAgrees ops chosen
-  counted_agrees n ops (Fails fault) e c = tt
-  counted_agrees n ops (Runs method) e c =
-      λ k p.
-      let at : n ≡ k = sym c ∙ (placed files method k p).place in
-      subst (λ j. unwrap_or (referent words (map word_of ops) j) 0 ≡ unwrap_or (referent values ops j) 0) at (ap (λ o. unwrap_or o 0) e)
+  chosen_agrees : (os : List ReferenceType) (descriptor : Name) (receiver : Want) (ops : List Value) (chosen : Chosen)
+      → is_object_want receiver ≡ true → Pairwise (value_meets files os) (wants_on files descriptor receiver) ops
+      → Describes descriptor chosen → ChosenAgrees ops chosen
+  chosen_agrees os descriptor receiver ops (Fails fault) o q d = tt
+  chosen_agrees os descriptor receiver ops (Runs method) o q d =
+      agrees_on files os method receiver ops o (subst (λ n. Pairwise (value_meets files os) (wants_on files n receiver) ops) (sym d) q)
 
   module _ (site : Site) (event : Event) (world : World) where
     run_words : (slots : Slots Value) (ops rest : List Value) (object : ℕ) (method : Member) (o : Option Body)
@@ -101,12 +100,12 @@ module _ (files : Program) where
   chosen_words None w v e = refl
   chosen_words (Some r) w v e = e r
 
-  counted_on : (n : ℕ) (o : Option ℕ) (v : ℕ → Chosen) → ((r : ℕ) → Counts n (v r)) → Counts n (of_receiver o v)
-  counted_on n None v c = tt
-  counted_on n (Some r) v c = c r
+  described_on : (d : Name) (o : Option ℕ) (v : ℕ → Chosen) → ((r : ℕ) → Describes d (v r)) → Describes d (of_receiver o v)
+  described_on d None v c = tt
+  described_on d (Some r) v c = c r
 
   module _ (site : Site) (method : Member) (receiver : Want) (leads : Slots VerificationType → List VerificationType → List VerificationType → List (ℕ × Slots VerificationType)) (w : WorldOf ℕ → ℕ → Chosen) (v : World → ℕ → Chosen)
-      (object : is_object_want receiver ≡ true) (same : (world : World) (r : ℕ) → w (world_words world) r ≡ v world r) (counts : (world : World) (r : ℕ) → Counts (parameter_count method) (v world r)) where
+      (object : is_object_want receiver ≡ true) (same : (world : World) (r : ℕ) → w (world_words world) r ≡ v world r) (describes : (world : World) (r : ℕ) → Describes method.descriptor (v world r)) where
     place_of : slice_get (argument_wants files method (receiver ∷ [])) (parameter_count method) ≡ Some receiver
     place_of =
         let wants = reverse (map (declared_want files) (parameters_declared method.descriptor)) in
@@ -129,8 +128,8 @@ module _ (files : Program) where
         → Pairwise (value_meets files (types_of world.heap)) (argument_wants files method (receiver ∷ [])) ops
         → ChosenAgrees ops (of_receiver (referent values ops (parameter_count method)) (v world))
     choice_agrees world ops q =
-        counted_agrees (parameter_count method) ops (of_receiver (referent values ops (parameter_count method)) (v world)) (receiver_words (types_of world.heap) ops q)
-        (counted_on (parameter_count method) (referent values ops (parameter_count method)) (v world) (counts world))
+        chosen_agrees (types_of world.heap) method.descriptor receiver ops (of_receiver (referent values ops (parameter_count method)) (v world)) object q
+        (described_on method.descriptor (referent values ops (parameter_count method)) (v world) (describes world))
 
     call_same : Same files (call_on values files site method (receiver ∷ []) leads v) (call_on words files site method (receiver
         ∷ []) leads w)
@@ -151,39 +150,39 @@ module _ (files : Program) where
 
   -- ---- which method is chosen
 
-  abbrev Found : ℕ → Option Member → Type 0
-  Found n None = Unit {0}
-  Found n (Some m) = parameter_count m ≡ n
+  abbrev Found : Name → Option Member → Type 0
+  Found d None = Unit {0}
+  Found d (Some m) = m.descriptor ≡ d
 
-  found_where : (b : Bool) (m : Member) → Found (parameter_count m) (where_so b m)
+  found_where : (b : Bool) (m : Member) → Found m.descriptor (where_so b m)
   found_where true m = refl
   found_where false m = tt
 
-  found_or : (n : ℕ) (o p : Option Member) → Found n o → Found n p → Found n (option_or o p)
-  found_or n None p f g = g
-  found_or n (Some m) p f g = f
+  found_or : (d : Name) (o p : Option Member) → Found d o → Found d p → Found d (option_or o p)
+  found_or d None p f g = g
+  found_or d (Some m) p f g = f
 
   found_first : (wanted : MethodTree → Bool) (m : Member) (classes : List Name)
-      → Found (parameter_count m) (first_found (method_in_class files wanted m) classes)
+      → Found m.descriptor (first_found (method_in_class files wanted m) classes)
   found_first wanted m [] = tt
   found_first wanted m (c ∷ cs) =
-      found_or (parameter_count m) (method_in_class files wanted m c) (first_found (method_in_class files wanted m) cs) (found_where (option_map_or wanted (method_of files (in_class c m)) false) (in_class c m)) (found_first wanted m cs)
+      found_or m.descriptor (method_in_class files wanted m c) (first_found (method_in_class files wanted m) cs) (found_where (option_map_or wanted (method_of files (in_class c m)) false) (in_class c m)) (found_first wanted m cs)
 
-  counts_if : (n : ℕ) (b : Bool) (x y : Chosen) → Counts n x → Counts n y → Counts n (if b then x else y)
-  counts_if n true x y f g = f
-  counts_if n false x y f g = g
+  describes_if : (d : Name) (b : Bool) (x y : Chosen) → Describes d x → Describes d y → Describes d (if b then x else y)
+  describes_if d true x y f g = f
+  describes_if d false x y f g = g
 
-  counts_concrete : (n : ℕ) (o : Option Member) → Found n o → Counts n (if_concrete files o)
-  counts_concrete n None f = tt
-  counts_concrete n (Some m) f = counts_if n (is_one is_abstract_method files m) (Fails _) (Runs m) tt f
+  describes_concrete : (d : Name) (o : Option Member) → Found d o → Describes d (if_concrete files o)
+  describes_concrete d None f = tt
+  describes_concrete d (Some m) f = describes_if d (is_one is_abstract_method files m) (Fails _) (Runs m) tt f
 
-  counts_selected : (class : Name) (m : Member) → Counts (parameter_count m) (selected files class m)
-  counts_selected class m =
-      counts_if (parameter_count m) (is_one is_private_method files m) (Runs m) (if_concrete files (select files class m)) refl (counts_concrete (parameter_count m) (select files class m) (found_first _ m _))
+  describes_selected : (class : Name) (m : Member) → Describes m.descriptor (selected files class m)
+  describes_selected class m =
+      describes_if m.descriptor (is_one is_private_method files m) (Runs m) (if_concrete files (select files class m)) refl (describes_concrete m.descriptor (select files class m) (found_first _ m _))
 
-  counts_implements : (n : ℕ) (b : Bool) (c : Chosen) → Counts n c → Counts n (if_implements b c)
-  counts_implements n true c f = f
-  counts_implements n false c f = tt
+  describes_implements : (d : Name) (b : Bool) (c : Chosen) → Describes d c → Describes d (if_implements b c)
+  describes_implements d true c f = f
+  describes_implements d false c f = tt
 
   selected_words : (world : World) (r : ℕ) (m : Member)
       → selected files (class_of_object (object_at (world_words world) r)) m ≡ selected files (class_of_object (object_at world r)) m
@@ -203,12 +202,12 @@ module _ (files : Program) where
       }
     where
       agrees : (ops : List Value) → Agrees (built_in_method method) ops
-      agrees ops k p = absurd (false≢true (sym (placed files method k p).instance ∙ static))
+      agrees ops k p = absurd (false≢true (sym (wanted files method k p).instance ∙ static))
 
   pub virtual_same : (site : Site) (named : Name) (method : Member)
       → Same files (virtual_call values files site named method) (virtual_call words files site named method)
   virtual_same site named method =
-      call_same site method (of_class files named) (leads_after files site method) _ _ refl (λ world r. selected_words world r method) (λ world r. counts_selected (class_of_object (object_at world r)) method)
+      call_same site method (of_class files named) (leads_after files site method) _ _ refl (λ world r. selected_words world r method) (λ world r. describes_selected (class_of_object (object_at world r)) method)
 
   pub interface_same : (site : Site) (named : Name) (method : Member)
       → Same files (interface_call values files site named method) (interface_call words files site named method)
@@ -217,12 +216,12 @@ module _ (files : Program) where
       (λ world r.
       ap (λ t. if_implements (is_subtype files t (ClassType named)) (selected files (class_of_object (object_at (world_words world) r)) method)) (ap type_of (object_at_words world r) ∙ type_words (object_at world r))
       ∙ ap (λ c. if_implements (is_subtype files (type_of (object_at world r)) (ClassType named)) c) (selected_words world r method))
-      (λ world r. counts_implements (parameter_count method) (is_subtype files (type_of (object_at world r)) (ClassType named)) (selected files (class_of_object (object_at world r)) method) (counts_selected (class_of_object (object_at world r)) method))
+      (λ world r. describes_implements method.descriptor (is_subtype files (type_of (object_at world r)) (ClassType named)) (selected files (class_of_object (object_at world r)) method) (describes_selected (class_of_object (object_at world r)) method))
 
   pub special_same : (site : Site) (named : Name) (method : Member)
       → Same files (special_call values files site named method) (special_call words files site named method)
   special_same site named method =
-      call_same site method (of_class files site.method.class) (leads_after files site method) _ _ refl (λ world r. refl) (λ world r. counts_selected (special_class files site.method.class named) method)
+      call_same site method (of_class files site.method.class) (leads_after files site method) _ _ refl (λ world r. refl) (λ world r. describes_selected (special_class files site.method.class named) method)
 
   pub constructor_same : (site : Site) (method : Member)
       → Same files (constructor_call values files site method) (constructor_call words files site method)

@@ -3,7 +3,7 @@ use Rattle.std.proofs.Common.{◌≡◌, ℕ, List, [], ◌∷◌, map, Bool, tr
 use Rattle.std.specs.Option.{option_map_or, option_and_then}
 use Rattle.std.proofs.lemmas.List.{map-append}
 use Rattle.model.specs.declared.value.Value.{Value}
-use Rattle.model.specs.Names.{Name, Member, member_eq}
+use Rattle.model.specs.Names.{Name, Member, member_eq, name_eq, java_lang_string}
 use Rattle.model.specs.Tree.{Entry, Utf8, Integer, Float, Long, Double, Class, String, Field, Method, InterfaceMethod, NameAndType, Unusable, FieldTree, FileTree}
 use Rattle.model.specs.Spelling.{entry_at}
 use Rattle.model.specs.Pool.{utf8_at}
@@ -14,9 +14,9 @@ use Rattle.model.specs.DescriptorScan.{field_type}
 use Rattle.model.specs.DescribedTypes.{DeclaredType, DeclaredInt, DeclaredReference, field_declared}
 use Rattle.model.specs.Lookup.{field_member, instance_fields}
 use Rattle.model.specs.Operands.{values, words, word_of}
-use Rattle.model.specs.State.{Waiter, WakeCause, ObjectOf, Instance, Primitives, References, InProgress, type_of, types_of, World, WorldOf}
+use Rattle.model.specs.State.{Waiter, WakeCause, ObjectOf, Instance, Primitives, References, InProgress, type_of, types_of, World, WorldOf, Characters}
 use Rattle.model.specs.Opening.{first_value, first_of, with_first, new_instance, string_reference}
-use Rattle.model.specs.Worlds.{woken, all_woken, allocated, no_object, object_at, with_object, value_in, with_value, fields_of, with_field, with_static, elements_of, with_element, element_kept, type_kept, put_value, class_of_object}
+use Rattle.model.specs.Worlds.{woken, all_woken, allocated, no_object, object_at, with_object, value_in, with_value, fields_of, with_field, with_static, elements_of, with_element, element_kept, type_kept, put_value, class_of_object, text_of}
 use Rattle.model.specs.ClassInitialisation.{constant_in, constant_of, constant_value, with_constant, with_constants, with_class_status, with_class_begun}
 use Rattle.model.specs.Words.{map_field, map_object, map_world}
 use Rattle.run_laws.proofs.laws.WordLists.{map_index, map_set, map_same}
@@ -33,6 +33,7 @@ pub type_words : (o : ObjectOf Value) → type_of (object_words o) ≡ type_of o
 type_words (Instance class fields) = refl
 type_words (Primitives of elements) = refl
 type_words (References of elements) = refl
+type_words (Characters text) = refl
 
 pub types_words : (heap : List (ObjectOf Value)) → types_of (map object_words heap) ≡ types_of heap
 types_words [] = refl
@@ -42,6 +43,7 @@ pub class_words : (o : ObjectOf Value) → class_of_object (object_words o) ≡ 
 class_words (Instance class fields) = refl
 class_words (Primitives of elements) = refl
 class_words (References of elements) = refl
+class_words (Characters text) = refl
 
 pub object_at_words : (world : World) (r : ℕ) → object_at (world_words world) r ≡ object_words (object_at world r)
 object_at_words world r = map_index object_words world.heap r no_object
@@ -91,12 +93,14 @@ pub fields_words : (o : ObjectOf Value) → fields_of (object_words o) ≡ map (
 fields_words (Instance class fields) = refl
 fields_words (Primitives of elements) = refl
 fields_words (References of elements) = refl
+fields_words (Characters text) = refl
 
 pub with_field_words : (field : Member) (v : Value) (o : ObjectOf Value)
     → with_field field (word_of v) (object_words o) ≡ object_words (with_field field v o)
 with_field_words field v (Instance class fields) = ap (λ l. Instance class l) (with_value_words field v fields)
 with_field_words field v (Primitives of elements) = refl
 with_field_words field v (References of elements) = refl
+with_field_words field v (Characters text) = refl
 
 -- ---- elements
 
@@ -104,12 +108,22 @@ pub elements_words : (o : ObjectOf Value) → elements_of (object_words o) ≡ m
 elements_words (Instance class fields) = refl
 elements_words (Primitives of elements) = refl
 elements_words (References of elements) = refl
+elements_words (Characters text) = refl
 
 pub with_element_words : (k : ℕ) (v : Value) (o : ObjectOf Value)
     → with_element k (word_of v) (object_words o) ≡ object_words (with_element k v o)
 with_element_words k v (Instance class fields) = refl
 with_element_words k v (Primitives of elements) = ap (λ l. Primitives of l) (map_set word_of elements k v)
 with_element_words k v (References of elements) = ap (λ l. References of l) (map_set word_of elements k v)
+with_element_words k v (Characters text) = refl
+
+-- ---- texts
+
+pub text_words : (o : ObjectOf Value) → text_of (object_words o) ≡ text_of o
+text_words (Instance class fields) = refl
+text_words (Primitives of elements) = refl
+text_words (References of elements) = refl
+text_words (Characters text) = refl
 
 -- ---- what a put keeps
 
@@ -150,7 +164,12 @@ pub with_static_words : (world : World) (field : Member) (v : Value)
 with_static_words world field v = ap (λ s. record (world_words world) { statics = s }) (with_value_words field v world.statics)
 
 pub new_words : (files : Program) (class : Name) → new_instance words files class ≡ object_words (new_instance values files class)
-new_words files class = ap (λ l. Instance class l) (map_same (map_field word_of) (with_first words) (with_first values) (instance_fields files class) with_first_words)
+new_words files class = by (name_eq class java_lang_string)
+  where
+    by : (b : Bool) → (if b then Characters [] else Instance class (map (with_first words) (instance_fields files class)))
+        ≡ object_words (if b then Characters [] else Instance class (map (with_first values) (instance_fields files class)))
+    by true = refl
+    by false = ap (λ l. Instance class l) (map_same (map_field word_of) (with_first words) (with_first values) (instance_fields files class) with_first_words)
 
 -- ---- constants of a class
 

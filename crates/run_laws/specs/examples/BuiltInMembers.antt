@@ -32,7 +32,8 @@ pub record BuiltInMembers : Type 0 where
   pub system : listing system_class ≡ codes "class java/lang/System extends java/lang/Object\nfield out Ljava/io/PrintStream; flags 0019\n"
   pub print_stream : listing print_stream_class
       ≡ codes "class java/io/PrintStream extends java/lang/Object\nmethod println()V flags 0101\nmethod println(C)V flags 0101\n"
-      ++ codes "method println(I)V flags 0101\nmethod print(C)V flags 0101\nmethod print(I)V flags 0101\n"
+      ++ (codes "method println(I)V flags 0101\nmethod println(Ljava/lang/String;)V flags 0101\nmethod print(C)V flags 0101\n"
+      ++ codes "method print(I)V flags 0101\nmethod print(Ljava/lang/String;)V flags 0101\n")
   -- each throwable has its constructor alone
   pub constructors : map (λ (file : FileTree). map (λ (m : MethodTree). m.flags) file.methods) throwables
       ≡ map (λ file. 0x0101 ∷ []) throwables

@@ -8,7 +8,7 @@ use Rattle.model.specs.declared.instr.FieldAccess.TheVariants as access
 use Rattle.model.specs.declared.instr.Instr.{Instr}
 use Rattle.model.specs.declared.instr.Instr.TheVariants as instr
 use Rattle.model.specs.declared.instr.Invocation.TheVariants as invocation
-use Rattle.model.specs.Names.{Name, name_eq, Member, java_lang_object, java_lang_throwable}
+use Rattle.model.specs.Names.{Name, name_eq, Member, java_lang_object, java_lang_throwable, java_lang_string}
 use Rattle.model.specs.Pool.{field_at, method_at, interface_method_at}
 use Rattle.model.specs.Classes.{Program, Body, body_of, is_interface, is_subclass}
 use Rattle.model.specs.Lookup.{find_field, field_of, is_instance_field}
@@ -16,7 +16,7 @@ use Rattle.model.specs.Linkable.{IsLinkable}
 use Rattle.model.specs.ReferenceTypes.{Primitive, Char, Short, Int, ReferenceType, ClassType, is_assignable}
 use Rattle.model.specs.DescribedTypes.{made_type}
 use Rattle.model.specs.Types.{is_byte_or_boolean}
-use Rattle.model.specs.State.{ObjectOf, Instance, Primitives, References, FrameOf, StateOf}
+use Rattle.model.specs.State.{ObjectOf, Instance, Primitives, References, FrameOf, StateOf, Characters}
 use Rattle.model.specs.Worlds.{class_of_object}
 use Rattle.model.specs.Calls.{parameter_count}
 use Rattle.model.specs.Sites.{Site, site_at}
@@ -30,6 +30,7 @@ abbrev pub is_instance_below : {A : Type 0} → Program → Name → ObjectOf A 
 is_instance_below files class (Instance own fields) = is_subclass files own class
 is_instance_below files class (Primitives of elements) = false
 is_instance_below files class (References of elements) = false
+is_instance_below files class (Characters text) = is_subclass files java_lang_string class
 
 -- the class whose methods it has, which is Object for an array, is the class or below it
 abbrev pub has_class_below : {A : Type 0} → Program → Name → ObjectOf A → Bool
@@ -39,6 +40,7 @@ abbrev pub is_array : {A : Type 0} → ObjectOf A → Bool
 is_array (Instance class fields) = false
 is_array (Primitives of elements) = true
 is_array (References of elements) = true
+is_array (Characters text) = false
 
 -- of the arrays of primitives that the loads and stores of a kind are for
 abbrev pub holds_kind : ArrayKind → Primitive → Bool
@@ -63,6 +65,7 @@ abbrev pub is_array_of : {A : Type 0} → ArrayKind → ObjectOf A → Bool
 is_array_of kind (Instance class fields) = false
 is_array_of kind (Primitives of elements) = holds_kind kind of
 is_array_of kind (References of elements) = is_reference_kind kind
+is_array_of kind (Characters text) = false
 
 abbrev pub is_any : {A : Type 0} → ObjectOf A → Bool
 is_any object = true

@@ -25,8 +25,10 @@ pub(crate) fn print_deed(before: &Before, method: PrintMethod) -> Deed {
         },
         PrintMethod::Println
         | PrintMethod::PrintlnChar
+        | PrintMethod::PrintlnString
         | PrintMethod::PrintChar
-        | PrintMethod::PrintInt => Deed::PrintsText,
+        | PrintMethod::PrintInt
+        | PrintMethod::PrintString => Deed::PrintsText,
     }
 }
 

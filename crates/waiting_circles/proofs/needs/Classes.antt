@@ -7,7 +7,7 @@ use Rattle.model.specs.Operands.{words}
 use Rattle.model.specs.State.{Phase, Super, End, Initialisation, StackOf, WorldOf}
 use Rattle.data_races.specs.EventActions.{needed_before}
 use Rattle.search_laws.specs.Waits.{Need, look_need, class_need, stack_need}
-use Rattle.linked_code.specs.Numbers.{IsClassAt, IsClassIf}
+use Rattle.linked_code.specs.Numbers.{IsClassAt}
 use Rattle.waiting_circles.specs.declared.needs.kinds.Need.TheVariants as the
 use Rattle.waiting_circles.specs.Needs.{IsNeed}
 
@@ -35,11 +35,6 @@ module _ (trees : Program) (frames t : ℕ) (world : WorldOf ℕ) (next : Option
 
     pub failed_class : HasFailed ≡ found → need_of (Some class) ≡ None
     failed_class e = ap (λ (l : Look). look_need l class next) (sym e)
-
--- a number of no class is of none
-pub none_first : (trees : Program) (o : Option Name) → IsClassIf trees None o → o ≡ None
-none_first trees None h = refl
-none_first trees (Some class) h = absurd h
 
 -- what a class on top needs
 module _ (trees : Program) (frames t : ℕ) (world : WorldOf ℕ) (class : Name) (rest : StackOf ℕ) where

@@ -1,5 +1,5 @@
 -- What a thread needs, by what is on top of its stack.
-use Rattle.std.proofs.Common.{◌≡◌, ℕ, zero, suc, List, [], ◌∷◌, Option, Some, None, refl, sym, ap, subst, ◌∙◌}
+use Rattle.std.proofs.Common.{◌≡◌, ℕ, List, [], ◌∷◌, Option, Some, None, sym, ap, subst, ◌∙◌}
 use Rattle.std.specs.Prelude.{slice_get}
 use Rattle.std.specs.Option.{option_and_then}
 use Rattle.model.specs.Classes.{Program}
@@ -22,41 +22,10 @@ use Rattle.machine_state.specs.declared.state.Shared.{Shared}
 use Rattle.machine_state.specs.Shown.{IsProgram, IsLent}
 use Rattle.machine_state.specs.linked_frames.Frames.{IsRunning}
 use Rattle.machine_state.specs.shown_stacks.Shown.{phase_of}
-use Rattle.machine_state.specs.state_events.Whole.{ShowsStacks, IsShown}
-use Rattle.machine_state.proofs.state_events.Places.{own_at}
+use Rattle.machine.proofs.thread_standings.Tops.{row_is}
+use Rattle.machine.proofs.thread_standings.States.{lent_of, no_stack}
 use Rattle.waiting_circles.specs.declared.needs.kinds.Need.{Need as TheNeed}
 use Rattle.waiting_circles.specs.Needs.{IsNeed, NeedsAtFrame, NeedsBeginning, NeedsInPhase, NeedsGoing, NeedsRunning, NeedsThere, NeedsNext}
-
--- ---- what is kept of a thread
-
--- the row of the thread is the thread
-row_is : (trees : Program) (p : LinkedProgram) (bounds : Bounds) (inflated : List ℕ) (t : ℕ) (shared : Shared) (stack : List ShownEntry)
-    (state : StateOf ℕ) (own : StackOf ℕ)
-    → IsLent trees p bounds inflated t shared stack state own → row_at shared.threads.threads t ≡ thread_at state.world t
-row_is trees p bounds inflated t shared stack state own lent = ap (λ (threads : List Thread). row_at threads t) lent.represents.world_is.threads
-
-none_at : (trees : Program) (p : LinkedProgram) (ss : List (List ShownEntry)) (ms : List (StackOf ℕ)) → ShowsStacks trees p ss ms → (t : ℕ)
-    → None ≡ slice_get ss t → slice_get ms t ≡ None
-none_at trees p [] [] h t e = refl
-none_at trees p [] (m ∷ ms) h t e = absurd h
-none_at trees p (s ∷ ss) [] h t e = absurd h
-none_at trees p (s ∷ ss) (m ∷ ms) h zero e = absurd cc
-none_at trees p (s ∷ ss) (m ∷ ms) h (suc t) e = none_at trees p ss ms h.1 t e
-
-module _ (trees : Program) (p : LinkedProgram) (bounds : Bounds) (inflated : List ℕ) (shared : Shared) (state : StateOf ℕ)
-    (h : IsShown trees p bounds inflated shared state) (t : ℕ) where
-  -- its own stack shows what is there
-  lent_of : (from : List ShownEntry) → Some from ≡ slice_get shared.stacks.items t
-      → (own : StackOf ℕ) × IsLent trees p bounds inflated t shared from state own
-  lent_of from e =
-      let own = own_at trees p shared.stacks.items state.stacks h.stacks t from (sym e) in (
-        own.own,
-        record { represents = h.represents; flags = h.flags; counted = h.counted; shows_stack = own.shows; is_own = own.is; typed = h.typed },
-      )
-
-  -- there is no such thread
-  no_stack : None ≡ slice_get shared.stacks.items t → slice_get state.stacks t ≡ None
-  no_stack e = none_at trees p shared.stacks.items state.stacks h.stacks t e
 
 -- ---- at an instruction
 

@@ -80,8 +80,10 @@ pub(crate) static CLASSES: [BuiltInClass; 30] = [
             Declared(0x0101, b"println", b"()V"),
             Declared(0x0101, b"println", b"(C)V"),
             Declared(0x0101, b"println", b"(I)V"),
+            Declared(0x0101, b"println", b"(Ljava/lang/String;)V"),
             Declared(0x0101, b"print", b"(C)V"),
             Declared(0x0101, b"print", b"(I)V"),
+            Declared(0x0101, b"print", b"(Ljava/lang/String;)V"),
         ],
     },
     BuiltInClass {

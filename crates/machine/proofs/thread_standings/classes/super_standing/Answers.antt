@@ -1,8 +1,8 @@
 use Rattle.std.proofs.Common.{Some, None, not, sym, ap, ◌∙◌}
 use Rattle.model.specs.Report as report
 use Rattle.model.specs.Step.{before}
-use Rattle.machine_state.proofs.class_initialisation.Supers.{some_first}
-use Rattle.machine.proofs.thread_standings.Enabled.{ends_on, ends_waiting, super_enabled, none_first}
+use Rattle.machine_state.proofs.class_initialisation.Supers.{some_first, none_first}
+use Rattle.machine.proofs.thread_standings.Enabled.{ends_on, ends_waiting, super_enabled}
 use Rattle.machine.proofs.thread_standings.classes.super_standing.Goals as goal
 
 pub returns-in-None : goal.returns-in-None

@@ -1,12 +1,12 @@
 use Rattle.std.proofs.Common.{Option, None, refl, sym, ap, subst, ◌∙◌}
 use Rattle.model.specs.Names.{Name}
 use Rattle.model.specs.Operands.{words}
-use Rattle.machine_state.proofs.class_initialisation.Supers.{some_first}
+use Rattle.machine_state.proofs.class_initialisation.Supers.{some_first, none_first}
 use Rattle.machine_state.specs.shown_stacks.Shown.{phase_of}
 use Rattle.data_races.specs.EventActions.{Initialises, needed_before}
 use Rattle.search_laws.specs.Waits.{class_need}
 use Rattle.waiting_circles.specs.Needs.{IsNeed}
-use Rattle.waiting_circles.proofs.needs.Classes.{none_first, phase_need}
+use Rattle.waiting_circles.proofs.needs.Classes.{phase_need}
 use Rattle.waiting_circles.proofs.needs.begins.initialisation_need.Goals as goal
 
 pub returns-in-Some : goal.returns-in-Some
