@@ -7,8 +7,7 @@ from oracle.listing import Lines, instruction
 from oracle.machine import Machine
 from oracle.opcodes import MNEMONICS, PRIMITIVES, SILENT
 from oracle.state import Initialisation, JavaThread, NotEnabled, Object, Value, component
-from oracle.texts import quoted
-from oracle.told import Spelled, Told
+from oracle.told import Told, spelled
 
 
 def ordinal(number: int) -> str:
@@ -72,9 +71,11 @@ class Traced(Machine):
         return super().allocated(thing, cells)
 
     def thing(self, thing: Object) -> str:
-        """An object by its class and its number."""
+        """An object by its class and its number, a String by its text and its number."""
         if id(thing) in self.named:
             return f"{self.named[id(thing)]}.class"
+        if thing.kind == "java/lang/String":
+            return f"{spelled(thing.text)} #{self.numbers.get(id(thing), 1)}"
         kind, arrays = thing.kind, 0
         while kind[0] == "[":
             kind, arrays = component(kind), arrays + 1
@@ -219,7 +220,7 @@ class Traced(Machine):
         if name in ("print", "println"):
             if (name, descriptor) == ("println", "(I)V"):
                 return [f"prints {before.stack[-1]}"]
-            return [Spelled(f"prints {quoted(self.printed[before.printed :])}")]
+            return [f"prints {spelled(self.printed[before.printed :])}"]
         if name in ("wait", "join") and thread.waits:
             return [f"waits on {self.thing(thread.waits[0])}"]
         if name in ("notify", "notifyAll"):

@@ -28,11 +28,11 @@ mod objects;
 mod parts;
 mod places;
 mod quotations;
+mod said;
 mod sorts;
 mod sources;
 mod threads;
 pub mod traced_events;
-mod values;
 mod words;
 
 pub use fold::{Fold, push_fold};
@@ -41,4 +41,5 @@ pub use line::{Line, push_line};
 pub use names::ProgramNames;
 pub use numbers::{push_number, push_words};
 pub use objects::class_object_of;
+pub use said::Said;
 pub use threads::push_thread;
