@@ -1,12 +1,12 @@
 /*
  * Types and operators: `Integer` and its kin: boxing and unboxing
  *
- * Boxing.java:13: the class java.lang.Integer, of boxing, or of a method of it: take int, char or boolean, or a class
- *     of your own
- * Boxing.java:14: the class java.lang.Boolean, of boxing, or of a method of it: take int, char or boolean, or a class
- *     of your own
- * Boxing.java:15: java.io.PrintStream.println(java.lang.Object): System.out prints ints, chars and Strings, and
- *     nothing else; print these
+ * Boxing.java:13: the class java.lang.Integer, of boxing, or of a method of it: take int, char or boolean, or a
+ *     class of your own
+ * Boxing.java:14: the class java.lang.Boolean, of boxing, or of a method of it: take int, char or boolean, or a
+ *     class of your own
+ * Boxing.java:15: java.io.PrintStream.println(java.lang.Object): System.out has println(int) alone; print ints, one
+ *     a line
  */
 class Boxing {
     public static void main(String[] words) {

@@ -1,11 +1,9 @@
-"""Kinds of states that runs come to: data races, uncaught exceptions, deadlocks (JLS 11.3, 17.1, 17.4.1; JVMS 5.5), and
-states from which no run ends.
+"""Kinds of states that runs come to: data races, uncaught exceptions, deadlocks (JLS 11.3, 17.1, 17.4.1; JVMS 5.5).
 
-What the next event of a thread accesses, and who holds what it needs, is read off the state that is there. Whether a run
-from a state ends is told by the states to which events lead.
+What the next event of a thread accesses, and who holds what it needs, is read off the state that is there.
 """
 
-from typing import Any, Dict, Iterator, List, NamedTuple, Optional, Sequence, Set, Tuple
+from typing import Any, Iterator, List, NamedTuple, Optional, Sequence, Set, Tuple
 
 from oracle.classes import Class, ClassReader
 from oracle.frames import Frame, short
@@ -13,7 +11,7 @@ from oracle.machine import ELEMENTS, Machine
 from oracle.state import JavaThread, NotEnabled, Refused, component
 
 # The kinds, in the order in which they are told.
-KINDS = ["race", "uncaught", "deadlock", "endless"]
+KINDS = ["race", "uncaught", "deadlock"]
 
 VOLATILE = 0x0040
 
@@ -118,29 +116,11 @@ def is_deadlocked(machine: Machine) -> bool:
     return is_stuck or has_circle(machine)
 
 
-# ---- endless states
-
-
-def first_endless(led: Sequence[Set[int]]) -> Optional[int]:
-    """The first state from which no run ends. Of each state there are the numbers of those to which its events lead."""
-    before: Dict[int, List[int]] = {}
-    for number, numbers in enumerate(led):
-        for one in numbers:
-            before.setdefault(one, []).append(number)
-    ending = {number for number, numbers in enumerate(led) if not numbers}
-    waiting = list(ending)
-    while waiting:
-        further = set(before.get(waiting.pop(), ())) - ending
-        ending |= further
-        waiting += further
-    return next((number for number in range(len(led)) if number not in ending), None)
-
-
 # ---- all of them
 
 
 def kinds_of(machine: Machine) -> Set[str]:
-    """The kinds that the state of a machine is of by itself."""
+    """The kinds of the state of a machine."""
     found = {
         "race": is_racy(machine),
         "uncaught": any(thread.has_ended and thread.pending for thread in machine.threads),

@@ -43,8 +43,8 @@ from oracle.state import JavaThread, NotEnabled, Refused
 from tools.cases import before_cases, blocks_of, file_lines, grouped, store, stored
 from tools.repository import CONFORMANCE, ROOT, compiled
 
-# What java prints, a character for each byte, and the exceptions that end its threads.
-Java = Tuple[str, List[str]]
+# What java prints, and the exceptions that end its threads.
+Java = Tuple[List[str], List[str]]
 
 # A name, how the schedule is made, options, and how many events there are at most.
 Way = Tuple[str, str, str, Optional[int]]
@@ -57,7 +57,6 @@ TOPICS = {
     " StopFlag",
     "waiting": "OneSlot BoundedBuffer PingPong Barrier Semaphore NestedEntries Notified ReadersWriter Workers",
     "threads": "Interrupts InterruptedJoin Holder FailingInitialisers CrossedInitialisers",
-    "prints": "Hello Letters Surrogates Unfinished NoStream Quoted OneLine Words TwoVoices",
 }
 
 # Further cases of a program.
@@ -84,8 +83,6 @@ FURTHER: Dict[str, List[Way]] = {
     "CrossedInitialisers": [("blocked", "hostile+1", "", None)],
     "Notified": [("beyond", "hostile+2", "", None)],
     "Interrupts": [("objects", "whole", "--objects 1", None)],
-    "Surrogates": [("half", "alone", "", 112)],
-    "OneLine": [("halves", "0*11 1*7 0*", "", None), ("cut", "0*11 1*4", "", 15)],
 }
 
 # No run goes on beyond so many events.
@@ -176,10 +173,9 @@ class Program:
 
     def java(self) -> Java:
         """What `java` prints, and the exceptions that end its threads."""
-        words = ["java", "-Dfile.encoding=UTF-8", "-cp", str(self.folder), self.name]
-        ran = subprocess.run(words, capture_output=True, encoding="latin-1", timeout=60)
+        ran = subprocess.run(["java", "-cp", self.folder, self.name], capture_output=True, text=True, timeout=60)
         thrown = re.findall(r'^Exception in thread "[^"]*" ([\w.$]+)', ran.stderr, re.MULTILINE)
-        return ran.stdout, sorted(name.replace(".", "/") for name in thrown)
+        return ran.stdout.splitlines(), sorted(name.replace(".", "/") for name in thrown)
 
     def runs(self) -> List[Way]:
         """Names of cases, with the way of the schedule, options, and the most events."""
@@ -195,14 +191,10 @@ def limits_of(options: str) -> Dict[str, int]:
 
 def differs(program: Program, report: str, java: Optional[Java]) -> bool:
     """Whether a report of a run to the end says something else than java."""
-    at = f"\n{report}".rindex("\nthread 0 ")
-    thrown = sorted(re.findall(r"(?m)^thread \d+ threw (.*)$", report[at:]))
-    return java is None or (report[:at], thrown) != (ended(java[0]), java[1])
-
-
-def ended(text: str) -> str:
-    """A text whose last line is ended."""
-    return f"{text}\n" if text and not text.endswith("\n") else text
+    lines = report.splitlines()
+    printed = [line for line in lines if re.fullmatch(r"-?[0-9]+", line)]
+    thrown = sorted(line.split()[3] for line in lines if " threw " in line)
+    return (printed, thrown) != java
 
 
 def cases_of(program: Program, java: Optional[Java]) -> Tuple[str, str, List[str]]:

@@ -20,18 +20,17 @@ import pathlib
 import re
 import sys
 import tempfile
-from typing import Any, Dict, Iterable, Iterator, List, Optional, Sequence, Set, Tuple, Union
+from typing import Any, Dict, Iterator, List, Optional, Sequence, Set, Tuple, Union
 
 sys.dont_write_bytecode = True
 sys.path.insert(0, str(pathlib.Path(__file__).resolve().parent.parent))
 
 from oracle.frames import Frame
-from oracle.kinds import KINDS, first_endless, kinds_of, race_line
+from oracle.kinds import KINDS, kinds_of, race_line
 from oracle.lessons import LESSONS, class_files
-from oracle.machine import Machine, status_of, text_of, thread_lines
+from oracle.machine import Machine, status_of, text_of
 from oracle.schedules import Event
 from oracle.state import Initialisation, JavaThread, NotEnabled, Object, Refused, Value
-from oracle.texts import in_utf8, printed_lines, text_order
 from tools.cases import file_lines, store, stored
 from tools.repository import CONFORMANCE, ROOT, compiled
 
@@ -39,7 +38,7 @@ from tools.repository import CONFORMANCE, ROOT, compiled
 RANKS = ["ended", "threw", "blocked", "waiting", "joining", "initialising"]
 
 
-# The units that were printed, and how each thread stands.
+# What was printed, and how each thread stands.
 Outcome = Tuple[Tuple[int, ...], Tuple[str, ...]]
 
 # A value as it tells a state apart.
@@ -191,30 +190,25 @@ def is_wanted(goal: Optional[str], outcome: Outcome) -> bool:
     if goal == "uncaught":
         return any(state.startswith("threw") for state in threads)
     if goal and goal.startswith("differs="):
-        return printed_lines(printed) != text_at(goal.removeprefix("differs="))
-    numbers = [number for number in (goal or "").removeprefix("output=").split(",") if number]
-    return goal is not None and goal.startswith("output=") and in_utf8(printed) == lines_of_ints(numbers)
+        return "".join(f"{number}\n" for number in printed) != text_at(goal.removeprefix("differs="))
+    return goal is not None and goal == "output=" + ",".join(map(str, printed))
 
 
 def text_at(path: str) -> str:
     """A text that is given below, or else lies there."""
-    numbers = TEXTS.get(path)
-    return pathlib.Path(path).read_text(encoding="latin-1") if numbers is None else lines_of_ints(numbers)
-
-
-def lines_of_ints(numbers: Iterable[Union[int, str]]) -> str:
-    return "".join(f"{number}\n" for number in numbers)
+    lines = TEXTS.get(path)
+    return pathlib.Path(path).read_text() if lines is None else "".join(f"{line}\n" for line in lines)
 
 
 def order(outcome: Outcome) -> Tuple[Any, ...]:
     """Where an outcome stands in a list."""
     printed, threads = outcome
-    return text_order(printed), tuple((RANKS.index(state.split(" ")[0]), state.encode()) for state in threads)
+    return printed, tuple((RANKS.index(state.split(" ")[0]), state.encode()) for state in threads)
 
 
-def lines_of(outcome: Outcome) -> str:
+def lines_of(outcome: Outcome) -> List[str]:
     printed, threads = outcome
-    return printed_lines(printed) + thread_lines(threads)
+    return [*map(str, printed), *(f"thread {number} {state}" for number, state in enumerate(threads))]
 
 
 class Seen:
@@ -239,12 +233,12 @@ class Seen:
         self.outcomes.add(outcome)
         return False
 
-    def text(self) -> str:
+    def lines(self) -> List[str]:
         """The outcomes, and the kinds."""
-        outcomes = enumerate(sorted(self.outcomes, key=order), 1)
-        parts = [f"outcome {number}\n{lines_of(outcome)}" for number, outcome in outcomes]
-        kinds = [f"kind {kind}\n" for kind in KINDS if kind in self.kinds]
-        return "".join([*parts, f"outcomes {len(self.outcomes)}\n", *kinds])
+        text: List[str] = []
+        for number, outcome in enumerate(sorted(self.outcomes, key=order), 1):
+            text += [f"outcome {number}", *lines_of(outcome)]
+        return [*text, f"outcomes {len(self.outcomes)}", *(f"kind {kind}" for kind in KINDS if kind in self.kinds)]
 
 
 def search(
@@ -252,32 +246,23 @@ def search(
 ) -> Tuple[str, int, Optional[Numbered]]:
     """What `jvm search` prints, its status, and the machine that was found. Where the search isn't reduced there are
     more states, and no event is followed by others."""
-    met = {at(files, ()).key(): 0}
+    met = {at(files, ()).key()}
     states: List[Tuple[Event, ...]] = [()]
-    led: List[Set[int]] = []
     seen = Seen(goal)
     for events in states:
-        led.append(set())
         for after, machine in following(files, events, is_reduced):
             key = machine.key()
             if key not in met:
                 if len(states) == most:
                     return last_lines(states, "gave up"), 5, None
-                met[key] = len(states)
+                met.add(key)
                 states.append(after)
-            led[-1].add(met[key])
         machine = at(files, events)
         if seen.is_found(machine):
             return text_of(machine, end_of(machine)) + last_lines(states, "found"), 1, machine
-    endless = first_endless(led)
-    if endless is not None:
-        if goal in ("endless", "any"):
-            machine = at(files, states[endless])
-            return text_of(machine, end_of(machine)) + last_lines(states, "found"), 1, machine
-        seen.kinds.add("endless")
     scope = ["of runs that end"] if "race" in seen.kinds else ["of runs that end", race_line(at(files, ()), files)]
-    status = 4 if seen.kinds & {"deadlock", "endless"} else 0
-    return seen.text() + last_lines(states, "complete", scope), status, None
+    text = "\n".join([*seen.lines(), last_lines(states, "complete", scope)])
+    return text, 4 if "deadlock" in seen.kinds else 0, None
 
 
 def end_of(machine: Numbered) -> str:
@@ -322,22 +307,11 @@ PROGRAMS = [
     ("kinds/CircleBesideLoop", "--for race"),
     ("kinds/CircleBesideLoop", "--for output="),
     ("kinds/ClassesBesideLoop", "--for deadlock"),
-    ("kinds/PrintsInOneLine", "--for output=-17"),
-    ("kinds/PrintsInOneLine", "--for output=-7,1"),
-    ("kinds/PrintsWords", "--for output=10"),
     ("kinds/ThrowsBesideLoop", "--for uncaught"),
     ("kinds/ThrowsBesideLoop", "--for any"),
     ("kinds/WaitsBesideLoop", "--for any"),
     ("kinds/AllKinds", "--for uncaught"),
     ("kinds/AllKinds", "--for deadlock"),
-    ("kinds/AllKinds", "--for endless"),
-    ("kinds/CircleBesideLoop", "--for endless"),
-    ("kinds/FlagOnceSeen", "--for endless"),
-    ("kinds/FlagOnceSeen", "--for endless --states 4"),
-    ("kinds/FlagThatIsSet", "--for endless"),
-    ("kinds/FlagThatIsSet", "--for any"),
-    ("kinds/LoopsForEver", "--for any"),
-    ("kinds/TwoThatYield", "--for endless"),
 ]
 
 # The texts that printed numbers are compared with, by their lines.
@@ -433,7 +407,7 @@ def write() -> None:
         text, printed = of_program(source)
         lines, shown = [*lines, *text], shown + printed
     (CONFORMANCE / "data/kinds.cases").write_text("\n".join(lines))
-    store(stored().split("case search-lost-update-")[0] + shown)
+    store(stored().split("case search-lost-update-")[0] + shown.encode().decode("latin-1"))
 
 
 def main() -> int:
@@ -443,7 +417,7 @@ def main() -> int:
     words = words_of(sys.argv[1:])
     files = [pathlib.Path(path).read_bytes() for path in words.files]
     text, status, _ = search(files, words.goal, words.states, not words.all_events)
-    sys.stdout.buffer.write(text.encode("latin-1"))
+    sys.stdout.write(text)
     return status
 
 

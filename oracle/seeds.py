@@ -5,7 +5,7 @@
 
 POLICY is `mixed`, `random` or `rotation`; SEEDS is a number or two with `-` between them, both included; for `rotation`
 they are quantums. The first class file has the `main`. For each a line is printed: the number, the schedule as text,
-behind a bar the lines that are printed, and behind another one how each thread stands, by a letter.
+behind a bar the numbers that are printed, and behind another one how each thread stands, by a letter.
 """
 
 import argparse
@@ -19,7 +19,6 @@ sys.path.insert(0, str(pathlib.Path(__file__).resolve().parent.parent))
 from oracle.machine import Machine
 from oracle.schedules import Event, text_of_events
 from oracle.state import NotEnabled, Refused
-from oracle.texts import in_utf8, lines_in
 
 WORD = 2**64 - 1
 
@@ -139,7 +138,7 @@ def mixed(run: Run, seed: int) -> None:
 def line_of(policy: str, number: int, files: Sequence[bytes], most: int) -> str:
     run = Run(files, most)
     {"mixed": mixed, "random": random, "rotation": rotation}[policy](run, number)
-    printed = " ".join(in_utf8(line) for line in lines_in(run.machine.printed))
+    printed = " ".join(map(str, run.machine.printed))
     states = " ".join(run.machine.state(thread)[0] for thread in range(len(run.machine.threads)))
     return f"{number}  {text_of_events(run.events)} | {printed}|{states}"
 
@@ -154,8 +153,7 @@ def main() -> None:
     files = [path.read_bytes() for path in options.files]
     first, _, last = options.seeds.partition("-")
     for number in range(int(first), int(last or first) + 1):
-        line = line_of(options.policy, number, files, options.budget)
-        sys.stdout.buffer.write(f"{line}\n".encode("latin-1"))
+        print(line_of(options.policy, number, files, options.budget))
 
 
 if __name__ == "__main__":

@@ -5,7 +5,6 @@ from typing import Any, Callable, Dict, Iterator, List, Mapping, Optional, Seque
 from oracle.classes import PRIVATE, STATIC, Class, Method, built_in_classes, narrowed, read_class
 from oracle.frames import Frame, short
 from oracle.opcodes import LOCAL, MNEMONICS
-from oracle.texts import decoded
 
 # What an event does.
 Action = Callable[[], None]
@@ -38,8 +37,6 @@ class Object:
         self.kind = kind
         self.fields: Dict[Tuple[str, str, str], Value] = {}
         self.elements: Optional[List[Value]] = None
-        # Of a String its UTF-16 code units.
-        self.text: List[int] = []
         self.owner: Optional[JavaThread] = None
         self.entries = 0
         self.waiters: List[JavaThread] = []
@@ -111,17 +108,9 @@ class State:
         self.classes["java/lang/System"].statics["out"] = Object("java/io/PrintStream")
         self.initial, self.done = read[0], 0
         self.strings: Dict[str, Object] = {}
-        # The text that was printed: UTF-16 code units.
         self.printed: List[int] = []
         self.objects = self.cells = self.monitors = 0
         self.threads = [JavaThread(self.made("java/lang/Thread"))]
-
-    def string(self, text: str) -> Object:
-        """The String of a constant, whose bytes are characters here."""
-        if text not in self.strings:
-            self.strings[text] = Object("java/lang/String")
-            self.strings[text].text = decoded(text.encode("latin-1"))
-        return self.strings[text]
 
     # Classes
 

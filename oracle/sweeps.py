@@ -67,12 +67,12 @@ class Sweep:
 
     def text(self, repeated: str) -> str:
         """The text, of which the last line has these words behind the seed where one shows what is wanted."""
-        parts: List[str] = []
+        lines: List[str] = []
         outcomes = [(shown[1], seeds) for shown, seeds in self.shown.items() if shown[1] is not None]
         for number, (outcome, seeds) in enumerate(outcomes, 1):
-            parts.append(f"outcome {number}\n{lines_of(outcome)}")
-            parts.append(f"runs {len(seeds)} of {self.runs}, first seed {seeds[0]}\n")
-        lines = [f"outcomes {len(outcomes)}"]
+            lines += [f"outcome {number}", *lines_of(outcome)]
+            lines += [f"runs {len(seeds)} of {self.runs}, first seed {seeds[0]}"]
+        lines += [f"outcomes {len(outcomes)}"]
         for (word, shown_outcome), seeds in self.shown.items():
             if shown_outcome is None:
                 lines += [f"{word} {len(seeds)} runs, first seed {seeds[0]}"]
@@ -81,7 +81,7 @@ class Sweep:
         lines += [f"runs {self.runs}, seeds {self.first}..{last}", f"events {self.events}", f"once {once}"]
         lines += [f"unseen at most {min(once + 3, self.runs)} in {self.runs} runs of {self.words.policy}"]
         lines += ["sweep found", f"jvm run --seed {last}{repeated}"] if self.is_found else ["sweep done"]
-        return "".join([*parts, *(f"{line}\n" for line in lines)])
+        return "".join(f"{line}\n" for line in lines)
 
 
 # The lessons that are swept: folder, class files, and options.

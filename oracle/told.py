@@ -4,25 +4,17 @@ import json
 import re
 from typing import Dict, List, Match, Sequence, Union
 
-from oracle.texts import decoded
-
 # What a member of a line of JSON has: a text of class files, or a number.
 Part = Union[str, int]
 
 
 def java_text(text: str) -> str:
     """A text of class files, a character for each byte, as the UTF-16 code units that it spells (JVMS 4.4.7)."""
-    return "".join(map(chr, decoded(text.encode("latin-1"))))
-
-
-class Spelled(str):
-    """Words that are in one line already."""
+    return text.encode("latin-1").replace(b"\xc0\x80", b"\0").decode("utf-8", "surrogatepass")
 
 
 def in_one_line(text: str) -> str:
     """A line in which a backslash is doubled, and a control character is `\\x` and its two digits."""
-    if isinstance(text, Spelled):
-        return text
     doubled = text.replace("\\", "\\\\")
     return re.sub(r"[\x00-\x1f\x7f]", lambda found: f"\\x{ord(found[0]):02x}", doubled)
 
@@ -49,19 +41,17 @@ class Told:
         self.number, self.thread, self.is_local = number, thread, is_local
         self.method, self.source, self.instruction = place
         self.did = ", ".join(words)
-        self.did_in_one_line = ", ".join(map(in_one_line, words))
 
     def words(self) -> str:
         parts = [str(self.thread), self.method, self.source, self.instruction]
-        line = in_one_line(" ".join(part for part in parts if part))
-        return line + (f" | {self.did_in_one_line}" if self.did else "")
+        return " ".join(part for part in parts if part) + (f" | {self.did}" if self.did else "")
 
     def line(self, form: str) -> str:
         if form == "json":
             return json_line(self.members())
         if form == "columns":
-            return f"{self.number:7} {24 * min(self.thread, 7) * ' '}{self.words()}"
-        return f"{self.number} {self.words()}"
+            return f"{self.number:7} {24 * min(self.thread, 7) * ' '}{in_one_line(self.words())}"
+        return f"{self.number} {in_one_line(self.words())}"
 
     def members(self) -> Dict[str, Part]:
         members: Dict[str, Part] = {"event": self.number, "thread": self.thread}
@@ -89,7 +79,7 @@ class Folded(Told):
         super().__init__(first.number, first.thread, (first.method, "", ""), [did], True)
 
     def words(self) -> str:
-        return in_one_line(f"{self.thread} {self.method}..{self.to}") + f" | {self.did}"
+        return f"{self.thread} {self.method}..{self.to} | {self.did}"
 
     def members(self) -> Dict[str, Part]:
         members = {key: part for key, part in super().members().items() if key != "did"}

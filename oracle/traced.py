@@ -7,8 +7,7 @@ from oracle.listing import Lines, instruction
 from oracle.machine import Machine
 from oracle.opcodes import MNEMONICS, PRIMITIVES, SILENT
 from oracle.state import Initialisation, JavaThread, NotEnabled, Object, Value, component
-from oracle.texts import quoted
-from oracle.told import Spelled, Told
+from oracle.told import Told
 
 
 def ordinal(number: int) -> str:
@@ -26,8 +25,6 @@ class Before(NamedTuple):
     stack: List[Value]
     waiting: Dict[int, List[JavaThread]]
     pick: int
-    # How many units were printed.
-    printed: int
 
     def frame(self) -> Frame:
         assert isinstance(self.top, Frame)
@@ -41,12 +38,12 @@ class Before(NamedTuple):
         return found
 
 
-def seen_before(thread: JavaThread, pick: int, printed: int) -> Before:
+def seen_before(thread: JavaThread, pick: int) -> Before:
     top = thread.top()
     stack = list(top.stack) if isinstance(top, Frame) else []
     waiting = {id(one): list(one.waiters) for one in stack if isinstance(one, Object)}
     at = top.at if isinstance(top, Frame) else 0
-    return Before(top, len(thread.entries), thread.frames(), at, stack, waiting, pick, printed)
+    return Before(top, len(thread.entries), thread.frames(), at, stack, waiting, pick)
 
 
 class Traced(Machine):
@@ -60,7 +57,7 @@ class Traced(Machine):
         texts = [value for one in self.classes.values() for sort, value in one.pool.values() if sort == "string"]
         self.next = 3 + len(self.classes) + len(dict.fromkeys(texts))
         for place, text in enumerate(dict.fromkeys(texts)):
-            self.numbers[id(self.string(text))] = 3 + len(self.classes) + place
+            self.numbers[id(self.strings.setdefault(text, Object("java/lang/String")))] = 3 + len(self.classes) + place
         given = list(self.classes.values())[-len(files) :]
         self.sources = {one.name: lines for one, lines in zip(given, map(Lines, files))}
         self.named = {id(one.object): one.name for one in self.classes.values()}
@@ -106,7 +103,7 @@ class Traced(Machine):
 
     def words(self, thread: JavaThread, number: int, pick: int) -> List[str]:
         """Does an event, and answers what it did."""
-        pending, relock, before = thread.pending, thread.relock, seen_before(thread, pick, len(self.printed))
+        pending, relock, before = thread.pending, thread.relock, seen_before(thread, pick)
         self.step(number, pick)
         thrown = thread.pending if thread.pending is not None and thread.pending is not pending else None
         words: List[str] = []
@@ -216,10 +213,8 @@ class Traced(Machine):
     def built_in_words(self, thread: JavaThread, before: Before) -> List[str]:
         owner, name, descriptor = before.member()
         this = before.stack[-1] if before.stack else None
-        if name in ("print", "println"):
-            if (name, descriptor) == ("println", "(I)V"):
-                return [f"prints {before.stack[-1]}"]
-            return [Spelled(f"prints {quoted(self.printed[before.printed :])}")]
+        if name == "println":
+            return [f"prints {self.printed[-1]}"]
         if name in ("wait", "join") and thread.waits:
             return [f"waits on {self.thing(thread.waits[0])}"]
         if name in ("notify", "notifyAll"):

@@ -12,7 +12,6 @@ import argparse
 import pathlib
 import re
 import sys
-import tempfile
 from typing import Any, Dict, List, Optional, Sequence, Tuple
 
 sys.dont_write_bytecode = True
@@ -27,7 +26,7 @@ from oracle.traced import Traced
 from tools.cases import file_lines, store, stored
 from tools.class_files import METHODREF, NAME_AND_TYPE, Handler, attribute, class_file, code_attribute, counted, member
 from tools.class_files import named_class, pair, stored_utf8, u2, utf8
-from tools.repository import CONFORMANCE, ROOT, compiled
+from tools.repository import CONFORMANCE
 
 
 def numbers_of(text: Optional[str]) -> Optional[List[int]]:
@@ -209,23 +208,7 @@ def cases() -> Tuple[str, str]:
     text += ["# Outside of JSON a line of an event is one line, too.", "case trace-names-in-words"]
     text += ["  trace --schedule lined.schedule names/A.class"]
     printed += f"case trace-names-in-words\n{told}status {status}\n"
-    lines, shown = traced_prints()
-    return "\n".join([*text, *lines, ""]), printed + shown
-
-
-def traced_prints() -> Tuple[List[str], str]:
-    """The lines of the cases of a program that prints, and what they have to print."""
-    with tempfile.TemporaryDirectory() as folder:
-        data = compiled([ROOT / "programs/Quoted.java"], folder)[0].read_bytes()
-    text = ["", "# What is printed is told in quotation marks, but for a println of an int.", "text prints.schedule"]
-    text += ["  0*37", *file_lines("prints/Quoted.class", data)]
-    printed = ""
-    for form in ("plain", "json"):
-        told, status = trace([data], [Entry(0, 0, 37)], form=form)
-        given, case = ("", "trace-prints") if form == "plain" else (f" --{form}", f"trace-prints-{form}")
-        text += [f"case {case}", f"  trace{given} --schedule prints.schedule prints/Quoted.class"]
-        printed += f"case {case}\n{told}status {status}\n"
-    return text, printed
+    return "\n".join([*text, ""]), printed
 
 
 def write() -> None:

@@ -8,7 +8,6 @@ from oracle.frames import Frame, local
 from oracle.machine import Machine, replay
 from oracle.schedules import Entry
 from oracle.state import NotEnabled
-from oracle.texts import decoded, in_utf8, printed_lines, quoted, text_order, units_of
 from oracle.told import json_line
 from oracle.traces import lined, trace
 from tools.class_files import class_with_main
@@ -69,29 +68,6 @@ class Instructions(unittest.TestCase):
         self.assertEqual([frame_after(switch, [key]).at for key in (4, 5, 6, 7)], [32, 24, 28, 32])
         pairs = "ab 000000 00000010 00000001 ffffffff 00000014"
         self.assertEqual([frame_after(pairs, [key]).at for key in (-1, 1)], [20, 16])
-
-
-class Texts(unittest.TestCase):
-    def test_bytes_that_begin_no_unit_are_units(self) -> None:
-        self.assertEqual(decoded(b"a\xc3\xa9\xe2\x82\xac"), [0x61, 0xE9, 0x20AC])
-        self.assertEqual(decoded(b"\xc3\xc3\xa9\xe2\x82A\x80"), [0xC3, 0xE9, 0xE2, 0x82, 0x41, 0x80])
-        self.assertEqual(decoded(b"\xc0\x80\xe0\x83\xa9"), [0, 0xE9])
-        self.assertEqual(decoded(b"\xed\xa0\xbd\xed\xb8\x80"), units_of("\U0001f600"))
-
-    def test_a_half_of_a_pair_is_a_question_mark(self) -> None:
-        high, low = units_of("\U0001f600")
-        self.assertEqual(in_utf8([high, low, low, high]), "\U0001f600??".encode().decode("latin-1"))
-
-    def test_the_last_line_is_ended(self) -> None:
-        self.assertEqual([printed_lines(units_of(text)) for text in ("", "\n", "a\nb")], ["", "\n", "a\nb\n"])
-
-    def test_lines_that_are_ints_come_first(self) -> None:
-        texts = ["", "-2", "9\n", "9\n8", "9\na", "10", "+1", "01", "2147483648", "a"]
-        self.assertEqual(sorted(reversed(texts), key=lambda text: text_order(units_of(text))), texts)
-
-    def test_a_trace_tells_forty_units(self) -> None:
-        self.assertEqual(quoted(units_of('"\\\n\x7f')), '"\\"\\\\\\n\\u007f"')
-        self.assertEqual(quoted([97] * 41), f'"{"a" * 40}.."')
 
 
 class Runs(unittest.TestCase):

@@ -1,4 +1,4 @@
-/** Two threads take two locks in opposite orders, beside one that goes on for ever. Kinds: deadlock, endless. */
+/** Two threads take two locks in opposite orders, beside one that goes on for ever. Kinds: deadlock. */
 class CircleBesideLoop extends Thread {
     final Object first;
     final Object second;

@@ -1,4 +1,4 @@
-/** Two threads initialise two classes that need each other, beside one that goes on for ever. Kinds: deadlock, endless. */
+/** Two threads initialise two classes that need each other, beside one that goes on for ever. Kinds: deadlock. */
 class ClassesBesideLoop extends Thread {
     final boolean isFirst;
 

@@ -1,4 +1,4 @@
-/** A thread ends by an exception that nothing catches, beside one that goes on for ever. Kinds: uncaught, endless. */
+/** A thread ends by an exception that nothing catches, beside one that goes on for ever. Kinds: uncaught. */
 class ThrowsBesideLoop extends Thread {
     public void run() {
         int[] none = null;

@@ -1,4 +1,4 @@
-/** A thread waits for a notify that never comes, beside one that goes on for ever. Kinds: endless. */
+/** A thread waits for a notify that never comes, beside one that goes on for ever. No kind. */
 class WaitsBesideLoop extends Thread {
     public void run() {
         synchronized (this) {

@@ -192,11 +192,10 @@ searched_word word goals.Uncaught is = is
 searched_word word (goals.Output ints) is = is
 searched_word word (goals.Differs path) is = is
 
--- a word that is none of the other three, and names no outcome of runs
-module _ (word : Text) (no_race : word ≡ codes "race" → ⊥) (not_endless : word ≡ codes "endless" → ⊥) (not_any : word ≡ codes "any" → ⊥) (none : (goal : Goal) → IsGoalWord word goal → ⊥) where
+-- a word that is neither of the other two, and names no outcome of runs
+module _ (word : Text) (no_race : word ≡ codes "race" → ⊥) (not_any : word ≡ codes "any" → ⊥) (none : (goal : Goal) → IsGoalWord word goal → ⊥) where
   pub none_searched : (goal : SearchGoal) → IsSearchGoalWord word goal → ⊥
   none_searched sought.Race is = no_race is
-  none_searched sought.Endless is = not_endless is
   none_searched sought.Any is = not_any is
   none_searched sought.Uncaught is = none goals.Uncaught is
   none_searched sought.Deadlock is = none goals.Deadlock is

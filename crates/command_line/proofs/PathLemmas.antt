@@ -24,7 +24,6 @@ goal_apart written value None other is is_other apart = tt
 goal_apart written value (Some sought.Race) other is is_other apart = tt
 goal_apart written value (Some sought.Uncaught) other is is_other apart = tt
 goal_apart written value (Some sought.Deadlock) other is is_other apart = tt
-goal_apart written value (Some sought.Endless) other is is_other apart = tt
 goal_apart written value (Some sought.Any) other is is_other apart = tt
 goal_apart written value (Some (sought.Output ints)) other is is_other apart = tt
 goal_apart written None (Some (sought.Differs path)) other is is_other apart = elim is [ ]
@@ -32,7 +31,6 @@ goal_apart written (Some word) (Some (sought.Differs path)) None is is_other apa
 goal_apart written (Some word) (Some (sought.Differs path)) (Some sought.Race) is is_other apart = let bad : 100 ≡ 114 = ap (byte 0) (sym is ∙ is_other) in absurd (omega (arith, bad))
 goal_apart written (Some word) (Some (sought.Differs path)) (Some sought.Uncaught) is is_other apart = let bad : 100 ≡ 117 = ap (byte 0) (sym is ∙ is_other) in absurd (omega (arith, bad))
 goal_apart written (Some word) (Some (sought.Differs path)) (Some sought.Deadlock) is is_other apart = let bad : 105 ≡ 101 = ap (byte 1) (sym is ∙ is_other) in absurd (omega (arith, bad))
-goal_apart written (Some word) (Some (sought.Differs path)) (Some sought.Endless) is is_other apart = let bad : 100 ≡ 101 = ap (byte 0) (sym is ∙ is_other) in absurd (omega (arith, bad))
 goal_apart written (Some word) (Some (sought.Differs path)) (Some sought.Any) is is_other apart = let bad : 100 ≡ 97 = ap (byte 0) (sym is ∙ is_other) in absurd (omega (arith, bad))
 goal_apart written (Some word) (Some (sought.Differs path)) (Some (sought.Output ints)) is is_other apart = let bad : 100 ≡ 111 = ap (byte 0) (sym is ∙ is_other.1) in absurd (omega (arith, bad))
 goal_apart written (Some word) (Some (sought.Differs path)) (Some (sought.Differs another)) is is_other apart =

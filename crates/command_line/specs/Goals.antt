@@ -56,7 +56,6 @@ abbrev pub IsSearchGoalWord : Text → SearchGoal → Type 0
 IsSearchGoalWord word sought.Race = word ≡ codes "race"
 IsSearchGoalWord word sought.Uncaught = word ≡ codes "uncaught"
 IsSearchGoalWord word sought.Deadlock = word ≡ codes "deadlock"
-IsSearchGoalWord word sought.Endless = word ≡ codes "endless"
 IsSearchGoalWord word sought.Any = word ≡ codes "any"
 IsSearchGoalWord word (sought.Output ints) = (text : Text) × (word ≡ codes "output" ++ 0x3d ∷ text) × AreInts text ints.items
 IsSearchGoalWord word (sought.Differs path) = word ≡ codes "differs" ++ 0x3d ∷ string_bytes path

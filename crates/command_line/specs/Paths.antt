@@ -48,7 +48,6 @@ IsSearchGoalApart written None = Unit {0}
 IsSearchGoalApart written (Some sought.Race) = Unit {0}
 IsSearchGoalApart written (Some sought.Uncaught) = Unit {0}
 IsSearchGoalApart written (Some sought.Deadlock) = Unit {0}
-IsSearchGoalApart written (Some sought.Endless) = Unit {0}
 IsSearchGoalApart written (Some sought.Any) = Unit {0}
 IsSearchGoalApart written (Some (sought.Output ints)) = Unit {0}
 IsSearchGoalApart written (Some (sought.Differs path)) = IsApart written (string_bytes path)

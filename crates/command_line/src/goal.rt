@@ -12,7 +12,7 @@ use crate::usage::Usage;
 use std::alloc::Global;
 
 /// What a search may be to find, as the text of a fault tells it.
-const SEARCH_GOALS: &str = "race, uncaught, deadlock, endless, any, output=NUMBERS, differs=FILE";
+const SEARCH_GOALS: &str = "race, uncaught, deadlock, any, output=NUMBERS, differs=FILE";
 
 /// The outcomes of runs that may be to be found, as the text of a fault tells them.
 pub(crate) const OUTCOMES: &str = "deadlock, uncaught, output=NUMBERS, differs=FILE";
@@ -24,9 +24,6 @@ pub(crate) fn search_goal_by(alloc: Global, word: &str) -> Result<SearchGoal, Us
 {
     if word == "race" {
         return Ok(SearchGoal::Race);
-    }
-    if word == "endless" {
-        return Ok(SearchGoal::Endless);
     }
     if word == "any" {
         return Ok(SearchGoal::Any);
@@ -68,7 +65,7 @@ pub(crate) fn goal_by(alloc: Global, word: &str, possible: &str) -> Result<Goal,
 fn no_goal(alloc: Global, word: &str, possible: &str) -> Usage
     ensures { Asks result → ⊥ }
 {
-    if word == "race" || (word == "endless" || word == "any") {
+    if word == "race" || word == "any" {
         Usage::of_searches(alloc, word)
     } else {
         Usage::no_goal(alloc, word, possible)

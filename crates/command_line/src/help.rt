@@ -16,7 +16,7 @@ Statuses:
   2  a class file or the schedule is refused
   3  an event was not enabled or was refused, or a place gave up, or memory was
      missing
-  4  nothing can go on, and a thread hasn't ended; or a search lists a deadlock or an endless state
+  4  nothing can go on, and a thread hasn't ended; or a search lists a deadlock
   5  the schedule or the budget is used up, and a thread can go on; or a search gave up
   6  the command is wrong, or a file can't be read, or the output not written
 
@@ -46,7 +46,7 @@ pub(crate) const OUTCOME_HELP: &str =
 
 /// What a search is to find.
 pub(crate) const SEARCH_GOAL_HELP: &str =
-    "What is to be found: race, uncaught, deadlock, endless, any, output=NUMBERS or differs=FILE";
+    "What is to be found: race, uncaught, deadlock, any, output=NUMBERS or differs=FILE";
 
 /// What files `schedule` takes.
 pub(crate) const SCHEDULE_HELP: &str =
@@ -146,15 +146,14 @@ What it does:
   Searches all schedules of the class files: every order of their events, and
   every pick of a thread that is notified. Without --for it lists what can come
   of runs that end, and which kinds of states some run comes to, whether it ends
-  or not: `kind race`, `kind uncaught`, `kind deadlock`, `kind endless`. With --for
-  it ends at the first state that is so, prints its report, and may record its
-  schedule; where there is none it lists all that is possible.
+  or not: `kind race`, `kind uncaught`, `kind deadlock`. With --for it ends at the
+  first state that is so, prints its report, and may record its schedule; where
+  there is none it lists all that is possible.
     race            two threads access one variable next, which isn't volatile,
                     and one of them writes it
     uncaught        an exception that nothing caught has ended a thread
     deadlock        no thread may go on, and one waits; or threads wait in a circle
-    endless         no run from there ends, whatever events follow
-    any             any of these four
+    any             any of these three
     output=1,2      a run ended that printed these numbers, and no others
     differs=FILE    a run ended that printed something else than FILE has
   Where it says `search complete`, no other end and no other kind is possible.
@@ -166,8 +165,7 @@ Statuses:
   1  a state was found that --for asks for
   2  a class file is refused
   3  memory was missing
-  4  all that can come of the class files is listed, and a deadlock or an endless
-     state is among it
+  4  all that can come of the class files is listed, and a deadlock is among it
   5  the search gave up: too many states, too much memory or time, or a limit of a
      run
   6  the command is wrong, or a file can't be read, or the output not written

@@ -7,9 +7,9 @@
 //!   words or they spell no command, memory aside; and help or the version is told only where it is what the parser may
 //!   answer to the words (`refused`).
 //! - In both clauses: what `search --for` seeks is what its word names (`IsSearchGoalWord`). The words of a kind of
-//!   states are `race`, `uncaught`, `deadlock`, `endless` and `any`; of `run --seeds` and `shrink` there is no command
-//!   with `race`, `endless` or `any` (`IsGoalWord`). Behind `output=` stand ints, each as a report prints it; there is
-//!   no command where an item is none.
+//!   states are `race`, `uncaught`, `deadlock` and `any`; of `run --seeds` and `shrink` there is no command with `race`
+//!   or `any` (`IsGoalWord`). Behind `output=` stand ints, each as a report prints it; there is no command where an item
+//!   is none.
 //! - In both clauses: `schedule` has one file, and a version beside `--write` alone (`AreScheduleValues`,
 //!   `IsMadeVersion`); or with `--places` class files, a schedule of them, and neither `--write` nor a version
 //!   (`ArePlacesValues`). Of all others `--as-version` stands beside `--record` alone (`IsRecordedVersion`).

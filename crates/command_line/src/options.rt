@@ -163,9 +163,7 @@ pub enum SearchGoal {
     Uncaught,
     /// No thread may go on, and one hasn't ended; or threads wait in a circle for what they hold.
     Deadlock,
-    /// No run from there ends: some thread may go on, whatever events follow.
-    Endless,
-    /// Any of these four.
+    /// Any of these three.
     Any,
     /// The run printed these numbers, in this order, and no others.
     Output(Vec<i32>),

@@ -46,7 +46,6 @@ pub(crate) fn check_search_goal(
             SearchGoal::Race
             | SearchGoal::Uncaught
             | SearchGoal::Deadlock
-            | SearchGoal::Endless
             | SearchGoal::Any
             | SearchGoal::Output(_),
         )

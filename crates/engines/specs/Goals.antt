@@ -55,7 +55,6 @@ IsSearchedFor held None goal = goal ≡ searches.Outcome wanted.Nothing
 IsSearchedFor held (Some sought.Race) goal = goal ≡ searches.Kind kinds.Race
 IsSearchedFor held (Some sought.Uncaught) goal = goal ≡ searches.Kind kinds.Uncaught
 IsSearchedFor held (Some sought.Deadlock) goal = goal ≡ searches.Kind kinds.Deadlock
-IsSearchedFor held (Some sought.Endless) goal = goal ≡ searches.Kind kinds.Endless
 IsSearchedFor held (Some sought.Any) goal = goal ≡ searches.AnyKind
 IsSearchedFor held (Some (sought.Output numbers)) goal = (want : Wanted) × (goal ≡ searches.Outcome want) × IsPrinted numbers.items want
 IsSearchedFor held (Some (sought.Differs path)) goal = (want : Wanted) × (goal ≡ searches.Outcome want) × IsPrintedOther held (string_bytes path) want

@@ -1,5 +1,5 @@
 -- The status with which a program ends (own).
-use Rattle.std.specs.Prelude.{ℕ, Bool, true, false, ◌||◌, List, if◌then◌else◌}
+use Rattle.std.specs.Prelude.{ℕ, Bool, true, false, List, if◌then◌else◌}
 use Rattle.std.specs.List.{list_all}
 use Rattle.model.specs.declared.report.EndState.{EndState}
 use Rattle.model.specs.declared.report.EndState.TheVariants.{Ended, Threw, Blocked, Waiting, Joining, Initialising, Runnable}
@@ -54,7 +54,7 @@ status_of threads (ends.Refused done cause) = statuses.Stopped
 
 -- the status of a search that has found nothing it was asked for, and lists these kinds
 abbrev pub kinds_status : Kinds → Status
-kinds_status kinds = if kinds.deadlock || kinds.endless then statuses.Stuck else statuses.Returned
+kinds_status kinds = if kinds.deadlock then statuses.Stuck else statuses.Returned
 
 -- the status of a search
 abbrev pub search_status : Answer → Status

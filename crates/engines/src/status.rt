@@ -24,8 +24,7 @@ pub enum Status {
     Refused,
     /// An event of the schedule isn't enabled or is refused, or memory is wanted.
     Stopped,
-    /// No thread can go on, and some haven't ended. Of a search: it lists a deadlock or an endless
-    /// state.
+    /// No thread can go on, and some haven't ended. Of a search: it lists a deadlock.
     Stuck,
     /// The schedule is used up, or the budget or the time, and some thread can go on. Of a search or a sweep: it gave up.
     UsedUp,
@@ -73,7 +72,7 @@ impl Status {
     fn of_kinds(kinds: &Kinds) -> Status
         ensures { result ≡ kinds_status kinds.now }
     {
-        if kinds.deadlock || kinds.endless {
+        if kinds.deadlock {
             Status::Stuck
         } else {
             Status::Returned

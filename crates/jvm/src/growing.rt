@@ -18,9 +18,6 @@ const BETWEEN: u32 = 1024;
 /// How many milliseconds pass between two times at which what is new is shown.
 const PERIOD: u64 = 100;
 
-/// The unit that ends a line.
-const LINE_FEED: u16 = 10;
-
 /// What each text begins with in which a record grows.
 const FIRST_WORD: &[u8] = b"#growing";
 
@@ -57,14 +54,12 @@ pub struct Growing<'a, R> {
     bytes: AtomicU64,
 }
 
-/// The whole lines of units: those up to the last line feed.
-fn whole_lines(units: &[u16]) -> &[u16] {
-    for at in (0..units.len()).rev() {
-        if units[at] == LINE_FEED {
-            return units.get(..=at).unwrap_or(&[]);
-        }
+/// The units without the last one where it is the first one of a pair.
+fn without_half(units: &[u16]) -> &[u16] {
+    match units.split_last() {
+        Some((last, others)) if 0xD800 <= *last && *last < 0xDC00 => others,
+        _ => units,
     }
-    &[]
 }
 
 impl<'a, R: Clock + Print + Files + AllocGlobal> Growing<'a, R> {
@@ -120,27 +115,28 @@ impl<'a, R: Clock + Print + Files + AllocGlobal> Growing<'a, R> {
         }
     }
 
-    /// The whole lines that are printed and not shown so far, if there are some, and are to be shown.
-    pub fn new_lines(&self, printed: &[u16]) -> Option<Vec<u8>> {
+    /// What is printed and not shown so far, if there is some, and it is to be shown. The first unit of a pair waits for
+    /// the second one.
+    pub fn new_text(&self, printed: &[u16]) -> Option<Vec<u8>> {
         if !self.follows.load(Ordering::SeqCst) {
             return None;
         }
         let mut shown = self.shown.try_lock()?;
-        let units = whole_lines(printed.get(shown.printed..)?);
+        let units = without_half(printed.get(shown.printed..)?);
         if units.is_empty() {
             return None;
         }
-        let mut lines = Vec::new(self.rt.alloc());
-        push_text(&mut lines, units).ok()?;
+        let mut text = Vec::new(self.rt.alloc());
+        push_text(&mut text, units).ok()?;
         shown.printed = shown.printed.saturating_add(units.len());
-        Some(lines)
+        Some(text)
     }
 
-    /// Shows lines that come next in the report. Where the output fails, no more are shown before that is written.
-    pub fn show(&self, lines: &[u8]) {
+    /// Shows text that comes next in the report. Where the output fails, no more is shown before that is written.
+    pub fn show(&self, text: &[u8]) {
         let mut output = io::writer(self.rt);
-        let mut left = lines;
-        for _ in 0..lines.len() {
+        let mut left = text;
+        for _ in 0..text.len() {
             match output.write(left) {
                 Ok(written) if written > 0 => {
                     self.bytes.fetch_add(written as u64, Ordering::SeqCst);

@@ -99,9 +99,9 @@ impl<R: Clock + Eprint + Print + Files + AllocGlobal> Gate for Progress<'_, R> {
     }
 
     fn watch_output(&self, printed: &[u16]) {
-        if let Some(lines) = self.growing.new_lines(printed) {
+        if let Some(text) = self.growing.new_text(printed) {
             self.clear();
-            self.growing.show(lines.as_slice());
+            self.growing.show(text.as_slice());
         }
     }
 

@@ -5,14 +5,12 @@ use Rattle.std.proofs.lemmas.Option.{slice_get-get_or}
 use Rattle.model.specs.declared.event.Event.{Event}
 use Rattle.model.specs.declared.event.ScheduleEntry.{ScheduleEntry}
 use Rattle.model.specs.declared.limits.Limits.{Limits}
-use Rattle.model.specs.Classes.{Program}
 use Rattle.model.specs.LimitStands.{bounds_of}
-use Rattle.model.specs.State.{State}
 use Rattle.machine_state.specs.declared.answers.Answer.TheVariants as answer
 use Rattle.machine_state.specs.Shown.{IsProgram}
 use Rattle.machine.specs.Machines.{MachineOf}
 use Rattle.machine.specs.schedule_runs.Done.{HasDone}
-use Rattle.search.specs.met_states.Met.{IsMetAlong, OfNext, AreHigherPicksLeft, AreOtherThreadsLeft, AreMetStatesKept}
+use Rattle.search.specs.met_states.Met.{IsNextMet, AreHigherPicksLeft, AreOtherThreadsLeft, AreMetStatesKept}
 use Rattle.search.specs.GivingUp.{IsLimited}
 use Rattle.search.specs.Machines.{GoesBy, GoesOrStops}
 use Rattle.search.specs.declared.states.Walk.{Walk}
@@ -105,11 +103,6 @@ crowded most number thread i old new lt le so_far files trees accepted program =
     let led = (so_far.each 65534 (omega (arith, le))).1 events (slice_get-get_or new.schedules number [] lt) files trees accepted program in
     (events, inr (record { thread = thread; state = led.0; reached = led.1 }))
 
--- where an event leads nowhere, it has been met
-nowhere : (P : State → Type 0) (trees : Program) (s : StatesOf) (events : List Event) (event : Event) → OfNext trees s.limits.frames events event (λ next. ⊥)
-    → OfNext trees s.limits.frames events event P
-nowhere P trees s events event none state next r e = absurd (none state next r e)
-
 -- the first pick that isn't enabled
 pub all_picks : AreHigherPicksLeft → (most number thread i : ℕ) (old new : StatesOf) (m then : MachineOf)
     → HasGrown (IsPickMet number thread) most old new i → IsInState new number m
@@ -122,9 +115,8 @@ all_picks higher most number thread i old new m then so_far there goes =
         let at = there events is in
         let has = at.done files trees accepted program in
         let off = (goes.1 files trees events has).0 in
-        nowhere (IsMetAlong trees new.limits.frames new.schedules new.edges number) trees new events (event_at thread pick)
-        (subst (λ (l : Limits). OfNext trees l.frames events (event_at thread pick) (λ next. ⊥)) at.limits_are
-        (higher trees m.limits.frames events has.run.lead.state thread i pick le has.run.lead.reached off))
+        subst (λ (l : Limits). IsNextMet trees l.frames new.schedules events (event_at thread pick)) at.limits_are
+        (higher trees m.limits.frames new.schedules events has.run.lead.state thread i pick le has.run.lead.reached off)
 
     by : (pick : ℕ) → ((nat_le i pick ≡ true) × (i ≤ pick)) ⊎ ((nat_le i pick ≡ false) × (pick < i))
         → IsMetFrom new number (event_at thread pick)
@@ -200,8 +192,8 @@ module _ (left : AreOtherThreadsLeft) (most number threads : ℕ) (old new : Sta
       let at = there events (earlier old new grows number lt events is) in
       let run = run_of old.program old.limits events m at files trees accepted (subst (IsProgram trees) grows.program program) in
       let past : length m.shared.threads.threads ≤ event.thread = omega (arith, le, count) in
-      nowhere (IsMetAlong trees new.limits.frames new.schedules new.edges number) trees new events event
-      (subst (λ (l : Limits). OfNext trees l.frames events event (λ next. ⊥)) (sym grows.limits_are) (left trees old.program (bounds_of old.limits) events event m.shared run past))
+      subst (λ (l : Limits). IsNextMet trees l.frames new.schedules events event) (sym grows.limits_are)
+      (left trees old.program (bounds_of old.limits) new.schedules events event m.shared run past)
 
   pub all_events : (w : Walk) (went : Bool) → GrowsTo (λ s. AreMetByThreads s number threads × IsThere s number w) most old new went
       → GrowsTo (λ s. AreAllMet s number × IsThere s number w) most old new went

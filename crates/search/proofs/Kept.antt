@@ -1,5 +1,5 @@
 -- What is kept of the states that were met.
-use Rattle.std.proofs.Common.{◌≡◌, ◌⊎◌, ℕ, ◌+◌, ◌<◌, ◌≤◌, List, [], ◌∷◌, ◌++◌, length, map, get_or, replicate, true, false, nat_le, inl, inr, Some, refl, sym, ap, subst, ◌∙◌, arith}
+use Rattle.std.proofs.Common.{◌≡◌, ◌⊎◌, ℕ, ◌+◌, ◌<◌, ◌≤◌, List, [], ◌∷◌, ◌++◌, length, map, get_or, true, false, nat_le, inl, inr, Some, refl, sym, ap, subst, ◌∙◌, arith}
 use Rattle.std.specs.Prelude.{slice_get}
 use Rattle.std.proofs.lemmas.Bool.Decides.{leb_tells}
 use Rattle.std.proofs.lemmas.List.{length-append, length-map}
@@ -7,10 +7,7 @@ use Rattle.std.proofs.lemmas.Option.{same_Some, none-some, slice_get-get_or, sli
 use Rattle.model.specs.declared.event.Event.{Event}
 use Rattle.model.specs.declared.event.ScheduleEntry.{ScheduleEntry}
 use Rattle.model.specs.declared.limits.Limits.{Limits}
-use Rattle.model.specs.Accepted.{IsAccepted}
-use Rattle.model.specs.Classes.{Program}
 use Rattle.model.specs.LimitStands.{bounds_of, inflated}
-use Rattle.model.specs.Run.{run}
 use Rattle.model.specs.Schedule.{events_of}
 use Rattle.linked_code.specs.declared.program.LinkedProgram.{LinkedProgram}
 use Rattle.word_table.specs.Lists.{Grows as TableGrows}
@@ -24,18 +21,14 @@ use Rattle.kept_states.proofs.One.{row_stays, rows_alike, states_one}
 use Rattle.kept_states.proofs.Same.{run_same}
 use Rattle.kept_states.proofs.Stays.{state_written, state_kept, state_is_kept}
 use Rattle.kept_states.proofs.Written.{grows_on}
-use Rattle.machine_state.specs.Shown.{IsProgram}
 use Rattle.machine.specs.Machines.{MachineOf, IsMachine, IsOfAccepted}
 use Rattle.schedule.specs.schedule_tree.Trees.{with_way}
-use Rattle.search.specs.declared.edges.Edge.{Edge}
-use Rattle.search.specs.Edges.{AreBelow, edge_from}
-use Rattle.search.specs.Endless.{WereMet}
-use Rattle.search.specs.met_states.Met.{AreAlikeStatesMet, AreNewStatesMet, AreMetStatesKept, IsLed}
+use Rattle.search.specs.met_states.Met.{AreAlikeStatesMet, AreNewStatesMet}
 use Rattle.search.specs.Machines.{IsAt}
 use Rattle.search.specs.States.{StatesOf, one_state, machine_of, IsSchedule, IsInState, IsKeptAt, AreKept, IsStateOf, IsMetFrom, Grows, GrowsTo, with_entry, IsAloneFrom, IsAfter}
-use Rattle.search.proofs.Growth.{AreKeptNumbers, gave_up, last_or, new_edge, new_met, one_edge, went_on}
+use Rattle.search.proofs.Growth.{gave_up, went_on, new_met}
 use Rattle.search.proofs.Shown.{run_of}
-use Rattle.search.proofs.Schedules.{IsMetAt, met_from, led_by, in_state, alike_met, longer_schedules, pushed, get_front, get_last}
+use Rattle.search.proofs.Schedules.{in_state, alike_met, longer_schedules, pushed, get_front, get_last}
 
 -- ---- states that are read
 
@@ -65,14 +58,6 @@ state_of k s number n kept lt is numbered =
         let rows : b.row ≡ a.row = same_Some b.row a.row (sym b.row_is ∙ a.row_is) in
         let flags : b.fat ≡ a.fat = same_Some b.fat a.fat (sym b.fat_is ∙ a.fat_is) in
         states_one k.parts a.row a.fat one other a.is (subst (λ (r : List ℕ). IsStateRow k.parts r other) rows b.is) a.are_fat (subst (λ (f : ℕ). AreFat k.parts f other) flags b.are_fat)
-
--- a machine was in each state
-pub all_met : (k : KeptStates) (s : StatesOf) → AreKept k s → WereMet s
-all_met k s kept number lt =
-    let events : List Event = get_or s.schedules number [] in
-    let own : IsSchedule s number events = slice_get-get_or s.schedules number [] lt in
-    let at : IsKeptAt k s.program s.limits number events = kept.each number events own in
-    (machine_of s.program s.limits at.shared, in_state s number events (machine_of s.program s.limits at.shared) own at.at)
 
 -- a machine that is in the state again
 module _ (s : StatesOf) (number : ℕ) (lt : number < length s.schedules) (accepted : IsOfAccepted s.program) (n : Numbered) (of : IsStateOf s number n)
@@ -113,19 +98,6 @@ module _ (s : StatesOf) (number : ℕ) (lt : number < length s.schedules) (accep
     pub resumed_in : (m : MachineOf) → m ≡ machine_of p limits copy → IsInState s number m
     resumed_in m is = subst (IsInState s number) (own ∙ sym is) again_in
 
--- ---- edges
-
--- one more
-below_too : (count : ℕ) (edges : List Edge) (node to : ℕ) → AreBelow count edges → node < count → to < count → AreBelow count (edges ++ edge_from node to ∷ [])
-below_too count edges node to below node_lt to_lt edge has = elim (last_or edges (edge_from node to) edge has) [
-  | inl before ↦ below edge before
-  | inr same ↦ subst (λ (e : Edge). (e.node < count) × (e.to < count)) (sym same) (node_lt, to_lt)
-]
-
--- there may be one state more
-below_more_states : (count : ℕ) (edges : List Edge) → AreBelow count edges → AreBelow (count + 1) edges
-below_more_states count edges below edge has = (omega (arith, (below edge has).0), omega (arith, (below edge has).1))
-
 -- ---- the row of one more is made
 
 module _ (k mid : KeptStates) (s : StatesOf) (m : Shared) (kept : AreKept k s) (made : IsRowMade m k mid) where
@@ -134,7 +106,6 @@ module _ (k mid : KeptStates) (s : StatesOf) (m : Shared) (kept : AreKept k s) (
     count = ap length made.keeps.states ∙ kept.count;
     flags = ap length made.keeps.fat ∙ kept.flags ∙ ap length (sym made.keeps.states);
     parts = refl;
-    below = kept.below;
     each = λ number events is.
         let at = kept.each number events is in
         record { shared = at.shared; state = state_written k mid number at.shared made.keeps at.state; at = at.at };
@@ -144,27 +115,13 @@ module _ (k mid : KeptStates) (s : StatesOf) (m : Shared) (kept : AreKept k s) (
   parts_grow = subst (λ ps. TableGrows ps mid.parts) kept.parts made.keeps.parts
 
   pub written_grows : Grows s (record s { parts = mid.parts })
-  written_grows = record { program = refl; limits_are = refl; parts = parts_grow; kept = λ number events is. is; edges = λ edge has. has; led = λ led. led }
-
-  pub met_below : (met : ℕ) → slice_get mid.states met ≡ Some mid.state.items → met < length s.schedules
-  met_below met has = omega (arith, slice_get_within mid.states met mid.state.items has, ap length made.keeps.states, kept.count)
-
-  -- with an edge to a state that was met
-  pub edge_kept : (number met : ℕ) → number < length s.schedules → slice_get mid.states met ≡ Some mid.state.items
-      → AreKept mid (record s { edges = s.edges ++ edge_from number met ∷ []; parts = mid.parts })
-  edge_kept number met lt has = record {
-    count = still_kept.count;
-    flags = still_kept.flags;
-    parts = refl;
-    below = below_too (length s.schedules) s.edges number met kept.below lt (met_below met has);
-    each = still_kept.each;
-  }
+  written_grows = record { program = refl; limits_are = refl; parts = parts_grow; kept = λ number events is. is }
 
   -- a state with the same row was met
   pub row_met : AreAlikeStatesMet → (number met : ℕ) (entry : ScheduleEntry) (one : MachineOf) → m ≡ one.shared → slice_get mid.states met ≡ Some mid.state.items
-      → IsAloneFrom s number entry → IsAfter s number entry one → IsMetAt s number entry.event met
+      → IsAloneFrom s number entry → IsAfter s number entry one → IsMetFrom s number entry.event
   row_met holds number met entry one is has local is_after =
-      let lt : met < length s.schedules = met_below met has in
+      let lt : met < length s.schedules = omega (arith, slice_get_within mid.states met mid.state.items has, ap length made.keeps.states, kept.count) in
       let events : List Event = get_or s.schedules met [] in
       let own : IsSchedule s met events = slice_get-get_or s.schedules met [] lt in
       let at : IsKeptAt k s.program s.limits met events = kept.each met events own in
@@ -178,9 +135,8 @@ module _ (k mid : KeptStates) (s : StatesOf) (m : Shared) (kept : AreKept k s) (
 
   -- ---- and it is kept
 
-  module _ (new : KeptStates) (added : ℕ) (step : IsStateAdded added m mid new) (events : List Event) (at : IsAt s.program s.limits events (machine_of s.program s.limits m))
-      (edges : List Edge) (below : AreBelow (length s.schedules + 1) edges) where
-    pub now_kept : AreKept new (record s { schedules = s.schedules ++ events ∷ []; edges = edges; parts = new.parts })
+  module _ (new : KeptStates) (added : ℕ) (step : IsStateAdded added m mid new) (events : List Event) (at : IsAt s.program s.limits events (machine_of s.program s.limits m)) where
+    pub now_kept : AreKept new (record s { schedules = s.schedules ++ events ∷ []; parts = new.parts })
     now_kept = record {
       count = ap length step.states ∙ length-append mid.states (mid.state.items ∷ []) ∙ ap (λ n. n + 1) still_kept.count ∙ sym (length-append s.schedules (events ∷ []));
       flags = ap length step.fat
@@ -189,7 +145,6 @@ module _ (k mid : KeptStates) (s : StatesOf) (m : Shared) (kept : AreKept k s) (
           ∙ sym (length-append mid.states (mid.state.items ∷ []))
           ∙ sym (ap length step.states);
       parts = refl;
-      below = subst (λ n. AreBelow n edges) (sym (length-append s.schedules (events ∷ []))) below;
       each = λ number others is. by number others is (leb_tells (length s.schedules) number);
     }
       where
@@ -234,8 +189,8 @@ added_at number one other old new same step =
 
 -- ---- one more state, whose schedule goes on by an entry
 
-abbrev pub states_of : LinkedProgram → Limits → List (List ScheduleEntry) → List Edge → KeptStates → StatesOf
-states_of p limits ways edges k = record { program = p; limits = limits; schedules = map events_of ways; edges = edges; parts = k.parts }
+abbrev pub states_of : LinkedProgram → Limits → List (List ScheduleEntry) → KeptStates → StatesOf
+states_of p limits ways k = record { program = p; limits = limits; schedules = map events_of ways; parts = k.parts }
 
 -- the machine of what is shared alone
 shared_at : (p : LinkedProgram) (limits : Limits) (events : List Event) (m : MachineOf) → IsAt p limits events m → IsAt p limits events (machine_of p limits m.shared)
@@ -245,104 +200,69 @@ shared_at p limits events m at = record {
   done = λ files trees accepted program. record { accepted = accepted; program = program; run = run_of p limits events m at files trees accepted program };
 }
 
-module _ (p : LinkedProgram) (limits : Limits) (ways : List (List ScheduleEntry)) (edges : List Edge) (k mid : KeptStates) (m : Shared) (one : MachineOf) (is : m ≡ one.shared)
-    (kept : AreKept k (states_of p limits ways edges k)) (made : IsRowMade m k mid) (most number : ℕ) (entry : ScheduleEntry) (self : StatesOf)
-    (self_is : states_of p limits ways edges k ≡ self) (lt : number < length self.schedules) where
-  abbrev old : StatesOf
-  old = states_of p limits ways edges k
-
-  own_lt : number < length (map events_of ways)
-  own_lt = subst (λ (s : StatesOf). number < length s.schedules) (sym self_is) lt
-
-  -- a state with the same row was met, and an edge leads there
-  module _ (met : ℕ) (has : slice_get mid.states met ≡ Some mid.state.items) (longer : List Edge) (longer_is : longer ≡ edges ++ edge_from number met ∷ []) where
-    abbrev new : StatesOf
-    new = states_of p limits ways longer mid
-
-    pub met_kept : AreKept mid new
-    met_kept = subst (λ l. AreKept mid (states_of p limits ways l mid)) (sym longer_is) (edge_kept k mid old m kept made number met own_lt has)
-
-    pub met_before : AreAlikeStatesMet → AreMetStatesKept → IsAloneFrom self number entry → IsAfter self number entry one → GrowsTo (λ s. IsMetFrom s number entry.event) most self new true
-    met_before holds still =
-        subst (λ (s : StatesOf). IsAloneFrom s number entry → IsAfter s number entry one → GrowsTo (λ z. IsMetFrom z number entry.event) most s new true) self_is
-        (λ local is_after.
-        let at : IsMetAt old number entry.event met = row_met k mid old m kept made holds number met entry one is has local is_after in
-        let parts = parts_grow k mid old m kept made in
-        let numbers : AreKeptNumbers old new = λ n events is. is in
-        let edge = edge_from number met in
-        went_on (λ z. IsMetFrom z number entry.event) most old new
-        (one_edge old new refl refl parts numbers edge longer_is still (led local is_after at))
-        (λ le. le)
-        (met_from new number met entry.event (new_edge old new refl refl parts numbers edge longer_is) at))
-      where
-        led : IsAloneFrom old number entry → IsAfter old number entry one → IsMetAt old number entry.event met → (files : List (List ℕ)) (trees : Program) → IsAccepted files trees
-            → IsProgram trees p → IsLed trees limits.frames (map events_of ways) (edge_from number met)
-        led local is_after at files trees accepted program =
-            let events : List Event = get_or (map events_of ways) number [] in
-            let own : IsSchedule old number events = slice_get-get_or (map events_of ways) number [] own_lt in
-            let run_there = run_of p limits (with_entry events entry) one (is_after events own) files trees accepted program in
-            let r : run trees limits.frames (events ++ entry.event ∷ replicate local.behind entry.event) ≡ Some run_there.lead.state =
-            subst (λ n. run trees limits.frames (events ++ replicate n entry.event) ≡ Some run_there.lead.state) local.repeat run_there.lead.reached in
-            led_by old number met entry.event (replicate local.behind entry.event) events own files trees accepted program run_there.lead.state r at
+module _ (p : LinkedProgram) (limits : Limits) (ways : List (List ScheduleEntry)) (k mid : KeptStates) (m : Shared) (one : MachineOf) (is : m ≡ one.shared)
+    (kept : AreKept k (states_of p limits ways k)) (made : IsRowMade m k mid) (most number : ℕ) (entry : ScheduleEntry) (self : StatesOf)
+    (self_is : states_of p limits ways k ≡ self) where
+  -- a state with the same row was met
+  pub met_before : AreAlikeStatesMet → (met : ℕ) → slice_get mid.states met ≡ Some mid.state.items → IsAloneFrom self number entry → IsAfter self number entry one
+      → GrowsTo (λ s. IsMetFrom s number entry.event) most self (states_of p limits ways mid) true
+  met_before holds met has =
+      subst (λ (s : StatesOf). IsAloneFrom s number entry → IsAfter s number entry one → GrowsTo (λ z. IsMetFrom z number entry.event) most s (states_of p limits ways mid) true) self_is
+      (λ local is_after.
+      went_on (λ z. IsMetFrom z number entry.event) most (states_of p limits ways k) (states_of p limits ways mid)
+      (written_grows k mid (states_of p limits ways k) m kept made) (λ le. le)
+      (row_met k mid (states_of p limits ways k) m kept made holds number met entry one is has local is_after))
 
   -- there may be no more
-  pub none_added : most ≤ length ways → GrowsTo (λ s. IsMetFrom s number entry.event) most self (states_of p limits ways edges mid) false
+  pub none_added : most ≤ length ways → GrowsTo (λ s. IsMetFrom s number entry.event) most self (states_of p limits ways mid) false
   none_added full =
-      subst (λ (s : StatesOf). GrowsTo (λ z. IsMetFrom z number entry.event) most s (states_of p limits ways edges mid) false) self_is
-      (gave_up (λ z. IsMetFrom z number entry.event) most old (states_of p limits ways edges mid)
-      (written_grows k mid old m kept made) (λ le. le) (inl (omega (arith, full, length-map ways events_of))))
+      subst (λ (s : StatesOf). GrowsTo (λ z. IsMetFrom z number entry.event) most s (states_of p limits ways mid) false) self_is
+      (gave_up (λ z. IsMetFrom z number entry.event) most (states_of p limits ways k) (states_of p limits ways mid)
+      (written_grows k mid (states_of p limits ways k) m kept made) (λ le. le) (inl (omega (arith, full, length-map ways events_of))))
 
   -- it is kept, with the next number
-  module _ (added_states : KeptStates) (added : ℕ) (step : IsStateAdded added m mid added_states) (ways_new : List (List ScheduleEntry)) (ways_are : ways_new ≡ with_way ways number entry)
-      (is_after : IsAfter self number entry one) (to : ℕ) (to_is : to ≡ length ways) (longer : List Edge) (longer_is : longer ≡ edges ++ edge_from number to ∷ []) where
-    abbrev last : StatesOf
-    last = states_of p limits ways_new longer added_states
+  module _ (new : KeptStates) (added : ℕ) (step : IsStateAdded added m mid new) (ways_new : List (List ScheduleEntry)) (ways_are : ways_new ≡ with_way ways number entry)
+      (lt : number < length self.schedules) (is_after : IsAfter self number entry one) where
+    own_lt : number < length (map events_of ways)
+    own_lt = subst (λ (s : StatesOf). number < length s.schedules) (sym self_is) lt
 
-    own_after : IsAfter old number entry one
+    own_after : IsAfter (states_of p limits ways k) number entry one
     own_after = subst (λ (s : StatesOf). IsAfter s number entry one) (sym self_is) is_after
 
-    more : map events_of ways_new ≡ map events_of ways ++ with_entry (get_or (map events_of ways) number []) entry ∷ []
-    more = ap (map events_of) ways_are ∙ longer_schedules ways number (omega (arith, own_lt, length-map ways events_of)) entry
+    longer : map events_of ways_new ≡ map events_of ways ++ with_entry (get_or (map events_of ways) number []) entry ∷ []
+    longer = ap (map events_of) ways_are ∙ longer_schedules ways number (omega (arith, own_lt, length-map ways events_of)) entry
 
-    to_last : to ≡ length (map events_of ways)
-    to_last = to_is ∙ sym (length-map ways events_of)
+    pub added_grows : AreNewStatesMet → length ways < most → IsAloneFrom self number entry
+        → GrowsTo (λ s. IsMetFrom s number entry.event) most self (states_of p limits ways_new new) true
+    added_grows holds room local =
+        let own_local : IsAloneFrom (states_of p limits ways k) number entry = subst (λ (s : StatesOf). IsAloneFrom s number entry) (sym self_is) local in
+        let parts : TableGrows k.parts new.parts = grows_on k.parts mid.parts new.parts made.keeps.parts step.parts in
+        subst (λ (s : StatesOf). GrowsTo (λ z. IsMetFrom z number entry.event) most s (states_of p limits ways_new new) true) self_is
+        (new_met holds most number entry (states_of p limits ways k) (states_of p limits ways_new new) (omega (arith, room, length-map ways events_of)) own_lt own_local
+        (pushed number entry (states_of p limits ways k) (states_of p limits ways_new new) own_lt refl refl parts longer))
 
-    pub added_grows : AreNewStatesMet → AreMetStatesKept → length ways < most → IsAloneFrom self number entry
-        → GrowsTo (λ s. IsMetFrom s number entry.event) most self last true
-    added_grows holds still room local =
-        let own_local : IsAloneFrom old number entry = subst (λ (s : StatesOf). IsAloneFrom s number entry) (sym self_is) local in
-        let parts : TableGrows k.parts added_states.parts = grows_on k.parts mid.parts added_states.parts made.keeps.parts step.parts in
-        subst (λ (s : StatesOf). GrowsTo (λ z. IsMetFrom z number entry.event) most s last true) self_is
-        (new_met still holds most number entry old last one (omega (arith, room, length-map ways events_of)) own_lt own_local own_after
-        (pushed number entry old last own_lt refl refl parts more (subst (λ n. longer ≡ edges ++ edge_from number n ∷ []) to_last longer_is)))
-
-    pub added_kept : AreKept added_states last
+    pub added_kept : AreKept new (states_of p limits ways_new new)
     added_kept =
         let way : List Event = get_or (map events_of ways) number [] in
         let at : IsAt p limits (with_entry way entry) one = own_after way (slice_get-get_or (map events_of ways) number [] own_lt) in
         let there : IsAt p limits (with_entry way entry) (machine_of p limits m) =
         subst (λ (x : Shared). IsAt p limits (with_entry way entry) (machine_of p limits x)) (sym is) (shared_at p limits (with_entry way entry) one at) in
-        let count = length (map events_of ways) in
-        let below : AreBelow (count + 1) longer =
-        subst (λ l. AreBelow (count + 1) l) (sym longer_is)
-        (below_too (count + 1) edges number to (below_more_states count edges kept.below) (omega (arith, own_lt)) (omega (arith, to_last))) in
-        subst (λ (l : List (List Event)). let s : StatesOf = record { program = p; limits = limits; schedules = l; edges = longer; parts = added_states.parts } in AreKept added_states s) (sym more)
-        (now_kept k mid old m kept made added_states added step (with_entry way entry) there longer below)
+        subst (λ (l : List (List Event)). let s : StatesOf = record { program = p; limits = limits; schedules = l; parts = new.parts } in AreKept new s) (sym longer)
+        (now_kept k mid (states_of p limits ways k) m kept made new added step (with_entry way entry) there)
 
 -- ---- the opening state alone
 
 none_kept : (p : LinkedProgram) (limits : Limits) (k : KeptStates) → k.states ≡ [] → k.fat.items ≡ []
-    → AreKept k (record { program = p; limits = limits; schedules = []; edges = []; parts = k.parts })
+    → AreKept k (record { program = p; limits = limits; schedules = []; parts = k.parts })
 none_kept p limits k states fat = record {
   count = ap length states;
   flags = ap length fat ∙ sym (ap length states);
   parts = refl;
-  below = λ edge has. absurd (none-some edge has.1);
   each = λ number events is. absurd (none-some events is);
 }
 
 pub first_kept : (p : LinkedProgram) (limits : Limits) (k mid new : KeptStates) (m : Shared) (one : MachineOf) (added : ℕ) → m ≡ one.shared → k.states ≡ [] → k.fat.items ≡ []
     → IsRowMade m k mid → IsStateAdded added m mid new → IsAt p limits [] one → AreKept new (one_state p limits new.parts)
 first_kept p limits k mid new m one added is states fat made step at =
-    now_kept k mid (record { program = p; limits = limits; schedules = []; edges = []; parts = k.parts }) m (none_kept p limits k states fat) made new added step []
-    (subst (λ (x : Shared). IsAt p limits [] (machine_of p limits x)) (sym is) (shared_at p limits [] one at)) [] (λ edge has. absurd (none-some edge has.1))
+    now_kept k mid (record { program = p; limits = limits; schedules = []; parts = k.parts }) m (none_kept p limits k states fat) made new added step []
+    (subst (λ (x : Shared). IsAt p limits [] (machine_of p limits x)) (sym is) (shared_at p limits [] one at))

@@ -1,6 +1,5 @@
 mod Shown
 mod Behind
-mod Marks
 mod Schedules
 mod Growth
 mod Kept

@@ -8,27 +8,17 @@ use Rattle.std.proofs.lemmas.Option.{same_Some, none-some, slice_get-map, slice_
 use Rattle.model.specs.declared.event.Event.{Event}
 use Rattle.model.specs.declared.event.ScheduleEntry.{ScheduleEntry}
 use Rattle.model.specs.declared.limits.Limits.{Limits}
-use Rattle.model.specs.Accepted.{IsAccepted}
-use Rattle.model.specs.Classes.{Program}
 use Rattle.model.specs.LimitStands.{bounds_of}
-use Rattle.model.specs.Opening.{opening}
-use Rattle.model.specs.Operands.{values}
-use Rattle.model.specs.Run.{run, run_from}
 use Rattle.model.specs.Schedule.{events_of}
-use Rattle.model.specs.State.{State}
 use Rattle.run_laws.specs.interleavings.Ends.{Has}
-use Rattle.search_laws.proofs.Runs.{begun, first_of}
 use Rattle.word_table.specs.Lists.{Grows as TableGrows}
 use Rattle.machine_state.specs.declared.answers.Answer.TheVariants as answer
 use Rattle.machine.specs.Machines.{MachineOf}
-use Rattle.machine_state.specs.Shown.{IsProgram}
 use Rattle.machine_state.specs.same_states.Same.{AreAlike}
 use Rattle.machine_state.specs.shown_runs.Runs.{HasRun}
 use Rattle.alone_events.specs.Alone.{AreAloneAfter}
 use Rattle.schedule.specs.schedule_tree.Trees.{with_way}
-use Rattle.search.specs.Edges.{edge_from}
-use Rattle.search.specs.declared.edges.Edge.{Edge}
-use Rattle.search.specs.met_states.Met.{AreAlikeStatesMet, IsLed, IsMetBy, OfNext}
+use Rattle.search.specs.met_states.Met.{AreAlikeStatesMet}
 use Rattle.search.specs.Machines.{IsAt, GoesBy, HasDoneMore, GoesPast}
 use Rattle.search.specs.States.{StatesOf, IsSchedule, IsInState, IsMetFrom, with_entry, IsAloneFrom, IsAfter, IsPushed}
 use Rattle.search.proofs.Shown.{gone_on, gone_more, run_of}
@@ -44,45 +34,6 @@ pub schedule_if : (ways : List (List ScheduleEntry)) (number : ℕ) → {E : Typ
     → IfOk result (λ s. slice_get (map events_of ways) number ≡ Some (events_of s))
 schedule_if ways number (Ok s) e = schedule_of ways number s e
 schedule_if ways number (Err x) e = tt
-
--- ---- states that were met
-
--- where the event leads on from the state of the one number, that of the other one has met the state
-abbrev pub IsMetAt : StatesOf → (number : ℕ) → Event → (to : ℕ) → Type 0
-IsMetAt s number event to =
-    (events : List Event) → IsSchedule s number events → (files : List (List ℕ)) (trees : Program) → IsAccepted files trees → IsProgram trees s.program
-    → OfNext trees s.limits.frames events event (IsMetBy trees s.limits.frames s.schedules to)
-
--- and an edge leads there
-pub met_from : (s : StatesOf) (number to : ℕ) (event : Event) → Has s.edges (edge_from number to) → IsMetAt s number event to → IsMetFrom s number event
-met_from s number to event has met events is files trees accepted program state next r e = (to, has, met events is files trees accepted program state next r e)
-
--- the beginning of a run, and the rest of it
-parted : (trees : Program) (frames : ℕ) (first second : List Event) (state last : State) → run_from trees frames state (first ++ second) ≡ Some last
-    → (middle : State) × ((run_from trees frames state first ≡ Some middle) × (run_from trees frames middle second ≡ Some last))
-parted trees frames [] second state last r = (state, (refl, r))
-parted trees frames (event ∷ first) second state last r =
-    let s = first_of trees frames state last event (first ++ second) r in
-    let p = parted trees frames first second s.0 last s.1.1 in
-    (p.0, (begun trees frames state s.0 p.0 event first s.1.0 p.1.0, p.1.1))
-
--- an event of a run from the state of a number leads along the edge
-pub led_by : (s : StatesOf) (number to : ℕ) (event : Event) (more events : List Event) → IsSchedule s number events → (files : List (List ℕ)) (trees : Program) → IsAccepted files trees
-    → IsProgram trees s.program → (last : State) → run trees s.limits.frames (events ++ event ∷ more) ≡ Some last → IsMetAt s number event to
-    → IsLed trees s.limits.frames s.schedules (edge_from number to)
-led_by s number to event more events is files trees accepted program last r met =
-    let p = parted trees s.limits.frames events (event ∷ more) (opening values trees) last r in
-    let f = first_of trees s.limits.frames p.0 last event more p.1.1 in
-    record {
-      events = events;
-      has = is;
-      state = p.0;
-      reached = p.1.0;
-      event = event;
-      next = f.0;
-      goes = f.1.0;
-      met = met events is files trees accepted program p.0 f.0 p.1.0 f.1.0;
-    }
 
 -- ---- machines
 
@@ -124,7 +75,7 @@ module _ (s : StatesOf) (number : ℕ) where
   done_from entry old new there more events is = gone_more s.program s.limits events entry.event entry.repeat old new (there events is) more
 
   pub alike_met : AreAlikeStatesMet → (met : ℕ) (entry : ScheduleEntry) (one other : MachineOf) → met < length s.schedules → IsAloneFrom s number entry → IsAfter s number entry one → IsInState s met other
-      → AreAlike one.shared other.shared → IsMetAt s number entry.event met
+      → AreAlike one.shared other.shared → IsMetFrom s number entry.event
   alike_met holds met entry one other lt alone is_after is_there alike events is files trees accepted program =
       let schedule = get_or s.schedules met [] in
       let has : slice_get s.schedules met ≡ Some schedule = slice_get-get_or s.schedules met [] lt in
@@ -168,29 +119,24 @@ module _ (ways : List (List ScheduleEntry)) (number : ℕ) (lt : number < length
       schedules
       ∙ ap (λ (l : List Event). map events_of ways ++ with_entry l entry ∷ []) (sym (get_or_from_slice_get (map events_of ways) number (events_of way) [] (schedule_of ways number way way_there)))
 
--- the schedule that goes on by the entry is behind the others, and the edge behind the others
+-- the schedule that goes on by the entry is behind the others
 pub pushed : (number : ℕ) (entry : ScheduleEntry) (old new : StatesOf) → number < length old.schedules → new.program ≡ old.program → new.limits ≡ old.limits
     → TableGrows old.parts new.parts → new.schedules ≡ old.schedules ++ with_entry (get_or old.schedules number []) entry ∷ []
-    → new.edges ≡ old.edges ++ edge_from number (length old.schedules) ∷ []
     → IsPushed number entry old new
-pushed number entry old new lt program limits parts longer edges = record {
-  program = program;
-  limits_are = limits;
-  parts = parts;
-  kept = front;
+pushed number entry old new lt program limits parts longer = record {
+  grows = record { program = program; limits_are = limits; parts = parts; kept = front };
   count = ap length longer ∙ length-append old.schedules (with_entry (get_or old.schedules number []) entry ∷ []);
-  last = last;
-  edges = edges;
+  has = has;
 }
   where
     front : (k : ℕ) (events : List Event) → slice_get old.schedules k ≡ Some events → slice_get new.schedules k ≡ Some events
     front k events e = subst (λ l. slice_get l k ≡ Some events) (sym longer) (get_front old.schedules _ k events e)
 
-    last : (events : List Event) → slice_get new.schedules number ≡ Some events → slice_get new.schedules (length old.schedules) ≡ Some (with_entry events entry)
-    last events e =
+    has : (events : List Event) → slice_get new.schedules number ≡ Some events → Has new.schedules (with_entry events entry)
+    has events e =
         let way : List Event = get_or old.schedules number [] in
         let own : slice_get new.schedules number ≡ Some way = front number way (slice_get-get_or old.schedules number [] lt) in
         let is : way ≡ events = same_Some way events (sym own ∙ e) in
-        let at : slice_get new.schedules (length old.schedules) ≡ Some (with_entry way entry) =
+        let last : slice_get new.schedules (length old.schedules) ≡ Some (with_entry way entry) =
         subst (λ l. slice_get l (length old.schedules) ≡ Some (with_entry way entry)) (sym longer) (get_last old.schedules (with_entry way entry)) in
-        at ∙ ap (λ (l : List Event). Some (with_entry l entry)) is
+        (length old.schedules, last ∙ ap (λ (l : List Event). Some (with_entry l entry)) is)

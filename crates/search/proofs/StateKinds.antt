@@ -1,5 +1,5 @@
 -- Which kinds a state is of, by what is told of it.
-use Rattle.std.proofs.Common.{◌≡◌, refl, ℕ, List, Bool, true, false, Option, Some, None, inl, inr, map, sym, ap, ◌∙◌, subst}
+use Rattle.std.proofs.Common.{◌≡◌, ℕ, List, Bool, true, false, Option, Some, None, inl, inr, map, sym, ap, ◌∙◌, subst}
 use Rattle.std.specs.Prelude.{IsTrue, IsFalse}
 use Rattle.std.specs.List.{list_any}
 use Rattle.std.proofs.lemmas.Bool.{false≢true, true≢false}
@@ -60,8 +60,7 @@ module _ (m : MachineOf) (o : Option TheOutcome) where
 -- ---- all kinds
 
 pub kinds_of : (trees : Program) (m : MachineOf) (o : Option TheOutcome) (kinds : Kinds) → TellsState trees m IsRacy kinds.race → TellsState trees m HasUncaught kinds.uncaught
-    → TellDeadlock m o trees kinds.deadlock → kinds.endless ≡ false → TellsWith trees m o (λ trees frames state. AreKindsOf trees frames state kinds)
-kinds_of trees m o kinds race uncaught deadlock none files events state done reached is kind.Race = race files events state done reached
-kinds_of trees m o kinds race uncaught deadlock none files events state done reached is kind.Uncaught = uncaught files events state done reached
-kinds_of trees m o kinds race uncaught deadlock none files events state done reached is kind.Deadlock = deadlock files events state done reached is
-kinds_of trees m o kinds race uncaught deadlock none files events state done reached is kind.Endless = (λ told. false≢true (sym none ∙ told), λ off endless. endless)
+    → TellDeadlock m o trees kinds.deadlock → TellsWith trees m o (λ trees frames state. AreKindsOf trees frames state kinds)
+kinds_of trees m o kinds race uncaught deadlock files events state done reached is kind.Race = race files events state done reached
+kinds_of trees m o kinds race uncaught deadlock files events state done reached is kind.Uncaught = uncaught files events state done reached
+kinds_of trees m o kinds race uncaught deadlock files events state done reached is kind.Deadlock = deadlock files events state done reached is

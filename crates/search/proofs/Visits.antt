@@ -23,7 +23,7 @@ use Rattle.search.specs.declared.run_outcomes.outcomes.Outcome.{Outcome as TheOu
 use Rattle.search.specs.declared.run_outcomes.wanted.Wanted.{Wanted}
 use Rattle.search.specs.run_outcomes.Outcomes.{told_by, IsWanted, IsAdded}
 use Rattle.search.specs.GivingUp.{GivesUp, IsStopped}
-use Rattle.search.specs.Kinds.{Shows, ShowsItself, IsShown, is_told, and_also, wanted_of, is_sought}
+use Rattle.search.specs.Kinds.{Shows, IsShown, is_told, and_also, wanted_of, is_sought}
 use Rattle.search.specs.States.{StatesOf, IsSchedule, AreAllMet, Grows, GrowsTo}
 use Rattle.search.specs.Verdicts.{IsFound, ComesTo, IsRunFor}
 use Rattle.search.specs.declared.states.Walk.{Walk}
@@ -32,13 +32,6 @@ use Rattle.search.specs.Walks.{IsThere}
 use Rattle.search.specs.Visits.{AreListed, AreToldBelow, HasVisited, AreOf, ShowsAt, IsWantedIf, IsAddedIf, IsSeen, IsSeenOr}
 use Rattle.search.proofs.Growth.{earlier, still_met, within}
 use Rattle.search.proofs.KindLists.{told_or, or_told, sought_one, unsought_both}
-
--- a state that is of a kind by itself is
-pub shown_by : (trees : Program) (frames : ℕ) (k : Kind) (state : State) → ShowsItself trees frames k state → Shows trees frames k state
-shown_by trees frames kind.Race state shows = shows
-shown_by trees frames kind.Uncaught state shows = shows
-shown_by trees frames kind.Deadlock state shows = shows
-shown_by trees frames kind.Endless state shows = absurd shows
 
 -- ---- once its events were tried
 
@@ -52,7 +45,6 @@ module _ (trees : Program) (limits : Limits) (goal : Goal) (s s_new : StatesOf) 
       limits_are = grows.limits_are ∙ visited.limits_are;
       opened = grows.kept 0 [] visited.opened;
       met = λ k before event. still_met s s_new grows k (omega (arith, before, lt)) kept event (visited.met k before event);
-      led = grows.led visited.led;
       outcomes_are = record {
         listed = λ k events state before is r quiet.
             visited.outcomes_are.listed k events state before (earlier s s_new grows k (omega (arith, before, lt)) events is) r quiet;
@@ -125,10 +117,10 @@ module _ (trees : Program) (limits : Limits) (goal : Goal) (walk : Walk) (seen :
 
   found_kind : (g : Goal) → is_sought g kinds ≡ true → (events : List Event) → IsSchedule walk.states number events → IsRunFor trees limits g events
   found_kind (goals.Outcome want) e events is = absurd (true≢false (sym e))
-  found_kind (goals.Kind k) e events is = comes events is (Shows trees limits.frames k) (shown_by trees limits.frames k _ (((here events is).kinds_are k).0 e))
+  found_kind (goals.Kind k) e events is = comes events is (Shows trees limits.frames k) (((here events is).kinds_are k).0 e)
   found_kind goals.AnyKind e events is =
       let one = sought_one kinds e in
-      comes events is (λ state. (k : Kind) × Shows trees limits.frames k state) (one.0, shown_by trees limits.frames one.0 _ (((here events is).kinds_are one.0).0 one.1))
+      comes events is (λ state. (k : Kind) × Shows trees limits.frames k state) (one.0, ((here events is).kinds_are one.0).0 one.1)
 
   module _ (new : Seen) where
     pub found : IsSeenOr goal o kinds true seen new → (events : List Event) → IsSchedule walk.states number events → IsRunFor trees limits goal events
@@ -197,7 +189,7 @@ module _ (trees : Program) (limits : Limits) (goal : Goal) (walk : Walk) (seen :
         })
       where
         by : (k : Kind) (n : ℕ) (events : List Event) (state : State) → n < suc number → IsSchedule walk.states n events
-            → run trees limits.frames events ≡ Some state → ShowsItself trees limits.frames k state → Last n → IsTrue (is_told seen.kinds k) ⊎ IsTrue (is_told kinds k)
+            → run trees limits.frames events ≡ Some state → Shows trees limits.frames k state → Last n → IsTrue (is_told seen.kinds k) ⊎ IsTrue (is_told kinds k)
         by k n events state before is r shows (inr h) = inl (visited.kinds_are.told k n events state h.1 is r shows)
         by k n events state before is r shows (inl h) =
             let this : n ≡ number = omega (arith, before, h.1) in
@@ -211,7 +203,7 @@ module _ (trees : Program) (limits : Limits) (goal : Goal) (walk : Walk) (seen :
         only : (k : Kind) → IsTrue (is_told seen.kinds k) ⊎ IsTrue (is_told kinds k) → IsShown trees limits.frames k
         only k (inl e) = visited.kinds_are.only k e
         only k (inr e) =
-            ((done own is_own).run.lead.state, (own, reached own is_own), shown_by trees limits.frames k _ (((here own is_own).kinds_are k).0 e))
+            ((done own is_own).run.lead.state, (own, reached own is_own), ((here own is_own).kinds_are k).0 e)
 
     pub visited_next : AreAllMet walk.states number → IsSeenOr goal o kinds false seen new → HasVisited trees limits goal walk.states new (suc number)
     visited_next met listed = record {
@@ -219,7 +211,6 @@ module _ (trees : Program) (limits : Limits) (goal : Goal) (walk : Walk) (seen :
       limits_are = visited.limits_are;
       opened = visited.opened;
       met = λ k before. by k before (leb_tells number k);
-      led = visited.led;
       outcomes_are = now_listed o refl listed.unwanted listed.outcomes_are;
       kinds_are = kinds_told listed.unsought listed.kinds_are;
     }

@@ -1,3 +1,2 @@
 mod Bridge
-mod EndlessStates
 mod KindsMet

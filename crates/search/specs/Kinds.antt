@@ -8,7 +8,7 @@ use Rattle.model.specs.Run.{is_quiet}
 use Rattle.model.specs.State.{State}
 use Rattle.data_races.specs.Races.{IsRacy}
 use Rattle.search_laws.specs.Ends.{HasThrown}
-use Rattle.search_laws.specs.KeptStates.{IsReached, IsEndless}
+use Rattle.search_laws.specs.KeptStates.{IsReached}
 use Rattle.waiting_circles.specs.Circles.{HasCircle}
 use Rattle.search.specs.declared.kinds.Goal.{Goal}
 use Rattle.search.specs.declared.kinds.Goal.TheVariants as the_goal
@@ -33,19 +33,11 @@ IsStuck trees frames state = IsTrue (is_quiet trees frames state) × IsTrue (lis
 abbrev pub IsDeadlocked : Program → ℕ → State → Type 0
 IsDeadlocked trees frames state = IsStuck trees frames state ⊎ HasCircle trees frames state
 
--- the state is of the kind; endless where no run from it ends
+-- the state is of the kind
 abbrev pub Shows : Program → ℕ → Kind → State → Type 0
 Shows trees frames the_kind.Race state = IsRacy trees frames state
 Shows trees frames the_kind.Uncaught state = HasUncaught trees frames state
 Shows trees frames the_kind.Deadlock state = IsDeadlocked trees frames state
-Shows trees frames the_kind.Endless state = IsEndless trees frames state
-
--- it is by itself, whatever the runs from it do
-abbrev pub ShowsItself : Program → ℕ → Kind → State → Type 0
-ShowsItself trees frames the_kind.Race state = IsRacy trees frames state
-ShowsItself trees frames the_kind.Uncaught state = HasUncaught trees frames state
-ShowsItself trees frames the_kind.Deadlock state = IsDeadlocked trees frames state
-ShowsItself trees frames the_kind.Endless state = ⊥
 
 -- some run comes to a state of the kind
 abbrev pub IsShown : Program → ℕ → Kind → Type 0
@@ -54,17 +46,12 @@ IsShown trees frames kind = (state : State) × IsReached trees frames state × S
 -- ---- kinds
 
 abbrev pub no_kinds : Kinds
-no_kinds = record { race = false; uncaught = false; deadlock = false; endless = false }
-
--- that of endless states, or none
-abbrev pub endless_alone : Bool → Kinds
-endless_alone endless = record { race = false; uncaught = false; deadlock = false; endless = endless }
+no_kinds = record { race = false; uncaught = false; deadlock = false }
 
 abbrev pub is_told : Kinds → Kind → Bool
 is_told kinds the_kind.Race = kinds.race
 is_told kinds the_kind.Uncaught = kinds.uncaught
 is_told kinds the_kind.Deadlock = kinds.deadlock
-is_told kinds the_kind.Endless = kinds.endless
 
 -- these kinds, and others
 abbrev pub and_also : Kinds → Kinds → Kinds
@@ -72,7 +59,6 @@ and_also these others = record {
   race = these.race || others.race;
   uncaught = these.uncaught || others.uncaught;
   deadlock = these.deadlock || others.deadlock;
-  endless = these.endless || others.endless;
 }
 
 -- those of the states that runs come to, and no others
@@ -92,4 +78,4 @@ wanted_of the_goal.AnyKind = wanted.Nothing
 abbrev pub is_sought : Goal → Kinds → Bool
 is_sought (the_goal.Outcome want) kinds = false
 is_sought (the_goal.Kind kind) kinds = is_told kinds kind
-is_sought the_goal.AnyKind kinds = kinds.race || (kinds.uncaught || (kinds.deadlock || kinds.endless))
+is_sought the_goal.AnyKind kinds = kinds.race || (kinds.uncaught || kinds.deadlock)

@@ -1,5 +1,3 @@
-pub mod Edges
-pub mod Endless
 pub mod GivingUp
 pub mod Kinds
 pub mod Machines

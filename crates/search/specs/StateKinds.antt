@@ -11,7 +11,7 @@ use Rattle.search.specs.declared.kinds.Kind.{Kind}
 use Rattle.search.specs.declared.kinds.Kinds.{Kinds}
 use Rattle.search.specs.declared.run_outcomes.outcomes.Outcome.{Outcome as TheOutcome}
 use Rattle.search.specs.run_outcomes.Outcomes.{told_by, is_stuck}
-use Rattle.search.specs.Kinds.{ShowsItself, is_told}
+use Rattle.search.specs.Kinds.{Shows, is_told}
 use Rattle.search.specs.Machines.{IsOutcomeOf}
 
 -- something is told where it is so, and only there
@@ -24,9 +24,9 @@ TellsState trees m P told =
     (files : List (List ℕ)) (events : List Event) (state : State) → HasDone m files trees events → run trees m.limits.frames events ≡ Some state
     → Tells told (P trees m.limits.frames state)
 
--- these kinds, and no others, are those of the state by itself
+-- these kinds, and no others, are those of the state
 abbrev pub AreKindsOf : Program → ℕ → State → Kinds → Type 0
-AreKindsOf trees frames state kinds = (kind : Kind) → Tells (is_told kinds kind) (ShowsItself trees frames kind state)
+AreKindsOf trees frames state kinds = (kind : Kind) → Tells (is_told kinds kind) (Shows trees frames kind state)
 
 -- it ended with an exception
 abbrev pub has_thrown : ThreadStatus → Bool

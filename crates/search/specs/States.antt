@@ -18,23 +18,20 @@ use Rattle.kept_states.specs.Kept.{IsNumbered, IsState, AreWhole}
 use Rattle.machine_state.specs.Shown.{IsProgram}
 use Rattle.machine.specs.Machines.{MachineOf}
 use Rattle.alone_events.specs.Alone.{AreAloneAfter}
-use Rattle.search.specs.declared.edges.Edge.{Edge}
-use Rattle.search.specs.Edges.{AreBelow, edge_from}
-use Rattle.search.specs.met_states.Met.{IsLed, IsMetAlong, OfNext}
+use Rattle.search.specs.met_states.Met.{IsNextMet}
 use Rattle.search.specs.GivingUp.{IsStopped}
 use Rattle.search.specs.Machines.{IsAt, GoesBy}
 
--- a program, the limits of its runs, the schedules by their numbers, the edges between these, and the table of the parts of states
+-- a program, the limits of its runs, the schedules by their numbers, and the table of the parts of states
 pub record StatesOf : Type 0 where
   pub program : LinkedProgram
   pub limits : Limits
   pub schedules : List (List Event)
-  pub edges : List Edge
   pub parts : List (List ℕ)
 
 -- the opening state alone
 abbrev pub one_state : LinkedProgram → Limits → List (List ℕ) → StatesOf
-one_state p limits parts = record { program = p; limits = limits; schedules = [] ∷ []; edges = []; parts = parts }
+one_state p limits parts = record { program = p; limits = limits; schedules = [] ∷ []; parts = parts }
 
 -- the machine of a state that threads share
 abbrev pub machine_of : LinkedProgram → Limits → Shared → MachineOf
@@ -54,12 +51,11 @@ pub record IsKeptAt (k : KeptStates) (p : LinkedProgram) (limits : Limits) (numb
   pub state : IsState k number shared
   pub at : IsAt p limits events (machine_of p limits shared)
 
--- so is each, and there are as many as schedules, between which edges are
+-- so is each, and there are as many as schedules
 pub record AreKept (k : KeptStates) (s : StatesOf) : Type 0 where
   pub count : length k.states ≡ length s.schedules
   pub flags : AreWhole k
   pub parts : k.parts ≡ s.parts
-  pub below : AreBelow (length s.schedules) s.edges
   pub each : (number : ℕ) (events : List Event) → IsSchedule s number events → IsKeptAt k s.program s.limits number events
 
 -- a state that was read, with the numbers of its parts, is that of this number
@@ -67,11 +63,11 @@ pub record IsStateOf (s : StatesOf) (number : ℕ) (state : Numbered) : Type 0 w
   pub is : IsInState s number (machine_of s.program s.limits state.shared)
   pub numbered : IsNumbered s.parts state
 
--- where the event leads on from the state of this number, an edge leads to one that has met the state
+-- where the event leads on from the state of this number, it has been met
 abbrev pub IsMetFrom : StatesOf → (number : ℕ) → Event → Type 0
 IsMetFrom s number event =
     (events : List Event) → IsSchedule s number events → (files : List (List ℕ)) (trees : Program) → IsAccepted files trees → IsProgram trees s.program
-    → OfNext trees s.limits.frames events event (IsMetAlong trees s.limits.frames s.schedules s.edges number)
+    → IsNextMet trees s.limits.frames s.schedules events event
 
 -- so it has been wherever an event of a thread leads, and any event
 abbrev pub AreMetByThread : StatesOf → (number thread : ℕ) → Type 0
@@ -83,18 +79,12 @@ AreMetByThreads s number threads = (thread : ℕ) → thread < threads → AreMe
 abbrev pub AreAllMet : StatesOf → (number : ℕ) → Type 0
 AreAllMet s number = (event : Event) → IsMetFrom s number event
 
--- along each edge an event leads
-abbrev pub AreLed : StatesOf → Type 0
-AreLed s = (files : List (List ℕ)) (trees : Program) → IsAccepted files trees → IsProgram trees s.program → (edge : Edge) → Has s.edges edge → IsLed trees s.limits.frames s.schedules edge
-
--- further schedules and edges may have come, and each schedule keeps its number
+-- further schedules may have come, and each keeps its number
 pub record Grows (old new : StatesOf) : Type 0 where
   pub program : new.program ≡ old.program
   pub limits_are : new.limits ≡ old.limits
   pub parts : TableGrows old.parts new.parts
   pub kept : (number : ℕ) (events : List Event) → IsSchedule old number events → IsSchedule new number events
-  pub edges : (edge : Edge) → Has old.edges edge → Has new.edges edge
-  pub led : AreLed old → AreLed new
 
 -- some run of whatever files the program was linked from can't be gone on with
 abbrev pub CantGoOn : StatesOf → Type 0
@@ -136,12 +126,8 @@ pub record IsAloneFrom (s : StatesOf) (number : ℕ) (entry : ScheduleEntry) : T
 abbrev pub IsAfter : StatesOf → (number : ℕ) → ScheduleEntry → MachineOf → Type 0
 IsAfter s number entry m = (events : List Event) → IsSchedule s number events → IsAt s.program s.limits (with_entry events entry) m
 
--- the schedule that goes on by the entry has been added, and an edge to its number
+-- the schedule that goes on by the entry has been added
 pub record IsPushed (number : ℕ) (entry : ScheduleEntry) (old new : StatesOf) : Type 0 where
-  pub program : new.program ≡ old.program
-  pub limits_are : new.limits ≡ old.limits
-  pub parts : TableGrows old.parts new.parts
-  pub kept : (number : ℕ) (events : List Event) → IsSchedule old number events → IsSchedule new number events
+  pub grows : Grows old new
   pub count : length new.schedules ≡ length old.schedules + 1
-  pub last : (events : List Event) → IsSchedule new number events → IsSchedule new (length old.schedules) (with_entry events entry)
-  pub edges : new.edges ≡ old.edges ++ edge_from number (length old.schedules) ∷ []
+  pub has : (events : List Event) → IsSchedule new number events → Has new.schedules (with_entry events entry)

@@ -18,10 +18,10 @@ use Rattle.search.specs.declared.visiting.Seen.{Seen}
 use Rattle.search.specs.declared.visiting.Visit.{Visit}
 use Rattle.search.specs.declared.visiting.Visit.TheVariants as visit
 use Rattle.search.specs.GivingUp.{GivesUp}
-use Rattle.search.specs.Kinds.{ShowsItself, IsShown, no_kinds, is_told, and_also, wanted_of, is_sought}
+use Rattle.search.specs.Kinds.{Shows, IsShown, no_kinds, is_told, and_also, wanted_of, is_sought}
 use Rattle.search.specs.Machines.{IsOutcomeOf}
 use Rattle.search.specs.StateKinds.{AreKindsOf}
-use Rattle.search.specs.States.{StatesOf, IsSchedule, AreAllMet, AreLed}
+use Rattle.search.specs.States.{StatesOf, IsSchedule, AreAllMet}
 use Rattle.search.specs.Verdicts.{IsFoundBy}
 use Rattle.search.specs.Walks.{IsThere}
 
@@ -34,11 +34,11 @@ pub record AreListed (trees : Program) (frames : ℕ) (want : Wanted) (schedules
   pub only : (outcome : Outcome) → Has outcomes outcome → (events : List Event) × EndsWith trees frames events outcome
   pub none : (outcome : Outcome) → Has outcomes outcome → IsWanted want outcome → ⊥
 
--- of the states below a number each kind is told that one is of by itself, and only such as a run comes to, none of them to be found
+-- of the states below a number each kind is told that one is of, and only such as a run comes to, none of them to be found
 pub record AreToldBelow (trees : Program) (frames : ℕ) (goal : Goal) (schedules : List (List Event)) (kinds : Kinds) (below : ℕ)
     : Type 0 where
   pub told : (kind : Kind) (number : ℕ) (events : List Event) (state : State) → number < below → slice_get schedules number ≡ Some events
-      → run trees frames events ≡ Some state → ShowsItself trees frames kind state → IsTrue (is_told kinds kind)
+      → run trees frames events ≡ Some state → Shows trees frames kind state → IsTrue (is_told kinds kind)
   pub only : (kind : Kind) → IsTrue (is_told kinds kind) → IsShown trees frames kind
   pub unsought : IsFalse (is_sought goal kinds)
 
@@ -52,7 +52,6 @@ pub record HasVisited (trees : Program) (limits : Limits) (goal : Goal) (s : Sta
   pub limits_are : s.limits ≡ limits
   pub opened : IsSchedule s 0 []
   pub met : (number : ℕ) → number < below → AreAllMet s number
-  pub led : AreLed s
   pub outcomes_are : AreListed trees limits.frames (wanted_of goal) s.schedules seen.outcomes below
   pub kinds_are : AreToldBelow trees limits.frames goal s.schedules seen.kinds below
 

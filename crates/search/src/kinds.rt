@@ -17,8 +17,6 @@ pub enum Kind {
     /// No thread may step, and one waits for ever; or threads wait in a circle for monitors and classes that they hold
     /// (JLS 17.1; JVMS 5.5).
     Deadlock,
-    /// No run from the state ends: from each state to which events lead from there, some thread may step.
-    Endless,
 }
 
 /// Which kinds some state is of.
@@ -27,7 +25,6 @@ pub struct Kinds {
     pub race: bool,
     pub uncaught: bool,
     pub deadlock: bool,
-    pub endless: bool,
 }
 
 /// What a search is to find.
@@ -50,19 +47,6 @@ impl Kinds {
             race: false,
             uncaught: false,
             deadlock: false,
-            endless: false,
-        }
-    }
-
-    /// The kind of endless states, or none.
-    pub(crate) fn endless(endless: bool) -> Kinds
-        ensures { result ≡ spec.endless_alone endless }
-    {
-        Kinds {
-            race: false,
-            uncaught: false,
-            deadlock: false,
-            endless,
         }
     }
 
@@ -74,7 +58,6 @@ impl Kinds {
             Kind::Race => self.race,
             Kind::Uncaught => self.uncaught,
             Kind::Deadlock => self.deadlock,
-            Kind::Endless => self.endless,
         }
     }
 
@@ -86,7 +69,6 @@ impl Kinds {
             race: self.race || others.race,
             uncaught: self.uncaught || others.uncaught,
             deadlock: self.deadlock || others.deadlock,
-            endless: self.endless || others.endless,
         }
     }
 }
@@ -99,7 +81,7 @@ impl Goal {
         match self {
             Goal::Outcome(_) => false,
             Goal::Kind(kind) => kinds.has(*kind),
-            Goal::AnyKind => { kinds.race || (kinds.uncaught || (kinds.deadlock || kinds.endless)) }
+            Goal::AnyKind => kinds.race || (kinds.uncaught || kinds.deadlock),
         }
     }
 

@@ -12,12 +12,8 @@
 //!   that the search is over (`Says`, `GivesUp`, `may_stop` of `Progress`).
 //! - A state is of the kind *race* where the next events of two threads, each enabled, do conflicting accesses
 //!   (`IsRacy`); *uncaught* where a thread has ended with an exception that nothing caught; *deadlock* where no thread
-//!   may step and one waits for ever, or where threads wait in a circle for monitors and classes that they hold; and
-//!   *endless* where no run from it ends (`Shows`).
-//! - The states that are kept have edges between them, one for each event of a state that was expanded
-//!   (`IsMetAlong`), and along each an event leads (`IsLed`). Where edges don't lead from a state to one without edges,
-//!   it is endless; and where they do from each, no run comes to an endless state (`IsToldByEdges`, by the law of
-//!   `search_laws`). `endless_number` tells the first such state by its edges alone (`IsEndlessNumber`).
+//!   may step and one waits for ever, or where threads wait in a circle for monitors and classes that they hold
+//!   (`Shows`).
 //! - The number of states that is told is at most the number that may be met, if that is at least 1 (`few`); of
 //!   *Complete* it is that of schedules among which the search is whole (`HasMetAll`). `states_within` is a 128th of
 //!   the bytes.
@@ -27,13 +23,12 @@
 //! - `GivesUp`: as many states were met as may be (`most`), or some run leads to a state with an enabled event that a
 //!   limit forbids, or a thread may pick the last of 65,535 that wait. An outcome is what was printed, and how each
 //!   thread stands. A program in which a thread waits for a flag in a loop can be *Complete* though one of its runs
-//!   goes on for ever: such runs have no outcome, and their states are told by their kinds. None of them is *endless*
-//!   where another run leaves the loop.
+//!   goes on for ever: such runs have no outcome, and their states are told by their kinds.
 //!
 //! # Not proved
 //!
 //! - Not said: that each state is met once. Nor is it that a state takes 128 bytes.
-//! - Not said: whether some run never ends, where each of its states may still come to an end.
+//! - Not said: whether some run never ends.
 //!
 //! # Wrong bodies
 //!
@@ -45,13 +40,7 @@
 //!   told, or a race where each state has one; refused by `kinds_are` of `IsSeen`, of `is_found`, and by `and_also`.
 //! - `races-are-not-told`, `the-last-thread-alone-has-thrown`, `circles-are-none`, `stuck-threads-are-no-deadlock`: a
 //!   kind of a state is passed over; refused by `AreKindsOf`, `TellsState` and `TellsWith` of what `kinds_at` calls.
-//! - `any-kind-is-no-race`, `any-kind-is-not-endless`: a search for any kind passes over races, or over endless states;
-//!   refused by `is_sought`.
-//! - `edges-to-met-states-lead-to-themselves`, `edges-to-new-states-lead-to-themselves`: an edge isn't that of the event
-//!   that was done; refused by the contract of `add` (`IsMetFrom`, `AreLed`).
-//! - `states-that-are-led-to-are-last`, `one-edge-is-swept`, `one-sweep-is-all`: an endless state is told by other edges
-//!   than those that lead from it; refused by `AreMarked` of `clear`, and by `Sweeps` of `sweep`.
-//! - `endless-states-go-untold`: a complete answer has no endless state; refused by `AreAllKinds` of `completed`.
+//! - `any-kind-is-no-race`: a search for any kind passes over races; refused by `is_sought`.
 //! - `own-edges-of-the-first-file`: only the first class file is asked; refused by `names_own_edges`.
 //! - `event-itself-is-left-out`: an entry has the events alone that come behind one, and not that one; refused by
 //!   `repeat` of `GoesPast`, of `go_past`.
@@ -64,8 +53,6 @@
 //!   calls (`IsStateOf`, `IsThere`).
 #![tactic(auto)]
 
-mod edges;
-mod endless;
 mod expanding;
 mod kinds;
 pub mod local_runs;

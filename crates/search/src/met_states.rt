@@ -11,15 +11,14 @@
 //! - Where a search is whole, past events that are alone and in no race, each kind of states that a run comes to is one
 //!   of the state of some schedule that is kept (`kinds_are_met`).
 
-ghost use Rattle.search.specs.met_states.Met.{AreAlikeStatesMet, AreEndlessTold, AreKindsMet, AreNewStatesMet, AreHigherPicksLeft, AreOtherThreadsLeft, AreMovingStatesNotQuiet, AreMetStatesKept, AreSearchesWhole};
+ghost use Rattle.search.specs.met_states.Met.{AreAlikeStatesMet, AreKindsMet, AreNewStatesMet, AreHigherPicksLeft, AreOtherThreadsLeft, AreMovingStatesNotQuiet, AreMetStatesKept, AreSearchesWhole};
 
 use machine_state::same_states::words_are_told;
 use racing_threads::lasting_races::{races_are_told_by_words, races_last};
 use run_laws::searches::picks_are_in_order;
-use run_laws::soundness::no_event_is_wrong;
 use search_laws::kept_states::{
-    circles_are_met, conflicts_are_met, endless_states_are_trapped, exceptions_are_met,
-    schedules_are_complete, searches_by_schedules_are_whole, traps_are_endless,
+    circles_are_met, conflicts_are_met, exceptions_are_met, schedules_are_complete,
+    searches_by_schedules_are_whole,
 };
 
 /// Where an event leads on from a schedule to a state that is alike to the one of another schedule, it has been met.
@@ -75,17 +74,4 @@ pub fn kinds_are_met()
     conflicts_are_met();
     races_are_told_by_words();
     races_last();
-}
-
-/// In a whole search, the state of a number is endless where edges don't lead from it to a state without any; and where
-/// they do from each, no run comes to an endless state.
-pub fn endless_states_are_told()
-    ensures holds { AreEndlessTold }
-{
-    searches_by_schedules_are_whole();
-    traps_are_endless();
-    endless_states_are_trapped();
-    races_are_told_by_words();
-    no_event_is_wrong();
-    picks_are_in_order();
 }

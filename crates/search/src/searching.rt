@@ -1,15 +1,14 @@
 //! The search over all schedules.
 
-ghost use Rattle.std.specs.Prelude.{◌≡◌, ◌<◌, ◌≤◌, length, IfOk};
+ghost use Rattle.std.specs.Prelude.{◌≡◌, ◌≤◌, length, IfOk};
 ghost use Rattle.std.specs.Arc.{arc_value};
 ghost use Rattle.machine.specs.Machines.{IsProgramOf};
 ghost use Rattle.search.specs.Verdicts.{Says};
 ghost use Rattle.search.specs.Visits.{nothing_seen, HasVisited};
-ghost use Rattle.search.specs.Endless.{IsFoundAt};
 
 use crate::kinds::{Goal, Kinds};
 use crate::machines::opened;
-use crate::met_states::{endless_states_are_told, kinds_are_met, searches_are_whole};
+use crate::met_states::{kinds_are_met, searches_are_whole};
 use crate::progress::Progress;
 use crate::run_outcomes::Outcomes;
 use crate::states::{States, Walk};
@@ -43,51 +42,6 @@ pub struct Searched {
     pub states: u32,
 }
 
-/// A state by its number from which no run ends, as it is to be found: a schedule that leads there. The only error is a
-/// want of memory.
-fn found_endless(asked: &Asked<'_>, states: &States, number: u32) -> Result<Verdict, AllocError>
-    requires { number < length states.now.schedules }
-    ensures { IfOk result (IsFoundAt states.now number) }
-{
-    let schedule = states.schedule(number)?;
-    let joined = schedule.joined(asked.alloc)?;
-    Ok(Verdict::Found(joined))
-}
-
-/// What a search answers all of whose states have been visited: those below a number. The only error is a want of
-/// memory.
-fn completed(
-    asked: &Asked<'_>,
-    states: &States,
-    seen: Seen,
-    below: u32,
-) -> Result<Verdict, AllocError>
-    requires visited { HasVisited asked.now.linked.now states.now.limits asked.now.goal.now states.now seen below }
-    requires all { length states.now.schedules ≤ below }
-    ensures { IfOk result (λ v. (may_stop : _) (most : _) → Says asked.now.linked.now states.now.limits
-        asked.now.goal.now may_stop most (length states.now.schedules) v) }
-{
-    searches_are_whole();
-    schedules_are_complete();
-    races_are_told_by_words();
-    kinds_are_met();
-    endless_states_are_told();
-    let Seen { outcomes, kinds } = seen;
-    match states.endless_number()? {
-        None => {
-            let none = Kinds::endless(false);
-            Ok(Verdict::Complete(outcomes, kinds.and(none)))
-        }
-        Some(number) => {
-            let endless = Kinds::endless(true);
-            if asked.goal.is_among(endless) {
-                return found_endless(asked, states, number);
-            }
-            Ok(Verdict::Complete(outcomes, kinds.and(endless)))
-        }
-    }
-}
-
 /// Visits states from the opening state on, up to so many, and tells how far it has come.
 fn visit_all<P: Progress>(
     progress: &P,
@@ -102,11 +56,15 @@ fn visit_all<P: Progress>(
         (P.may_stop progress.now) asked.now.most (length r.1.states.schedules) r.0) }
     ensures few { IfOk result (λ r. 1 ≤ asked.now.most → length r.1.states.schedules ≤ asked.now.most) }
 {
+    searches_are_whole();
+    schedules_are_complete();
+    races_are_told_by_words();
+    kinds_are_met();
     let mut walk = walk;
     let mut seen = Seen::new(asked.alloc);
     'states: for number in 0..asked.most {
         if number >= walk.states.len() {
-            return Ok((completed(asked, &walk.states, seen, number)?, walk));
+            return Ok((Verdict::Complete(seen.outcomes, seen.kinds), walk));
         }
         progress.states_met(walk.states.len());
         if progress.is_over() {
@@ -121,7 +79,7 @@ fn visit_all<P: Progress>(
         }
     }
     if walk.states.len() <= asked.most {
-        Ok((completed(asked, &walk.states, seen, asked.most)?, walk))
+        Ok((Verdict::Complete(seen.outcomes, seen.kinds), walk))
     } else {
         Ok((Verdict::GaveUp, walk))
     }

@@ -66,7 +66,7 @@ fn is_deadlocked(
     Ok(is_circle)
 }
 
-/// The kinds that the state of a machine, which has this outcome, is of by itself. The only error is a want of memory.
+/// The kinds of the state of a machine, which has this outcome. The only error is a want of memory.
 pub(crate) fn kinds_at(
     alloc: Global,
     tables: &AccessTables<'_>,
@@ -83,6 +83,5 @@ pub(crate) fn kinds_at(
         race,
         uncaught,
         deadlock,
-        endless: false,
     })
 }

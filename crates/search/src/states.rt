@@ -6,14 +6,10 @@ ghost use Rattle.model.specs.Schedule.{events_of};
 ghost use Rattle.machine.specs.Machines.{IsOfAccepted};
 ghost use Rattle.kept_states.specs.States.{IsStateRow};
 ghost use Rattle.kept_states.specs.Kept.{IsStateAdded};
-ghost use Rattle.search.specs.Edges.{IsEndlessNumber};
-ghost use Rattle.search.specs.Endless.{WereMet};
 ghost use Rattle.search.specs.Machines.{IsAt};
 ghost use Rattle.search.specs.States.{one_state, IsSchedule, IsInState, IsStateOf, IsMetFrom, GrowsTo, IsAloneFrom, IsAfter};
 
-use crate::edges::Edge;
-use crate::endless::endless_number;
-use crate::met_states::{alike_states_are_met, met_states_are_kept, new_states_are_met};
+use crate::met_states::{alike_states_are_met, new_states_are_met};
 use kept_states::{KeptStates, Numbered, copied};
 use linked_code::LinkedProgram;
 use machine::Machine;
@@ -25,7 +21,7 @@ use std::marker::Model;
 use std::sync::Arc;
 
 /// How many bytes are counted for a state: its row and its place in the table of rows, its event and its place in the
-/// tree of schedules, and its edges, each in a list that may have as much room again, and parts of its own.
+/// tree of schedules, each in a list that may have as much room again, and parts of its own.
 const STATE_BYTES: u32 = 128;
 
 /// How many states there may be, so that they don't take more than so many bytes.
@@ -43,8 +39,6 @@ pub(crate) struct States {
     program: Arc<LinkedProgram>,
     limits: Limits,
     tree: ScheduleTree,
-    /// For each event of a state that was expanded, in the order in which they were done.
-    edges: Vec<Edge>,
     kept: KeptStates,
 }
 
@@ -61,7 +55,6 @@ impl Model for States {
       program = arc_value s.program;
       limits = s.limits;
       schedules = map events_of s.tree;
-      edges = s.edges.items;
       parts = s.kept.parts;
     } };
 
@@ -69,7 +62,6 @@ impl Model for States {
       program = arc_value s.program;
       limits = s.limits;
       schedules = map events_of s.tree;
-      edges = s.edges.items;
       parts = s.kept.parts;
     }) };
 }
@@ -114,7 +106,6 @@ impl States {
             program,
             limits,
             tree: ScheduleTree::new(alloc),
-            edges: Vec::new(alloc),
             kept,
         })
     }
@@ -132,15 +123,6 @@ impl States {
         ensures { IfOk result (λ s. IsSchedule self.now number (events_of s)) }
     {
         self.tree.schedule(number)
-    }
-
-    /// The first number from which edges don't lead to one from which none leads on, if there is one. A machine was in
-    /// the state of each number. The only error is a want of memory.
-    pub(crate) fn endless_number(&self) -> Result<Option<u32>, AllocError>
-        ensures endless { IfOk result (IsEndlessNumber self.now.edges (length self.now.schedules)) }
-        ensures met { WereMet self.now }
-    {
-        endless_number(self.alloc, self.edges.as_slice(), self.tree.len())
     }
 
     /// The state of a number. The only error is a want of memory.
@@ -186,25 +168,15 @@ impl States {
     {
         alike_states_are_met();
         new_states_are_met();
-        met_states_are_kept();
         let mut states = self;
         states.kept.write(machine.shared(), Some(state))?;
-        if let Some(met) = states.kept.find() {
-            states.edges.push(Edge {
-                node: number,
-                to: met,
-            })?;
+        if let Some(_met) = states.kept.find() {
             return Ok((true, states));
         }
-        let added = states.tree.len();
-        if added >= most {
+        if states.tree.len() >= most {
             return Ok((false, states));
         }
         states.tree.push(number, entry)?;
-        states.edges.push(Edge {
-            node: number,
-            to: added,
-        })?;
         keep(&mut states.kept, machine)?;
         Ok((true, states))
     }

@@ -10,11 +10,11 @@ use Rattle.model.specs.Listing.{hex_byte, hex_digit, hex_short}
 use Rattle.model.specs.Names.{Member, Name}
 use Rattle.model.specs.Report.{number, line}
 use Rattle.model.specs.State.{Invocation, Initialisation, StackOf}
-use Rattle.model.specs.Texts.{Text, decoded}
+use Rattle.model.specs.Texts.{Text}
 use Rattle.listings.specs.printed_names.Printed.{printed, printed_byte}
 use Rattle.traces.specs.declared.form.Form.{Form}
 use Rattle.traces.specs.declared.form.Form.TheVariants.{Plain, Columns, Json}
-use Rattle.traces.specs.JsonTexts.{escape, escaped, quoted, member, text_member}
+use Rattle.traces.specs.JsonTexts.{escape, escaped, quoted, member, text_member, units}
 use Rattle.traces.specs.Quotations.{quotation, shown, shown_units}
 use Rattle.traces.specs.Lines.{IsOneLine, is_within_line, class_in, did, end_words, frame_in, head_words, in_seven, indent, instruction_words, line_words, method_members, method_words, nowhere_in, part, place_in}
 
@@ -105,7 +105,7 @@ escapes u = by ((u == 0x22) || (u == 0x5c)) refl
 
 quoted_texts : (text : List ℕ) → Is (quoted text)
 unfolding escaped
-quoted_texts text = both (codes "\"") (escaped text ++ codes "\"") refl (both (escaped text) (codes "\"") (all_of escape escapes (decoded text)) refl)
+quoted_texts text = both (codes "\"") (escaped text ++ codes "\"") refl (both (escaped text) (codes "\"") (all_of escape escapes (units text)) refl)
 
 members : (key value : List ℕ) → Is key → Is value → Is (member key value)
 members key value named is = both (codes ",\"") (key ++ (codes "\":" ++ value)) refl (both key (codes "\":" ++ value) named (both (codes "\":") value refl is))

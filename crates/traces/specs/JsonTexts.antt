@@ -1,10 +1,28 @@
 -- Texts of class files as strings of JSON (RFC 8259, section 7).
-use Rattle.std.specs.Prelude.{◌≡◌, ℕ, List, [], ◌∷◌, ◌++◌, ◌&&◌, ◌||◌, ◌==◌, nat_le, nat_lt, if◌then◌else◌, codes, refl}
+use Rattle.std.specs.Prelude.{◌≡◌, ℕ, ◌+◌, ◌*◌, ◌%◌, List, [], ◌∷◌, ◌++◌, ◌&&◌, ◌||◌, ◌==◌, nat_le, nat_lt, if◌then◌else◌, codes, refl}
 use Rattle.std.specs.List.{flat_map}
 use Rattle.model.specs.Listing.{hex_short}
-use Rattle.model.specs.Texts.{decoded}
 
--- ---- escapes of UTF-16 code units
+-- ---- the UTF-16 code units that bytes spell in modified UTF-8 (JVMS 4.4.7)
+
+-- of two bytes and of three
+abbrev pub unit_of_two : (x y : ℕ) → ℕ
+unit_of_two x y = x % 32 * 64 + y % 64
+
+abbrev pub unit_of_three : (x y z : ℕ) → ℕ
+unit_of_three x y z = x % 16 * 4096 + y % 64 * 64 + z % 64
+
+-- at the end of a text a byte that has too few behind it stands for itself
+unfoldable pub units : List ℕ → List ℕ
+units [] = []
+units (x ∷ []) = x ∷ []
+units (x ∷ y ∷ []) = if nat_lt x 0xc0 then x ∷ units (y ∷ []) else unit_of_two x y ∷ []
+units (x ∷ y ∷ z ∷ rest) =
+    if nat_lt x 0xc0 then x ∷ units (y ∷ z ∷ rest)
+    else if nat_lt x 0xe0 then unit_of_two x y ∷ units (z ∷ rest)
+    else unit_of_three x y z ∷ units rest
+
+-- ---- their escapes
 
 -- a quotation mark and a backslash stand behind a backslash, what ASCII prints stands for itself, and all else as \u with four digits
 abbrev pub escape : ℕ → List ℕ
@@ -13,9 +31,8 @@ escape u =
     else if nat_le 0x20 u && nat_lt u 0x7f then u ∷ []
     else codes "\\u" ++ hex_short u
 
--- the bytes of a text are modified UTF-8 (JVMS 4.4.7)
 unfoldable pub escaped : List ℕ → List ℕ
-escaped text = flat_map escape (decoded text)
+escaped text = flat_map escape (units text)
 
 -- a text between quotation marks
 abbrev pub quoted : List ℕ → List ℕ
@@ -32,10 +49,10 @@ text_member key text = member key (quoted text)
 
 -- a quotation mark, a line feed, é, and 0 as class files have it
 escapes : quoted (codes "a\"\n" ++ (0xc3 ∷ 0xa9 ∷ 0xc0 ∷ 0x80 ∷ [])) ≡ codes "\"a\\\"\\u000a\\u00e9\\u0000\""
-unfolding escaped decoded
+unfolding escaped units
 escapes = refl
 
 -- a character outside of the first 65,536 is two code units
 two_units : escaped (0xed ∷ 0xa0 ∷ 0xbd ∷ 0xed ∷ 0xb8 ∷ 0x80 ∷ []) ≡ codes "\\ud83d\\ude00"
-unfolding escaped decoded
+unfolding escaped units
 two_units = refl

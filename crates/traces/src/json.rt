@@ -1,13 +1,78 @@
 //! Texts of class files as strings of JSON (RFC 8259, section 7).
 
-ghost use Rattle.std.specs.Prelude.{◌≡◌, ◌<◌, [], ◌++◌, OnOk};
-ghost use Rattle.model.specs.Listing.{hex_digit, hex_short};
+ghost use Rattle.std.specs.Prelude.{◌≡◌, ◌+◌, ◌≤◌, ◌<◌, [], ◌∷◌, ◌++◌, length, drop, OnOk};
+ghost use Rattle.model.specs.Listing.{byte_at, hex_digit, hex_short};
 ghost use Rattle.model.specs.Report.{number as digits};
-ghost use Rattle.traces.specs.JsonTexts.{escape, escaped, member, quoted, text_member};
+ghost use Rattle.traces.specs.JsonTexts.{escape, escaped, member, quoted, text_member, unit_of_three, unit_of_two, units};
 
 use crate::numbers::{push_number, push_words};
-use constant_pool::modified_utf8::code_unit_at;
 use std::alloc::AllocError;
+
+/// A UTF-16 code unit, and how many bytes spell it.
+#[derive(Clone, Copy)]
+struct Unit {
+    value: u16,
+    size: usize,
+}
+
+/// The byte at a place, 0 behind the end.
+fn byte_at(bytes: &[u8], at: usize) -> u8
+    ensures { result ≡ byte_at bytes.now at }
+{
+    bytes.get(at).copied().unwrap_or(0)
+}
+
+fn unit_of_two(first: u8, second: u8) -> u16
+    ensures { result ≡ unit_of_two first second }
+{
+    u16::from(first % 32) * 64 + u16::from(second % 64)
+}
+
+fn unit_of_three(first: u8, second: u8, third: u8) -> u16
+    ensures { result ≡ unit_of_three first second third }
+{
+    u16::from(first % 16) * 4096 + u16::from(second % 64) * 64 + u16::from(third % 64)
+}
+
+/// The code unit that stands at a place of a text in modified UTF-8 (JVMS 4.4.7).
+fn unit_at(bytes: &[u8], at: usize) -> Unit
+    requires { at < length bytes.now }
+    ensures some { 0 < result.size }
+    ensures within { at + result.size ≤ length bytes.now }
+    ensures spelled { units (drop at bytes.now) ≡ result.value ∷ units (drop (at + result.size) bytes.now) }
+{
+    let first = byte_at(bytes, at);
+    let left = bytes.len() - at;
+    if left == 1 {
+        return Unit {
+            value: u16::from(first),
+            size: 1,
+        };
+    }
+    if first < 0xc0 {
+        return Unit {
+            value: u16::from(first),
+            size: 1,
+        };
+    }
+    let second = byte_at(bytes, at + 1);
+    if first < 0xe0 {
+        return Unit {
+            value: unit_of_two(first, second),
+            size: 2,
+        };
+    }
+    if left == 2 {
+        return Unit {
+            value: unit_of_two(first, second),
+            size: 2,
+        };
+    }
+    Unit {
+        value: unit_of_three(first, second, byte_at(bytes, at + 2)),
+        size: 3,
+    }
+}
 
 fn hex_digit(n: u8) -> u8
     requires { n < 16 }
@@ -52,7 +117,7 @@ fn push_escaped(text: &mut Vec<u8>, bytes: &[u8]) -> Result<(), AllocError>
 {
     let mut at = 0;
     'units: while at < bytes.len() {
-        let unit = code_unit_at(bytes, at);
+        let unit = unit_at(bytes, at);
         push_unit(text, unit.value)?;
         at += unit.size;
     }

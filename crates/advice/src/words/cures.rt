@@ -13,13 +13,13 @@ const LEFT: &str = ": leave it out";
 
 const MARKER: &str = ": it does nothing here; leave it out";
 
-const TEXTS: &str = ": texts can't be made in a run; print the parts one by one";
+const TEXTS: &str = ": texts can't be made in a run; print ints";
 
 /// Classes by their whole names.
 static CLASSES: [Cure; 40] = [
     (
         "java/lang/StringBuilder",
-        ", of + of strings: texts can't be made in a run; print the parts one by one",
+        ", of + of strings: texts can't be made in a run; print ints",
     ),
     ("java/lang/StringBuffer", TEXTS),
     ("java/lang/CharSequence", TEXTS),

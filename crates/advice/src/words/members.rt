@@ -55,14 +55,14 @@ static MEMBERS: [Cure; 43] = [
     (
         "java/io/PrintStream",
         "",
-        ": System.out prints ints, chars and Strings, and nothing else; print these",
+        ": System.out has println(int) alone; print ints, one a line",
     ),
     (
         SYSTEM,
         "in",
         ": nothing is read in a run; write the input into the program",
     ),
-    (SYSTEM, "err", ": print by System.out"),
+    (SYSTEM, "err", ": print ints by System.out.println"),
     (
         SYSTEM,
         "exit",

@@ -161,7 +161,6 @@ fn goal_for<F: Folder>(alloc: Global, folder: &F, goal: &SearchGoal) -> Result<G
         SearchGoal::Race => Ok(Goal::Kind(Kind::Race)),
         SearchGoal::Uncaught => Ok(Goal::Kind(Kind::Uncaught)),
         SearchGoal::Deadlock => Ok(Goal::Kind(Kind::Deadlock)),
-        SearchGoal::Endless => Ok(Goal::Kind(Kind::Endless)),
         SearchGoal::Any => Ok(Goal::AnyKind),
         SearchGoal::Output(numbers) => Ok(Goal::Outcome(printed(alloc, numbers.as_slice())?)),
         SearchGoal::Differs(path) => {

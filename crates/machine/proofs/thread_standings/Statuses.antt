@@ -12,7 +12,7 @@ use Rattle.model.specs.ReferenceTypes.{ClassType}
 use Rattle.model.specs.Report as report
 use Rattle.model.specs.Report.{ThreadEnd}
 use Rattle.model.specs.State as model
-use Rattle.model.specs.State.{ObjectOf, Instance, Primitives, References, Characters, type_of, StackOf, StateOf, Thread, ThreadStatus, WorldOf}
+use Rattle.model.specs.State.{ObjectOf, Instance, Primitives, References, type_of, StackOf, StateOf, Thread, ThreadStatus, WorldOf}
 use Rattle.model.specs.Worlds.{no_object, no_thread}
 use Rattle.model.specs.Step.{is_enabled_by, thread_at, thread_event}
 use Rattle.run_laws.proofs.laws.Lists.{get_map}
@@ -58,7 +58,6 @@ module _ (trees : Program) (components : List LinkedType) (objects : List Object
   named (Instance class fields) e = refl
   named (Primitives of elements) e = absurd cc
   named (References of elements) e = absurd cc
-  named (Characters text) e = refl
 
   pub none_thrown : None ≡ option_map kind_of (slice_get objects thrown) → ⊥
   none_thrown none = let e = none ∙ ap (option_map kind_of) shown.1 in cc

@@ -7,8 +7,6 @@
 //!   the stack and the fat locks shown after it; not enabled; an exception to raise; or refused at the limit that
 //!   stands or for want of memory. Unless it is done, nothing has changed. A notify wakes the member that is picked, a
 //!   wait stays at its call, and a started thread has an empty stack.
-//! - `print` adds to the text that was printed what `printed_by` says: an int in decimal, a char as its unit, the text
-//!   of a String, and `null` (`printed_is`).
 //!
 //! # Not proved
 //!
@@ -16,7 +14,7 @@
 //!
 //! # Wrong bodies
 //!
-//! - `thread_methods-prints-twice`: each digit and letter is printed twice; refused by the clause of `push_bytes`.
+//! - `thread_methods-prints-twice`: a line feed is printed twice; refused by the clause of `push_line`.
 
 mod called;
 mod growth;

@@ -58,15 +58,9 @@ unfolding decoded
 decoded_units [] = All-nil _
 decoded_units (b ∷ []) = cons_units (unit_of_one b) [] (one_small b) (All-nil _)
 decoded_units (b ∷ c ∷ []) =
-    let one = unit_of_one b ∷ decoded (c ∷ []) in
-    either_units (are_two b c) (unit_of_two b c ∷ []) one
-    (cons_units (unit_of_two b c) [] (two_small b c) (All-nil _))
-    (cons_units (unit_of_one b) (decoded (c ∷ [])) (one_small b) (decoded_units (c ∷ [])))
+    either_units (are_two b c) _ _ (cons_units (unit_of_two b c) [] (two_small b c) (All-nil _))
+    (cons_units (unit_of_one b) _ (one_small b) (decoded_units (c ∷ [])))
 decoded_units (b ∷ c ∷ d ∷ bytes) =
-    let one = unit_of_one b ∷ decoded (c ∷ d ∷ bytes) in
-    let three = unit_of_three b c d ∷ decoded bytes in
-    either_units (are_two b c) (unit_of_two b c ∷ decoded (d ∷ bytes)) (if are_three b c d then three else one)
-    (cons_units (unit_of_two b c) (decoded (d ∷ bytes)) (two_small b c) (decoded_units (d ∷ bytes)))
-    (either_units (are_three b c d) three one
-    (cons_units (unit_of_three b c d) (decoded bytes) (three_small b c d) (decoded_units bytes))
-    (cons_units (unit_of_one b) (decoded (c ∷ d ∷ bytes)) (one_small b) (decoded_units (c ∷ d ∷ bytes))))
+    either_units (are_two b c) _ _ (cons_units (unit_of_two b c) _ (two_small b c) (decoded_units (d ∷ bytes)))
+    (either_units (are_three b c d) _ _ (cons_units (unit_of_three b c d) _ (three_small b c d) (decoded_units bytes))
+    (cons_units (unit_of_one b) _ (one_small b) (decoded_units (c ∷ d ∷ bytes))))

@@ -8,7 +8,7 @@ use Rattle.model.specs.Classes.{Program, is_interface}
 use Rattle.model.specs.Lookup.{select, is_private_method}
 use Rattle.model.specs.ReferenceTypes.{ClassType, is_assignable}
 use Rattle.model.specs.DescribedTypes.{made_type}
-use Rattle.model.specs.State.{ObjectOf, Instance, Primitives, References, Characters, type_of}
+use Rattle.model.specs.State.{ObjectOf, Instance, Primitives, References, type_of}
 use Rattle.model.specs.Calls.{Runs, if_concrete, is_one}
 use Rattle.model.specs.Worlds.{no_object, class_of_object}
 use Rattle.run_laws.proofs.laws.Lists.{get_map}
@@ -28,7 +28,6 @@ class_same : (m : ObjectOf ℕ) → receiver_class (type_of m) ≡ class_of_obje
 class_same (Instance class fields) = refl
 class_same (Primitives of elements) = refl
 class_same (References of elements) = refl
-class_same (Characters text) = refl
 
 thread_is_class : (trees : Program) → is_interface trees java_lang_thread ≡ false
 unfolding built_in_classes

@@ -11,11 +11,11 @@ use std::test::Fail;
 /// Numbers of methods, with the class that declares each, and how many operands a call takes: one for each argument
 /// and one for a receiver. They are main, P.m, P.n, P.s, J.j, and of Thread the second constructor and currentThread.
 const OPERANDS: [(usize, usize, usize); 7] = [
-    (46, 30, 1),
-    (52, 33, 1),
-    (53, 33, 2),
-    (55, 33, 3),
-    (58, 35, 3),
+    (40, 30, 1),
+    (46, 33, 1),
+    (47, 33, 2),
+    (49, 33, 3),
+    (52, 35, 3),
     (7, 2, 2),
     (13, 2, 0),
 ];
@@ -23,12 +23,12 @@ const OPERANDS: [(usize, usize, usize); 7] = [
 /// Numbers of methods, and whether each is static, private, synchronized, native and abstract: P.m, P.s, P.p, Q.m,
 /// P.a, R.n, and Thread's start and yield.
 const FLAGS: [(usize, [bool; 5]); 8] = [
-    (52, [false, false, false, false, false]),
-    (55, [true, false, false, false, false]),
-    (54, [false, true, false, false, false]),
-    (48, [false, false, true, false, false]),
-    (56, [false, false, false, false, true]),
-    (47, [false, false, false, false, true]),
+    (46, [false, false, false, false, false]),
+    (49, [true, false, false, false, false]),
+    (48, [false, true, false, false, false]),
+    (42, [false, false, true, false, false]),
+    (50, [false, false, false, false, true]),
+    (41, [false, false, false, false, true]),
     (8, [false, false, false, true, false]),
     (12, [true, false, false, true, false]),
 ];
@@ -114,9 +114,9 @@ impl Answers for CallAnswers {
         Ok(CallAnswers {
             wrong_operands: wrong_operands(&calls),
             wrong_flags: wrong_flags(&calls),
-            have_parts: [has_parts(&calls, 46, MAIN), has_parts(&calls, 53, GIVES)],
+            have_parts: [has_parts(&calls, 40, MAIN), has_parts(&calls, 47, GIVES)],
             code_length: code_length(&calls, 5),
-            is_behind_the_last: calls.call(59).is_none(),
+            is_behind_the_last: calls.call(53).is_none(),
         })
     }
 }

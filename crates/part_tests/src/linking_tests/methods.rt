@@ -163,8 +163,8 @@ const J: Class = Class {
     ..I
 };
 
-/// The classes with the numbers from 30 on, behind the built-in ones. Their methods have the numbers from 46 on: A's
-/// 46, R's 47, Q's 48 to 51, P's 52 to 56, I's 57 and J's 58.
+/// The classes with the numbers from 30 on, behind the built-in ones. Their methods have the numbers from 40 on: A's
+/// 40, R's 41, Q's 42 to 45, P's 46 to 50, I's 51 and J's 52.
 pub(crate) static CLASSES: [Class; 6] = [A, R, Q, P, I, J];
 
 static NAMED: [Row<Option<usize>>; 21] = [
@@ -172,16 +172,16 @@ static NAMED: [Row<Option<usize>>; 21] = [
     (
         30,
         Entry::Method(b"R", b"s", b"(ILjava/lang/Object;[I)V"),
-        Some(55),
+        Some(49),
     ),
-    (30, Entry::Method(b"R", b"m", b"()V"), Some(48)),
-    (30, Entry::Method(b"Q", b"n", b"(I)I"), Some(53)),
-    (30, Entry::InterfaceMethod(b"J", b"i", b"()V"), Some(57)),
+    (30, Entry::Method(b"R", b"m", b"()V"), Some(42)),
+    (30, Entry::Method(b"Q", b"n", b"(I)I"), Some(47)),
+    (30, Entry::InterfaceMethod(b"J", b"i", b"()V"), Some(51)),
     // R.m with a parameter; R.n and R.i, which R and Q declare again; P.i, which only I declares
-    (30, Entry::Method(b"R", b"m", b"(I)V"), Some(51)),
-    (30, Entry::Method(b"R", b"n", b"(I)I"), Some(47)),
-    (30, Entry::Method(b"R", b"i", b"()V"), Some(50)),
-    (30, Entry::Method(b"P", b"i", b"()V"), Some(57)),
+    (30, Entry::Method(b"R", b"m", b"(I)V"), Some(45)),
+    (30, Entry::Method(b"R", b"n", b"(I)I"), Some(41)),
+    (30, Entry::Method(b"R", b"i", b"()V"), Some(44)),
+    (30, Entry::Method(b"P", b"i", b"()V"), Some(51)),
     // J.notify, which Object declares
     (30, Entry::InterfaceMethod(b"J", b"notify", b"()V"), Some(2)),
     // Thread.run's invokeinterface Runnable.run
@@ -205,26 +205,25 @@ static NAMED: [Row<Option<usize>>; 21] = [
 pub(crate) const NO_ROWS: [Row<()>; 0] = [];
 
 /// Numbers of methods, each with the class and the place among its methods. Object declares four methods, Runnable
-/// one, Thread eleven; String, Class and System none; PrintStream seven; and each of the 23 classes from Throwable on
+/// one, Thread eleven; String, Class and System none; PrintStream one; and each of the 23 classes from Throwable on
 /// one. Then come the files, in their order.
-const PLACES: [(usize, usize, usize); 17] = [
+const PLACES: [(usize, usize, usize); 16] = [
     (0, 0, 0),
     (3, 0, 3),
     (4, 1, 0),
     (5, 2, 0),
     (15, 2, 10),
     (16, 6, 0),
-    (22, 6, 6),
-    (23, 7, 0),
-    (45, 29, 0),
-    (46, 30, 0),
-    (48, 32, 0),
-    (51, 32, 3),
-    (52, 33, 0),
-    (56, 33, 4),
-    (57, 34, 0),
-    (58, 35, 0),
-    (47, 31, 0),
+    (17, 7, 0),
+    (39, 29, 0),
+    (40, 30, 0),
+    (42, 32, 0),
+    (45, 32, 3),
+    (46, 33, 0),
+    (50, 33, 4),
+    (51, 34, 0),
+    (52, 35, 0),
+    (41, 31, 0),
 ];
 
 /// Places at which no method stands: behind the last of Thread, in String, behind the last of all, and in one more
@@ -280,7 +279,7 @@ impl Answers for PlaceAnswers {
             wrong_place: wrong_place(&numbers),
             wrong_no_place: wrong_no_place(&numbers),
             count: numbers.count(),
-            behind_the_last: numbers.place(59),
+            behind_the_last: numbers.place(53),
         })
     }
 }
@@ -290,7 +289,7 @@ fn methods_have_numbers(rt: HostRuntime) -> Result<(), Fail> {
     let found: PlaceAnswers = asked(rt.alloc(), &CLASSES, &NO_ROWS)?;
     assert_eq!(rt; found.wrong_place, None);
     assert_eq!(rt; found.wrong_no_place, None);
-    assert!(rt; found.count == 59 && found.behind_the_last.is_none());
+    assert!(rt; found.count == 53 && found.behind_the_last.is_none());
     Ok(())
 }
 
@@ -333,38 +332,38 @@ fn entries_name_what_is_found(rt: HostRuntime) -> Result<(), Fail> {
 /// A class, a method, and the method that receivers of the class have in its place.
 const SELECTED: [(usize, usize, Option<usize>); 24] = [
     // P.m is overridden in Q, from which A and R have it
-    (33, 52, Some(52)),
-    (32, 52, Some(48)),
-    (31, 52, Some(48)),
-    (30, 52, Some(48)),
+    (33, 46, Some(46)),
+    (32, 46, Some(42)),
+    (31, 46, Some(42)),
+    (30, 46, Some(42)),
     // a class above the one that declares the method has one of its own, too
-    (33, 48, Some(52)),
+    (33, 42, Some(46)),
     // the m with a parameter is another one
-    (30, 51, Some(51)),
-    (33, 51, None),
+    (30, 45, Some(45)),
+    (33, 45, None),
     // P.n is inherited by Q, and so is Object's notify
-    (32, 53, Some(53)),
-    (30, 53, Some(53)),
+    (32, 47, Some(47)),
+    (30, 47, Some(47)),
     (32, 2, Some(2)),
     // Thread declares Runnable's run
     (2, 4, Some(5)),
     // p is private in P, and public in Q
-    (33, 54, None),
-    (33, 49, None),
-    (32, 54, Some(49)),
-    (30, 54, Some(49)),
+    (33, 48, None),
+    (33, 43, None),
+    (32, 48, Some(43)),
+    (30, 48, Some(43)),
     // P.s and main are static
-    (33, 55, None),
-    (32, 55, None),
-    (30, 46, None),
+    (33, 49, None),
+    (32, 49, None),
+    (30, 40, None),
     // R declares P.n again as an abstract one, and nothing below P declares a
-    (31, 53, Some(47)),
-    (33, 56, Some(56)),
-    (30, 56, Some(56)),
+    (31, 47, Some(41)),
+    (33, 50, Some(50)),
+    (30, 50, Some(50)),
     // I.i is declared by Q, and by no class above it; methods of interfaces aren't selected
-    (30, 57, Some(50)),
-    (33, 57, None),
-    (30, 58, None),
+    (30, 51, Some(44)),
+    (33, 51, None),
+    (30, 52, None),
 ];
 
 /// The place of the first row of `SELECTED` that isn't so.

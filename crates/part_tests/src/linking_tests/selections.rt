@@ -14,13 +14,13 @@ use std::test::Fail;
 /// Of A.m, which Q declares; of P's m, i, which only I declares, and private p; of I.i and J.i; of P.m again; and of
 /// Object.wait.
 static CALLS: [(CallKind, usize, usize); 8] = [
-    (CallKind::Virtual, 30, 48),
-    (CallKind::Virtual, 33, 52),
-    (CallKind::Virtual, 33, 57),
-    (CallKind::Virtual, 33, 54),
-    (CallKind::Interface, 34, 57),
-    (CallKind::Interface, 35, 57),
-    (CallKind::Virtual, 33, 52),
+    (CallKind::Virtual, 30, 42),
+    (CallKind::Virtual, 33, 46),
+    (CallKind::Virtual, 33, 51),
+    (CallKind::Virtual, 33, 48),
+    (CallKind::Interface, 34, 51),
+    (CallKind::Interface, 35, 51),
+    (CallKind::Virtual, 33, 46),
     (CallKind::Virtual, 0, 1),
 ];
 
@@ -28,7 +28,7 @@ static TARGETS: [CallTarget; 8] = [
     CallTarget::Place(3),
     CallTarget::Place(1),
     CallTarget::Place(2),
-    CallTarget::Method(54),
+    CallTarget::Method(48),
     CallTarget::Selector(0),
     CallTarget::Selector(1),
     CallTarget::Place(1),
@@ -41,15 +41,15 @@ static ROWS: [(usize, &[u32]); 8] = [
     (0, &[1]),
     (2, &[1, 5]),
     (3, &[1]),
-    (30, &[1, 48, 50, 48]),
-    (31, &[1, 48, 50, 48]),
-    (32, &[1, 48, 50, 48]),
-    (33, &[1, 52, 4]),
+    (30, &[1, 42, 44, 42]),
+    (31, &[1, 42, 44, 42]),
+    (32, &[1, 42, 44, 42]),
+    (33, &[1, 46, 4]),
     (34, &[1]),
 ];
 
 /// How many selectors the rows of Object, Q, I and J have, and the method of the first.
-static INTERFACE_ROWS: [(usize, usize, u32); 4] = [(0, 0, 0), (32, 1, 50), (34, 1, 57), (35, 2, 4)];
+static INTERFACE_ROWS: [(usize, usize, u32); 4] = [(0, 0, 0), (32, 1, 44), (34, 1, 51), (35, 2, 4)];
 
 fn calls_of(alloc: Global) -> Result<Vec<NamedCall>, AllocError> {
     let mut calls = Vec::new(alloc);

@@ -53,57 +53,51 @@ alike_met words_told trees p bounds schedules events more schedule event one oth
     let is : first.lead.state ≡ l.last = same_Some first.lead.state l.last (sym first.lead.reached ∙ longer) in
     let same : first.at ≡ second.at = words_told trees p bounds _ _ one other first.at second.at first.shown second.shown alike in
     record {
-      followed = record {
-        threads = l.threads;
-        last = l.last;
-        are_alone = l.are_alone;
-        is_met = record {
-          schedule = schedule;
-          has = has;
-          met = second.lead.state;
-          leads = second.lead.reached;
-          same = sym second.lead.are.are ∙ (sym same ∙ (first.lead.are.are ∙ ap words_of is));
-        };
+      threads = l.threads;
+      last = l.last;
+      are_alone = l.are_alone;
+      is_met = record {
+        schedule = schedule;
+        has = has;
+        met = second.lead.state;
+        leads = second.lead.reached;
+        same = sym second.lead.are.are ∙ (sym same ∙ (first.lead.are.are ∙ ap words_of is));
       };
-      number_is = refl;
     }
 
 pub new_met : AreNewStatesMet
 new_met trees frames schedules events more event past has state next r e =
     let l = leads trees frames events more event past state next r e in
     record {
-      followed = record {
-        threads = l.threads;
-        last = l.last;
-        are_alone = l.are_alone;
-        is_met = record { schedule = events ++ event ∷ more; has = has; met = l.last; leads = reached trees frames events more event past state next r e; same = refl };
-      };
-      number_is = refl;
+      threads = l.threads;
+      last = l.last;
+      are_alone = l.are_alone;
+      is_met = record { schedule = events ++ event ∷ more; has = has; met = l.last; leads = reached trees frames events more event past state next r e; same = refl };
     }
 
 -- ---- events that lead nowhere
 
-pub enabled_where : (x : SteppedOf State) (next : State) → next_by x ≡ Some next → is_enabled_by x ≡ true
+enabled_where : (x : SteppedOf State) (next : State) → next_by x ≡ Some next → is_enabled_by x ≡ true
 enabled_where NotEnabled next e = absurd (none-some next e)
 enabled_where WrongKind next e = absurd (none-some next e)
 enabled_where (Next cost s) next e = refl
 
 pub higher_left : ArePicksInOrder → AreHigherPicksLeft
-higher_left picks_in_order trees frames events state t low high le r off other next q e =
+higher_left picks_in_order trees frames schedules events state t low high le r off other next q e =
     let same : state ≡ other = same_Some state other (sym r ∙ q) in
     let on = enabled_where (stepped values trees frames other (record { thread = t; pick = high })) next e in
     let low_on = picks_in_order trees frames other t low high le on in
-    false≢true (sym off ∙ subst (λ (s : State). is_enabled_by (stepped values trees frames s (record { thread = t; pick = low })) ≡ true) (sym same) low_on)
+    absurd (false≢true (sym off ∙ subst (λ (s : State). is_enabled_by (stepped values trees frames s (record { thread = t; pick = low })) ≡ true) (sym same) low_on))
 
 pub others_left : AreOtherThreadsLeft
-others_left trees p bounds events event shared has past state next r e =
+others_left trees p bounds schedules events event shared has past state next r e =
     let same : has.lead.state ≡ state = same_Some has.lead.state state (sym has.lead.reached ∙ r) in
     let held : length shared.threads.threads ≡ length has.lead.state.world.threads = ap length (has.shown.represents.world_is.threads ∙ ap (λ (w : StateOf ℕ). w.world.threads) has.lead.are.are) in
     let as_many = lengths_same trees (types_of has.lead.state.world.heap) has.lead.state.world.threads has.lead.state.stacks has.lead.are.typed.threads in
     let beyond : length has.lead.state.stacks ≤ event.thread = omega (arith, held, as_many, past) in
     let none : slice_get has.lead.state.stacks event.thread ≡ None = slice_get_past has.lead.state.stacks event.thread beyond in
     let stops : step trees bounds.frames has.lead.state event ≡ None = ap (λ o. next_by (event_of values trees bounds.frames has.lead.state event o)) none in
-    none-some next (sym stops ∙ (ap (λ s. step trees bounds.frames s event) same ∙ e))
+    absurd (none-some next (sym stops ∙ (ap (λ s. step trees bounds.frames s event) same ∙ e)))
 
 -- ---- an event that leads on
 
@@ -169,17 +163,14 @@ not_quiet picks_in_order trees p bounds events event shared state next has r lon
 -- ---- many
 
 pub kept_met : AreMetStatesKept
-kept_met trees frames some all number state listed met =
-    let f = met.followed in
+kept_met trees frames some all events event listed met state next r e =
+    let f = met state next r e in
     let m = f.is_met in
     record {
-      followed = record {
-        threads = f.threads;
-        last = f.last;
-        are_alone = f.are_alone;
-        is_met = record { schedule = m.schedule; has = (m.has.0, listed m.has.0 m.schedule m.has.1); met = m.met; leads = m.leads; same = m.same };
-      };
-      number_is = met.number_is;
+      threads = f.threads;
+      last = f.last;
+      are_alone = f.are_alone;
+      is_met = record { schedule = m.schedule; has = listed m.schedule m.has; met = m.met; leads = m.leads; same = m.same };
     }
 
 pub whole : AreSearchesWhole

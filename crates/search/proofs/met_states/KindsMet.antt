@@ -34,8 +34,8 @@ use Rattle.waiting_circles.specs.Circles.{HasCircle}
 use Rattle.search.specs.declared.kinds.Kind.{Kind}
 use Rattle.search.specs.declared.kinds.Kind.TheVariants as kind
 use Rattle.search.specs.run_outcomes.Outcomes.{is_stuck}
-use Rattle.search.specs.Kinds.{ShowsItself, HasUncaught, IsStuck}
-use Rattle.search.specs.met_states.Met.{IsKindMet, IsShownItself, AreKindsMet}
+use Rattle.search.specs.Kinds.{Shows, HasUncaught, IsStuck, IsShown}
+use Rattle.search.specs.met_states.Met.{IsKindMet, AreKindsMet}
 
 -- ---- lists
 
@@ -124,7 +124,7 @@ module _ (trees : Program) (frames : ℕ) (schedules : List (List Event)) where
       by None is e = absurd (none-some state e)
       by (Some schedule) is e = record { schedule = schedule; has = (node, is); reached = e }
 
-  met_by : (k : Kind) → IsMet (graph_of trees frames schedules) (ShowsItself trees frames k) → IsKindMet trees frames schedules k
+  met_by : (k : Kind) → IsMet (graph_of trees frames schedules) (Shows trees frames k) → IsKindMet trees frames schedules k
   met_by k met =
       let led = led_by met.0 met.1 met.2.0 in
       record { schedule = led.schedule; has = led.has; state = met.1; reached = led.reached; shows = met.2.1 }
@@ -140,25 +140,25 @@ module _ (are_whole : AreSchedulesWhole) (complete : AreSchedulesComplete) (exce
   both : IsWholeSearch files trees frames (are_racing trees frames) graph × AreListed trees frames graph outcomes
   both = are_whole files trees accepted frames (are_racing trees frames) (told files trees accepted frames) schedules outcomes whole
 
-  race_met : (state : State) → IsReached trees frames state → IsRacy trees frames state → IsMet graph (ShowsItself trees frames kind.Race)
+  race_met : (state : State) → IsReached trees frames state → IsRacy trees frames state → IsMet graph (Shows trees frames kind.Race)
   race_met state reached racy =
       let two = racing_of trees frames state racy in
       let met = conflicts files trees frames (are_racing trees frames) graph both.0 (last files trees accepted frames) state two.0 two.1 reached two.2 in
       let led = led_by trees frames schedules met.0 met.1 met.2.0 in
       (met.0, met.1, (met.2.0, racy_by trees frames met.1 (reached_typed files trees accepted frames met.1 (led.schedule, led.reached)) two.0 two.1 met.2.1))
 
-  uncaught_met : (state : State) → IsReached trees frames state → HasUncaught trees frames state → IsMet graph (ShowsItself trees frames kind.Uncaught)
+  uncaught_met : (state : State) → IsReached trees frames state → HasUncaught trees frames state → IsMet graph (Shows trees frames kind.Uncaught)
   uncaught_met state reached uncaught =
       let met = exceptions files trees frames (are_racing trees frames) graph both.0 state uncaught.0 uncaught.1 reached uncaught.2 in
       (met.0, met.1, (met.2.0, (uncaught.0, uncaught.1, met.2.1)))
 
-  circle_met : (state : State) → IsReached trees frames state → HasCircle trees frames state → IsMet graph (ShowsItself trees frames kind.Deadlock)
+  circle_met : (state : State) → IsReached trees frames state → HasCircle trees frames state → IsMet graph (Shows trees frames kind.Deadlock)
   circle_met state reached circle =
       let met = circles files trees frames (are_racing trees frames) graph both.0 circle.first circle.threads state reached circle.is in
       (met.0, met.1, (met.2.0, inr (record { first = circle.first; threads = circle.threads; is = met.2.1 })))
 
   -- a state in which no thread may step has the outcome of one that is kept
-  stuck_met : (state : State) → IsReached trees frames state → IsStuck trees frames state → IsMet graph (ShowsItself trees frames kind.Deadlock)
+  stuck_met : (state : State) → IsReached trees frames state → IsStuck trees frames state → IsMet graph (Shows trees frames kind.Deadlock)
   stuck_met state reached stuck =
       let all = complete files trees accepted frames (are_racing trees frames) (told files trees accepted frames) schedules outcomes whole in
       let has = all.listed reached.0 (outcome_of trees frames state) (record { state = state; reached = reached.1; quiet = stuck.0; outcome_is = refl }) in
@@ -166,14 +166,13 @@ module _ (are_whole : AreSchedulesWhole) (complete : AreSchedulesComplete) (exce
       let ends : thread_ends trees frames state ≡ thread_ends trees frames met.1 = sym (ap (λ (o : Outcome). o.ends) met.2.1.1) in
       (met.0, met.1, (met.2.0, inl (met.2.1.0, subst (λ (l : List ThreadEnd). IsTrue (list_any is_stuck l)) ends stuck.1)))
 
-  kind_met : (k : Kind) (state : State) → IsReached trees frames state → ShowsItself trees frames k state → IsMet graph (ShowsItself trees frames k)
+  kind_met : (k : Kind) (state : State) → IsReached trees frames state → Shows trees frames k state → IsMet graph (Shows trees frames k)
   kind_met kind.Race state reached shows = race_met state reached shows
   kind_met kind.Uncaught state reached shows = uncaught_met state reached shows
   kind_met kind.Deadlock state reached (inl stuck) = stuck_met state reached stuck
   kind_met kind.Deadlock state reached (inr circle) = circle_met state reached circle
-  kind_met kind.Endless state reached shows = absurd shows
 
-  pub kinds_met : (k : Kind) → IsShownItself trees frames k → IsKindMet trees frames schedules k
+  pub kinds_met : (k : Kind) → IsShown trees frames k → IsKindMet trees frames schedules k
   kinds_met k shown = met_by trees frames schedules k (kind_met k shown.0 shown.1 shown.2)
 
 pub met : AreSchedulesWhole → AreSchedulesComplete → AreExceptionsMet → AreCirclesMet → AreConflictsMet → AreRacesTold → DoRacesLast → AreKindsMet

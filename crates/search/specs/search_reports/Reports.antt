@@ -32,8 +32,7 @@ line_if false text = []
 -- a line for each kind that is told
 abbrev pub kind_lines : Kinds → List ℕ
 kind_lines kinds =
-    line_if kinds.race (codes "kind race")
-    ++ (line_if kinds.uncaught (codes "kind uncaught") ++ (line_if kinds.deadlock (codes "kind deadlock") ++ line_if kinds.endless (codes "kind endless")))
+    line_if kinds.race (codes "kind race") ++ (line_if kinds.uncaught (codes "kind uncaught") ++ line_if kinds.deadlock (codes "kind deadlock"))
 
 -- where a run was found its report, else all outcomes and kinds
 abbrev pub found_text : Answer → List ℕ
@@ -67,16 +66,16 @@ search_text a own_edges states =
 -- ---- examples
 
 no_kinds : Kinds
-no_kinds = record { race = false; uncaught = false; deadlock = false; endless = false }
+no_kinds = record { race = false; uncaught = false; deadlock = false }
 
 two_kinds : Kinds
-two_kinds = record { race = Bool.true; uncaught = false; deadlock = false; endless = Bool.true }
+two_kinds = record { race = Bool.true; uncaught = false; deadlock = Bool.true }
 
 two_ended : ℕ → Outcome
 two_ended n = record { printed = number_line (pos n); ends = Ended ∷ Ended ∷ [] }
 
 lists_both : search_text (answer.Complete (two_ended 1 ∷ two_ended 2 ∷ []) two_kinds) false 40
-    ≡ codes "outcome 1\n1\nthread 0 ended\nthread 1 ended\noutcome 2\n2\nthread 0 ended\nthread 1 ended\noutcomes 2\nkind race\nkind endless\nstates 40\nof runs that end\nsearch complete\n"
+    ≡ codes "outcome 1\n1\nthread 0 ended\nthread 1 ended\noutcome 2\n2\nthread 0 ended\nthread 1 ended\noutcomes 2\nkind race\nkind deadlock\nstates 40\nof runs that end\nsearch complete\n"
 unfolding digits two_ended two_kinds utf16_chars encode_utf8
 lists_both = refl
 

@@ -25,10 +25,8 @@ pub(crate) fn print_deed(before: &Before, method: PrintMethod) -> Deed {
         },
         PrintMethod::Println
         | PrintMethod::PrintlnChar
-        | PrintMethod::PrintlnString
         | PrintMethod::PrintChar
-        | PrintMethod::PrintInt
-        | PrintMethod::PrintString => Deed::PrintsText,
+        | PrintMethod::PrintInt => Deed::PrintsText,
     }
 }
 

@@ -12,4 +12,4 @@ returns-clause-named c =
 pub returns-in_err-goal-clause-none : goal.returns-in_err-goal-clause-none
 returns-in_err-goal-clause-none c =
     let p = err_from_is_err_and c.from_residual.result c.from_residual.ensures.1 in
-    rw (p.1, p.2) (refuses_more c.in_err-goal.field-0.0 _ _ (none_searched c.args.word.now (search rules) (search rules) (search rules)) c.in_err-goal.ensures.none)
+    rw (p.1, p.2) (refuses_more c.in_err-goal.field-0.0 _ _ (none_searched c.args.word.now (search rules) (search rules)) c.in_err-goal.ensures.none)

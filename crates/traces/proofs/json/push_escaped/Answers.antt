@@ -5,10 +5,10 @@ use Rattle.traces.proofs.json.push_escaped.Goals as goal
 
 pub units-preserved : goal.units-preserved
 units-preserved c = record {
-  within = c.code_unit_at-unit.ensures.within;
+  within = c.unit_at-unit.ensures.within;
   so_far =
-      one_unit c.args.bytes.now c.units.at (c.units.at + c.code_unit_at-unit.result.size) c.code_unit_at-unit.result.value (c.args.text.now.items ++ escaped c.args.bytes.now) c.units.text.items c.push_unit.new.text.items
-      c.code_unit_at-unit.ensures.spelled c.units.invariant.so_far c.in_ok-push_unit.ensures;
+      one_unit c.args.bytes.now c.units.at (c.units.at + c.unit_at-unit.result.size) c.unit_at-unit.result.value (c.args.text.now.items ++ escaped c.args.bytes.now) c.units.text.items c.push_unit.new.text.items
+      c.unit_at-unit.ensures.spelled c.units.invariant.so_far c.in_ok-push_unit.ensures;
 }
 
 pub returns : goal.returns

@@ -1,9 +1,8 @@
-use Rattle.std.proofs.Common.{List, [], refl, subst, sym}
+use Rattle.std.proofs.Common.{List, refl, subst, sym}
 use Rattle.std.specs.Arc.{arc_value}
 use Rattle.model.specs.declared.event.ScheduleEntry.{ScheduleEntry}
 use Rattle.machine_state.specs.declared.state.Shared.{Shared}
 use Rattle.kept_states.specs.Kept.{IsRowMade}
-use Rattle.search.specs.declared.edges.Edge.{Edge}
 use Rattle.search.specs.States.{AreKept}
 use Rattle.search.proofs.Kept.{states_of, first_kept}
 use Rattle.search.proofs.states.States.new.Goals as goal
@@ -14,6 +13,5 @@ invariant_of-result c =
     let first = first_kept (arc_value c.args.program) c.args.limits c.in_ok-kept.kept c.write.new.self c.keep.new.kept c.args.machine.now.shared c.args.machine.now _ refl c.in_ok-kept.ensures.states
     c.in_ok-kept.ensures.fat made c.in_ok-keep.ensures c.requires.opened in (
       c.requires.program,
-      subst (λ (edges : List Edge). AreKept c.keep.new.kept (states_of (arc_value c.args.program) c.args.limits c.new-2.result edges c.keep.new.kept)) (sym c.new-3.ensures.items)
-          (subst (λ (ways : List (List ScheduleEntry)). AreKept c.keep.new.kept (states_of (arc_value c.args.program) c.args.limits ways [] c.keep.new.kept)) (sym c.new-2.ensures) first),
+      subst (λ (ways : List (List ScheduleEntry)). AreKept c.keep.new.kept (states_of (arc_value c.args.program) c.args.limits ways c.keep.new.kept)) (sym c.new-2.ensures) first,
     )

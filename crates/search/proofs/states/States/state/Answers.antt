@@ -7,5 +7,5 @@ use Rattle.search.proofs.states.States.state.Goals as goal
 pub returns : goal.returns
 returns c =
     subst (λ (s : StatesOf). IsStateOf s c.args.number c.in_ok-state.state) c.self.view_is
-    (state_of c.self.inside.kept (states_of (arc_value c.self.inside.program) c.self.inside.limits c.self.inside.tree c.self.inside.edges.items c.self.inside.kept) c.args.number c.in_ok-state.state
+    (state_of c.self.inside.kept (states_of (arc_value c.self.inside.program) c.self.inside.limits c.self.inside.tree c.self.inside.kept) c.args.number c.in_ok-state.state
     c.self.invariant.1 (subst (λ (s : StatesOf). c.args.number < length s.schedules) (sym c.self.view_is) c.requires) c.in_ok-state.ensures.state c.in_ok-state.ensures.numbered)
