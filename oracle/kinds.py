@@ -1,8 +1,8 @@
 """Kinds of states that runs come to: data races, uncaught exceptions, deadlocks (JLS 11.3, 17.1, 17.4.1; JVMS 5.5), and
 states from which no run ends.
 
-What the next event of a thread accesses, and who holds what it needs, is read off the state that is there. Whether a run
-from a state ends is told by the states to which events lead.
+What the next event of a thread accesses, and who holds what it needs, is read off the state that is there. Whether a
+run from a state ends is told by the states to which events lead.
 """
 
 from typing import Any, Dict, Iterator, List, NamedTuple, Optional, Sequence, Set, Tuple

@@ -13,8 +13,8 @@
 //!   where their texts are (`same`).
 //! - `Pool::check_indices`, `Texts::check_names`, `Texts::check_descriptors`: each passes exactly where its condition
 //!   is met of all entries, and else answers its own cause. `is_method_name` holds of the names that a method may have.
-//! - `modified_utf8`: `decode` gives the UTF-16 code units that bytes spell in modified UTF-8 (`decoded`), memory aside,
-//!   and `code_unit_at` one of them, with how many bytes it has.
+//! - `modified_utf8`: `decode` gives the UTF-16 code units that bytes spell in modified UTF-8 (`decoded`), memory
+//!   aside, and `code_unit_at` one of them, with how many bytes it has.
 //! - `Pool::encode` and `Pool::length`: the bytes that the pool is spelled as, and how many the entries have.
 //!
 //! # Not proved

@@ -4,8 +4,8 @@
 //!
 //! - `linked_program`: of linked files all of `IsLinkedProgram`: classes, methods, component types, the table of
 //!   subclasses, how many static fields there are, the texts of string constants, and the numbers of String, of main of
-//!   the initial class and of the place of Thread.run. It asks for nothing but linked files; its only error is a want of
-//!   memory.
+//!   the initial class and of the place of Thread.run. It asks for nothing but linked files; its only error is a want
+//!   of memory.
 //!
 //! # Not proved
 //!

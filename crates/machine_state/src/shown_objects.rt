@@ -4,9 +4,9 @@
 //! # Proved
 //!
 //! - Defined: `ShowsObjects` says when the objects of a heap show those of a state over words, one by one: an instance
-//!   has the number of its class, and its fields are those that its class has, in the order of their slots; a String has
-//!   the units of its text in their place, each of 16 bits; an array of references has the number of what it holds in a
-//!   table of types. `ShowsStatics` says so of static fields.
+//!   has the number of its class, and its fields are those that its class has, in the order of their slots; a String
+//!   has the units of its text in their place, each of 16 bits; an array of references has the number of what it holds
+//!   in a table of types. `ShowsStatics` says so of static fields.
 //! - Where that holds: references are the same (`objects_are_counted`); one more object is shown by one more
 //!   (`objects_are_added`); a field of an instance is the word in its slot, and a put of the word there shows the put
 //!   of the field (`fields_are_slots`; `statics_are_slots` of static fields); the elements of an array are its words,

@@ -7,7 +7,7 @@
 //!
 //! # Not proved
 //!
-//! - Not said: that a printed text is told apart from the lines of threads behind it.
+//! - Not said here: that a printed text forges no line of a thread behind it. The crate `report_laws` has that.
 
 ghost use Rattle.run_laws.specs.printed_texts.Lines.{ArePrintedAsLines};
 

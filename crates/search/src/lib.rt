@@ -47,10 +47,10 @@
 //!   kind of a state is passed over; refused by `AreKindsOf`, `TellsState` and `TellsWith` of what `kinds_at` calls.
 //! - `any-kind-is-no-race`, `any-kind-is-not-endless`: a search for any kind passes over races, or over endless states;
 //!   refused by `is_sought`.
-//! - `edges-to-met-states-lead-to-themselves`, `edges-to-new-states-lead-to-themselves`: an edge isn't that of the event
-//!   that was done; refused by the contract of `add` (`IsMetFrom`, `AreLed`).
-//! - `states-that-are-led-to-are-last`, `one-edge-is-swept`, `one-sweep-is-all`: an endless state is told by other edges
-//!   than those that lead from it; refused by `AreMarked` of `clear`, and by `Sweeps` of `sweep`.
+//! - `edges-to-met-states-lead-to-themselves`, `edges-to-new-states-lead-to-themselves`: an edge isn't that of the
+//!   event that was done; refused by the contract of `add` (`IsMetFrom`, `AreLed`).
+//! - `states-that-are-led-to-are-last`, `one-edge-is-swept`, `one-sweep-is-all`: an endless state is told by other
+//!   edges than those that lead from it; refused by `AreMarked` of `clear`, and by `Sweeps` of `sweep`.
 //! - `endless-states-go-untold`: a complete answer has no endless state; refused by `AreAllKinds` of `completed`.
 //! - `own-edges-of-the-first-file`: only the first class file is asked; refused by `names_own_edges`.
 //! - `event-itself-is-left-out`: an entry has the events alone that come behind one, and not that one; refused by

@@ -13,7 +13,8 @@ use machine_state::{Effect, EventRefusal, MachineException, Shared};
 use model::PrintMethod;
 use thread_stacks::ThreadStack;
 
-/// `invokevirtual` of PrintStream.println(int): the number on top is printed, and a line feed; null under it is a NullPointerException.
+/// `invokevirtual` of PrintStream.println(int): the number on top is printed, and a line feed; null under it is a
+/// NullPointerException.
 ///
 /// # Errors
 ///

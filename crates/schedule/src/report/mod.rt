@@ -17,9 +17,9 @@ use model::{End, Report};
 use std::alloc::{AllocError, Global};
 
 /// The text of a report: what was printed, in UTF-8, and a line feed where its last line has none; for each thread a
-/// line `thread`, its number and its state; a line `events` with their number; and a line `end` that says why no more were done. A thread's state
-/// is `ended`, `threw` with the name of the exception's class (its line feeds as `\n`), `blocked`, `waiting`, `joining`, `initialising` or
-/// `runnable`. Each line ends with a line feed.
+/// line `thread`, its number and its state; a line `events` with their number; and a line `end` that says why no more
+/// were done. A thread's state is `ended`, `threw` with the name of the exception's class (its line feeds as `\n`),
+/// `blocked`, `waiting`, `joining`, `initialising` or `runnable`. Each line ends with a line feed.
 pub fn text(alloc: Global, report: &Report, end: &End) -> Result<Vec<u8>, AllocError>
     ensures { IfOk result (λ v.
         v.items ≡ report_text report.now.printed.items (map end_state_of report.now.threads.items)

@@ -117,10 +117,10 @@ impl SearchReport {
     /// The text of what a search answers. Where a run was found it is the text of the run's report. Where all outcomes
     /// are known, it is a line `outcome` with a number for each of them, from 1 on, behind it the printed text and
     /// the threads as a report has them, behind these a line `outcomes` with their number, and a line `kind` for each
-    /// kind that some run shows, in the order `race`, `uncaught`, `deadlock`, `endless`. Then come a line `states` with their
-    /// number; where all outcomes are known, a line `of runs that end`, and one that there is no data race, if there is
-    /// none; and a line `search` with `found`, `complete` or `gave up`. Outcomes are of runs that end, kinds of all.
-    /// Each line ends with a line feed. The only error is a want of memory.
+    /// kind that some run shows, in the order `race`, `uncaught`, `deadlock`, `endless`. Then come a line `states` with
+    /// their number; where all outcomes are known, a line `of runs that end`, and one that there is no data race, if
+    /// there is none; and a line `search` with `found`, `complete` or `gave up`. Outcomes are of runs that end, kinds
+    /// of all. Each line ends with a line feed. The only error is a want of memory.
     pub fn text(&self, alloc: Global) -> Result<Vec<u8>, AllocError>
         ensures { IfOk result (λ v. v.items ≡ search_text self.now.answer self.now.own_edges self.now.states) }
     {
