@@ -1,9 +1,7 @@
 /*
  * Statements: `assert`
  *
- * Assertion.java:11: the class java.lang.AssertionError, of an assert: write if, and throw an IllegalStateException
- * Assertion.java:8: java.lang.Class.desiredAssertionStatus(), of an assert: write if, and throw an
- *     IllegalStateException
+ * It works.
  */
 class Assertion {
     public static void main(String[] words) {

@@ -1,11 +1,11 @@
 /*
  * Strings and output: `StringBuilder` and `StringBuffer`
  *
- * Builders.java:12: the class java.lang.StringBuilder, of + of strings: texts can't be made in a run; print the parts
- *     one by one
- * Builders.java:13: the class java.lang.StringBuilder, of + of strings: texts can't be made in a run; print the parts
- *     one by one
- * Builders.java:14: the class java.lang.StringBuffer: texts can't be made in a run; print the parts one by one
+ * Builders.java:12: the class java.lang.StringBuilder, of + of strings: join them by concat, and take String.valueOf of
+ *     an int or a char
+ * Builders.java:13: the class java.lang.StringBuilder, of + of strings: join them by concat, and take String.valueOf of
+ *     an int or a char
+ * Builders.java:14: the class java.lang.StringBuffer: join Strings by concat, and take valueOf of an int or a char
  */
 class Builders {
     public static void main(String[] words) {

@@ -1,7 +1,7 @@
 /*
- * The library: `Comparable` and `Comparator`
+ * The library: `Comparable`
  *
- * CompareObjects.java: the class java.lang.Comparable: write an interface of your own
+ * It works.
  */
 class CompareObjects implements Comparable<CompareObjects> {
     int size;
@@ -10,7 +10,12 @@ class CompareObjects implements Comparable<CompareObjects> {
         return size - other.size;
     }
 
+    static <T extends Comparable<T>> T larger(T one, T other) {
+        return one.compareTo(other) < 0 ? other : one;
+    }
+
     public static void main(String[] words) {
         System.out.println(new CompareObjects().compareTo(new CompareObjects()));
+        System.out.println(larger("six", "seven"));
     }
 }

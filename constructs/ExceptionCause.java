@@ -1,8 +1,8 @@
 /*
- * Exceptions: an exception with a cause
+ * Exceptions: an exception with a cause and without a message
  *
- * ExceptionCause.java:12: new java.lang.RuntimeException(java.lang.Throwable): an exception has no text and no
- *     cause; take the constructor without arguments
+ * ExceptionCause.java:12: new java.lang.RuntimeException(java.lang.Throwable): take the constructor with a message,
+ *     or the one without arguments
  */
 class ExceptionCause {
     public static void main(String[] words) {

@@ -1,10 +1,9 @@
 /*
- * The library: `Cloneable` and `Serializable`
+ * The library: `Serializable`
  *
- * MarkedClasses.java: the class java.lang.Cloneable: it does nothing here; leave it out
  * MarkedClasses.java: the class java.io.Serializable: it does nothing here; leave it out
  */
-class MarkedClasses implements Cloneable, java.io.Serializable {
+class MarkedClasses implements java.io.Serializable {
     public static void main(String[] words) {
         System.out.println(7);
     }

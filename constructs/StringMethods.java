@@ -1,23 +1,19 @@
 /*
- * Strings and output: methods of `String`
+ * Strings and output: `length`, `charAt`, `equals`, `hashCode`, `compareTo`, `concat`, `substring`, `indexOf` and
+ *     `regionMatches` of a `String`, and `valueOf` of an `int` or a `char`
  *
- * StringMethods.java:17: java.lang.String.length(): a String has no methods; keep it, and compare constants by ==
- * StringMethods.java:18: java.lang.String.charAt(int): a String has no methods; keep it, and compare constants by ==
- * StringMethods.java:19: java.lang.String.equals(java.lang.Object), which a switch on a String calls, too: compare
- *     constants by ==
- * StringMethods.java:20: java.lang.String.valueOf(int): a String has no methods; keep it, and compare constants by ==
- * StringMethods.java:21: the class java.lang.Integer, of boxing, or of a method of it: take int, char or boolean, or
- *     a class of your own
- * StringMethods.java:21: java.lang.String.format(java.lang.String, java.lang.Object[]): a String has no methods; keep
- *     it, and compare constants by ==
+ * It works.
  */
 class StringMethods {
     public static void main(String[] words) {
-        String word = "seven";
+        String word = "seven".concat(String.valueOf(7)).concat(String.valueOf('!'));
         System.out.println(word.length());
         System.out.println(word.charAt(0));
-        System.out.println(word.equals("seven") ? 1 : 0);
-        String text = String.valueOf(7);
-        String other = String.format("%d", 7);
+        System.out.println(word.equals("seven7!") ? 1 : 0);
+        System.out.println(word.hashCode());
+        System.out.println(word.compareTo("six"));
+        System.out.println(word.substring(1, 4));
+        System.out.println(word.indexOf('e', 2));
+        System.out.println(word.regionMatches(2, "even", 1, 3) ? 1 : 0);
     }
 }

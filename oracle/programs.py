@@ -52,12 +52,13 @@ Way = Tuple[str, str, str, Optional[int]]
 TOPICS = {
     "values": "Quicksort NarrowTypes Switches Matrices Texts",
     "objects": "Shapes InnerClasses Shadowed LinkedObjects Initialisers",
-    "exceptions": "FailingReferences Finally Recursions Uncaught Misused",
+    "exceptions": "FailingReferences Finally Recursions Uncaught Misused Messages Asserts",
     "locks": "SafeCounter RacingCounter Philosophers LeftForks OppositeOrders DoubleChecked LazyTwice Peterson"
     " StopFlag",
     "waiting": "OneSlot BoundedBuffer PingPong Barrier Semaphore NestedEntries Notified ReadersWriter Workers",
     "threads": "Interrupts InterruptedJoin Holder FailingInitialisers CrossedInitialisers",
     "prints": "Hello Letters Surrogates Unfinished NoStream Quoted OneLine Words TwoVoices",
+    "strings": "Answers Pieces Sought Ordered Asked TooShort Speakers Kept",
 }
 
 # Further cases of a program.
@@ -85,6 +86,14 @@ FURTHER: Dict[str, List[Way]] = {
     "Notified": [("beyond", "hostile+2", "", None)],
     "Interrupts": [("objects", "whole", "--objects 1", None)],
     "Surrogates": [("half", "alone", "", 112)],
+    "Pieces": [
+        ("exact", "alone", "--objects 74 --cells 928", None),
+        ("objects", "alone", "--objects 73", None),
+        ("cells", "alone", "--cells 927", None),
+        ("both", "alone", "--objects 73 --cells 907", None),
+    ],
+    "TooShort": [("objects", "whole", "--objects 4", None)],
+    "Speakers": [("cut", "turns", "", 40), ("cells", "turns", "--cells 27", None)],
     "OneLine": [("halves", "0*11 1*7 0*", "", None), ("cut", "0*11 1*4", "", 15)],
 }
 
@@ -176,7 +185,7 @@ class Program:
 
     def java(self) -> Java:
         """What `java` prints, and the exceptions that end its threads."""
-        words = ["java", "-Dfile.encoding=UTF-8", "-cp", str(self.folder), self.name]
+        words = ["java", "-ea", "-Dfile.encoding=UTF-8", "-cp", str(self.folder), self.name]
         ran = subprocess.run(words, capture_output=True, encoding="latin-1", timeout=60)
         thrown = re.findall(r'^Exception in thread "[^"]*" ([\w.$]+)', ran.stderr, re.MULTILINE)
         return ran.stdout, sorted(name.replace(".", "/") for name in thrown)

@@ -31,7 +31,7 @@ from oracle.lessons import LESSONS, class_files
 from oracle.machine import Machine, status_of, text_of, thread_lines
 from oracle.schedules import Event
 from oracle.state import Initialisation, JavaThread, NotEnabled, Object, Refused, Value
-from oracle.texts import in_utf8, printed_lines, text_order
+from oracle.texts import in_utf8, printed_lines, spelled_units, text_order
 from tools.cases import file_lines, store, stored
 from tools.repository import CONFORMANCE, ROOT, compiled
 
@@ -100,14 +100,17 @@ class Numbered(Machine):
     def key(self) -> Tuple[Any, ...]:
         """What tells the state apart from others."""
         things = []
-        for thing in self.things():
+        for thing in [*self.numbers, *(one.object for one in self.classes.values())]:
             parts = thing.elements if thing.elements is not None else thing.fields.values()
-            things.append((thing.kind, tuple(map(self.word, parts)), self.monitor(thing)))
+            things.append((thing.kind, tuple(map(self.word, parts)), tuple(thing.text), self.monitor(thing)))
+        # Of a constant nothing but its monitor changes.
+        strings = {text: self.monitor(one) for text, one in sorted(self.strings.items()) if one.owner or one.waiters}
         classes = []
         for one in self.classes.values():
             by = self.threads.index(one.by) if one.state == "begun" and one.by else None
             classes.append((one.state, by, tuple(map(self.word, one.statics.values()))))
-        return tuple(things), tuple(classes), tuple(map(self.thread, self.threads)), tuple(self.printed)
+        threads = tuple(map(self.thread, self.threads))
+        return tuple(things), tuple(strings.items()), tuple(classes), threads, tuple(self.printed)
 
     def is_quiet(self) -> bool:
         return all(self.state(number) != "runnable" for number in range(len(self.threads)))
@@ -192,6 +195,8 @@ def is_wanted(goal: Optional[str], outcome: Outcome) -> bool:
         return any(state.startswith("threw") for state in threads)
     if goal and goal.startswith("differs="):
         return printed_lines(printed) != text_at(goal.removeprefix("differs="))
+    if goal and goal.startswith("text="):
+        return list(printed) == spelled_units(goal.removeprefix("text="))
     numbers = [number for number in (goal or "").removeprefix("output=").split(",") if number]
     return goal is not None and goal.startswith("output=") and in_utf8(printed) == lines_of_ints(numbers)
 
@@ -325,6 +330,9 @@ PROGRAMS = [
     ("kinds/PrintsInOneLine", "--for output=-17"),
     ("kinds/PrintsInOneLine", "--for output=-7,1"),
     ("kinds/PrintsWords", "--for output=10"),
+    ("kinds/PrintsWords", r"--for text=two\n10\n"),
+    ("kinds/PrintsWords", r"--for text=1\u0074wo\n\u0030\n"),
+    ("kinds/PrintsWords", r"--for text=two\n10"),
     ("kinds/ThrowsBesideLoop", "--for uncaught"),
     ("kinds/ThrowsBesideLoop", "--for any"),
     ("kinds/WaitsBesideLoop", "--for any"),
@@ -370,7 +378,7 @@ def cases_of(label: str, files: Dict[str, bytes], options: str) -> Tuple[List[st
     """The lines of the cases of a search over files, and what they have to print."""
     words = words_of([*options.split(), *files])
     told, status, found = search(list(files.values()), words.goal, words.states)
-    name = "-".join([label, re.sub("[ =]", "-", options.replace("--for ", "").replace("--", "")) or "all"])
+    name = "-".join([label, re.sub(r"[ =\\]", "-", options.replace("--for ", "").replace("--", "")) or "all"])
     paths = " ".join(files)
     record = f"--record {name}.schedule" if words.goal else ""
     text = [f"case search-{name}", "  " + " ".join(["search", *options.split(), *record.split(), paths])]

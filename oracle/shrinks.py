@@ -11,6 +11,7 @@ they have to print. What is left of a schedule is recorded, and replayed.
 
 import argparse
 import pathlib
+import re
 import sys
 from typing import List, Optional, Sequence, Tuple
 
@@ -114,6 +115,7 @@ SHRUNK = [
     ("lock-order", ["LockOrder"], "deadlock", "random", 16),
     ("lock-order", ["LockOrder"], "uncaught", "mixed", 1),
     ("lost-update", ["LostUpdate"], "output=1", "mixed", 2),
+    ("lost-update", ["LostUpdate"], r"text=\u0031\n", "mixed", 2),
     ("philosophers", ["Philosophers"], "deadlock", "mixed", 2),
     ("bounded-buffer", ["IfForWhile"], "uncaught", "mixed", 3),
     ("class-initialisation", ["Initialisers", "Left", "Right"], "deadlock", "mixed", 2),
@@ -132,7 +134,7 @@ def cases_of(folder: str, names: List[str], goal: str, policy: str, seed: int) -
     {"mixed": mixed, "random": random}[policy](run, seed)
     given = entries_of_events(run.events)
     best = Shrunk(files, goal, 10_000_000, given).best
-    name = f"{folder}-{goal.replace('=', '-')}-{policy}-{seed}"
+    name = "-".join([folder, re.sub(r"[=\\]", "-", goal), policy, str(seed)])
     paths = " ".join(f"{folder}/{one}.class" for one in names)
     text = [f"text {name}.text", *(f"  {line}" for line in lines_of(given)), f"case shrink-{name}"]
     text += [f"  shrink --for {goal} --schedule {name}.text --record {name}.schedule {paths}"]

@@ -92,6 +92,7 @@ SWEPT = [
     ("lost-update", ["LostUpdate"], "--seeds 1..20"),
     ("lost-update", ["LostUpdate"], "--seeds 1..20 --policy random"),
     ("lost-update", ["LostUpdate"], "--seeds 1..20 --for output=1"),
+    ("lost-update", ["LostUpdate"], r"--seeds 1..20 --for text=1\n"),
     ("lost-update", ["LostUpdate"], "--seeds 1..20 --policy random --for differs=two"),
     ("lost-update", ["LostUpdate"], "--seeds 1..20 --policy random --workers 3"),
     ("lost-update", ["LostUpdate"], "--seeds 1..20 --workers 64 --for output=1"),
@@ -141,7 +142,7 @@ def cases_of(folder: str, names: List[str], options: str) -> Tuple[List[str], st
     words = words_of([*options.split(), *names])
     files = class_files(LESSONS / folder)
     sweep = Sweep([files[f"{name}.class"] for name in names], words)
-    name = "-".join([folder, names[0], re.sub("[ =]", "-", options.replace("--for ", "").replace("--", "").replace("..", "-to-"))])
+    name = "-".join([folder, names[0], re.sub(r"[ =\\]", "-", options.replace("--for ", "").replace("--", "").replace("..", "-to-"))])
     paths = " ".join(f"{folder}/{one}.class" for one in names)
     text = [f"case sweep-{name}", f"  run {options} {paths}"]
     told = f"case sweep-{name}\n{sweep.text(repeated(words.policy, paths))}status {int(sweep.is_found)}\n"

@@ -15,6 +15,24 @@ def units_of(text: str) -> List[int]:
     return [int.from_bytes(data[at : at + 2], "big") for at in range(0, len(data), 2)]
 
 
+# A character of a text of the command line, or an escape of it.
+PIECE = re.compile(r"(?P<plain>[^\\])|\\(?P<named>[n\\])|\\u(?P<unit>[0-9A-Fa-f]{4})", re.DOTALL)
+
+
+def spelled_units(text: str) -> List[int]:
+    """The UTF-16 code units that a text of the command line spells, in characters and escapes."""
+    units: List[int] = []
+    at = 0
+    while at < len(text):
+        piece = PIECE.match(text, at)
+        if piece is None:
+            raise ValueError(f"character {at + 1} begins no escape")
+        plain, named, unit = piece.groups()
+        units += units_of(plain or {"n": "\n", "\\": "\\"}[named]) if unit is None else [int(unit, 16)]
+        at = piece.end()
+    return units
+
+
 def decoded(data: bytes) -> List[int]:
     """The units that the bytes of a Utf8 entry spell (JVMS 4.4.7). A byte that begins none is a unit by itself."""
     units: List[int] = []

@@ -26,8 +26,9 @@ class Before(NamedTuple):
     stack: List[Value]
     waiting: Dict[int, List[JavaThread]]
     pick: int
-    # How many units were printed.
+    # How many units were printed, and how many objects were made.
     printed: int
+    objects: int
 
     def frame(self) -> Frame:
         assert isinstance(self.top, Frame)
@@ -41,12 +42,12 @@ class Before(NamedTuple):
         return found
 
 
-def seen_before(thread: JavaThread, pick: int, printed: int) -> Before:
+def seen_before(thread: JavaThread, pick: int, printed: int, objects: int) -> Before:
     top = thread.top()
     stack = list(top.stack) if isinstance(top, Frame) else []
     waiting = {id(one): list(one.waiters) for one in stack if isinstance(one, Object)}
     at = top.at if isinstance(top, Frame) else 0
-    return Before(top, len(thread.entries), thread.frames(), at, stack, waiting, pick, printed)
+    return Before(top, len(thread.entries), thread.frames(), at, stack, waiting, pick, printed, objects)
 
 
 class Traced(Machine):
@@ -106,7 +107,8 @@ class Traced(Machine):
 
     def words(self, thread: JavaThread, number: int, pick: int) -> List[str]:
         """Does an event, and answers what it did."""
-        pending, relock, before = thread.pending, thread.relock, seen_before(thread, pick, len(self.printed))
+        pending, relock = thread.pending, thread.relock
+        before = seen_before(thread, pick, len(self.printed), self.objects)
         self.step(number, pick)
         thrown = thread.pending if thread.pending is not None and thread.pending is not pending else None
         words: List[str] = []
@@ -231,6 +233,8 @@ class Traced(Machine):
             return [f"{verb} {self.thread_word(this)}"]
         if name == "<init>":
             return [f"runs {self.found_method(owner, name, descriptor).owner.name}.<init>"]
+        if self.objects > before.objects:
+            return [f"makes {self.thing(before.frame().stack[-1])}"]
         result = descriptor[descriptor.index(")") + 1 :]
         return [f"pushes {self.value(before.frame().stack[-1], result)}"]
 

@@ -209,21 +209,31 @@ def cases() -> Tuple[str, str]:
     text += ["# Outside of JSON a line of an event is one line, too.", "case trace-names-in-words"]
     text += ["  trace --schedule lined.schedule names/A.class"]
     printed += f"case trace-names-in-words\n{told}status {status}\n"
-    lines, shown = traced_prints()
-    return "\n".join([*text, *lines, ""]), printed + shown
+    for program in PROGRAMS:
+        lines, shown = traced_program(*program)
+        text, printed = text + lines, printed + shown
+    return "\n".join([*text, ""]), printed
 
 
-def traced_prints() -> Tuple[List[str], str]:
-    """The lines of the cases of a program that prints, and what they have to print."""
-    with tempfile.TemporaryDirectory() as folder:
-        data = compiled([ROOT / "programs/Quoted.java"], folder)[0].read_bytes()
-    text = ["", "# What is printed is told in quotation marks, but for a println of an int.", "text prints.schedule"]
-    text += ["  0*37", *file_lines("prints/Quoted.class", data)]
+# The programs of programs/ that are traced: the folder of the class file, the program, how many events are told, and
+# what is said of them.
+PROGRAMS = [
+    ("prints", "Quoted", 37, "What is printed is told in quotation marks, but for a println of an int."),
+    ("strings", "Asked", 54, "A method of String makes a String, or pushes what is there, or throws."),
+]
+
+
+def traced_program(folder: str, name: str, events: int, comment: str) -> Tuple[List[str], str]:
+    """The lines of the cases of a program of one thread, and what they have to print."""
+    with tempfile.TemporaryDirectory() as classes:
+        data = compiled([ROOT / f"programs/{name}.java"], classes)[0].read_bytes()
+    text = ["", f"# {comment}", f"text {folder}.schedule"]
+    text += [f"  0*{events}", *file_lines(f"{folder}/{name}.class", data)]
     printed = ""
     for form in ("plain", "json"):
-        told, status = trace([data], [Entry(0, 0, 37)], form=form)
-        given, case = ("", "trace-prints") if form == "plain" else (f" --{form}", f"trace-prints-{form}")
-        text += [f"case {case}", f"  trace{given} --schedule prints.schedule prints/Quoted.class"]
+        told, status = trace([data], [Entry(0, 0, events)], form=form)
+        given, case = ("", f"trace-{folder}") if form == "plain" else (f" --{form}", f"trace-{folder}-{form}")
+        text += [f"case {case}", f"  trace{given} --schedule {folder}.schedule {folder}/{name}.class"]
         printed += f"case {case}\n{told}status {status}\n"
     return text, printed
 

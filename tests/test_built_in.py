@@ -127,6 +127,15 @@ class InTables(unittest.TestCase):
         self.assertEqual(built_in_tables.codes(b"\xc0\x80"), "(0xc0 ∷ 0x80 ∷ [])")
         self.assertEqual(built_in_tables.literal(b"a\\\x80"), 'b"a\\\\\\x80"')
 
+    def test_a_class_in_the_list_of_all(self) -> None:
+        names = ("java/lang/Throwable", "java/lang/ArithmeticException", "java/lang/Cloneable", "java/lang/String")
+        forms = [built_in_tables.form_of(read_tree(built_in_file(name).read_bytes())) for name in names]
+        constructors = [built_in_tables.class_text(form).rpartition(" (")[2] for form in forms]
+        found = ["constructor ∷ with_message ∷ with_cause ∷ [])", "constructor ∷ with_message ∷ [])"]
+        self.assertEqual(constructors[:2], found)
+        self.assertTrue(built_in_tables.class_text(forms[2]).endswith(" []"))
+        self.assertEqual(constructors[3], "string_class")
+
     def test_a_long_class_has_its_code_apart(self) -> None:
         forms = [built_in_tables.form_of(laid_out(of_javac(methods))) for methods in ("public", "made " * 200)]
         names = [*built_in_tables.definitions(forms), *built_in_tables.tables(forms)]

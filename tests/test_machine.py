@@ -7,7 +7,8 @@ from oracle.classes import Class
 from oracle.frames import Frame, local
 from oracle.machine import Machine, replay
 from oracle.schedules import Entry
-from oracle.state import NotEnabled
+from oracle.state import NotEnabled, Object
+from oracle.strings import ANSWERS, STRING, Made, Raised
 from oracle.texts import decoded, in_utf8, printed_lines, quoted, text_order, units_of
 from oracle.told import json_line
 from oracle.traces import lined, trace
@@ -92,6 +93,41 @@ class Texts(unittest.TestCase):
     def test_a_trace_tells_forty_units(self) -> None:
         self.assertEqual(quoted(units_of('"\\\n\x7f')), '"\\"\\\\\\n\\u007f"')
         self.assertEqual(quoted([97] * 41), f'"{"a" * 40}.."')
+
+
+def string(text: str) -> Object:
+    thing = Object(STRING)
+    thing.text = units_of(text)
+    return thing
+
+
+def answer(name: str, *operands: Any) -> Any:
+    """What the method of String answers that has this name first among those that do."""
+    found = next(does for (method, _), does in ANSWERS.items() if method == name)
+    return found(*(string(one) if isinstance(one, str) else one for one in operands))
+
+
+class Strings(unittest.TestCase):
+    def test_hashes_wrap(self) -> None:
+        self.assertEqual(answer("hashCode", "hello"), 99_162_322)
+        self.assertEqual(answer("hashCode", "polygenelubricants"), -(2**31))
+
+    def test_regions(self) -> None:
+        self.assertEqual([answer("regionMatches", "hello", 2, "ll", 0, count) for count in (2, 3, 0, -1)], [1, 0, 1, 1])
+        self.assertEqual(answer("regionMatches", "hello", 2**31 - 1, "hello", 2**31 - 1, 2**31 - 1), 0)
+
+    def test_what_is_made(self) -> None:
+        hello, none = string("hello"), string("")
+        self.assertEqual(answer("substring", hello, 1, 3), Made(units_of("el")))
+        self.assertIs(answer("substring", hello, 0, 5), hello)
+        self.assertIs(answer("concat", hello, none), hello)
+        self.assertEqual(answer("concat", none, hello), Made(units_of("hello")))
+        self.assertEqual(answer("valueOf", -7), Made(units_of("-7")))
+
+    def test_what_is_raised(self) -> None:
+        for operands in (("charAt", "a", 1), ("charAt", "a", -1), ("substring", "a", 1, 0)):
+            self.assertRaisesRegex(Raised, "StringIndexOutOfBounds", answer, *operands)
+        self.assertRaisesRegex(Raised, "NullPointer", answer, "regionMatches", "a", -1, None, 0, 0)
 
 
 class Runs(unittest.TestCase):

@@ -19,11 +19,18 @@ SPECS, TABLES = ROOT / "crates/model/specs", ROOT / "crates/class_tree/src/built
 # How long a line may be, and how many of them a module may have.
 WIDTH, LINES = 120, 450
 
+# How many classes a part of the tables has at most.
+CLASSES_OF_A_PART = 8
+
 # Flags by their names in `BuiltInForm`, and the name of a member that stands often.
 CLASS_FLAGS = {0x0021: "public_class", 0x0031: "final_class", 0x0421: "abstract_class", 0x0601: "public_interface"}
 METHOD_FLAGS = {0x0101: "native_method", 0x0111: "final_native_method", 0x0109: "static_native_method"}
 METHOD_FLAGS[0x0401] = "abstract_method"
-CONSTRUCTOR = (0x0101, b"<init>", b"()V")
+CONSTRUCTORS = {
+    (0x0101, b"<init>", b"()V"): "constructor",
+    (0x0101, b"<init>", b"(Ljava/lang/String;)V"): "with_message",
+    (0x0101, b"<init>", b"(Ljava/lang/String;Ljava/lang/Throwable;)V"): "with_cause",
+}
 
 MADE = "Made by `tools/build-built-in` of the class files of builtin/classes. Not to be edited."
 
@@ -195,15 +202,15 @@ def entry_text(entry: Tuple[Any, ...]) -> str:
 
 
 def native_text(one: Declared) -> str:
-    if (one.flags, one.name, one.descriptor) == CONSTRUCTOR:
-        return "constructor"
+    if (one.flags, one.name, one.descriptor) in CONSTRUCTORS:
+        return CONSTRUCTORS[one.flags, one.name, one.descriptor]
     return f"declared {METHOD_FLAGS.get(one.flags, f'0x{one.flags:04x}')} {codes(one.name)} {codes(one.descriptor)}"
 
 
 def natives_text(form: Form) -> Tuple[str, str]:
     """The definition of the methods without code, where it is one of its own, and how the class names them."""
     texts = [native_text(one) for one in form.natives]
-    if texts in ([], ["constructor"]):
+    if set(texts) <= {*CONSTRUCTORS.values()}:
         return "", " ∷ ".join([*texts, "[]"])
     return defined(f"{form.snake}_methods", "List Declared", listed(texts, True)), f"{form.snake}_methods"
 
@@ -277,7 +284,8 @@ IMPORTS = {
     "Rattle.model.specs.BuiltInForm": ["Declared", "declared", "field", "Coded", "coded", "tree_of"],
 }
 IMPORTS["Rattle.model.specs.Tree"] += ["NameAndType", "FileTree"]
-IMPORTS["Rattle.model.specs.BuiltInForm"] += [*CLASS_FLAGS.values(), *METHOD_FLAGS.values(), "constructor", "built_in"]
+IMPORTS["Rattle.model.specs.BuiltInForm"] += [*CLASS_FLAGS.values(), *METHOD_FLAGS.values()]
+IMPORTS["Rattle.model.specs.BuiltInForm"] += [*CONSTRUCTORS.values(), "built_in"]
 
 
 def used(text: str) -> str:
@@ -432,17 +440,38 @@ def table_modules(form: Form) -> Iterator[Tuple[str, str]]:
     yield form.snake, f"//! The class {form.name}.\n//!\n//! {MADE}\n\n{imported(text)}{taken}\n{text}"
 
 
+def parts(forms: List[Form]) -> List[List[Form]]:
+    """The classes in some parts, each of which is proved by itself: a class with code begins one."""
+    found: List[List[Form]] = []
+    for form in forms:
+        if not found or form.coded or len(found[-1]) == CLASSES_OF_A_PART:
+            found.append([])
+        found[-1].append(form)
+    return found
+
+
+def part_text(forms: List[Form], at: int) -> str:
+    """Classes from a number on."""
+    name, last = f"FROM_{forms[0].snake.upper()}", at + len(forms) - 1
+    numbers = f"{at}" if at == last else f"{at} to {last}"
+    about = f"/// The built-in classes by their numbers: {numbers}.\n"
+    rows = (form.snake.upper() if form.coded else class_value(form, 4) for form in forms)
+    return f"{about}pub(crate) static {name}: [BuiltInClass; {len(forms)}] = {array(rows, 0)};\n"
+
+
 def tables(forms: List[Form]) -> Dict[str, str]:
     """The tables of `class_tree`, by the names of their files in the folder of its module `builtin::tables`."""
     own = {form.snake: table_modules(form) for form in forms if form.coded}
     found = dict(module for modules in own.values() for module in modules)
-    rows = (form.snake.upper() if form.coded else class_value(form, 4) for form in forms)
-    text = f"pub(crate) static CLASSES: [BuiltInClass; {len(forms)}] = {array(rows, 0)};\n"
+    texts, at = [], 0
+    for part in parts(forms):
+        texts.append(part_text(part, at))
+        at += len(part)
+    text = "\n".join(texts)
     modules = "".join(f"mod {name};\n" for name in sorted(found))
     taken = "".join(f"use crate::builtin::tables::{name}::{name.upper()};\n" for name in sorted(own))
-    about = f"//! The built-in classes as tables.\n//!\n//! {MADE}\n"
-    listed_about = "/// The built-in classes, in the order of the definitions.\n"
-    head = f"{about}\n{modules}\n{imported(text)}{taken}\n{listed_about}{text}"
+    about = f"//! The built-in classes as tables, in the order of the definitions.\n//!\n//! {MADE}\n"
+    head = f"{about}\n{modules}\n{imported(text)}{taken}\n{text}"
     return {"mod.rt": head, **{f"{name}.rt": text for name, text in found.items()}}
 
 

@@ -22,7 +22,7 @@ MODULES = {
     "cluster": ["*.py"],
     "oracle": [
         *("__init__.py", "calls.py", "classes.py", "frames.py", "machine.py"),
-        *("opcodes.py", "schedules.py", "seeds.py", "state.py", "texts.py"),
+        *("opcodes.py", "schedules.py", "seeds.py", "state.py", "strings.py", "texts.py"),
     ],
 }
 

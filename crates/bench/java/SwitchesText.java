@@ -1,4 +1,4 @@
-// refused 4 Unresolved file 0 method main([Ljava/lang/String;)V offset 7
+// accepted
 /** A switch over texts asks for their hash codes. */
 final class SwitchesText {
     public static void main(String[] args) {

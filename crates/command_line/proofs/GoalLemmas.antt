@@ -15,6 +15,7 @@ use Rattle.clap.proofs.CutLemmas.{Lacks, slice_split-Lacks, slice_split-at}
 use Rattle.clap.specs.Words.{Text}
 use Rattle.model.specs.Report.{signed_number}
 use Rattle.command_line.specs.CommandLine.{Refuses}
+use Rattle.command_line.specs.EscapedTexts.{units_of}
 use Rattle.command_line.specs.Goals.{IsGoal, AreInts, AreEachInt, IsGoalWord, IsGoalWith, IsInt, IsSearchGoal, IsSearchGoalWord, numbers_text, search_goal}
 use Rattle.command_line.specs.declared.usage.Usage.{Usage}
 use Rattle.command_line.specs.declared.options.Goal.{Goal}
@@ -43,6 +44,10 @@ differs_free : AreOther (codes "differs")
 unfolding AreOther
 differs_free = (λ e. omega (arith, e), (λ e. omega (arith, e), (λ e. omega (arith, e), (λ e. omega (arith, e), (λ e. omega (arith, e), (λ e. omega (arith, e), (λ e. omega (arith, e), tt)))))))
 
+text_free : AreOther (codes "text")
+unfolding AreOther
+text_free = (λ e. omega (arith, e), (λ e. omega (arith, e), (λ e. omega (arith, e), (λ e. omega (arith, e), tt))))
+
 -- ---- a word that is neither of those without a value
 
 module _ (word : Text) (other : word ≡ codes "deadlock" → ⊥) (another : word ≡ codes "uncaught" → ⊥) where
@@ -51,6 +56,7 @@ module _ (word : Text) (other : word ≡ codes "deadlock" → ⊥) (another : wo
   none_named split goals.Deadlock is = other is
   none_named split goals.Uncaught is = another is
   none_named split (goals.Output ints) is = split_after 0x3d word (codes "output") is.0 None split (lit< tt) is.1 (free_of (codes "output") output_free)
+  none_named split (goals.Text units) is = split_after 0x3d word (codes "text") is.0 None split (lit< tt) is.1 (free_of (codes "text") text_free)
   none_named split (goals.Differs path) is = split_after 0x3d word (codes "differs") (string_bytes path) None split (lit< tt) is (free_of (codes "differs") differs_free)
 
   -- there is one
@@ -65,6 +71,7 @@ module _ (word : Text) (other : word ≡ codes "deadlock" → ⊥) (another : wo
     by_parts goals.Deadlock is = elim is [ ]
     by_parts goals.Uncaught is = elim is [ ]
     by_parts (goals.Output ints) is = (value.now, whole (codes "output") value.now is.0 refl, is.1)
+    by_parts (goals.Text units) is = (value.now, whole (codes "text") value.now is.0 refl, is.1)
     by_parts (goals.Differs path) is = whole (codes "differs") (string_bytes path) is.0 is.1
 
     of_parts : (goal : Goal) → IsGoalWord word goal → IsGoalWith name.now value.now goal
@@ -73,6 +80,9 @@ module _ (word : Text) (other : word ≡ codes "deadlock" → ⊥) (another : wo
     of_parts (goals.Output ints) is =
         let same = split_after 0x3d word (codes "output") is.0 (Some (name, value)) split (lit< tt) is.1 (free_of (codes "output") output_free) in
         (same.0, subst (λ text. AreInts text ints.items) (sym same.1) is.2)
+    of_parts (goals.Text units) is =
+        let same = split_after 0x3d word (codes "text") is.0 (Some (name, value)) split (lit< tt) is.1 (free_of (codes "text") text_free) in
+        (same.0, ap units_of same.1 ∙ is.2)
     of_parts (goals.Differs path) is = split_after 0x3d word (codes "differs") (string_bytes path) (Some (name, value)) split (lit< tt) is (free_of (codes "differs") differs_free)
 
     pub named : (result : Result Goal Usage) → IfOk result (IsGoalWith name.now value.now) → IfOk result (IsGoalWord word)
@@ -85,11 +95,13 @@ module _ (word : Text) (other : word ≡ codes "deadlock" → ⊥) (another : wo
     unnamed (Err usage) is = refuses_more usage _ _ (λ none goal named. none goal (of_parts goal named)) is
 
 -- what stands before the `=` is one name alone
-pub other_name : (name value : Text) → (name ≡ codes "output" → ⊥) → (name ≡ codes "differs" → ⊥) → (goal : Goal) → IsGoalWith name value goal → ⊥
-other_name name value output differs goals.Deadlock is = is
-other_name name value output differs goals.Uncaught is = is
-other_name name value output differs (goals.Output ints) is = output is.0
-other_name name value output differs (goals.Differs path) is = differs is.0
+pub other_name : (name value : Text) → (name ≡ codes "output" → ⊥) → (name ≡ codes "text" → ⊥) → (name ≡ codes "differs" → ⊥) → (goal : Goal)
+    → IsGoalWith name value goal → ⊥
+other_name name value output text differs goals.Deadlock is = is
+other_name name value output text differs goals.Uncaught is = is
+other_name name value output text differs (goals.Output ints) is = output is.0
+other_name name value output text differs (goals.Text units) is = text is.0
+other_name name value output text differs (goals.Differs path) is = differs is.0
 
 first_is : Text → ℕ
 first_is text = get_or text 0 0
@@ -99,7 +111,16 @@ unfolding first_is
 no_output name value output none goals.Deadlock is = is
 no_output name value output none goals.Uncaught is = is
 no_output name value output none (goals.Output ints) is = none ints.items is.1
+no_output name value output none (goals.Text units) is = let bad : 111 ≡ 116 = ap first_is (sym output ∙ is.0) in omega (arith, bad)
 no_output name value output none (goals.Differs path) is = let bad : 111 ≡ 100 = ap first_is (sym output ∙ is.0) in omega (arith, bad)
+
+pub no_text : (name value : Text) → name ≡ codes "text" → units_of value ≡ None → (goal : Goal) → IsGoalWith name value goal → ⊥
+unfolding first_is
+no_text name value text none goals.Deadlock is = is
+no_text name value text none goals.Uncaught is = is
+no_text name value text none (goals.Output ints) is = let bad : 116 ≡ 111 = ap first_is (sym text ∙ is.0) in omega (arith, bad)
+no_text name value text none (goals.Text units) is = let bad : None ≡ Some units.items = sym none ∙ is.1 in cc
+no_text name value text none (goals.Differs path) is = let bad : 116 ≡ 100 = ap first_is (sym text ∙ is.0) in omega (arith, bad)
 
 -- ---- ints with commas between them
 
@@ -190,6 +211,7 @@ pub searched_word : (word : Text) (goal : Goal) → IsGoalWord word goal → IsS
 searched_word word goals.Deadlock is = is
 searched_word word goals.Uncaught is = is
 searched_word word (goals.Output ints) is = is
+searched_word word (goals.Text units) is = is
 searched_word word (goals.Differs path) is = is
 
 -- a word that is none of the other three, and names no outcome of runs
@@ -201,6 +223,7 @@ module _ (word : Text) (no_race : word ≡ codes "race" → ⊥) (not_endless : 
   none_searched sought.Uncaught is = none goals.Uncaught is
   none_searched sought.Deadlock is = none goals.Deadlock is
   none_searched (sought.Output ints) is = none (goals.Output ints) is
+  none_searched (sought.Text units) is = none (goals.Text units) is
   none_searched (sought.Differs path) is = none (goals.Differs path) is
 
 -- where something is asked for

@@ -1,6 +1,7 @@
 pub mod ClashLemmas
 pub mod CommandLineLemmas
 mod CommandNames
+pub mod EscapedTextLemmas
 pub mod GoalLemmas
 pub mod ParserLemmas
 pub mod PathLemmas

@@ -27,6 +27,7 @@ goal_apart written value (Some sought.Deadlock) other is is_other apart = tt
 goal_apart written value (Some sought.Endless) other is is_other apart = tt
 goal_apart written value (Some sought.Any) other is is_other apart = tt
 goal_apart written value (Some (sought.Output ints)) other is is_other apart = tt
+goal_apart written value (Some (sought.Text units)) other is is_other apart = tt
 goal_apart written None (Some (sought.Differs path)) other is is_other apart = elim is [ ]
 goal_apart written (Some word) (Some (sought.Differs path)) None is is_other apart = elim is_other [ ]
 goal_apart written (Some word) (Some (sought.Differs path)) (Some sought.Race) is is_other apart = let bad : 100 ≡ 114 = ap (byte 0) (sym is ∙ is_other) in absurd (omega (arith, bad))
@@ -35,6 +36,7 @@ goal_apart written (Some word) (Some (sought.Differs path)) (Some sought.Deadloc
 goal_apart written (Some word) (Some (sought.Differs path)) (Some sought.Endless) is is_other apart = let bad : 100 ≡ 101 = ap (byte 0) (sym is ∙ is_other) in absurd (omega (arith, bad))
 goal_apart written (Some word) (Some (sought.Differs path)) (Some sought.Any) is is_other apart = let bad : 100 ≡ 97 = ap (byte 0) (sym is ∙ is_other) in absurd (omega (arith, bad))
 goal_apart written (Some word) (Some (sought.Differs path)) (Some (sought.Output ints)) is is_other apart = let bad : 100 ≡ 111 = ap (byte 0) (sym is ∙ is_other.1) in absurd (omega (arith, bad))
+goal_apart written (Some word) (Some (sought.Differs path)) (Some (sought.Text units)) is is_other apart = let bad : 100 ≡ 116 = ap (byte 0) (sym is ∙ is_other.1) in absurd (omega (arith, bad))
 goal_apart written (Some word) (Some (sought.Differs path)) (Some (sought.Differs another)) is is_other apart =
     let same : string_bytes another ≡ string_bytes path = ap (drop 8) (sym is_other ∙ is) in
     subst (IsApart written) same apart

@@ -5,6 +5,7 @@ use Rattle.std.specs.Int.RustNames.{FitsSigned}
 use Rattle.std.specs.List.{All, join_with_byte}
 use Rattle.clap.specs.Words.{Text}
 use Rattle.model.specs.Report.{signed_number}
+use Rattle.command_line.specs.EscapedTexts.{units_of}
 use Rattle.command_line.specs.declared.options.Goal.{Goal}
 use Rattle.command_line.specs.declared.options.Goal.TheVariants as goals
 use Rattle.command_line.specs.declared.options.SearchGoal.{SearchGoal}
@@ -33,6 +34,7 @@ abbrev pub IsGoalWord : Text → Goal → Type 0
 IsGoalWord word goals.Deadlock = word ≡ codes "deadlock"
 IsGoalWord word goals.Uncaught = word ≡ codes "uncaught"
 IsGoalWord word (goals.Output ints) = (text : Text) × (word ≡ codes "output" ++ 0x3d ∷ text) × AreInts text ints.items
+IsGoalWord word (goals.Text units) = (text : Text) × (word ≡ codes "text" ++ 0x3d ∷ text) × (units_of text ≡ Some units.items)
 IsGoalWord word (goals.Differs path) = word ≡ codes "differs" ++ 0x3d ∷ string_bytes path
 
 -- so does the word of a name and a value with `=` between them
@@ -40,6 +42,7 @@ abbrev pub IsGoalWith : (name value : Text) → Goal → Type 0
 IsGoalWith name value goals.Deadlock = ⊥
 IsGoalWith name value goals.Uncaught = ⊥
 IsGoalWith name value (goals.Output ints) = (name ≡ codes "output") × AreInts value ints.items
+IsGoalWith name value (goals.Text units) = (name ≡ codes "text") × (units_of value ≡ Some units.items)
 IsGoalWith name value (goals.Differs path) = (name ≡ codes "differs") × (value ≡ string_bytes path)
 
 -- the outcome that is asked for, where one is
@@ -59,6 +62,7 @@ IsSearchGoalWord word sought.Deadlock = word ≡ codes "deadlock"
 IsSearchGoalWord word sought.Endless = word ≡ codes "endless"
 IsSearchGoalWord word sought.Any = word ≡ codes "any"
 IsSearchGoalWord word (sought.Output ints) = (text : Text) × (word ≡ codes "output" ++ 0x3d ∷ text) × AreInts text ints.items
+IsSearchGoalWord word (sought.Text units) = (text : Text) × (word ≡ codes "text" ++ 0x3d ∷ text) × (units_of text ≡ Some units.items)
 IsSearchGoalWord word (sought.Differs path) = word ≡ codes "differs" ++ 0x3d ∷ string_bytes path
 
 -- what is asked for, where something is
@@ -73,4 +77,5 @@ abbrev pub search_goal : Goal → SearchGoal
 search_goal goals.Deadlock = sought.Deadlock
 search_goal goals.Uncaught = sought.Uncaught
 search_goal (goals.Output ints) = sought.Output ints
+search_goal (goals.Text units) = sought.Text units
 search_goal (goals.Differs path) = sought.Differs path

@@ -1,5 +1,6 @@
 pub mod Choices
 pub mod CommandLine
+pub mod EscapedTexts
 pub mod Goals
 pub mod Numerals
 pub mod Paths

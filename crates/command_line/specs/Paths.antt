@@ -40,6 +40,7 @@ IsGoalApart written None = Unit {0}
 IsGoalApart written (Some goals.Deadlock) = Unit {0}
 IsGoalApart written (Some goals.Uncaught) = Unit {0}
 IsGoalApart written (Some (goals.Output ints)) = Unit {0}
+IsGoalApart written (Some (goals.Text units)) = Unit {0}
 IsGoalApart written (Some (goals.Differs path)) = IsApart written (string_bytes path)
 
 -- it is another one than the file that a search compares with
@@ -51,4 +52,5 @@ IsSearchGoalApart written (Some sought.Deadlock) = Unit {0}
 IsSearchGoalApart written (Some sought.Endless) = Unit {0}
 IsSearchGoalApart written (Some sought.Any) = Unit {0}
 IsSearchGoalApart written (Some (sought.Output ints)) = Unit {0}
+IsSearchGoalApart written (Some (sought.Text units)) = Unit {0}
 IsSearchGoalApart written (Some (sought.Differs path)) = IsApart written (string_bytes path)

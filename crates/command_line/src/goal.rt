@@ -6,16 +6,18 @@ ghost use Rattle.command_line.specs.CommandLine.{Asks, Refuses};
 ghost use Rattle.command_line.specs.Goals.{AreEachInt, AreInts, IsGoalWord, IsGoalWith, IsInt, IsSearchGoalWord};
 ghost use Rattle.command_line.specs.Goals as spec;
 
+use crate::escaped_texts::units_of;
 use crate::numbers::comma_parts;
 use crate::options::{Goal, SearchGoal};
 use crate::usage::Usage;
 use std::alloc::Global;
 
 /// What a search may be to find, as the text of a fault tells it.
-const SEARCH_GOALS: &str = "race, uncaught, deadlock, endless, any, output=NUMBERS, differs=FILE";
+const SEARCH_GOALS: &str =
+    "race, uncaught, deadlock, endless, any, output=NUMBERS, text=TEXT, differs=FILE";
 
 /// The outcomes of runs that may be to be found, as the text of a fault tells them.
-pub(crate) const OUTCOMES: &str = "deadlock, uncaught, output=NUMBERS, differs=FILE";
+pub(crate) const OUTCOMES: &str = "deadlock, uncaught, output=NUMBERS, text=TEXT, differs=FILE";
 
 /// What a search is to find, by the word that names it.
 pub(crate) fn search_goal_by(alloc: Global, word: &str) -> Result<SearchGoal, Usage>
@@ -43,6 +45,7 @@ fn search_goal(goal: Goal) -> SearchGoal
         Goal::Deadlock => SearchGoal::Deadlock,
         Goal::Uncaught => SearchGoal::Uncaught,
         Goal::Output(numbers) => SearchGoal::Output(numbers),
+        Goal::Text(units) => SearchGoal::Text(units),
         Goal::Differs(path) => SearchGoal::Differs(path),
     }
 }
@@ -88,6 +91,9 @@ fn goal_with(
 {
     if name == "output" {
         return Ok(Goal::Output(ints(alloc, value)?));
+    }
+    if name == "text" {
+        return Ok(Goal::Text(units_of(alloc, value)?));
     }
     if name == "differs" {
         return Ok(Goal::Differs(String::from_str(alloc, value)?));

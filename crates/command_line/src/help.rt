@@ -42,11 +42,11 @@ pub(crate) const RUN_RECORD_HELP: &str =
 
 /// Which outcome of runs is to be found, or to be kept.
 pub(crate) const OUTCOME_HELP: &str =
-    "The outcome: deadlock, uncaught, output=NUMBERS or differs=FILE";
+    "The outcome: deadlock, uncaught, output=NUMBERS, text=TEXT or differs=FILE";
 
 /// What a search is to find.
 pub(crate) const SEARCH_GOAL_HELP: &str =
-    "What is to be found: race, uncaught, deadlock, endless, any, output=NUMBERS or differs=FILE";
+    "What is to be found: race, uncaught, deadlock, endless, any, output=NUMBERS, text=TEXT or differs=FILE";
 
 /// What files `schedule` takes.
 pub(crate) const SCHEDULE_HELP: &str =
@@ -75,7 +75,8 @@ What it does:
   at most (10000000 where none is given). What they print and how the threads
   stand is listed once, with how many runs show it and the first seed. --for ends
   the sweep at the first seed that shows an outcome: deadlock, uncaught,
-  output=NUMBERS (what is printed, with commas), or differs=FILE (another text).
+  output=NUMBERS (what is printed, with commas), text=TEXT (what is printed, with
+  \\n for a line feed, \\\\ and \\uXXXX), or differs=FILE (another text).
   --record FOLDER keeps the first schedule of each: FOLDER/outcome-1.schedule ..
   With --seconds the run ends behind so many, or the sweep behind the run that it
   is at, and says so: `end seconds`, `sweep gave up: seconds`.
@@ -156,6 +157,8 @@ What it does:
     endless         no run from there ends, whatever events follow
     any             any of these four
     output=1,2      a run ended that printed these numbers, and no others
+    text=7\\n        a run ended that printed this text, and no more: \\n is a line
+                    feed, \\\\ a backslash, \\uXXXX a UTF-16 unit in hexadecimal
     differs=FILE    a run ended that printed something else than FILE has
   Where it says `search complete`, no other end and no other kind is possible.
   `no data race: correctly synchronized` is told where no state is a race. Where

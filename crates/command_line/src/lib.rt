@@ -9,7 +9,8 @@
 //! - In both clauses: what `search --for` seeks is what its word names (`IsSearchGoalWord`). The words of a kind of
 //!   states are `race`, `uncaught`, `deadlock`, `endless` and `any`; of `run --seeds` and `shrink` there is no command
 //!   with `race`, `endless` or `any` (`IsGoalWord`). Behind `output=` stand ints, each as a report prints it; there is
-//!   no command where an item is none.
+//!   no command where an item is none. Behind `text=` stands a text of UTF-16 units, in characters and in the escapes
+//!   `\n`, `\\` and `\uXXXX` (`units_of`); there is no command where another backslash stands there.
 //! - In both clauses: `schedule` has one file, and a version beside `--write` alone (`AreScheduleValues`,
 //!   `IsMadeVersion`); or with `--places` class files, a schedule of them, and neither `--write` nor a version
 //!   (`ArePlacesValues`). Of all others `--as-version` stands beside `--record` alone (`IsRecordedVersion`).
@@ -31,6 +32,7 @@
 #![tactic(auto)]
 
 mod arguments;
+mod escaped_texts;
 mod goal;
 mod help;
 mod numbers;

@@ -169,6 +169,8 @@ pub enum SearchGoal {
     Any,
     /// The run printed these numbers, in this order, and no others.
     Output(Vec<i32>),
+    /// The run printed these UTF-16 units, and no others.
+    Text(Vec<u16>),
     /// Something else was printed than the file with this path has.
     Differs(String),
 }
@@ -182,6 +184,8 @@ pub enum Goal {
     Uncaught,
     /// The run printed these numbers, in this order, and no others.
     Output(Vec<i32>),
+    /// The run printed these UTF-16 units, and no others.
+    Text(Vec<u16>),
     /// Something else was printed than the file with this path has.
     Differs(String),
 }

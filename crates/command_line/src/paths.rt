@@ -48,7 +48,8 @@ pub(crate) fn check_search_goal(
             | SearchGoal::Deadlock
             | SearchGoal::Endless
             | SearchGoal::Any
-            | SearchGoal::Output(_),
+            | SearchGoal::Output(_)
+            | SearchGoal::Text(_),
         )
         | None => Ok(()),
     }
@@ -67,7 +68,7 @@ pub(crate) fn check_goal(
 {
     match goal {
         Some(Goal::Differs(path)) => check_file(alloc, matches, path.as_str()),
-        Some(Goal::Deadlock | Goal::Uncaught | Goal::Output(_)) | None => Ok(()),
+        Some(Goal::Deadlock | Goal::Uncaught | Goal::Output(_) | Goal::Text(_)) | None => Ok(()),
     }
 }
 

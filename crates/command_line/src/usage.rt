@@ -12,6 +12,12 @@ use std::num::ParseIntError;
 /// How the parser's texts end.
 const MORE: &str = "For more information, try '--help'.";
 
+/// How an outcome is asked for by its text.
+const TEXT: &str = "--for text=<TEXT>";
+
+/// What is told of a backslash that begins no escape of a text.
+const NO_ESCAPE: &str = "begins none of \\n, \\\\, \\uXXXX";
+
 /// Why there is no command.
 #[derive(Drop)]
 pub enum Usage {
@@ -117,6 +123,16 @@ impl Usage {
     {
         Usage::told(format!(in alloc;
             "error: invalid value '{text}' for '--for output=<NUMBERS>': not an int in its shortest decimal form\n\n{MORE}\n"
+        ))
+    }
+
+    /// The fault that the backslash at a place of a text, counted in characters from 1, begins no escape, in the
+    /// parser's words for a value that it refuses.
+    pub(crate) fn no_escape(alloc: Global, text: &str, place: usize) -> Usage
+        ensures { Asks result → ⊥ }
+    {
+        Usage::told(format!(in alloc;
+            "error: invalid value '{text}' for '{TEXT}': the backslash at character {place} {NO_ESCAPE}\n\n{MORE}\n"
         ))
     }
 

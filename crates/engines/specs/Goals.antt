@@ -12,6 +12,7 @@ use Rattle.search.specs.declared.kinds.Goal.TheVariants as searches
 use Rattle.search.specs.declared.kinds.Kind.TheVariants as kinds
 use Rattle.search.specs.declared.run_outcomes.wanted.Wanted.{Wanted}
 use Rattle.search.specs.declared.run_outcomes.wanted.Wanted.TheVariants as wanted
+use Rattle.model.specs.Texts.{Text}
 use Rattle.search.specs.run_outcomes.Outcomes.{printed_text}
 use Rattle.engines.specs.Engines.{Reads}
 
@@ -32,9 +33,13 @@ is_unended bytes = not (length bytes == 0) && not (ends_with (λ a b. a == b) by
 abbrev pub text_of_file : List ℕ → List ℕ
 text_of_file bytes = if is_unended (without_returns bytes) then without_returns bytes ++ 0x0a ∷ [] else without_returns bytes
 
--- the outcomes of runs that print these numbers, in this order, and no others
+-- the outcomes of runs that print this text, and no more
+abbrev pub IsPrintedText : Text → Wanted → Type 0
+IsPrintedText units want = (text : Vec ℕ Global) × (want ≡ wanted.Printed text) × (text.items ≡ units)
+
+-- those of runs that print these numbers, in this order, and no others
 abbrev pub IsPrinted : List ℤ → Wanted → Type 0
-IsPrinted numbers want = (text : Vec ℕ Global) × (want ≡ wanted.Printed text) × (text.items ≡ printed_text numbers)
+IsPrinted numbers want = IsPrintedText (printed_text numbers) want
 
 -- those of runs that print something else than the file with a path has
 abbrev pub IsPrintedOther : (List ℕ → Option (List ℕ)) → List ℕ → Wanted → Type 0
@@ -47,6 +52,7 @@ IsAskedFor held None want = want ≡ wanted.Nothing
 IsAskedFor held (Some goals.Deadlock) want = want ≡ wanted.Stuck
 IsAskedFor held (Some goals.Uncaught) want = want ≡ wanted.Uncaught
 IsAskedFor held (Some (goals.Output numbers)) want = IsPrinted numbers.items want
+IsAskedFor held (Some (goals.Text units)) want = IsPrintedText units.items want
 IsAskedFor held (Some (goals.Differs path)) want = IsPrintedOther held (string_bytes path) want
 
 -- what a search is to find, by what files hold
@@ -58,4 +64,5 @@ IsSearchedFor held (Some sought.Deadlock) goal = goal ≡ searches.Kind kinds.De
 IsSearchedFor held (Some sought.Endless) goal = goal ≡ searches.Kind kinds.Endless
 IsSearchedFor held (Some sought.Any) goal = goal ≡ searches.AnyKind
 IsSearchedFor held (Some (sought.Output numbers)) goal = (want : Wanted) × (goal ≡ searches.Outcome want) × IsPrinted numbers.items want
+IsSearchedFor held (Some (sought.Text units)) goal = (want : Wanted) × (goal ≡ searches.Outcome want) × IsPrintedText units.items want
 IsSearchedFor held (Some (sought.Differs path)) goal = (want : Wanted) × (goal ≡ searches.Outcome want) × IsPrintedOther held (string_bytes path) want

@@ -176,7 +176,7 @@ fn goal_texts(goal: &Option<Goal>) -> &[String]
 {
     match goal {
         Some(Goal::Differs(path)) => slice::from_ref(path),
-        Some(Goal::Deadlock) | Some(Goal::Uncaught) | Some(Goal::Output(_)) | None => &[],
+        Some(Goal::Deadlock | Goal::Uncaught | Goal::Output(_) | Goal::Text(_)) | None => &[],
     }
 }
 

@@ -4,7 +4,8 @@ use Rattle.std.specs.Prelude.{not, nat_le}
 use Rattle.std.specs.Option.{option_and_then, option_map_or, option_or, option_to_list}
 use Rattle.std.specs.List.{flat_map, list_any}
 use Rattle.std.proofs.lemmas.Bool.{or_parts, not-false}
-use Rattle.model.specs.BuiltIn.{built_in_classes, object_class}
+use Rattle.model.specs.BuiltIn.{built_in_classes}
+use Rattle.model.specs.built_in.Object.{object_class}
 use Rattle.model.specs.Names.{Name, name_eq, Member, java_lang_object}
 use Rattle.model.specs.Tree.{FileTree}
 use Rattle.model.specs.Classes.{Program, class_of, classes_of, superclass_of, superinterfaces_of, interface_names, interfaces_above, lineage_of, is_named}

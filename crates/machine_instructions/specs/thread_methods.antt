@@ -1,4 +1,5 @@
 pub mod Called
 pub mod Moves
 pub mod Growth
+pub mod Texts
 pub mod Printed

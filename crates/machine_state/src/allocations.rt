@@ -4,15 +4,20 @@
 //! # Proved
 //!
 //! - Of a machine whose words show a world: an object that its heap allocates is one that an event makes of that world,
-//!   with the next reference, whose word fits 32 bits, and no limit stood (`objects_are_made`); where the heap refuses,
-//!   it tells the limit that stands, objects before cells, or memory was missing, and nothing has changed
-//!   (`allocations_are_refused`).
+//!   with the next reference, whose word fits 32 bits, and no limit stood (`objects_are_made`); so is a String whose
+//!   words are the units of a text (`texts_are_made`); where the heap refuses, it tells the limit that stands, objects
+//!   before cells, or memory was missing, and nothing has changed (`allocations_are_refused`).
 
-ghost use Rattle.machine_state.specs.allocations.Allocated.{AreMade, AreRefused};
+ghost use Rattle.machine_state.specs.allocations.Allocated.{AreMade, AreRefused, AreTextsMade};
 
 /// An object that the heap allocates is one that an event makes, and no limit stood.
 pub fn objects_are_made()
     ensures holds { AreMade }
+{}
+
+/// A String that the heap takes up with the units of its text is one that an event makes, and no limit stood.
+pub fn texts_are_made()
+    ensures holds { AreTextsMade }
 {}
 
 /// Where the heap refuses to allocate, the event is refused at that limit, or for want of memory.

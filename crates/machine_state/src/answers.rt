@@ -6,6 +6,7 @@ pub enum MachineException {
     NullPointer,
     Arithmetic,
     ArrayIndexOutOfBounds,
+    StringIndexOutOfBounds,
     NegativeArraySize,
     ArrayStore,
     ClassCast,

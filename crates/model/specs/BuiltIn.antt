@@ -1,31 +1,13 @@
 -- The built-in classes (own): part of each program, and initialised from the start. Their members are those that stand here
 -- and no others. A method without code is native: what it does is a rule of the machine.
 -- Made by `tools/build-built-in` of the class files of builtin/classes. Not to be edited.
-use Rattle.std.specs.Prelude.{List, [], ◌∷◌, Some, None, codes}
+use Rattle.std.specs.Prelude.{List, [], ◌∷◌, Some, codes}
 use Rattle.model.specs.Tree.{Entry, Utf8, FileTree}
-use Rattle.model.specs.BuiltInForm.{Declared, declared, field, tree_of, public_class, final_class, abstract_class, public_interface, native_method, final_native_method, abstract_method, constructor, built_in}
+use Rattle.model.specs.BuiltInForm.{Declared, declared, field, tree_of, public_class, final_class, abstract_class, public_interface, native_method, abstract_method, constructor, with_message, with_cause, built_in}
+use Rattle.model.specs.built_in.Object.{object_class}
 use Rattle.model.specs.built_in.Thread.{thread_class}
-
-abbrev pub object_methods : List Declared
-object_methods =
-    constructor
-    ∷ declared final_native_method (codes "wait") (codes "()V")
-    ∷ declared final_native_method (codes "notify") (codes "()V")
-    ∷ declared final_native_method (codes "notifyAll") (codes "()V")
-    ∷ []
-
-abbrev pub object_class : FileTree
-object_class =
-    tree_of (record {
-      flags = public_class;
-      name = codes "java/lang/Object";
-      superclass = None;
-      interfaces = [];
-      operands = [];
-      fields = [];
-      coded = [];
-      natives = object_methods;
-    })
+use Rattle.model.specs.built_in.String.{string_class}
+use Rattle.model.specs.built_in.Class.{class_class}
 
 abbrev pub runnable_methods : List Declared
 runnable_methods =
@@ -66,36 +48,61 @@ print_stream_methods =
 abbrev pub print_stream_class : FileTree
 print_stream_class = built_in public_class (codes "java/io/PrintStream") (codes "java/lang/Object") print_stream_methods
 
+abbrev pub comparable_methods : List Declared
+comparable_methods =
+    declared abstract_method (codes "compareTo") (codes "(Ljava/lang/Object;)I")
+    ∷ []
+
+abbrev pub comparable_class : FileTree
+comparable_class = built_in public_interface (codes "java/lang/Comparable") (codes "java/lang/Object") comparable_methods
+
+abbrev pub char_sequence_methods : List Declared
+char_sequence_methods =
+    declared abstract_method (codes "length") (codes "()I")
+    ∷ declared abstract_method (codes "charAt") (codes "(I)C")
+    ∷ declared abstract_method (codes "subSequence") (codes "(II)Ljava/lang/CharSequence;")
+    ∷ declared abstract_method (codes "toString") (codes "()Ljava/lang/String;")
+    ∷ []
+
+abbrev pub char_sequence_class : FileTree
+char_sequence_class = built_in public_interface (codes "java/lang/CharSequence") (codes "java/lang/Object") char_sequence_methods
+
 unfoldable pub built_in_classes : List FileTree
 built_in_classes =
     object_class
     ∷ runnable_class
     ∷ thread_class
-    ∷ built_in final_class (codes "java/lang/String") (codes "java/lang/Object") []
-    ∷ built_in final_class (codes "java/lang/Class") (codes "java/lang/Object") []
+    ∷ string_class
+    ∷ class_class
     ∷ system_class
     ∷ print_stream_class
-    ∷ built_in public_class (codes "java/lang/Throwable") (codes "java/lang/Object") (constructor ∷ [])
-    ∷ built_in public_class (codes "java/lang/Error") (codes "java/lang/Throwable") (constructor ∷ [])
-    ∷ built_in public_class (codes "java/lang/Exception") (codes "java/lang/Throwable") (constructor ∷ [])
-    ∷ built_in public_class (codes "java/lang/LinkageError") (codes "java/lang/Error") (constructor ∷ [])
-    ∷ built_in abstract_class (codes "java/lang/VirtualMachineError") (codes "java/lang/Error") (constructor ∷ [])
-    ∷ built_in public_class (codes "java/lang/IncompatibleClassChangeError") (codes "java/lang/LinkageError") (constructor ∷ [])
-    ∷ built_in public_class (codes "java/lang/NoClassDefFoundError") (codes "java/lang/LinkageError") (constructor ∷ [])
-    ∷ built_in public_class (codes "java/lang/ExceptionInInitializerError") (codes "java/lang/LinkageError") (constructor ∷ [])
-    ∷ built_in public_class (codes "java/lang/AbstractMethodError") (codes "java/lang/IncompatibleClassChangeError") (constructor ∷ [])
-    ∷ built_in public_class (codes "java/lang/StackOverflowError") (codes "java/lang/VirtualMachineError") (constructor ∷ [])
-    ∷ built_in public_class (codes "java/lang/RuntimeException") (codes "java/lang/Exception") (constructor ∷ [])
-    ∷ built_in public_class (codes "java/lang/InterruptedException") (codes "java/lang/Exception") (constructor ∷ [])
-    ∷ built_in public_class (codes "java/lang/ArithmeticException") (codes "java/lang/RuntimeException") (constructor ∷ [])
-    ∷ built_in public_class (codes "java/lang/ArrayStoreException") (codes "java/lang/RuntimeException") (constructor ∷ [])
-    ∷ built_in public_class (codes "java/lang/ClassCastException") (codes "java/lang/RuntimeException") (constructor ∷ [])
-    ∷ built_in public_class (codes "java/lang/IllegalMonitorStateException") (codes "java/lang/RuntimeException") (constructor ∷ [])
-    ∷ built_in public_class (codes "java/lang/IllegalArgumentException") (codes "java/lang/RuntimeException") (constructor ∷ [])
-    ∷ built_in public_class (codes "java/lang/IllegalStateException") (codes "java/lang/RuntimeException") (constructor ∷ [])
-    ∷ built_in public_class (codes "java/lang/IndexOutOfBoundsException") (codes "java/lang/RuntimeException") (constructor ∷ [])
-    ∷ built_in public_class (codes "java/lang/NegativeArraySizeException") (codes "java/lang/RuntimeException") (constructor ∷ [])
-    ∷ built_in public_class (codes "java/lang/NullPointerException") (codes "java/lang/RuntimeException") (constructor ∷ [])
-    ∷ built_in public_class (codes "java/lang/IllegalThreadStateException") (codes "java/lang/IllegalArgumentException") (constructor ∷ [])
-    ∷ built_in public_class (codes "java/lang/ArrayIndexOutOfBoundsException") (codes "java/lang/IndexOutOfBoundsException") (constructor ∷ [])
+    ∷ built_in public_class (codes "java/lang/Throwable") (codes "java/lang/Object") (constructor ∷ with_message ∷ with_cause ∷ [])
+    ∷ built_in public_class (codes "java/lang/Error") (codes "java/lang/Throwable") (constructor ∷ with_message ∷ with_cause ∷ [])
+    ∷ built_in public_class (codes "java/lang/Exception") (codes "java/lang/Throwable") (constructor ∷ with_message ∷ with_cause ∷ [])
+    ∷ built_in public_class (codes "java/lang/LinkageError") (codes "java/lang/Error") (constructor ∷ with_message ∷ with_cause ∷ [])
+    ∷ built_in abstract_class (codes "java/lang/VirtualMachineError") (codes "java/lang/Error") (constructor ∷ with_message ∷ with_cause ∷ [])
+    ∷ built_in public_class (codes "java/lang/IncompatibleClassChangeError") (codes "java/lang/LinkageError") (constructor ∷ with_message ∷ [])
+    ∷ built_in public_class (codes "java/lang/NoClassDefFoundError") (codes "java/lang/LinkageError") (constructor ∷ with_message ∷ [])
+    ∷ built_in public_class (codes "java/lang/ExceptionInInitializerError") (codes "java/lang/LinkageError") (constructor ∷ with_message ∷ [])
+    ∷ built_in public_class (codes "java/lang/AbstractMethodError") (codes "java/lang/IncompatibleClassChangeError") (constructor ∷ with_message ∷ [])
+    ∷ built_in public_class (codes "java/lang/StackOverflowError") (codes "java/lang/VirtualMachineError") (constructor ∷ with_message ∷ [])
+    ∷ built_in public_class (codes "java/lang/RuntimeException") (codes "java/lang/Exception") (constructor ∷ with_message ∷ with_cause ∷ [])
+    ∷ built_in public_class (codes "java/lang/InterruptedException") (codes "java/lang/Exception") (constructor ∷ with_message ∷ [])
+    ∷ built_in public_class (codes "java/lang/ArithmeticException") (codes "java/lang/RuntimeException") (constructor ∷ with_message ∷ [])
+    ∷ built_in public_class (codes "java/lang/ArrayStoreException") (codes "java/lang/RuntimeException") (constructor ∷ with_message ∷ [])
+    ∷ built_in public_class (codes "java/lang/ClassCastException") (codes "java/lang/RuntimeException") (constructor ∷ with_message ∷ [])
+    ∷ built_in public_class (codes "java/lang/IllegalMonitorStateException") (codes "java/lang/RuntimeException") (constructor ∷ with_message ∷ [])
+    ∷ built_in public_class (codes "java/lang/IllegalArgumentException") (codes "java/lang/RuntimeException") (constructor ∷ with_message ∷ with_cause ∷ [])
+    ∷ built_in public_class (codes "java/lang/IllegalStateException") (codes "java/lang/RuntimeException") (constructor ∷ with_message ∷ with_cause ∷ [])
+    ∷ built_in public_class (codes "java/lang/IndexOutOfBoundsException") (codes "java/lang/RuntimeException") (constructor ∷ with_message ∷ [])
+    ∷ built_in public_class (codes "java/lang/NegativeArraySizeException") (codes "java/lang/RuntimeException") (constructor ∷ with_message ∷ [])
+    ∷ built_in public_class (codes "java/lang/NullPointerException") (codes "java/lang/RuntimeException") (constructor ∷ with_message ∷ [])
+    ∷ built_in public_class (codes "java/lang/IllegalThreadStateException") (codes "java/lang/IllegalArgumentException") (constructor ∷ with_message ∷ [])
+    ∷ built_in public_class (codes "java/lang/ArrayIndexOutOfBoundsException") (codes "java/lang/IndexOutOfBoundsException") (constructor ∷ with_message ∷ [])
+    ∷ comparable_class
+    ∷ char_sequence_class
+    ∷ built_in public_class (codes "java/lang/StringIndexOutOfBoundsException") (codes "java/lang/IndexOutOfBoundsException") (constructor ∷ with_message ∷ [])
+    ∷ built_in public_interface (codes "java/lang/Cloneable") (codes "java/lang/Object") []
+    ∷ built_in public_class (codes "java/lang/CloneNotSupportedException") (codes "java/lang/Exception") (constructor ∷ with_message ∷ [])
+    ∷ built_in public_class (codes "java/lang/AssertionError") (codes "java/lang/Error") (constructor ∷ with_cause ∷ [])
     ∷ []

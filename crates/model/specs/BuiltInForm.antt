@@ -150,6 +150,13 @@ tree_of c =
 abbrev pub constructor : Declared
 constructor = declared native_method (codes "<init>") (codes "()V")
 
+-- the constructors of exceptions with a message, and with a message and a cause
+abbrev pub with_message : Declared
+with_message = declared native_method (codes "<init>") (codes "(Ljava/lang/String;)V")
+
+abbrev pub with_cause : Declared
+with_cause = declared native_method (codes "<init>") (codes "(Ljava/lang/String;Ljava/lang/Throwable;)V")
+
 -- a class of this name directly below that one, with methods that have no code
 abbrev pub built_in : ℕ → Name → Name → List Declared → FileTree
 built_in flags name superclass methods =

@@ -1,25 +1,29 @@
 -- What the built-in methods without code do (own: an event each, with no frame; JLS 17.2, and the API of Object and Thread). The
 -- receiver is not null here.
 use Rattle.std.specs.Prelude.{ℕ, List, [], ◌∷◌, ◌++◌, Option, Some, None, Bool, true, false, not, ◌&&◌, ◌||◌, if◌then◌else◌, nat_lt, codes, find, is_some, length, slice_get, unwrap_or}
-use Rattle.std.specs.Option.{option_map}
+use Rattle.std.specs.Option.{option_map, option_and_then}
 use Rattle.model.specs.declared.event.Event.{Event}
-use Rattle.model.specs.Names.{Name, Member, member_eq, java_lang_object, java_lang_thread, java_io_print_stream, thread_target, println_int, constructor_name}
+use Rattle.model.specs.Names.{Name, Member, member_eq, java_lang_object, java_lang_string, java_lang_thread, java_io_print_stream, thread_target, println_int, constructor_name}
 use Rattle.std.specs.Fmt.{signed_decimal}
 use Rattle.model.specs.declared.print_method.PrintMethod.{PrintMethod}
 use Rattle.model.specs.declared.print_method.PrintMethod.TheVariants.{Println, PrintlnChar, PrintlnInt, PrintlnString, PrintChar, PrintInt, PrintString}
+use Rattle.model.specs.declared.string_method.StringMethod.{StringMethod}
+use Rattle.model.specs.declared.string_method.StringMethod.TheVariants.{Length, CharAt, Equals, HashCode, CompareTo, Concat, Substring, IndexOf, RegionMatches, ValueOfInt, ValueOfChar}
+use Rattle.model.specs.StringMethods.{StringAnswer, IsNull, IsOutside, Answers, Same, Composes, string_answer}
 use Rattle.model.specs.declared.instr.Conversion.TheVariants.{ToChar}
 use Rattle.model.specs.Ints.{signed, converted}
 use Rattle.model.specs.Texts.{Text, int_line}
 use Rattle.model.specs.Operands.{Slots, Carrier}
-use Rattle.model.specs.State.{Waiter, Notified, Interrupted, ThreadStatus, Running, Waiting, Relock, Ended, WorldOf, new_thread}
-use Rattle.model.specs.Outcomes.{OutcomeOf, Raises, Interrupts, Waits, IllegalMonitorState, IllegalThreadState, Starts, Joins}
+use Rattle.model.specs.State.{Waiter, Notified, Interrupted, ThreadStatus, Running, Waiting, Relock, Ended, WorldOf, ObjectOf, Instance, Primitives, References, Characters, new_thread}
+use Rattle.model.specs.Outcomes.{OutcomeOf, Raises, Interrupts, Waits, NullPointer, IllegalMonitorState, IllegalThreadState, StringIndexOutOfBounds, Makes, Starts, Joins}
 use Rattle.model.specs.Monitors as monitors
 use Rattle.model.specs.Monitors.{monitor_at}
-use Rattle.model.specs.Worlds.{thread_at, with_status, with_interrupted, thread_of, is_alive, is_interrupted, object_at, with_object, with_field, is_owner, text_of, with_monitors, woken, all_woken, waiters_of}
+use Rattle.model.specs.Worlds.{thread_at, with_status, with_interrupted, thread_of, is_alive, is_interrupted, allocated, object_at, with_object, with_field, is_owner, text_of, with_monitors, woken, all_woken, waiters_of}
 use Rattle.model.specs.Sites.{picks_none, pushing, pushing_at, operand, referent, int_operand}
 
 pub data BuiltInMethod : Type 0 where
-  -- <init>()V of Object, Thread and the classes of exceptions
+  -- the constructors of Object and of the classes of exceptions, and Thread's without a target. A message and a cause
+  -- aren't kept (own): there is no method that gives them.
   Construct : BuiltInMethod
   -- Thread.<init>(Runnable)
   ConstructWithTarget : BuiltInMethod
@@ -35,6 +39,7 @@ pub data BuiltInMethod : Type 0 where
   ThreadJoin : BuiltInMethod
   ThreadIsAlive : BuiltInMethod
   PrintStreamPrints : PrintMethod → BuiltInMethod
+  StringAnswers : StringMethod → BuiltInMethod
 
 -- ---- by their names
 
@@ -46,6 +51,9 @@ of_thread name descriptor = record { class = java_lang_thread; name = name; desc
 
 abbrev pub of_print_stream : Name → Name → Member
 of_print_stream name descriptor = record { class = java_io_print_stream; name = name; descriptor = descriptor }
+
+abbrev pub of_string : Name → Name → Member
+of_string name descriptor = record { class = java_lang_string; name = name; descriptor = descriptor }
 
 abbrev pub built_in_methods : List (Member × BuiltInMethod)
 built_in_methods =
@@ -68,12 +76,23 @@ built_in_methods =
     ∷ (of_print_stream (codes "print") (codes "(C)V"), PrintStreamPrints PrintChar)
     ∷ (of_print_stream (codes "print") (codes "(I)V"), PrintStreamPrints PrintInt)
     ∷ (of_print_stream (codes "print") (codes "(Ljava/lang/String;)V"), PrintStreamPrints PrintString)
+    ∷ (of_string (codes "length") (codes "()I"), StringAnswers Length)
+    ∷ (of_string (codes "charAt") (codes "(I)C"), StringAnswers CharAt)
+    ∷ (of_string (codes "equals") (codes "(Ljava/lang/Object;)Z"), StringAnswers Equals)
+    ∷ (of_string (codes "hashCode") (codes "()I"), StringAnswers HashCode)
+    ∷ (of_string (codes "compareTo") (codes "(Ljava/lang/String;)I"), StringAnswers CompareTo)
+    ∷ (of_string (codes "concat") (codes "(Ljava/lang/String;)Ljava/lang/String;"), StringAnswers Concat)
+    ∷ (of_string (codes "substring") (codes "(II)Ljava/lang/String;"), StringAnswers Substring)
+    ∷ (of_string (codes "indexOf") (codes "(II)I"), StringAnswers IndexOf)
+    ∷ (of_string (codes "regionMatches") (codes "(ILjava/lang/String;II)Z"), StringAnswers RegionMatches)
+    ∷ (of_string (codes "valueOf") (codes "(I)Ljava/lang/String;"), StringAnswers ValueOfInt)
+    ∷ (of_string (codes "valueOf") (codes "(C)Ljava/lang/String;"), StringAnswers ValueOfChar)
     ∷ []
 
 abbrev pub is_row_of : Member → Member × BuiltInMethod → Bool
 is_row_of method row = member_eq row.0 method
 
--- those that have no row of their own are the constructors without parameters
+-- those that have no row of their own are the other constructors
 abbrev pub built_in_method : Member → BuiltInMethod
 built_in_method method = unwrap_or (option_map (λ (row : Member × BuiltInMethod). row.1) (find (is_row_of method) built_in_methods)) Construct
 
@@ -161,6 +180,28 @@ printed_by C PrintString world ops = string_shown world (referent C ops 0)
 abbrev pub with_printed : {A : Type 0} → WorldOf A → Text → WorldOf A
 with_printed world text = record world { printed = world.printed ++ text }
 
+-- ---- the methods of String
+
+-- the text of an object, if it is a String
+abbrev pub string_text : {A : Type 0} → ObjectOf A → Option Text
+string_text (Instance class fields) = None
+string_text (Primitives of elements) = None
+string_text (References of elements) = None
+string_text (Characters text) = Some text
+
+-- the text of an operand, if it is a String and not null
+abbrev pub string_operand : {A : Type 0} → Carrier A → WorldOf A → List A → ℕ → Option Text
+string_operand C world ops k = option_and_then (λ r. string_text (object_at world r)) (referent C ops k)
+
+-- A new String is one object, and its units are cells.
+abbrev pub answered : {A : Type 0} → Carrier A → StringAnswer → ℕ → WorldOf A → Slots A → List A → List A → OutcomeOf A
+answered C IsNull next world slots ops rest = Raises NullPointer
+answered C IsOutside next world slots ops rest = Raises StringIndexOutOfBounds
+answered C (Answers bits) next world slots ops rest = pushing next (C.int bits ∷ []) world slots rest
+answered C (Same k) next world slots ops rest = pushing next (operand C ops k ∷ []) world slots rest
+answered C (Composes text) next world slots ops rest =
+    pushing_at (Makes (length text)) next (C.reference (length world.heap) ∷ []) (allocated world (Characters text)) slots rest
+
 -- ---- the table
 
 -- the object of a reference
@@ -177,7 +218,7 @@ built_in_may C ThreadJoin event world ops = picks_none event world ops && may_jo
 built_in_may C method event world ops = picks_none event world ops
 
 abbrev pub built_in_does : {A : Type 0} → Carrier A → BuiltInMethod → ℕ → Event → WorldOf A → Slots A → List A → List A → OutcomeOf A
--- .., objectref -> ..
+-- .., objectref, [message, [cause]] -> ..
 built_in_does C Construct next event world slots ops rest = pushing next [] world slots rest
 -- .., objectref, target -> ..
 built_in_does C ConstructWithTarget next event world slots ops rest =
@@ -206,3 +247,6 @@ built_in_does C ThreadJoin next event world slots ops rest = join_by (is_alive w
 built_in_does C ThreadIsAlive next event world slots ops rest = pushing next (C.int (bit (is_alive world (object_of C ops 0))) ∷ []) world slots rest
 -- .., objectref, [value] -> ..
 built_in_does C (PrintStreamPrints method) next event world slots ops rest = pushing next [] (with_printed world (printed_by C method world ops)) slots rest
+-- .., [objectref], [value, ..] -> .., result
+built_in_does C (StringAnswers method) next event world slots ops rest =
+    answered C (string_answer method (int_operand C ops) (string_operand C world ops)) next world slots ops rest

@@ -4,7 +4,7 @@ use Rattle.std.specs.Prelude.{ℕ}
 
 -- how many classes are built in
 abbrev pub built_in_count : ℕ
-built_in_count = 30
+built_in_count = 36
 
 -- ---- classes
 
@@ -67,11 +67,14 @@ illegal_thread_state_exception = 28
 abbrev pub array_index_out_of_bounds_exception : ℕ
 array_index_out_of_bounds_exception = 29
 
+abbrev pub string_index_out_of_bounds_exception : ℕ
+string_index_out_of_bounds_exception = 32
+
 -- ---- methods and objects
 
 -- Thread.run among the methods of each program
 abbrev pub thread_run_number : ℕ
-thread_run_number = 5
+thread_run_number = 6
 
 -- the first of the Class objects, behind the PrintStream of System.out, the arguments and the Thread of main
 abbrev pub first_class_reference : ℕ

@@ -18,6 +18,7 @@ pub mod Lookup
 pub mod DescriptorParts
 pub mod CodeParts
 pub mod StringConstants
+pub mod StringMethods
 pub mod Profile
 pub mod CodeConditions
 pub mod Hierarchy

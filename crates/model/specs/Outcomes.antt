@@ -9,6 +9,7 @@ pub data MachineException : Type 0 where
   NullPointer : MachineException
   Arithmetic : MachineException
   ArrayIndexOutOfBounds : MachineException
+  StringIndexOutOfBounds : MachineException
   NegativeArraySize : MachineException
   ArrayStore : MachineException
   ClassCast : MachineException
@@ -25,6 +26,7 @@ abbrev pub exception_class : MachineException → Name
 exception_class NullPointer = codes "java/lang/NullPointerException"
 exception_class Arithmetic = codes "java/lang/ArithmeticException"
 exception_class ArrayIndexOutOfBounds = codes "java/lang/ArrayIndexOutOfBoundsException"
+exception_class StringIndexOutOfBounds = codes "java/lang/StringIndexOutOfBoundsException"
 exception_class NegativeArraySize = codes "java/lang/NegativeArraySizeException"
 exception_class ArrayStore = codes "java/lang/ArrayStoreException"
 exception_class ClassCast = codes "java/lang/ClassCastException"

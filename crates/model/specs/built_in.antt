@@ -1,1 +1,4 @@
+pub mod Object
 pub mod Thread
+pub mod String
+pub mod Class

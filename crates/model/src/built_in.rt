@@ -1,7 +1,7 @@
 //! What is built in, by number: classes come first among those of each program, and a run opens with objects of theirs.
 
 /// How many classes are built in. Among the classes of a program they come first, and those of its files behind them.
-pub const BUILT_IN_CLASSES: usize = 30;
+pub const BUILT_IN_CLASSES: usize = 36;
 
 /// The number of java/lang/Object: its place among the classes of each program.
 pub const OBJECT: usize = 0;
@@ -66,11 +66,14 @@ pub const ILLEGAL_THREAD_STATE_EXCEPTION: usize = 28;
 /// The number of java/lang/ArrayIndexOutOfBoundsException.
 pub const ARRAY_INDEX_OUT_OF_BOUNDS_EXCEPTION: usize = 29;
 
+/// The number of java/lang/StringIndexOutOfBoundsException.
+pub const STRING_INDEX_OUT_OF_BOUNDS_EXCEPTION: usize = 32;
+
 /// The number of `Runnable.run`, which is abstract, among the methods of each program.
-pub const RUNNABLE_RUN: usize = 4;
+pub const RUNNABLE_RUN: usize = 5;
 
 /// The number of `Thread.run` among the methods of each program.
-pub const THREAD_RUN: usize = 5;
+pub const THREAD_RUN: usize = 6;
 
 /// The PrintStream of System.out, the first object of a run.
 pub const SYSTEM_OUT: u32 = 0;

@@ -30,6 +30,7 @@ mod monitor_answer;
 mod primitive;
 mod print_method;
 mod report;
+mod string_method;
 mod value;
 
 pub use built_in::BUILT_IN_CLASSES;
@@ -46,4 +47,5 @@ pub use monitor_answer::MonitorAnswer;
 pub use primitive::Primitive;
 pub use print_method::PrintMethod;
 pub use report::{EndState, Report};
+pub use string_method::StringMethod;
 pub use value::Value;

@@ -2,3 +2,4 @@ pub mod Fits
 pub mod Picks
 pub mod TypingProofs
 pub mod TableProofs
+pub mod BuiltInTypingProofs

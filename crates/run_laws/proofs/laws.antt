@@ -19,3 +19,4 @@ pub mod LinkedConstants
 pub mod LinkedOf
 pub mod WordLists
 pub mod Operations
+pub mod StringAnswers

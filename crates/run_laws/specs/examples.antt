@@ -22,7 +22,9 @@ pub mod MalformedFiles
 pub mod Lookups
 pub mod TypeJoins
 pub mod Typings
+pub mod BuiltInTypings
 pub mod Constructors
+pub mod StringListing
 pub mod BuiltInMembers
 pub mod ClassFiles
 pub mod Reports
@@ -46,6 +48,8 @@ pub mod SuperclassConstant
 pub mod ShadowedFields
 pub mod NarrowArrays
 pub mod SameString
+pub mod MadeStrings
+pub mod TextMethods
 pub mod WaiterOfAThread
 pub mod UncaughtException
 pub mod Entry257

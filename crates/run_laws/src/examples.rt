@@ -12,8 +12,9 @@
 //!   `opening_objects`, `lookups`, `instances`.
 //! - A case for each refusal: `malformed_files`, `malformed_codes`, `outside_profiles`, `bad_hierarchies`,
 //!   `unresolveds`, `other_refusals`; and that none stands in the programs that are run: `programs_link`.
-//! - Typings: `type_joins`, `typings`, `untypables`, `constructors`, `only_returns_unconstructed`. A program that is
-//!   accepted as a whole, and one that links and isn't accepted: `accepted_program`.
+//! - Typings: `type_joins`, `typings`, `untypables`, `constructors`, `only_returns_unconstructed`. Those of the
+//!   built-in methods with code, in each program: `built_in_typings`. A program that is accepted as a whole, and one
+//!   that links and isn't accepted: `accepted_program`.
 //! - Accepted, from the bytes that `javac` wrote: two classes, two constructors, a handler of `ArithmeticException` and
 //!   two threads, with the frame types of each method and the reports of two schedules: `accepted_threads`.
 //! - Texts and calls: `listing_of_the_first_file`, `schedule_files` (both versions), `plain_monitors`.
@@ -24,7 +25,8 @@
 //!   - class initialisation: `initialisers_in_order`, `superclass_constant`, `held_initialiser`, `failing_initialiser`,
 //!     `failing_initial_class`;
 //!   - exceptions: `handler_order`, `uncaught_exception`, `stack_overflow`, `not_a_runnable`, `array_store`;
-//!   - fields, arrays, strings and calls: `shadowed_fields`, `narrow_arrays`, `same_string`, `super_call`.
+//!   - fields, arrays, strings and calls: `shadowed_fields`, `narrow_arrays`, `same_string`, `made_strings`,
+//!     `text_methods`, `super_call`.
 //! - Programs in Java that print what `java` prints: `java_objects`, `java_calls`, `java_threads`. Threads in Java that
 //!   wait for all that there is to wait for: `threads_that_wait`.
 
@@ -34,6 +36,7 @@ ghost use Rattle.run_laws.specs.examples.ArrayStore.{ArrayStore};
 ghost use Rattle.run_laws.specs.examples.Branches.{Branches};
 ghost use Rattle.run_laws.specs.examples.BuiltInClasses.{BuiltInClasses, OpeningObjects};
 ghost use Rattle.run_laws.specs.examples.BuiltInMembers.{BuiltInMembers};
+ghost use Rattle.run_laws.specs.examples.BuiltInTypings.{BuiltInTyped};
 ghost use Rattle.run_laws.specs.examples.Constructors as constructing;
 ghost use Rattle.run_laws.specs.examples.Constructors.{Constructors};
 ghost use Rattle.run_laws.specs.examples.CounterUnderLock.{CounterUnderLock};
@@ -61,6 +64,7 @@ ghost use Rattle.run_laws.specs.examples.Lookups.{Instances, Lookups};
 ghost use Rattle.run_laws.specs.examples.Loops.{Loop, Switches};
 ghost use Rattle.run_laws.specs.examples.LostUpdate.{LostUpdate};
 ghost use Rattle.run_laws.specs.examples.MalformedFiles.{MalformedFiles};
+ghost use Rattle.run_laws.specs.examples.MadeStrings.{MadeStrings};
 ghost use Rattle.run_laws.specs.examples.NarrowArrays.{NarrowArrays};
 ghost use Rattle.run_laws.specs.examples.NotARunnable.{NotARunnable};
 ghost use Rattle.run_laws.specs.examples.OnlyReturns.{OnlyReturns};
@@ -75,6 +79,7 @@ ghost use Rattle.run_laws.specs.examples.StackOverflow.{StackOverflow};
 ghost use Rattle.run_laws.specs.examples.SuperCall.{SuperCall};
 ghost use Rattle.run_laws.specs.examples.SuperclassConstant.{SuperclassConstant};
 ghost use Rattle.run_laws.specs.examples.ThreadsThatWait.{ThreadsThatWait};
+ghost use Rattle.run_laws.specs.examples.TextMethods.{TextMethods};
 ghost use Rattle.run_laws.specs.examples.TypeJoins.{TypeJoins};
 ghost use Rattle.run_laws.specs.examples.Typings.{Typings, Untypables};
 ghost use Rattle.run_laws.specs.examples.UncaughtException.{UncaughtException};
@@ -243,6 +248,11 @@ pub fn typings()
     ensures holds { Typings }
 {}
 
+/// Methods with code of the built-in classes have a typing, whatever the files of the program are.
+pub fn built_in_typings()
+    ensures holds { BuiltInTyped }
+{}
+
 /// Codes that have no typing.
 pub fn untypables()
     ensures holds { Untypables }
@@ -342,6 +352,16 @@ pub fn shadowed_fields()
 /// Arrays of byte, boolean, char and short keep a part of what is stored.
 pub fn narrow_arrays()
     ensures holds { NarrowArrays }
+{}
+
+/// A String that concat makes is one object with its units for cells; charAt finds them, and throws outside of them.
+pub fn made_strings()
+    ensures holds { MadeStrings }
+{}
+
+/// Methods of String that are built in and have code: indexOf finds a text, and trim leaves out a space.
+pub fn text_methods()
+    ensures holds { TextMethods }
 {}
 
 /// Two String constants of one text are one object (JVMS 5.1).

@@ -9,7 +9,7 @@ use Rattle.model.specs.declared.instr.Returned.{Returned}
 use Rattle.model.specs.declared.instr.Returned.TheVariants as returned
 use Rattle.model.specs.declared.value.Value.{Value}
 use Rattle.model.specs.Arrays.{is_negative, made_array, in_range, at_index, may_stand_in, if_storable, load_of, store_of}
-use Rattle.model.specs.BuiltInMethods.{BuiltInMethod, Construct, ConstructWithTarget, ObjectWait, ObjectNotify, ObjectNotifyAll, ThreadStart, ThreadInterrupt, ThreadIsInterrupted, ThreadInterrupted, ThreadYield, ThreadCurrentThread, ThreadJoin, ThreadIsAlive, PrintStreamPrints, built_in_method, object_of, wait_by, if_owner, start_by, join_by, built_in_does}
+use Rattle.model.specs.BuiltInMethods.{BuiltInMethod, Construct, ConstructWithTarget, ObjectWait, ObjectNotify, ObjectNotifyAll, ThreadStart, ThreadInterrupt, ThreadIsInterrupted, ThreadInterrupted, ThreadYield, ThreadCurrentThread, ThreadJoin, ThreadIsAlive, PrintStreamPrints, StringAnswers, built_in_method, object_of, string_operand, answered, wait_by, if_owner, start_by, join_by, built_in_does}
 use Rattle.model.specs.Calls.{Chosen, Fails, Runs, runs, invoked, return_of}
 use Rattle.model.specs.Classes.{Program, Body, body_of}
 use Rattle.model.specs.Meanings.{local_meaning, meaning_of}
@@ -24,6 +24,7 @@ use Rattle.model.specs.Outcomes.{OutcomeOf, Goes, Raises, Throws, Interrupts, Ca
 use Rattle.model.specs.Rows.{Row, after_row, row_target}
 use Rattle.model.specs.Sites.{MeaningOf, Site, operand, referent, int_operand}
 use Rattle.model.specs.State.{ObjectOf, Thread, Running, Waiting, World}
+use Rattle.model.specs.StringMethods.{StringAnswer, IsNull, IsOutside, Answers, Same, Composes, string_answer}
 use Rattle.model.specs.Worlds.{thread_at, no_thread, with_thread, with_monitors, is_owner, object_at, thread_of, is_alive}
 use Rattle.run_laws.proofs.laws.Operations.{Operation, OfRow, GetSystemOut, GetStatic, PutStatic, GetField, PutField, Println, CallVirtual, CallConstructor, CallSpecial, CallStatic, CallInterface, Return, LoadClass, LoadString, New, NewArray, NewReferenceArray, ArrayLength, LoadElement, StoreElement, CheckCast, InstanceOf, Throw, MonitorEnter, MonitorExit, operation, OfMeaning, each_meaning}
 use Rattle.run_laws.proofs.typed_runs.Threads.{get_set_at}
@@ -97,6 +98,13 @@ module _ (files : Program) (site : Site) (t : ℕ) (world : World) (thread : Thr
   join_told true next = tt
   join_told false next = tt
 
+  answered_told : (answer : StringAnswer) (next : ℕ) → Told (answered values answer next world slots ops rest)
+  answered_told IsNull next = tt
+  answered_told IsOutside next = tt
+  answered_told (Answers bits) next = tt
+  answered_told (Same k) next = tt
+  answered_told (Composes text) next = tt
+
   built_in_told : (method : BuiltInMethod) (next : ℕ) → Told (built_in_does values method next (next_event t) world slots ops rest)
   built_in_told Construct next = tt
   built_in_told ConstructWithTarget next = tt
@@ -112,6 +120,7 @@ module _ (files : Program) (site : Site) (t : ℕ) (world : World) (thread : Thr
   built_in_told ThreadJoin next = join_told (is_alive world (object_of values ops 0)) next
   built_in_told ThreadIsAlive next = tt
   built_in_told (PrintStreamPrints print) next = tt
+  built_in_told (StringAnswers method) next = answered_told (string_answer method (int_operand values ops) (string_operand values world ops)) next
 
   runs_told : (r : ℕ) (method : Member) (o : Option Body) → Told (runs values files site (next_event t) world slots ops rest r method o)
   runs_told r method None = built_in_told (built_in_method method) site.next

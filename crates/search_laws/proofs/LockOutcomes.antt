@@ -9,7 +9,7 @@ use Rattle.model.specs.declared.instr.Returned.{Returned}
 use Rattle.model.specs.declared.instr.Returned.TheVariants as returned
 use Rattle.model.specs.declared.value.Value.{Value}
 use Rattle.model.specs.Arrays.{is_negative, made_array, in_range, at_index, may_stand_in, if_storable, load_of, store_of}
-use Rattle.model.specs.BuiltInMethods.{BuiltInMethod, Construct, ConstructWithTarget, ObjectWait, ObjectNotify, ObjectNotifyAll, ThreadStart, ThreadInterrupt, ThreadIsInterrupted, ThreadInterrupted, ThreadYield, ThreadCurrentThread, ThreadJoin, ThreadIsAlive, PrintStreamPrints, built_in_method, object_of, wait_by, notified_one, notified, notified_all, if_owner, start_by, interrupted_in, interrupted_on, join_by, built_in_may, built_in_does, printed_by, string_shown, with_printed}
+use Rattle.model.specs.BuiltInMethods.{BuiltInMethod, Construct, ConstructWithTarget, ObjectWait, ObjectNotify, ObjectNotifyAll, ThreadStart, ThreadInterrupt, ThreadIsInterrupted, ThreadInterrupted, ThreadYield, ThreadCurrentThread, ThreadJoin, ThreadIsAlive, PrintStreamPrints, StringAnswers, built_in_method, object_of, string_operand, answered, wait_by, notified_one, notified, notified_all, if_owner, start_by, interrupted_in, interrupted_on, join_by, built_in_may, built_in_does, printed_by, string_shown, with_printed}
 use Rattle.model.specs.Calls.{Chosen, Fails, Runs, runs, invoked, may_run, may_invoke, return_of}
 use Rattle.model.specs.Classes.{Program, Body, body_of}
 use Rattle.model.specs.MonitorMeanings.{left, may_enter_object}
@@ -23,7 +23,8 @@ use Rattle.model.specs.Opening.{class_reference, new_instance}
 use Rattle.model.specs.Operands.{Slots, values}
 use Rattle.model.specs.Outcomes.{Cost, Free, Makes, Enters, Joins, OutcomeOf, Goes, Raises, Throws, Interrupts, Calls, Returns, Waits, not_null}
 use Rattle.model.specs.Sites.{MeaningOf, Site, operand, referent, int_operand, pushing, pushing_at}
-use Rattle.model.specs.State.{ObjectOf, Primitives, References, Monitor, Waiter, Notified, Interrupted, ThreadStatus, Running, Waiting, Relock, Ended, World}
+use Rattle.model.specs.State.{ObjectOf, Primitives, References, Monitor, Waiter, Notified, Interrupted, ThreadStatus, Running, Waiting, Relock, Ended, World, Characters}
+use Rattle.model.specs.StringMethods.{StringAnswer, IsNull, IsOutside, Answers, Same, Composes, string_answer}
 use Rattle.model.specs.Worlds.{allocated, fields_of, thread_at, is_owner, is_done, object_at, with_status, with_interrupted, all_woken, with_monitors, with_entry, with_exit, entry_cost, may_enter, thread_of, is_alive, waiters_of}
 use Rattle.model.specs.declared.print_method.PrintMethod.{PrintMethod}
 use Rattle.model.specs.declared.print_method.PrintMethod.TheVariants.{Println, PrintlnChar, PrintlnInt, PrintlnString, PrintChar, PrintInt, PrintString}
@@ -178,6 +179,16 @@ module _ (t r : ℕ) (change : Monitor → Monitor) (c : IsChange t change) wher
     printed_same PrintInt ops = refl
     printed_same PrintString ops = shown_same (referent values ops 0)
 
+    -- what is answered is of operands and texts, and a new String is the last object
+    answered_is : (answer : StringAnswer) (next : ℕ) (slots : Slots Value) (ops rest : List Value)
+        → Is (answered values answer next (f w) slots ops rest) (answered values answer next w slots ops rest)
+    answered_is IsNull next slots ops rest = refl
+    answered_is IsOutside next slots ops rest = refl
+    answered_is (Answers bits) next slots ops rest = refl
+    answered_is (Same k) next slots ops rest = refl
+    answered_is (Composes text) next slots ops rest =
+        goes_is (Makes (length text)) (Makes (length text)) (allocated w (Characters text)) (allocated (f w) (Characters text)) _ next refl (allocated_same t r change c v ne w own (Characters text))
+
     built_in_is : (method : BuiltInMethod) (next : ℕ) (slots : Slots Value) (ops rest : List Value)
         → Is (built_in_does values method next event (f w) slots ops rest) (built_in_does values method next event w slots ops rest)
     built_in_is Construct next slots ops rest = refl
@@ -205,6 +216,8 @@ module _ (t r : ℕ) (change : Monitor → Monitor) (c : IsChange t change) wher
     built_in_is ThreadIsAlive next slots ops rest = refl
     built_in_is (PrintStreamPrints print) next slots ops rest =
         goes_is Free Free (with_printed w (printed_by values print w ops)) (with_printed (f w) (printed_by values print (f w) ops)) _ next refl (ap (with_printed (f w)) (printed_same print ops))
+    built_in_is (StringAnswers method) next slots ops rest =
+        answered_is (string_answer method (int_operand values ops) (string_operand values w ops)) next slots ops rest
 
     -- an event that may be done may be done there
     built_in_may_same : (method : BuiltInMethod) (ops : List Value) → built_in_may values method event (f w) ops ≡ built_in_may values method event w ops
@@ -225,6 +238,7 @@ module _ (t r : ℕ) (change : Monitor → Monitor) (c : IsChange t change) wher
     built_in_may_same ThreadJoin ops = refl
     built_in_may_same ThreadIsAlive ops = refl
     built_in_may_same (PrintStreamPrints print) ops = refl
+    built_in_may_same (StringAnswers method) ops = refl
 
     -- ---- the table
 

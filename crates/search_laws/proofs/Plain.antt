@@ -6,7 +6,7 @@ use Rattle.model.specs.declared.instr.ArrayKind.{ArrayKind}
 use Rattle.model.specs.declared.instr.ArrayKind.TheVariants as array_kind
 use Rattle.model.specs.declared.value.Value.{Value}
 use Rattle.model.specs.Arrays.{made_array, in_range, at_index, may_stand_in, if_storable, load_of, store_of}
-use Rattle.model.specs.BuiltInMethods.{BuiltInMethod, Construct, ConstructWithTarget, ObjectWait, ObjectNotify, ObjectNotifyAll, ThreadStart, ThreadInterrupt, ThreadIsInterrupted, ThreadInterrupted, ThreadYield, ThreadCurrentThread, ThreadJoin, ThreadIsAlive, PrintStreamPrints, object_of, wait_by, if_owner, start_by, join_by, built_in_does}
+use Rattle.model.specs.BuiltInMethods.{BuiltInMethod, Construct, ConstructWithTarget, ObjectWait, ObjectNotify, ObjectNotifyAll, ThreadStart, ThreadInterrupt, ThreadIsInterrupted, ThreadInterrupted, ThreadYield, ThreadCurrentThread, ThreadJoin, ThreadIsAlive, PrintStreamPrints, StringAnswers, object_of, string_operand, answered, wait_by, if_owner, start_by, join_by, built_in_does}
 use Rattle.model.specs.Classes.{Program}
 use Rattle.model.specs.MonitorMeanings.{left}
 use Rattle.model.specs.Meanings.{local_meaning}
@@ -16,6 +16,7 @@ use Rattle.model.specs.Outcomes.{OutcomeOf, Goes, Raises, Throws, Interrupts, Ca
 use Rattle.model.specs.Rows.{Row, after_row, row_target}
 use Rattle.model.specs.Sites.{Site, operand, referent, int_operand}
 use Rattle.model.specs.State.{ObjectOf, World}
+use Rattle.model.specs.StringMethods.{StringAnswer, IsNull, IsOutside, Answers, Same, Composes, string_answer}
 use Rattle.model.specs.Worlds.{thread_at, is_owner, object_at, thread_of, is_alive}
 
 abbrev pub IsPlain : OutcomeOf Value → Type 0
@@ -75,6 +76,14 @@ join_plain : (b : Bool) (next : ℕ) (world : World) (slots : Slots Value) (rest
 join_plain true next world slots rest = tt
 join_plain false next world slots rest = tt
 
+answered_plain : (answer : StringAnswer) (next : ℕ) (world : World) (slots : Slots Value) (ops rest : List Value)
+    → IsPlain (answered values answer next world slots ops rest)
+answered_plain IsNull next world slots ops rest = tt
+answered_plain IsOutside next world slots ops rest = tt
+answered_plain (Answers bits) next world slots ops rest = tt
+answered_plain (Same k) next world slots ops rest = tt
+answered_plain (Composes text) next world slots ops rest = tt
+
 pub built_in_plain : (method : BuiltInMethod) (next : ℕ) (event : Event) (world : World) (slots : Slots Value) (ops rest : List Value)
     → IsPlain (built_in_does values method next event world slots ops rest)
 built_in_plain Construct next event world slots ops rest = tt
@@ -92,6 +101,8 @@ built_in_plain ThreadCurrentThread next event world slots ops rest = tt
 built_in_plain ThreadJoin next event world slots ops rest = join_plain (is_alive world (object_of values ops 0)) next world slots rest
 built_in_plain ThreadIsAlive next event world slots ops rest = tt
 built_in_plain (PrintStreamPrints print) next event world slots ops rest = tt
+built_in_plain (StringAnswers method) next event world slots ops rest =
+    answered_plain (string_answer method (int_operand values ops) (string_operand values world ops)) next world slots ops rest
 
 module _ (files : Program) (site : Site) (event : Event) (world : World) (slots : Slots Value) (ops rest : List Value) where
   pub load_plain : (kind : ArrayKind) → IsPlain ((load_of values files site kind).does event world slots ops rest)

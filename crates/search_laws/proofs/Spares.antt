@@ -12,7 +12,7 @@ use Rattle.model.specs.declared.instr.Returned.{Returned}
 use Rattle.model.specs.declared.instr.Returned.TheVariants as returned
 use Rattle.model.specs.declared.value.Value.{Value}
 use Rattle.model.specs.Arrays.{is_negative, made_array, in_range, at_index, element_at, load_of, stored, kept_by, may_stand_in, if_storable, store_of, store_reference_meaning}
-use Rattle.model.specs.BuiltInMethods.{BuiltInMethod, Construct, ConstructWithTarget, ObjectWait, ObjectNotify, ObjectNotifyAll, ThreadStart, ThreadInterrupt, ThreadIsInterrupted, ThreadInterrupted, ThreadYield, ThreadCurrentThread, ThreadJoin, ThreadIsAlive, PrintStreamPrints, built_in_method, object_of, wait_by, notified_one, notified, notified_all, if_owner, start_by, interrupted_in, interrupted_on, join_by, built_in_does}
+use Rattle.model.specs.BuiltInMethods.{BuiltInMethod, Construct, ConstructWithTarget, ObjectWait, ObjectNotify, ObjectNotifyAll, ThreadStart, ThreadInterrupt, ThreadIsInterrupted, ThreadInterrupted, ThreadYield, ThreadCurrentThread, ThreadJoin, ThreadIsAlive, PrintStreamPrints, StringAnswers, built_in_method, object_of, string_operand, answered, wait_by, notified_one, notified, notified_all, if_owner, start_by, interrupted_in, interrupted_on, join_by, built_in_does}
 use Rattle.model.specs.Calls.{Chosen, Fails, Runs, runs, invoked, of_receiver, parameter_count, return_of}
 use Rattle.model.specs.Classes.{Program, Body, body_of}
 use Rattle.model.specs.Lookup.{find_field, is_instance_field, is_static_field}
@@ -28,6 +28,7 @@ use Rattle.model.specs.Outcomes.{OutcomeOf, Goes, Raises, Throws, Interrupts, Ca
 use Rattle.model.specs.Rows.{Row, after_row, row_target}
 use Rattle.model.specs.Sites.{MeaningOf, Site, operand, referent, int_operand, pushing}
 use Rattle.model.specs.State.{ObjectOf, Monitor, Waiter, WakeCause, Notified, ThreadStatus, Running, Waiting, Relock, Ended, Thread, World}
+use Rattle.model.specs.StringMethods.{StringAnswer, IsNull, IsOutside, Answers, Same, Composes, string_answer}
 use Rattle.model.specs.declared.monitor_answer.MonitorAnswer.TheVariants.{Held, NotOwner}
 use Rattle.model.specs.Worlds.{thread_at, with_monitors, with_entry, with_exit, is_owner, object_at, all_woken, woken, waiters_of, thread_of, is_alive, allocated, put_value, with_element, with_field, with_object, value_in}
 use Rattle.run_laws.proofs.laws.Classes.{members_same}
@@ -266,6 +267,13 @@ module _ (writes : Variables → Bool) (v : ℕ) where
     join_ok true next slots rest = tt
     join_ok false next slots rest = same_ok
 
+    answered_ok : (answer : StringAnswer) (next : ℕ) (slots : Slots Value) (ops rest : List Value) → Ok (answered values answer next world slots ops rest)
+    answered_ok IsNull next slots ops rest = tt
+    answered_ok IsOutside next slots ops rest = tt
+    answered_ok (Answers bits) next slots ops rest = same_ok
+    answered_ok (Same k) next slots ops rest = same_ok
+    answered_ok (Composes text) next slots ops rest = with_object_made world world _ same_ok
+
     module _ (event : Event) (is : event.thread ≡ v) where
       built_in_ok : (method : BuiltInMethod) (next : ℕ) (slots : Slots Value) (ops rest : List Value)
           → Ok (built_in_does values method next event world slots ops rest)
@@ -293,6 +301,8 @@ module _ (writes : Variables → Bool) (v : ℕ) where
       built_in_ok ThreadJoin next slots ops rest = join_ok (is_alive world (object_of values ops 0)) next slots rest
       built_in_ok ThreadIsAlive next slots ops rest = same_ok
       built_in_ok (PrintStreamPrints print) next slots ops rest = record { monitors = same_ok.monitors; classes = refl; variables = same_ok.variables; statics = same_ok.statics }
+      built_in_ok (StringAnswers method) next slots ops rest =
+          answered_ok (string_answer method (int_operand values ops) (string_operand values world ops)) next slots ops rest
 
       -- ---- the table
 

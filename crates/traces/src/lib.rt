@@ -10,6 +10,8 @@
 //!   those of the stack that was seen. Outside of JSON a name is written as `printed` of `listings` has it, and a text
 //!   that the event printed stands in quotation marks by `quotation`. What a line says that the event did, and of the
 //!   line of the source, nothing else is promised.
+//! - `answer_deed`: a call of a method of String that answered is told as one that made the String of the word on top,
+//!   where there are more objects since, and else as one that pushed that word.
 //! - `push_fold`, memory aside: what it adds are the words of the line of a run of local instructions, whole, by the
 //!   numbers that it is given (`fold_words`).
 //! - `ProgramNames`: `class_name` is the name of the class of a number; `push_method`, memory aside, adds the method of

@@ -3,4 +3,8 @@ package java.lang;
 /** An object is not in a state for what is asked of it. */
 public class IllegalStateException extends RuntimeException {
     public IllegalStateException() {}
+
+    public IllegalStateException(String message) {}
+
+    public IllegalStateException(String message, Throwable cause) {}
 }

@@ -9,4 +9,8 @@ public class Object {
     public final native void notify();
 
     public final native void notifyAll();
+
+    public boolean equals(Object other) {
+        return this == other;
+    }
 }

@@ -13,24 +13,19 @@ const LEFT: &str = ": leave it out";
 
 const MARKER: &str = ": it does nothing here; leave it out";
 
-const TEXTS: &str = ": texts can't be made in a run; print the parts one by one";
+const TEXTS: &str = ": join Strings by concat, and take valueOf of an int or a char";
 
 /// Classes by their whole names.
-static CLASSES: [Cure; 40] = [
+static CLASSES: [Cure; 36] = [
     (
         "java/lang/StringBuilder",
-        ", of + of strings: texts can't be made in a run; print the parts one by one",
+        ", of + of strings: join them by concat, and take String.valueOf of an int or a char",
     ),
     ("java/lang/StringBuffer", TEXTS),
-    ("java/lang/CharSequence", TEXTS),
     ("java/lang/Enum", ENUM),
     (
         "java/lang/NoSuchFieldError",
         ", of a switch on an enum: write if and else if, and compare by ==",
-    ),
-    (
-        "java/lang/AssertionError",
-        ", of an assert: write if, and throw an IllegalStateException",
     ),
     ("java/lang/AutoCloseable", CLOSED),
     ("java/io/Closeable", CLOSED),
@@ -57,9 +52,7 @@ static CLASSES: [Cure; 40] = [
         "java/util/Iterator",
         ", of a for over objects: write a loop over an array, or by methods of your own",
     ),
-    ("java/lang/Comparable", ": write an interface of your own"),
     ("java/util/Comparator", ": write an interface of your own"),
-    ("java/lang/Cloneable", MARKER),
     ("java/io/Serializable", MARKER),
     (
         "java/lang/ThreadLocal",

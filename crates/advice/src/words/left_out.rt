@@ -98,7 +98,7 @@ fn say_dynamic(line: &mut Line, file: &ClassFile, operands: Operands) -> Result<
     if let Some(named) = dynamic(file, operands) {
         if named.name.starts_with(b"makeConcat") {
             return line.say(
-                "+ of strings: texts can't be made in a run; print the parts one by one",
+                "+ of strings: join them by concat, and take String.valueOf of an int or a char",
             );
         }
         line.say("a lambda or a method reference")?;

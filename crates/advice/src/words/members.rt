@@ -36,22 +36,10 @@ const CATCH: &str = ": catch the exception in run()";
 const DECLARE: &str = ": declare it in your class, and call it by the type of that class";
 
 /// The cures of a class stand together, and those of all other members last.
-static MEMBERS: [Cure; 43] = [
-    (
-        STRING,
-        "hashCode",
-        ", of a switch on a String: write if and else if, and compare constants by ==",
-    ),
-    (
-        STRING,
-        "equals",
-        ", which a switch on a String calls, too: compare constants by ==",
-    ),
-    (
-        STRING,
-        "",
-        ": a String has no methods; keep it, and compare constants by ==",
-    ),
+static MEMBERS: [Cure; 42] = [
+    (STRING, "<init>", ": join Strings by concat"),
+    (STRING, "valueOf", ": take valueOf of an int or a char"),
+    (STRING, "", ": write it by charAt, substring and concat"),
     (
         "java/io/PrintStream",
         "",
@@ -117,9 +105,14 @@ static MEMBERS: [Cure; 43] = [
         ": jvm trace tells who owns a monitor; leave it out",
     ),
     (
+        "java/lang/AssertionError",
+        "<init>",
+        ", of an assert with a message: leave the message out",
+    ),
+    (
         THROWABLE,
         "<init>",
-        ": an exception has no text and no cause; take the constructor without arguments",
+        ": take the constructor with a message, or the one without arguments",
     ),
     (
         THROWABLE,
@@ -131,13 +124,7 @@ static MEMBERS: [Cure; 43] = [
         "",
         ": an exception has no methods, and jvm --explain tells where it was thrown; leave it out",
     ),
-    (
-        CLASS,
-        "desiredAssertionStatus",
-        ", of an assert: write if, and throw an IllegalStateException",
-    ),
     (CLASS, "", NO_REFLECTION),
-    (OBJECT, "equals", DECLARE),
     (OBJECT, "hashCode", DECLARE),
     (OBJECT, "toString", DECLARE),
     (OBJECT, "getClass", NO_REFLECTION),

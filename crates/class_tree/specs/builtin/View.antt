@@ -1,7 +1,8 @@
 -- The members of the model that the values of this crate stand for.
-use Rattle.std.specs.Prelude.{List, Bool, ◌+◌, ◌*◌, ◌^◌, nat_lt, length, map}
+use Rattle.std.specs.Prelude.{ℕ, List, Bool, ◌+◌, ◌*◌, ◌^◌, nat_lt, length, map, take, drop}
 use Rattle.std.specs.List.{list_all}
 use Rattle.std.specs.Option.{option_map}
+use Rattle.model.specs.BuiltIn.{built_in_classes}
 use Rattle.model.specs.BuiltInForm as model
 use Rattle.model.specs.Tree.{Entry, Utf8, Integer, Class, String, Field, Method, InterfaceMethod, NameAndType, FieldTree, FileTree}
 use Rattle.class_tree.specs.declared.builtin.form.Operand.{Operand}
@@ -67,3 +68,7 @@ fits c = nat_lt (6 + 2 * length c.interfaces.now + length c.operands.now + 2 * l
 
 abbrev pub all_fit : List declared_class.BuiltInClass → Bool
 all_fit classes = list_all fits classes
+
+-- as many built-in classes, from a number on
+abbrev pub built_in_from : ℕ → ℕ → List FileTree
+built_in_from at count = take count (drop at built_in_classes)

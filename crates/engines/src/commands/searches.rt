@@ -13,7 +13,7 @@ ghost use Rattle.engines.specs.RecordForms.{record_form};
 ghost use Rattle.engines.specs.Searches.{IsUnsearched, Searches, most_states};
 
 use crate::commands::storing::{recorded, try_record};
-use crate::commands::wanted_outcomes::{printed, printed_other};
+use crate::commands::wanted_outcomes::{printed, printed_other, printed_text};
 use crate::deadline::{Deadline, Until};
 use crate::explanation::Explanation;
 use crate::fault::Fault;
@@ -164,6 +164,7 @@ fn goal_for<F: Folder>(alloc: Global, folder: &F, goal: &SearchGoal) -> Result<G
         SearchGoal::Endless => Ok(Goal::Kind(Kind::Endless)),
         SearchGoal::Any => Ok(Goal::AnyKind),
         SearchGoal::Output(numbers) => Ok(Goal::Outcome(printed(alloc, numbers.as_slice())?)),
+        SearchGoal::Text(units) => Ok(Goal::Outcome(printed_text(alloc, units.as_slice())?)),
         SearchGoal::Differs(path) => {
             Ok(Goal::Outcome(printed_other(alloc, folder, path.as_str())?))
         }

@@ -3,7 +3,7 @@
 ghost use Rattle.std.specs.Prelude.{◌≡◌, IfErr, IfOk, Some};
 ghost use Rattle.engines.specs.Devices.{IsUnable};
 ghost use Rattle.engines.specs.Failures.{FolderMayFail};
-ghost use Rattle.engines.specs.Goals.{IsAskedFor, IsPrinted, IsPrintedOther};
+ghost use Rattle.engines.specs.Goals.{IsAskedFor, IsPrinted, IsPrintedOther, IsPrintedText};
 ghost use Rattle.engines.specs.declared.fault.Fault.TheVariants.{Device};
 
 use crate::commands::outcome_texts::text_of_file;
@@ -41,6 +41,7 @@ pub(crate) fn wanted_for<F: Folder>(alloc: Global, folder: &F, goal: &Goal) -> R
         Goal::Deadlock => Ok(Wanted::Stuck),
         Goal::Uncaught => Ok(Wanted::Uncaught),
         Goal::Output(numbers) => Ok(printed(alloc, numbers.as_slice())?),
+        Goal::Text(units) => Ok(printed_text(alloc, units.as_slice())?),
         Goal::Differs(path) => printed_other(alloc, folder, path.as_str()),
     }
 }
@@ -50,6 +51,13 @@ pub(crate) fn printed(alloc: Global, numbers: &[i32]) -> Result<Wanted, AllocErr
     ensures { IfOk result (IsPrinted numbers.now) }
 {
     Ok(Wanted::Printed(printed_lines(alloc, numbers)?))
+}
+
+/// The outcomes of runs that print this text of UTF-16 units, and no more. The only error is a want of memory.
+pub(crate) fn printed_text(alloc: Global, units: &[u16]) -> Result<Wanted, AllocError>
+    ensures { IfOk result (IsPrintedText units.now) }
+{
+    Ok(Wanted::Printed(Vec::from_slice(alloc, units)?))
 }
 
 /// The outcomes of runs that print something else than the file with this path has.

@@ -7,8 +7,9 @@ use Rattle.model.specs.State.{WorldOf, Monitor, Waiter, WakeCause, Notified, Int
 use Rattle.model.specs.Outcomes.{OutcomeOf, Goes, Raises, Throws, Interrupts, Calls, Returns, Waits, not_null}
 use Rattle.model.specs.Monitors as monitors
 use Rattle.model.specs.Worlds.{thread_at, thread_of, is_alive, is_owner, with_monitors, with_interrupted, with_status, woken, all_woken, waiters_of}
-use Rattle.model.specs.Sites.{pushing}
-use Rattle.model.specs.BuiltInMethods.{BuiltInMethod, Construct, ConstructWithTarget, ObjectWait, ObjectNotify, ObjectNotifyAll, ThreadStart, ThreadInterrupt, ThreadIsInterrupted, ThreadInterrupted, ThreadYield, ThreadCurrentThread, ThreadJoin, ThreadIsAlive, PrintStreamPrints, object_of, waiting, wait_by, notified_one, notified, notified_all, if_owner, start_by, interrupted_in, interrupted_on, join_by, built_in_does}
+use Rattle.model.specs.Sites.{pushing, int_operand}
+use Rattle.model.specs.StringMethods.{StringAnswer, IsNull, IsOutside, Answers, Same, Composes, string_answer}
+use Rattle.model.specs.BuiltInMethods.{BuiltInMethod, Construct, ConstructWithTarget, ObjectWait, ObjectNotify, ObjectNotifyAll, ThreadStart, ThreadInterrupt, ThreadIsInterrupted, ThreadInterrupted, ThreadYield, ThreadCurrentThread, ThreadJoin, ThreadIsAlive, PrintStreamPrints, StringAnswers, object_of, string_operand, answered, waiting, wait_by, notified_one, notified, notified_all, if_owner, start_by, interrupted_in, interrupted_on, join_by, built_in_does}
 use Rattle.event_laws.proofs.event_changes.Changed.{Keeps, Leaves, keeps_same, keeps_then, keeps_thread, keeps_status, leaves_of, leaves_started}
 
 -- what an instruction leaves of a world
@@ -106,6 +107,14 @@ module _ {A : Type 0} where
     join_leaves true next slots rest = tt
     join_leaves false next slots rest = leaves_it world
 
+    answered_leaves : (C : Carrier A) (answer : StringAnswer) (next : ℕ) (slots : Slots A) (ops rest : List A)
+        → leaves (answered C answer next world slots ops rest)
+    answered_leaves C IsNull next slots ops rest = tt
+    answered_leaves C IsOutside next slots ops rest = tt
+    answered_leaves C (Answers bits) next slots ops rest = leaves_it world
+    answered_leaves C (Same k) next slots ops rest = leaves_it world
+    answered_leaves C (Composes text) next slots ops rest = leaves_same world _ refl refl
+
     pub built_in_leaves : (C : Carrier A) (method : BuiltInMethod) (next : ℕ) (event : Event) (slots : Slots A) (ops rest : List A)
         → leaves (built_in_does C method next event world slots ops rest)
     built_in_leaves C Construct next event slots ops rest = leaves_it world
@@ -129,3 +138,5 @@ module _ {A : Type 0} where
     built_in_leaves C ThreadJoin next event slots ops rest = join_leaves (is_alive world (object_of C ops 0)) next slots rest
     built_in_leaves C ThreadIsAlive next event slots ops rest = leaves_it world
     built_in_leaves C (PrintStreamPrints print) next event slots ops rest = leaves_same world _ refl refl
+    built_in_leaves C (StringAnswers called) next event slots ops rest =
+        answered_leaves C (string_answer called (int_operand C ops) (string_operand C world ops)) next slots ops rest

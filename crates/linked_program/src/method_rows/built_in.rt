@@ -9,7 +9,7 @@ ghost use Rattle.linked_program.specs.method_rows.BuiltIns.{declared_member, ent
 
 use classfile::Reference;
 use linked_code::BuiltInMethod;
-use model::PrintMethod;
+use model::{PrintMethod, StringMethod};
 
 /// A method of a built-in class that has no code.
 #[derive(Clone, Copy)]
@@ -20,8 +20,8 @@ struct Declared {
     method: BuiltInMethod,
 }
 
-/// All but the constructors without parameters.
-const DECLARED: [Declared; 19] = [
+/// All but the constructors that only take their operands.
+const DECLARED: [Declared; 30] = [
     Declared {
         class: b"java/lang/Object",
         name: b"wait",
@@ -136,6 +136,72 @@ const DECLARED: [Declared; 19] = [
         descriptor: b"(Ljava/lang/String;)V",
         method: BuiltInMethod::PrintStreamPrints(PrintMethod::PrintString),
     },
+    Declared {
+        class: b"java/lang/String",
+        name: b"length",
+        descriptor: b"()I",
+        method: BuiltInMethod::StringAnswers(StringMethod::Length),
+    },
+    Declared {
+        class: b"java/lang/String",
+        name: b"charAt",
+        descriptor: b"(I)C",
+        method: BuiltInMethod::StringAnswers(StringMethod::CharAt),
+    },
+    Declared {
+        class: b"java/lang/String",
+        name: b"equals",
+        descriptor: b"(Ljava/lang/Object;)Z",
+        method: BuiltInMethod::StringAnswers(StringMethod::Equals),
+    },
+    Declared {
+        class: b"java/lang/String",
+        name: b"hashCode",
+        descriptor: b"()I",
+        method: BuiltInMethod::StringAnswers(StringMethod::HashCode),
+    },
+    Declared {
+        class: b"java/lang/String",
+        name: b"compareTo",
+        descriptor: b"(Ljava/lang/String;)I",
+        method: BuiltInMethod::StringAnswers(StringMethod::CompareTo),
+    },
+    Declared {
+        class: b"java/lang/String",
+        name: b"concat",
+        descriptor: b"(Ljava/lang/String;)Ljava/lang/String;",
+        method: BuiltInMethod::StringAnswers(StringMethod::Concat),
+    },
+    Declared {
+        class: b"java/lang/String",
+        name: b"substring",
+        descriptor: b"(II)Ljava/lang/String;",
+        method: BuiltInMethod::StringAnswers(StringMethod::Substring),
+    },
+    Declared {
+        class: b"java/lang/String",
+        name: b"indexOf",
+        descriptor: b"(II)I",
+        method: BuiltInMethod::StringAnswers(StringMethod::IndexOf),
+    },
+    Declared {
+        class: b"java/lang/String",
+        name: b"regionMatches",
+        descriptor: b"(ILjava/lang/String;II)Z",
+        method: BuiltInMethod::StringAnswers(StringMethod::RegionMatches),
+    },
+    Declared {
+        class: b"java/lang/String",
+        name: b"valueOf",
+        descriptor: b"(I)Ljava/lang/String;",
+        method: BuiltInMethod::StringAnswers(StringMethod::ValueOfInt),
+    },
+    Declared {
+        class: b"java/lang/String",
+        name: b"valueOf",
+        descriptor: b"(C)Ljava/lang/String;",
+        method: BuiltInMethod::StringAnswers(StringMethod::ValueOfChar),
+    },
 ];
 
 fn is_declared(declared: &Declared, method: Reference<'_>) -> bool
@@ -159,7 +225,7 @@ fn declared_among(all: &[Declared], method: Reference<'_>) -> Option<BuiltInMeth
     None
 }
 
-/// Which of them a method without code is: the constructors without parameters have no row of their own.
+/// Which of them a method without code is: the constructors that only take their operands have no row of their own.
 pub(crate) fn built_in_method(method: Reference<'_>) -> BuiltInMethod
     ensures { built_in_of result ≡ built_in_method (reference_of method.entry) }
 {

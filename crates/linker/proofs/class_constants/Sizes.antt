@@ -61,7 +61,7 @@ module _ (files : Program) (linked : IsLinked files) where
   pub few_files : length files ≤ 65000
   few_files = not_over 65000 (length files) (unrefused files linked).files_fit
 
-  pub few_classes : length (classes_of files) ≤ 65030
+  pub few_classes : length (classes_of files) ≤ 65036
   few_classes = omega (arith, few_files, count_behind files)
 
   pub few_texts : length (string_texts files) ≤ 200000000
@@ -78,7 +78,7 @@ module _ (files : Program) (linked : IsLinked files) where
   pub slots_fit : (class : ℕ) (file : FileTree) → slice_get (classes_of files) class ≡ Some file
       → (slots_before files class + length file.fields) + 1 < 2 ^ 32
   slots_fit class file at =
-      let before = statics_before files (class - 30) (few_fields linked.0 files linked.1.spelled) in
+      let before = statics_before files (class - 36) (few_fields linked.0 files linked.1.spelled) in
       omega (arith, before, few_files, count_behind files, slice_get_within (classes_of files) class file at, fields_of_class class file at)
 
 pub filter_take_le : {A : Type 0} (p : A → Bool) (xs : List A) (i : ℕ) → length (filter p (take i xs)) ≤ length xs

@@ -1,12 +1,11 @@
 -- Which members some of the built-in methods are.
-use Rattle.std.proofs.Common.{◌≡◌, ◌==◌, ◌&&◌, ℕ, not, find, eqb-true, Bool, true, false, Option, Some, None, option_map, refl, sym, ap, subst, ◌∙◌}
-use Rattle.std.specs.Prelude.{unwrap_or, codes}
-use Rattle.std.specs.Option.{option_map_or}
+use Rattle.std.proofs.Common.{◌≡◌, ◌+◌, ◌==◌, ◌&&◌, ℕ, not, if◌then◌else◌, eqb-true, Bool, true, false, Option, Some, None, refl}
+use Rattle.std.specs.Prelude.{codes}
 use Rattle.std.specs.List.{list_all}
 use Rattle.std.proofs.lemmas.Bool.{and_parts, not-true}
-use Rattle.std.proofs.lemmas.Option.{same_Some}
 use Rattle.model.specs.declared.print_method.PrintMethod.{PrintMethod}
 use Rattle.model.specs.declared.print_method.PrintMethod.TheVariants.{Println}
+use Rattle.model.specs.declared.string_method.StringMethod.{StringMethod}
 use Rattle.model.specs.Names.{Member, member_eq, constructor_name}
 use Rattle.model.specs.AccessFlags.{is_private_method}
 use Rattle.model.specs.BuiltIn.{built_in_classes}
@@ -14,9 +13,10 @@ use Rattle.model.specs.DescriptorScan.{element_at, field_at, field_type, paramet
 use Rattle.model.specs.Classes.{Program}
 use Rattle.model.specs.Calls.{is_one, parameter_count}
 use Rattle.model.specs.Lookup.{is_static_method}
-use Rattle.model.specs.BuiltInMethods.{BuiltInMethod, Construct, ConstructWithTarget, ObjectWait, ObjectNotify, ObjectNotifyAll, ThreadStart, ThreadInterrupt, ThreadIsInterrupted, ThreadInterrupted, ThreadYield, ThreadCurrentThread, ThreadJoin, ThreadIsAlive, PrintStreamPrints, of_thread, built_in_methods, is_row_of, built_in_method}
-use Rattle.run_laws.proofs.laws.Found.{found_passes, found_has, every_all}
+use Rattle.model.specs.BuiltInMethods.{BuiltInMethod, Construct, ConstructWithTarget, ObjectWait, ObjectNotify, ObjectNotifyAll, ThreadStart, ThreadInterrupt, ThreadIsInterrupted, ThreadInterrupted, ThreadYield, ThreadCurrentThread, ThreadJoin, ThreadIsAlive, PrintStreamPrints, StringAnswers, of_thread, built_in_methods, built_in_method}
 use Rattle.run_laws.proofs.laws.Classes.{members_same}
+use Rattle.run_laws.proofs.word_runs.WordBuiltIns.{passes, passed}
+use Rattle.machine_instructions.specs.thread_methods.Called.{string_operands}
 
 -- Thread.<init>(Runnable)
 abbrev pub target_constructor : Member
@@ -26,25 +26,11 @@ abbrev pub member_for : BuiltInMethod → Option Member
 member_for ConstructWithTarget = Some target_constructor
 member_for _ = None
 
-abbrev is_known : Member × BuiltInMethod → Bool
-is_known row = option_map_or (λ (m : Member). member_eq row.0 m) (member_for row.1) true
-
-all_known : list_all is_known built_in_methods ≡ true
+all_known : list_all (passes member_for refl member_eq) built_in_methods ≡ true
 all_known = refl
 
 pub known : (method is : Member) → member_for (built_in_method method) ≡ Some is → method ≡ is
-known method is e = by (find (is_row_of method) built_in_methods) refl e
-  where
-    of_row : (row : Member × BuiltInMethod) (o : Option Member) → member_for row.1 ≡ o → o ≡ Some is → is_known row ≡ true → row.0 ≡ is
-    of_row row None p q t = absurd cc
-    of_row row (Some m) p q t = members_same row.0 m (sym (ap (λ x. option_map_or (λ (y : Member). member_eq row.0 y) x true) p) ∙ t) ∙ same_Some m is q
-
-    by : (o : Option (Member × BuiltInMethod)) → find (is_row_of method) built_in_methods ≡ o
-        → member_for (unwrap_or (option_map (λ (row : Member × BuiltInMethod). row.1) o) Construct) ≡ Some is → method ≡ is
-    by None f q = absurd cc
-    by (Some row) f q =
-        sym (members_same row.0 method (found_passes (is_row_of method) built_in_methods row f))
-        ∙ of_row row (member_for row.1) refl q (found_has (λ r. is_known r ≡ true) (is_row_of method) built_in_methods row (every_all is_known built_in_methods all_known) f)
+known method is e = members_same method is (passed member_for refl member_eq all_known method is e)
 
 pub target_is_public : (files : Program) → is_one is_private_method files target_constructor ≡ false
 unfolding built_in_classes
@@ -72,12 +58,13 @@ receiver_place ThreadCurrentThread = None
 receiver_place ThreadJoin = Some 0
 receiver_place ThreadIsAlive = Some 0
 receiver_place (PrintStreamPrints print) = Some (print_place print)
+receiver_place (StringAnswers string) = None
 
--- the method is not static
-abbrev is_placed : Program → Member × BuiltInMethod → Bool
-is_placed files row = option_map_or (λ k. (parameter_count row.0 == k) && not (is_one is_static_method files row.0)) (receiver_place row.1) true
+-- it is under the parameters, and the method is not static
+abbrev is_placed : Program → Member → ℕ → Bool
+is_placed files method k = (parameter_count method == k) && not (is_one is_static_method files method)
 
-all_placed : (files : Program) → list_all (is_placed files) built_in_methods ≡ true
+all_placed : (files : Program) → list_all (passes receiver_place refl (is_placed files)) built_in_methods ≡ true
 unfolding built_in_classes method_type parameters_at field_at field_type element_at
 all_placed files = refl
 
@@ -86,20 +73,28 @@ pub record Placed (files : Program) (method : Member) (k : ℕ) : Type 0 where
   pub instance : is_one is_static_method files method ≡ false
 
 pub placed : (files : Program) (method : Member) (k : ℕ) → receiver_place (built_in_method method) ≡ Some k → Placed files method k
-placed files method k e = by (find (is_row_of method) built_in_methods) refl e
-  where
-    of_row : (row : Member × BuiltInMethod) (o : Option ℕ) → receiver_place row.1 ≡ o → o ≡ Some k → is_placed files row ≡ true
-        → Placed files row.0 k
-    of_row row None p q t = absurd cc
-    of_row row (Some j) p q t =
-        let here = and_parts (parameter_count row.0 == j) _ (sym (ap (λ x. option_map_or (λ k. (parameter_count row.0 == k) && not (is_one is_static_method files row.0)) x true) p) ∙ t) in
-        let j_is : j ≡ k = cc in
-        record { place = eqb-true (parameter_count row.0) j here.0 ∙ j_is; instance = not-true (is_one is_static_method files row.0) here.1 }
+placed files method k e =
+    let here = and_parts (parameter_count method == k) _ (passed receiver_place refl (is_placed files) (all_placed files) method k e) in
+    record { place = eqb-true (parameter_count method) k here.0; instance = not-true (is_one is_static_method files method) here.1 }
 
-    by : (o : Option (Member × BuiltInMethod)) → find (is_row_of method) built_in_methods ≡ o
-        → receiver_place (unwrap_or (option_map (λ (row : Member × BuiltInMethod). row.1) o) Construct) ≡ Some k → Placed files method k
-    by None f q = absurd cc
-    by (Some row) f q =
-        let is : row.0 ≡ method = members_same row.0 method (found_passes (is_row_of method) built_in_methods row f) in
-        subst (λ m. Placed files m k) is
-        (of_row row (receiver_place row.1) refl q (found_has (λ r. is_placed files r ≡ true) (is_row_of method) built_in_methods row (every_all (is_placed files) built_in_methods (all_placed files)) f))
+-- ---- the operands of a method of String
+
+abbrev pub string_of : BuiltInMethod → Option StringMethod
+string_of (StringAnswers string) = Some string
+string_of _ = None
+
+-- the parameters, and a receiver where the method is not static
+abbrev pub operands_of : Program → Member → ℕ
+operands_of files method = parameter_count method + (if is_one is_static_method files method then 0 else 1)
+
+abbrev is_counted : Program → Member → StringMethod → Bool
+is_counted files method string = string_operands string == operands_of files method
+
+all_counted : (files : Program) → list_all (passes string_of refl (is_counted files)) built_in_methods ≡ true
+unfolding built_in_classes method_type parameters_at field_at field_type element_at
+all_counted files = refl
+
+pub string_counted : (files : Program) (method : Member) (string : StringMethod) → string_of (built_in_method method) ≡ Some string
+    → string_operands string ≡ operands_of files method
+string_counted files method string e =
+    eqb-true (string_operands string) (operands_of files method) (passed string_of refl (is_counted files) (all_counted files) method string e)

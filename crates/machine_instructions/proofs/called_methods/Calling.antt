@@ -1,5 +1,5 @@
 -- A call on a receiver: what it finds, and what becomes of its event.
-use Rattle.std.proofs.Common.{◌≡◌, ◌<◌, ◌+◌, ◌^◌, ℕ, zero, suc, List, [], ◌∷◌, ◌++◌, length, take, map, reverse, Bool, true, false, Option, Some, None, Ok, refl, sym, ap, subst, ◌∙◌, arith}
+use Rattle.std.proofs.Common.{◌≡◌, ◌<◌, ◌+◌, ◌^◌, ◌≤◌, if◌then◌else◌, ℕ, zero, suc, List, [], ◌∷◌, ◌++◌, length, take, map, reverse, Bool, true, false, Option, Some, None, Ok, refl, sym, ap, subst, ◌∙◌, arith}
 use Rattle.std.specs.Prelude.{slice_get, slice_index_or, unwrap_or}
 use Rattle.std.specs.Option.{option_map_or}
 use Rattle.std.proofs.lemmas.Bool.{false≢true, and_parts}
@@ -15,7 +15,8 @@ use Rattle.model.specs.Sites.{Leads, MeaningOf, Site}
 use Rattle.model.specs.Meanings.{meaning_of}
 use Rattle.model.specs.State as model
 use Rattle.model.specs.State.{ObjectOf, types_of, FrameOf, StackOf, WorldOf, StateOf}
-use Rattle.model.specs.Calls.{Chosen, Runs, parameter_count, argument_wants, of_receiver, call_on}
+use Rattle.model.specs.Lookup.{is_static_method}
+use Rattle.model.specs.Calls.{Chosen, Runs, is_one, parameter_count, argument_wants, of_receiver, call_on}
 use Rattle.model.specs.BuiltInMethods.{built_in_method}
 use Rattle.model.specs.Step.{SteppedOf, PartOf}
 use Rattle.linked_code.specs.declared.instruction.LinkedInstruction.{LinkedInstruction}
@@ -41,7 +42,7 @@ use Rattle.machine_state.proofs.linked_frames.Frames.{top_shown, finds, meaning_
 use Rattle.machine_instructions.specs.thread_methods.Called.{RefersTo, AreArguments}
 use Rattle.machine_instructions.specs.called_methods.Frames.{object_under, raised_by}
 use Rattle.machine_instructions.specs.called_methods.Invoked.{IsInvoking, invoked_event}
-use Rattle.machine_instructions.proofs.called_methods.BuiltIns.{target_constructor, member_for, known, receiver_place, placed}
+use Rattle.machine_instructions.proofs.called_methods.BuiltIns.{target_constructor, member_for, known, receiver_place, placed, string_of, string_counted}
 use Rattle.machine_instructions.proofs.called_methods.RunMethods.{raises}
 
 -- ---- lists and words
@@ -89,6 +90,10 @@ there_of heap test (suc q) r e h = by (slice_get heap q) refl h
     by None p f = absurd (false≢true f)
     by (Some o) p f = record { object = o; is = ap (slice_get heap) (sym same) ∙ p; fits = f }
 
+at_most_one : (b : Bool) → (if b then 0 else 1) ≤ 1
+at_most_one true = omega arith
+at_most_one false = omega arith
+
 -- ---- the operands of a built-in method that has a receiver under so many parameters
 
 module _ (trees : Program) (heap : List (ObjectOf ℕ)) (stack : List ℕ) (n r : ℕ) (word : slice_get (take (n + 1) stack) n ≡ Some (suc r))
@@ -121,6 +126,11 @@ module _ (trees : Program) (heap : List (ObjectOf ℕ)) (stack : List ℕ) (n r 
   arguments_of method.ThreadJoin e = refers method.ThreadJoin e 0 refl is_any refl
   arguments_of method.ThreadIsAlive e = refers method.ThreadIsAlive e 0 refl is_any refl
   arguments_of (method.PrintStreamPrints print) e = let within = slice_get_within (take (n + 1) stack) n (suc r) word in omega (arith, within)
+  arguments_of (method.StringAnswers string) e =
+      let within = slice_get_within (take (n + 1) stack) n (suc r) word in
+      let most = at_most_one (is_one is_static_method trees m) in
+      let count = string_counted trees m string (ap string_of (sym e)) in
+      omega (arith, within, most, count, same_count)
 
 -- ---- an instruction where a thread runs
 

@@ -1,36 +1,29 @@
 -- What the methods of PrintStream print, by words and by the definitions.
 use Rattle.std.proofs.Common.{◌≡◌, ◌<◌, ◌≤◌, ◌+◌, ◌%◌, ◌^◌, ◌==◌, ◌⊎◌, inl, inr, ℕ, ℤ, pos, negsuc, zero, suc, List, [], ◌∷◌, ◌++◌, Bool, true, false, if◌then◌else◌, Some, None, map, length, length-append, FitsSigned, eqb-true, rules, arith, refl, sym, ap, subst, ◌∙◌}
-use Rattle.std.specs.Prelude.{slice_get, slice_index_or}
+use Rattle.std.specs.Prelude.{slice_index_or, unwrap_or}
 use Rattle.std.specs.List.{All}
 use Rattle.std.specs.Fmt.{signed_decimal}
 use Rattle.std.specs.Int.{w32}
 use Rattle.std.proofs.Math.Facts.{sfits_to_z}
-use Rattle.std.proofs.lemmas.Bool.{true≢false}
 use Rattle.std.proofs.lemmas.Fmt.{decimal_nonempty, length_signed_le}
 use Rattle.std.proofs.lemmas.List.Elements.{All-head, All-tail}
-use Rattle.std.proofs.lemmas.Option.{same_Some}
 use Rattle.model.specs.declared.print_method.PrintMethod.{PrintMethod}
 use Rattle.model.specs.declared.print_method.PrintMethod.TheVariants.{Println, PrintlnChar, PrintlnInt, PrintlnString, PrintChar, PrintInt, PrintString}
 use Rattle.model.specs.declared.instr.Conversion.TheVariants.{ToChar}
-use Rattle.model.specs.BuiltInNumbers.{string_number}
-use Rattle.model.specs.Names.{Name, name_eq, java_lang_string}
-use Rattle.model.specs.Classes.{Program, name_of}
+use Rattle.model.specs.Classes.{Program}
 use Rattle.model.specs.Linkable.{IsLinkable}
 use Rattle.model.specs.Ints.{signed, converted}
 use Rattle.model.specs.Texts.{Text, int_line}
-use Rattle.model.specs.BuiltInMethods.{string_shown, printed_by}
+use Rattle.model.specs.BuiltInMethods.{string_shown, string_text, printed_by}
 use Rattle.model.specs.Operands.{words, word_reference}
 use Rattle.model.specs.State.{ObjectOf, Instance, Primitives, References, Characters, WorldOf}
 use Rattle.model.specs.Worlds.{no_object, text_of}
-use Rattle.heap.specs.declared.kind.ObjectKind.{ObjectKind}
-use Rattle.heap.specs.declared.kind.ObjectKind.TheVariants as kind
 use Rattle.heap.specs.Heap.{Object}
 use Rattle.linked_code.specs.declared.types.LinkedType.{LinkedType}
-use Rattle.linked_code.specs.Numbers.{IsClassAt}
-use Rattle.machine_state.specs.shown_objects.Shown.{cells_of, AreUnits, IsKindOf, ShowsObjects}
-use Rattle.machine_state.proofs.shown_objects.Strings.{string_at}
-use Rattle.machine_state.proofs.type_tests.Numbered.{string_numbered}
-use Rattle.machine_instructions.specs.thread_methods.Printed.{is_string, units_of, units_at, unit_in, string_by, printed_of, IsRoomFor}
+use Rattle.machine_state.specs.shown_objects.Shown.{AreUnits, ShowsObjects}
+use Rattle.machine_instructions.specs.thread_methods.Printed.{unit_in, string_by, printed_of, IsRoomFor}
+use Rattle.machine_instructions.proofs.thread_methods.TextAnswers.{AreUnitsOf}
+use Rattle.machine_instructions.proofs.thread_methods.ShownTexts.{texts, units}
 
 -- ---- numbers
 
@@ -77,53 +70,20 @@ units_same (u ∷ text) h =
     let same : unit_in u ≡ u = omega (arith, small) in
     λ i. same i ∷ units_same text (All-tail (λ unit. unit < 2 ^ 16) u text h) i
 
+-- the text of an object
+text_shown : (m : ObjectOf ℕ) → AreUnitsOf (string_text m) → map unit_in (unwrap_or (string_text m) []) ≡ text_of m
+text_shown (Instance class fields) h = refl
+text_shown (Primitives of elements) h = refl
+text_shown (References of elements) h = refl
+text_shown (Characters text) h = units_same text h
+
 module _ (files : List (List ℕ)) (trees : Program) (linkable : IsLinkable files trees) (components : List LinkedType) where
-  -- the class of that number is String
-  named_string : (number : ℕ) (class : Name) → IsClassAt trees number class → number ≡ string_number → class ≡ java_lang_string
-  named_string number class at e =
-      let string = string_at trees in
-      let same : at.0 ≡ string.0 = same_Some at.0 string.0 (sym at.1 ∙ ap (slice_get _) e ∙ string.1) in
-      sym at.2 ∙ ap name_of same ∙ string.2
-
-  by_kind : (k : ObjectKind) (m : ObjectOf ℕ) (ws : List ℕ) → IsKindOf trees components k m → ws ≡ cells_of m
-      → map unit_in (if is_string k then ws else []) ≡ text_of m
-  by_kind (kind.Instance number) (Instance class fields) ws is e = by (number == string_number) refl
-    where
-      by : (b : Bool) → (number == string_number) ≡ b → map unit_in (if b then ws else []) ≡ []
-      by true n =
-          let named = named_string number class is.0 (eqb-true number string_number n) in
-          absurd (true≢false (ap (λ c. name_eq c java_lang_string) (sym named) ∙ is.2))
-      by false n = refl
-  by_kind (kind.Instance number) (Characters text) ws is e =
-      (λ i. map unit_in (if string_numbered files trees linkable number is.0 i == string_number then e i else []))
-      ∙ units_same text is.1
-  by_kind (kind.Instance number) (Primitives of elements) ws is e = absurd is
-  by_kind (kind.Instance number) (References of elements) ws is e = absurd is
-  by_kind kind.Ints (Instance class fields) ws is e = absurd is
-  by_kind kind.Ints (Primitives of elements) ws is e = refl
-  by_kind kind.Ints (References of elements) ws is e = absurd is
-  by_kind kind.Ints (Characters text) ws is e = absurd is
-  by_kind (kind.Narrow narrow) (Instance class fields) ws is e = absurd is
-  by_kind (kind.Narrow narrow) (Primitives of elements) ws is e = refl
-  by_kind (kind.Narrow narrow) (References of elements) ws is e = absurd is
-  by_kind (kind.Narrow narrow) (Characters text) ws is e = absurd is
-  by_kind (kind.References number) (Instance class fields) ws is e = absurd is
-  by_kind (kind.References number) (Primitives of elements) ws is e = absurd is
-  by_kind (kind.References number) (References of elements) ws is e = refl
-  by_kind (kind.References number) (Characters text) ws is e = absurd is
-
-  texts : (os : List Object) (ms : List (ObjectOf ℕ)) → ShowsObjects trees components os ms → (r : ℕ)
-      → map unit_in (units_of (slice_get os r)) ≡ text_of (slice_index_or ms r no_object)
-  texts [] [] h r = refl
-  texts [] (m ∷ ms) h r = absurd h
-  texts (o ∷ os) [] h r = absurd h
-  texts (o ∷ os) (m ∷ ms) h zero = by_kind o.kind m o.words h.0.kind h.0.words
-  texts (o ∷ os) (m ∷ ms) h (suc r) = texts os ms h.1 r
-
   module _ (objects : List Object) (world : WorldOf ℕ) (shows : ShowsObjects trees components objects world.heap) where
     string_is : (word : ℕ) → string_by objects word ≡ string_shown world (word_reference word)
     string_is zero = refl
-    string_is (suc r) = texts objects world.heap shows r
+    string_is (suc r) =
+        ap (λ text. map unit_in (unwrap_or text [])) (texts files trees linkable components objects world.heap shows r)
+        ∙ text_shown (slice_index_or world.heap r no_object) (units files trees linkable components objects world.heap shows r)
 
     -- so what is printed is what the definitions say
     pub printed_is : (print : PrintMethod) (word : ℕ) (ops : List ℕ) → word ≡ slice_index_or ops 0 0

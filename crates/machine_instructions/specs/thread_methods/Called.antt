@@ -1,6 +1,8 @@
 -- What a call of a method without code finds and does (own: it is an event, with no frame; JLS 17.2, the API of Object and Thread).
-use Rattle.std.specs.Prelude.{◌≡◌, ◌<◌, ℕ, suc, List, ◌∷◌, Some, Bool, true, Result, length, take, drop, slice_get}
+use Rattle.std.specs.Prelude.{◌≡◌, ◌<◌, ◌≤◌, ℕ, suc, List, ◌∷◌, Some, Bool, true, Result, length, take, drop, slice_get}
 use Rattle.model.specs.declared.event.Event.{Event}
+use Rattle.model.specs.declared.string_method.StringMethod.{StringMethod}
+use Rattle.model.specs.declared.string_method.StringMethod.TheVariants.{Length, CharAt, Equals, HashCode, CompareTo, Concat, Substring, IndexOf, RegionMatches, ValueOfInt, ValueOfChar}
 use Rattle.model.specs.Names.{java_lang_thread}
 use Rattle.model.specs.Classes.{Program}
 use Rattle.model.specs.Operands.{words}
@@ -32,7 +34,22 @@ pub record RefersTo (heap : List (ObjectOf ℕ)) (operands : List ℕ) (k : ℕ)
   pub there : slice_get heap reference ≡ Some object
   pub fits : is object ≡ true
 
--- The operands of a call, the top first: a receiver is not null, and where a field of a Thread is written it is one.
+-- how many operands a method of String has, its receiver among them
+abbrev pub string_operands : StringMethod → ℕ
+string_operands Length = 1
+string_operands CharAt = 2
+string_operands Equals = 2
+string_operands HashCode = 1
+string_operands CompareTo = 2
+string_operands Concat = 2
+string_operands Substring = 3
+string_operands IndexOf = 3
+string_operands RegionMatches = 5
+string_operands ValueOfInt = 1
+string_operands ValueOfChar = 1
+
+-- The operands of a call, the top first: a receiver is not null, and where a field of a Thread is written it is one. What a method of
+-- String reads is there.
 abbrev pub AreArguments : Program → List (ObjectOf ℕ) → List ℕ → BuiltInMethod → Type 0
 AreArguments trees heap operands method.Construct = Unit {0}
 AreArguments trees heap operands method.ConstructWithTarget = RefersTo heap operands 1 (has_class_below trees java_lang_thread)
@@ -48,6 +65,7 @@ AreArguments trees heap operands method.ThreadCurrentThread = Unit {0}
 AreArguments trees heap operands method.ThreadJoin = RefersTo heap operands 0 is_any
 AreArguments trees heap operands method.ThreadIsAlive = RefersTo heap operands 0 is_any
 AreArguments trees heap operands (method.PrintStreamPrints print) = 0 < length operands
+AreArguments trees heap operands (method.StringAnswers string) = string_operands string ≤ length operands
 
 -- The frame on top of a thread, whose stack is lent, calls a method that takes so many words. The place behind the call has this
 -- offset.

@@ -1,27 +1,17 @@
 -- What the methods of PrintStream print, by the objects of a heap and the word on top of the stack (own).
-use Rattle.std.specs.Prelude.{◌≡◌, ◌<◌, ◌≤◌, ◌==◌, ◌++◌, ◌%◌, ◌^◌, ℕ, zero, suc, List, [], ◌∷◌, Option, Some, None, Bool, false, if◌then◌else◌, map, length, codes, slice_get}
+use Rattle.std.specs.Prelude.{◌<◌, ◌≤◌, ◌++◌, ◌%◌, ◌^◌, ℕ, zero, suc, List, [], ◌∷◌, unwrap_or, map, length, codes, slice_get}
 use Rattle.std.specs.Fmt.{signed_decimal}
 use Rattle.model.specs.declared.print_method.PrintMethod.{PrintMethod}
 use Rattle.model.specs.declared.print_method.PrintMethod.TheVariants.{Println, PrintlnChar, PrintlnInt, PrintlnString, PrintChar, PrintInt, PrintString}
 use Rattle.model.specs.declared.instr.Conversion.TheVariants.{ToChar}
-use Rattle.model.specs.BuiltInNumbers.{string_number}
 use Rattle.model.specs.Ints.{signed, converted}
 use Rattle.model.specs.Texts.{Text, int_line}
-use Rattle.heap.specs.declared.kind.ObjectKind.{ObjectKind}
-use Rattle.heap.specs.declared.kind.ObjectKind.TheVariants as kind
 use Rattle.heap.specs.Heap.{Object}
-
-abbrev pub is_string : ObjectKind → Bool
-is_string (kind.Instance class) = class == string_number
-is_string _ = false
+use Rattle.machine_instructions.specs.thread_methods.Texts.{text_in}
 
 -- the units of a String, each a word; none of another object
-abbrev pub units_of : Option Object → List ℕ
-units_of None = []
-units_of (Some object) = if is_string object.kind then object.words else []
-
 abbrev pub units_at : List Object → ℕ → List ℕ
-units_at objects reference = units_of (slice_get objects reference)
+units_at objects reference = unwrap_or (text_in (slice_get objects reference)) []
 
 -- a unit is the low 16 bits of its word
 abbrev pub unit_in : ℕ → ℕ

@@ -37,8 +37,8 @@ pub fn class_object(program: &LinkedProgram, method: u32) -> u32
 ///
 /// # Errors
 ///
-/// At the limits of fat locks, of the entries of an owner and of threads, or where there is no memory. Nothing has
-/// changed then.
+/// At the limits of fat locks, of the entries of an owner, of threads, of objects and of cells, or where there is no
+/// memory. Nothing has changed then.
 pub fn invoke_static(
     shared: &mut Shared,
     stack: &mut ThreadStack,

@@ -34,8 +34,8 @@ pub fn entered(is_synchronized: bool, object: u32) -> Option<u32>
 ///
 /// # Errors
 ///
-/// At the limits of fat locks, of the entries of an owner and of threads, or where there is no memory. Nothing has
-/// changed then.
+/// At the limits of fat locks, of the entries of an owner, of threads, of objects and of cells, or where there is no
+/// memory. Nothing has changed then.
 pub(crate) fn run_method(
     shared: &mut Shared,
     stack: &mut ThreadStack,

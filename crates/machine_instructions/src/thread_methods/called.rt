@@ -2,7 +2,7 @@
 
 ghost use Rattle.machine_instructions.specs.thread_methods.Called.{CanCall, DoesCall, DoesUnpicked};
 
-use crate::thread_methods::{lives, printing, targets, waiting};
+use crate::thread_methods::{lives, printing, strings, targets, waiting};
 use linked_code::BuiltInMethod;
 use machine_state::{Effect, EventRefusal, Shared};
 use thread_stacks::ThreadStack;
@@ -45,6 +45,9 @@ fn run_unpicked(
         BuiltInMethod::PrintStreamPrints(print) => {
             printing::print(shared, stack, print, operands, next)
         }
+        BuiltInMethod::StringAnswers(method) => {
+            strings::answer_call(shared, stack, method, operands, next)
+        }
     }
 }
 
@@ -55,8 +58,8 @@ fn run_unpicked(
 ///
 /// # Errors
 ///
-/// Where a lock would become one of too many fat locks, too many threads would be started, or there is no memory.
-/// Nothing has changed then.
+/// Where a lock would become one of too many fat locks, too many threads would be started, a new String would be one of
+/// too many objects or have too many units, or there is no memory. Nothing has changed then.
 pub fn run_built_in(
     shared: &mut Shared,
     stack: &mut ThreadStack,

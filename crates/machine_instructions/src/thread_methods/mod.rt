@@ -1,4 +1,5 @@
-//! What calls of built-in methods do, which have no code: waiting and notifying, threads, and printing.
+//! What calls of built-in methods do, which have no code: waiting and notifying, threads, printing, and what Strings
+//! answer.
 //!
 //! # Proved
 //!
@@ -9,6 +10,8 @@
 //!   wait stays at its call, and a started thread has an empty stack.
 //! - `print` adds to the text that was printed what `printed_by` says: an int in decimal, a char as its unit, the text
 //!   of a String, and `null` (`printed_is`).
+//! - A method of String answers what `string_answer` says of the texts and the ints among its operands: an int, an
+//!   operand, or an exception. A String that is made is a new object, whose words are the units of its text.
 //!
 //! # Not proved
 //!
@@ -23,7 +26,9 @@ mod growth;
 mod lives;
 mod moves;
 mod printing;
+mod strings;
 mod targets;
+mod texts;
 mod waiting;
 
 pub use called::run_built_in;

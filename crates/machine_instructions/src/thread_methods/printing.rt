@@ -9,11 +9,11 @@ ghost use Rattle.machine_instructions.specs.thread_methods.Printed.{units_at, un
 
 use crate::thread_methods::growth::{spare, take_room};
 use crate::thread_methods::moves::{go_on, operand};
-use heap::{Heap, ObjectKind};
+use crate::thread_methods::texts;
+use heap::Heap;
 use itoa::Buffer;
 use machine_state::{Effect, EventRefusal, Shared};
 use model::PrintMethod;
-use model::built_in::STRING;
 use thread_stacks::ThreadStack;
 
 /// The most units that an int or a char has with a line feed: a sign, ten digits and it.
@@ -28,15 +28,9 @@ const NULL: &[u8] = b"null";
 fn units(heap: &Heap, object: u32) -> &[u32]
     ensures { result.now ≡ units_at heap.now.objects object }
 {
-    match heap.class_of(object) {
-        Some(ObjectKind::Instance { class }) => {
-            if class == STRING as u32 {
-                heap.words(object)
-            } else {
-                &[]
-            }
-        }
-        _ => &[],
+    match texts::units(heap, object) {
+        Some(units) => units,
+        None => &[],
     }
 }
 

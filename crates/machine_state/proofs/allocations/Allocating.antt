@@ -1,5 +1,5 @@
 -- A new object of the heap, and the limits on objects and cells.
-use Rattle.std.proofs.Common.{◌≡◌, ◌<◌, ◌≤◌, ◌+◌, ◌-◌, ℕ, zero, suc, List, [], ◌∷◌, ◌++◌, Option, Some, None, Bool, true, false, if◌then◌else◌, length, drop, nat_le, nat_lt, refl, sym, ap, subst, ◌∙◌}
+use Rattle.std.proofs.Common.{◌≡◌, ◌<◌, ◌≤◌, ◌+◌, ◌-◌, ◌^◌, ℕ, zero, suc, List, [], ◌∷◌, ◌++◌, Option, Some, None, Bool, true, false, if◌then◌else◌, length, drop, nat_le, nat_lt, refl, sym, ap, subst, ◌∙◌}
 use Rattle.std.specs.Prelude.{sum_by}
 use Rattle.std.proofs.lemmas.Bool.{lt-leb, le-ltb, le-leb, lt-ltb}
 use Rattle.std.proofs.lemmas.List.Sums.{sum_by-cons}
@@ -18,11 +18,12 @@ use Rattle.linked_code.specs.declared.types.LinkedType.{LinkedType}
 use Rattle.machine_state.specs.shown_objects.Shown.{ShowsObject, ShowsObjects, words_in}
 use Rattle.machine_state.specs.shown_objects.Shown as shown
 use Rattle.machine_state.proofs.shown_objects.Objects.{counted, added}
+use Rattle.machine_state.proofs.shown_objects.Strings.{text_shown}
 use Rattle.std.proofs.lemmas.List.{length-map}
 use Rattle.model.specs.Names.{Member}
 use Rattle.machine_state.specs.declared.state.Shared.{Shared}
 use Rattle.machine_state.specs.Shown.{Represents}
-use Rattle.machine_state.specs.allocations.Allocated.{AreMade, AreRefused}
+use Rattle.machine_state.specs.allocations.Allocated.{IsMade, string_of, AreMade, AreTextsMade, AreRefused}
 
 -- ---- what was made
 
@@ -110,24 +111,38 @@ module _ (trees : Program) (p : LinkedProgram) (bounds : Bounds) (world : WorldO
         };
       }
 
-pub made : AreMade
-made trees p bounds inflated world old new r kind reference count allocates same object shows =
+-- whatever object is shown by what is allocated
+made_one : (trees : Program) (p : LinkedProgram) (bounds : Bounds) (inflated : List ℕ) (world : WorldOf ℕ) (old new : Shared)
+    → Represents trees p bounds old world → (one : Object) (reference count : ℕ)
+    → reference ≡ length old.heap.objects → reference + 1 < 2 ^ 32
+    → heap.made old.heap < old.heap.object_limit → heap.cells_made old.heap + count ≤ old.heap.cell_limit
+    → new ≡ record old { heap = with_object old.heap one }
+    → (object : ObjectOf ℕ) → ShowsObject trees p.components.items one object
+    → IsMade trees p bounds inflated world object reference count old new
+made_one trees p bounds inflated world old new r one reference count next fits objects cells is object shows =
     record {
-      next = allocates.answer ∙ counted trees p.components.items old.heap.objects world.heap r.world_is.objects;
-      word = allocates.fits;
+      next = next ∙ counted trees p.components.items old.heap.objects world.heap r.world_is.objects;
+      word = fits;
       within = within_is;
-      represents = subst (λ (s : Shared). Represents trees p bounds s (allocated world object)) (sym new_is) (represented trees p bounds world old r (fresh kind count) object shows);
-      flags = ap (λ (s : Shared). s.heap.locks.fat) new_is;
+      represents = subst (λ (s : Shared). Represents trees p bounds s (allocated world object)) (sym is) (represented trees p bounds world old r one object shows);
+      flags = ap (λ (s : Shared). s.heap.locks.fat) is;
     }
   where
-    new_is : new ≡ with_one trees p bounds world old r (fresh kind count)
-    new_is = same ∙ ap (λ (h : Heap). record old { heap = h }) allocates.after
-
     within_is : full trees p bounds world old
         r (nat_le bounds.objects (objects_made trees world)) (nat_lt bounds.cells (cells_made trees world + count)) ≡ None
     within_is =
-        ap (λ (b : Bool). full trees p bounds world old r b (nat_lt bounds.cells (cells_made trees world + count))) (not_full trees p bounds world old r allocates.objects)
-        ∙ ap (full trees p bounds world old r false) (cells_fit trees p bounds world old r count allocates.cells)
+        ap (λ (b : Bool). full trees p bounds world old r b (nat_lt bounds.cells (cells_made trees world + count))) (not_full trees p bounds world old r objects)
+        ∙ ap (full trees p bounds world old r false) (cells_fit trees p bounds world old r count cells)
+
+pub made : AreMade
+made trees p bounds inflated world old new r kind reference count allocates same object shows =
+    made_one trees p bounds inflated world old new r (fresh kind count) reference count allocates.answer allocates.fits allocates.objects allocates.cells
+    (same ∙ ap (λ (h : Heap). record old { heap = h }) allocates.after) object shows
+
+pub texts_made : AreTextsMade
+texts_made trees p bounds inflated world old new r text units fits objects cells is =
+    made_one trees p bounds inflated world old new r (string_of text) (length old.heap.objects) (length text) refl fits objects cells is (Characters text)
+    (text_shown trees p.components.items text units)
 
 pub refused : AreRefused
 refused trees p bounds inflated world old new r kind count refusal.Objects why =

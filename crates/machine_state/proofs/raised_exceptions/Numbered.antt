@@ -11,6 +11,7 @@ unfolding built_in_classes
 numbered trees exception.NullPointer = record { class = (_, refl, refl); other = refl; fields = refl }
 numbered trees exception.Arithmetic = record { class = (_, refl, refl); other = refl; fields = refl }
 numbered trees exception.ArrayIndexOutOfBounds = record { class = (_, refl, refl); other = refl; fields = refl }
+numbered trees exception.StringIndexOutOfBounds = record { class = (_, refl, refl); other = refl; fields = refl }
 numbered trees exception.NegativeArraySize = record { class = (_, refl, refl); other = refl; fields = refl }
 numbered trees exception.ArrayStore = record { class = (_, refl, refl); other = refl; fields = refl }
 numbered trees exception.ClassCast = record { class = (_, refl, refl); other = refl; fields = refl }

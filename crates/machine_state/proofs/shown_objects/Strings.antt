@@ -9,8 +9,10 @@ use Rattle.model.specs.Lookup.{instance_fields}
 use Rattle.model.specs.ReferenceTypes.{ClassType}
 use Rattle.model.specs.Texts.{Text, unit_of_one, unit_of_two, unit_of_three, are_two, are_three, decoded}
 use Rattle.model.specs.State.{ObjectOf, Instance, Primitives, References, Characters, type_of}
+use Rattle.linked_code.specs.declared.types.LinkedType.{LinkedType}
 use Rattle.linked_code.specs.Numbers.{IsClassAt, slot_in}
-use Rattle.machine_state.specs.shown_objects.Shown.{AreUnits}
+use Rattle.machine_state.specs.allocations.Allocated.{string_of}
+use Rattle.machine_state.specs.shown_objects.Shown.{AreUnits, ShowsObject}
 
 pub string_fields : (files : Program) → instance_fields files java_lang_string ≡ []
 unfolding built_in_classes
@@ -19,6 +21,10 @@ string_fields files = refl
 pub string_at : (files : Program) → IsClassAt files string_number java_lang_string
 unfolding built_in_classes
 string_at files = (_, refl, refl)
+
+pub text_shown : (files : Program) (components : List LinkedType) (text : Text) → AreUnits text
+    → ShowsObject files components (string_of text) (Characters text)
+text_shown files components text units = record { kind = (string_at files, units); words = refl }
 
 -- so what has a field in a slot is shown with its fields
 pub instance_with : (files : Program) (m : ObjectOf ℕ) (class : Name) (field : Member) (slot : ℕ) → type_of m ≡ ClassType class

@@ -8,7 +8,8 @@ use Rattle.std.proofs.lemmas.Option.{slice_get_within, same_Some}
 use Rattle.model.specs.Names.{Name, name_eq, java_lang_object, java_lang_string}
 use Rattle.model.specs.Tree.{FileTree}
 use Rattle.model.specs.BuiltInNumbers.{string_number}
-use Rattle.model.specs.BuiltIn.{built_in_classes, object_class}
+use Rattle.model.specs.BuiltIn.{built_in_classes}
+use Rattle.model.specs.built_in.Object.{object_class}
 use Rattle.model.specs.Classes.{Program, name_of, is_named, classes_of}
 use Rattle.model.specs.Linkable.{IsLinkable, has_built_in_name, two_of_one_name}
 use Rattle.run_laws.proofs.laws.Unrefused.{names_differ, unrefused_of}

@@ -1,16 +1,19 @@
 -- What an allocation on the heap of a machine is of the world that it shows (JVMS 2.7, 6.5 new; limits: own).
-use Rattle.std.specs.Prelude.{◌≡◌, ◌<◌, ◌+◌, ◌^◌, ℕ, List, None, Ok, Err, true, length}
+use Rattle.std.specs.Prelude.{◌≡◌, ◌<◌, ◌≤◌, ◌+◌, ◌^◌, ℕ, List, None, Ok, Err, true, length}
 use Rattle.model.specs.Classes.{Program}
-use Rattle.model.specs.State.{ObjectOf, WorldOf}
+use Rattle.model.specs.BuiltInNumbers.{string_number}
+use Rattle.model.specs.State.{ObjectOf, Characters, WorldOf}
 use Rattle.model.specs.Outcomes.{Makes}
 use Rattle.model.specs.LimitStands.{Bounds}
+use Rattle.model.specs.Texts.{Text}
 use Rattle.model.specs.Worlds.{allocated}
 use Rattle.heap.specs.declared.kind.ObjectKind.{ObjectKind}
+use Rattle.heap.specs.declared.kind.ObjectKind.TheVariants as kind
 use Rattle.heap.specs.declared.refusal.AllocRefusal.{AllocRefusal}
-use Rattle.heap.specs.Heap.{fresh, Allocates}
+use Rattle.heap.specs.Heap.{Object, made, cells_made, fresh, with_object, Allocates}
 use Rattle.machine_state.specs.limits_at_words.FatLocks.{flags_after}
 use Rattle.linked_code.specs.declared.program.LinkedProgram.{LinkedProgram}
-use Rattle.machine_state.specs.shown_objects.Shown.{ShowsObject}
+use Rattle.machine_state.specs.shown_objects.Shown.{AreUnits, ShowsObject}
 use Rattle.machine_state.specs.declared.state.Shared.{Shared}
 use Rattle.machine_state.specs.Refusals.{of_heap}
 use Rattle.machine_state.specs.Shown.{Represents}
@@ -33,6 +36,19 @@ AreMade =
     → new ≡ record old { heap = new.heap }
     → (object : ObjectOf ℕ) → ShowsObject trees p.components.items (fresh kind count) object
     → IsMade trees p bounds inflated world object reference count old new
+
+-- a String is an instance of its class, whose words are its text
+abbrev pub string_of : Text → Object
+string_of text = record { kind = kind.Instance string_number; words = text }
+
+-- the new object is a String, where no limit stands and its word fits
+abbrev pub AreTextsMade : Type 0
+AreTextsMade =
+    (trees : Program) (p : LinkedProgram) (bounds : Bounds) (inflated : List ℕ) (world : WorldOf ℕ) (old new : Shared) → Represents trees p bounds old world
+    → (text : Text) → AreUnits text → length old.heap.objects + 1 < 2 ^ 32
+    → made old.heap < old.heap.object_limit → cells_made old.heap + length text ≤ old.heap.cell_limit
+    → new ≡ record old { heap = with_object old.heap (string_of text) }
+    → IsMade trees p bounds inflated world (Characters text) (length old.heap.objects) (length text) old new
 
 -- of both limits, that of objects is told
 abbrev pub AreRefused : Type 0

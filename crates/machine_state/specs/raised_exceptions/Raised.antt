@@ -1,6 +1,6 @@
 -- Exceptions that the machine makes, with no call of a constructor (JVMS 2.10).
 use Rattle.std.specs.Prelude.{◌≡◌, ℕ, List, [], false, Result}
-use Rattle.model.specs.BuiltInNumbers.{abstract_method_error, arithmetic_exception, array_index_out_of_bounds_exception, array_store_exception, class_cast_exception, exception_in_initializer_error, illegal_monitor_state_exception, illegal_thread_state_exception, incompatible_class_change_error, interrupted_exception, negative_array_size_exception, no_class_def_found_error, null_pointer_exception, stack_overflow_error}
+use Rattle.model.specs.BuiltInNumbers.{abstract_method_error, arithmetic_exception, array_index_out_of_bounds_exception, array_store_exception, class_cast_exception, exception_in_initializer_error, illegal_monitor_state_exception, illegal_thread_state_exception, incompatible_class_change_error, interrupted_exception, negative_array_size_exception, no_class_def_found_error, null_pointer_exception, stack_overflow_error, string_index_out_of_bounds_exception}
 use Rattle.model.specs.Names.{name_eq, java_lang_string}
 use Rattle.model.specs.Classes.{Program}
 use Rattle.model.specs.Lookup.{instance_fields}
@@ -28,6 +28,7 @@ abbrev pub class_number : MachineException → ℕ
 class_number exception.NullPointer = null_pointer_exception
 class_number exception.Arithmetic = arithmetic_exception
 class_number exception.ArrayIndexOutOfBounds = array_index_out_of_bounds_exception
+class_number exception.StringIndexOutOfBounds = string_index_out_of_bounds_exception
 class_number exception.NegativeArraySize = negative_array_size_exception
 class_number exception.ArrayStore = array_store_exception
 class_number exception.ClassCast = class_cast_exception

@@ -16,6 +16,7 @@ fn class_of(fault: MachineException) -> u32
         MachineException::NullPointer => built_in::NULL_POINTER_EXCEPTION,
         MachineException::Arithmetic => built_in::ARITHMETIC_EXCEPTION,
         MachineException::ArrayIndexOutOfBounds => built_in::ARRAY_INDEX_OUT_OF_BOUNDS_EXCEPTION,
+        MachineException::StringIndexOutOfBounds => built_in::STRING_INDEX_OUT_OF_BOUNDS_EXCEPTION,
         MachineException::NegativeArraySize => built_in::NEGATIVE_ARRAY_SIZE_EXCEPTION,
         MachineException::ArrayStore => built_in::ARRAY_STORE_EXCEPTION,
         MachineException::ClassCast => built_in::CLASS_CAST_EXCEPTION,

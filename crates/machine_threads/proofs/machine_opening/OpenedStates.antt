@@ -37,8 +37,8 @@ monitors_of (object ∷ objects) = ap (λ (l : List Monitor). unlocked ∷ l) (m
 module _ (trees : Program) (p : LinkedProgram) (program : IsProgram trees p) (limits : Limits) (shared : Shared)
     (heap_is : shared.heap ≡ opened limits (opening_objects p))
     (statics_are : shared.statics.items ≡ replicate p.static_fields 0)
-    (statuses_are : shared.statuses.items ≡ replicate (length p.classes.items - 30) status.NotInitialised)
-    (ready_are : shared.ready.items ≡ replicate 30 true ++ replicate (length p.classes.items - 30) false)
+    (statuses_are : shared.statuses.items ≡ replicate (length p.classes.items - 36) status.NotInitialised)
+    (ready_are : shared.ready.items ≡ replicate 36 true ++ replicate (length p.classes.items - 36) false)
     (threads_are : shared.threads ≡ record { threads = new_thread main_thread_reference ∷ []; limit = limits.threads })
     (printed_are : shared.printed.items ≡ [])
     (stacks_are : shared.stacks.items ≡ [] ∷ []) where

@@ -6,11 +6,12 @@ use Rattle.model.specs.Names.{Member}
 use Rattle.model.specs.Classes.{Program, Body, body_of}
 use Rattle.model.specs.Operands.{Slots, words}
 use Rattle.model.specs.Outcomes.{OutcomeOf, Interrupts}
-use Rattle.model.specs.Sites.{Site}
+use Rattle.model.specs.StringMethods.{StringAnswer, IsNull, IsOutside, Answers, Same, Composes, string_answer}
+use Rattle.model.specs.Sites.{Site, int_operand}
 use Rattle.model.specs.State.{WorldOf}
 use Rattle.model.specs.Worlds.{is_owner, is_alive, thread_at, thread_of, waiters_of}
 use Rattle.model.specs.BuiltInMethods as built_in
-use Rattle.model.specs.BuiltInMethods.{BuiltInMethod, built_in_method, built_in_may, built_in_does, object_of, wait_by, if_owner, start_by, join_by}
+use Rattle.model.specs.BuiltInMethods.{BuiltInMethod, built_in_method, built_in_may, built_in_does, object_of, wait_by, if_owner, start_by, join_by, string_operand, answered}
 use Rattle.model.specs.Calls.{Chosen, Fails, Runs, may_run, runs, may_invoke, invoked}
 use Rattle.linked_code.specs.declared.method.BuiltInMethod as linked
 use Rattle.linked_code.specs.declared.method.BuiltInMethod.TheVariants as method
@@ -36,6 +37,14 @@ join_stays : (b : Bool) (next : ℕ) (world : WorldOf ℕ) (slots : Slots ℕ) (
 join_stays true next world slots rest = tt
 join_stays false next world slots rest = tt
 
+answer_stays : (answer : StringAnswer) (next : ℕ) (world : WorldOf ℕ) (slots : Slots ℕ) (ops rest : List ℕ)
+    → Stays (answered words answer next world slots ops rest)
+answer_stays IsNull next world slots ops rest = tt
+answer_stays IsOutside next world slots ops rest = tt
+answer_stays (Answers bits) next world slots ops rest = tt
+answer_stays (Same k) next world slots ops rest = tt
+answer_stays (Composes text) next world slots ops rest = tt
+
 -- a built-in method calls nothing
 pub built_in_stays : (of : BuiltInMethod) (next t : ℕ) (world : WorldOf ℕ) (slots : Slots ℕ) (ops rest : List ℕ)
     → Stays (built_in_does words of next (event_of t) world slots ops rest)
@@ -53,6 +62,8 @@ built_in_stays built_in.ThreadCurrentThread next t world slots ops rest = tt
 built_in_stays built_in.ThreadJoin next t world slots ops rest = join_stays (is_alive world (object_of words ops 0)) next world slots rest
 built_in_stays built_in.ThreadIsAlive next t world slots ops rest = tt
 built_in_stays (built_in.PrintStreamPrints print) next t world slots ops rest = tt
+built_in_stays (built_in.StringAnswers method) next t world slots ops rest =
+    answer_stays (string_answer method (int_operand words ops) (string_operand words world ops)) next world slots ops rest
 
 -- where a member waits, the first may be picked; else nothing is
 notify_may : (owner : Bool) (n : ℕ) → (if owner && nat_lt 0 n then nat_lt 0 n else true) ≡ true
@@ -80,6 +91,7 @@ built_in_allowed method.ThreadCurrentThread n t world ops = refl
 built_in_allowed method.ThreadJoin n t world ops = absurd (n refl)
 built_in_allowed method.ThreadIsAlive n t world ops = refl
 built_in_allowed (method.PrintStreamPrints print) n t world ops = refl
+built_in_allowed (method.StringAnswers of) n t world ops = refl
 
 -- a join that may not be done is one of a thread that is alive
 join_held : (alive interrupted : Bool) (next : ℕ) (world : WorldOf ℕ) (slots : Slots ℕ) (rest : List ℕ)
@@ -104,6 +116,7 @@ held_by built_in.ThreadYield next t world slots ops rest h = absurd (true≢fals
 held_by built_in.ThreadCurrentThread next t world slots ops rest h = absurd (true≢false h)
 held_by built_in.ThreadIsAlive next t world slots ops rest h = absurd (true≢false h)
 held_by (built_in.PrintStreamPrints print) next t world slots ops rest h = absurd (true≢false h)
+held_by (built_in.StringAnswers method) next t world slots ops rest h = absurd (true≢false h)
 
 module _ (trees : Program) (site : Site) (t : ℕ) (world : WorldOf ℕ) (slots : Slots ℕ) (ops rest : List ℕ) (object : ℕ) where
   run_held : (m : Member) (body : Option Body) → may_run words (event_of t) world ops m body ≡ false

@@ -7,10 +7,11 @@ use Rattle.model.specs.State.{Monitor, WorldOf, Waiter, WakeCause, Notified, Thr
 use Rattle.model.specs.Outcomes.{OutcomeOf, Goes, Raises, Throws, Interrupts, Calls, Returns, Waits, not_null}
 use Rattle.model.specs.Monitors as monitors
 use Rattle.model.specs.Worlds.{thread_at, thread_of, is_alive, is_owner, with_monitors, woken, all_woken, waiters_of}
-use Rattle.model.specs.Sites.{pushing}
-use Rattle.model.specs.BuiltInMethods.{BuiltInMethod, Construct, ConstructWithTarget, ObjectWait, ObjectNotify, ObjectNotifyAll, ThreadStart, ThreadInterrupt, ThreadIsInterrupted, ThreadInterrupted, ThreadYield, ThreadCurrentThread, ThreadJoin, ThreadIsAlive, PrintStreamPrints, object_of, wait_by, notified_one, notified, notified_all, if_owner, start_by, interrupted_in, interrupted_on, join_by, built_in_does}
+use Rattle.model.specs.Sites.{pushing, int_operand}
+use Rattle.model.specs.StringMethods.{StringAnswer, IsNull, IsOutside, Answers, Same, Composes, string_answer}
+use Rattle.model.specs.BuiltInMethods.{BuiltInMethod, Construct, ConstructWithTarget, ObjectWait, ObjectNotify, ObjectNotifyAll, ThreadStart, ThreadInterrupt, ThreadIsInterrupted, ThreadInterrupted, ThreadYield, ThreadCurrentThread, ThreadJoin, ThreadIsAlive, PrintStreamPrints, StringAnswers, object_of, string_operand, answered, wait_by, notified_one, notified, notified_all, if_owner, start_by, interrupted_in, interrupted_on, join_by, built_in_does}
 use Rattle.monitor_laws.specs.owners.Owners.{KeepsOwners}
-use Rattle.monitor_laws.proofs.owners.Monitors.{any_keeps, call_changes, call_keeps, as_owner_keeps}
+use Rattle.monitor_laws.proofs.owners.Monitors.{any_keeps, more_keeps, call_changes, call_keeps, as_owner_keeps}
 
 -- what an instruction leaves, by the object of its monitor operand and the one that it may wait on
 abbrev pub OutcomeKept : {A : Type 0} → Option ℕ → ℕ → List Monitor → OutcomeOf A → Type 0
@@ -99,6 +100,15 @@ module _ {A : Type 0} where
       join_kept true next slots rest = tt
       join_kept false next slots rest = same_kept p world.monitors
 
+      -- the monitor of a new String is owned by nobody
+      answered_kept : (C : Carrier A) (answer : StringAnswer) (next : ℕ) (slots : Slots A) (ops rest : List A)
+          → kept (answered C answer next world slots ops rest)
+      answered_kept C IsNull next slots ops rest = tt
+      answered_kept C IsOutside next slots ops rest = tt
+      answered_kept C (Answers bits) next slots ops rest = same_kept p world.monitors
+      answered_kept C (Same k) next slots ops rest = same_kept p world.monitors
+      answered_kept C (Composes text) next slots ops rest = any_keeps p world.monitors _ (more_keeps world.monitors)
+
     pub built_in_kept : (p : Option ℕ) (C : Carrier A) (method : BuiltInMethod) (next : ℕ) (event : Event) (slots : Slots A) (ops rest : List A)
         → OutcomeKept p (object_of C ops 0) world.monitors (built_in_does C method next event world slots ops rest)
     built_in_kept p C Construct next event slots ops rest = same_kept p world.monitors
@@ -124,3 +134,5 @@ module _ {A : Type 0} where
     built_in_kept p C ThreadJoin next event slots ops rest = join_kept p (object_of C ops 0) (is_alive world (object_of C ops 0)) next slots rest
     built_in_kept p C ThreadIsAlive next event slots ops rest = same_kept p world.monitors
     built_in_kept p C (PrintStreamPrints print) next event slots ops rest = same_kept p world.monitors
+    built_in_kept p C (StringAnswers called) next event slots ops rest =
+        answered_kept p (object_of C ops 0) C (string_answer called (int_operand C ops) (string_operand C world ops)) next slots ops rest

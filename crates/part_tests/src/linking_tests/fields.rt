@@ -59,41 +59,41 @@ const P: Class = Class {
     ..R
 };
 
-/// P declares x, and Q below it one of its own; R is below Q. The files stand in another order, with the numbers 30
-/// to 33.
+/// P declares x, and Q below it one of its own; R is below Q. The files stand in another order, with the numbers 36
+/// to 39.
 static CLASSES: [Class; 4] = [A, R, Q, P];
 
 /// The fields x of P and of Q.
-const X_OF_P: Option<FieldLink> = Some(FieldLink::Instance { class: 33, slot: 0 });
+const X_OF_P: Option<FieldLink> = Some(FieldLink::Instance { class: 39, slot: 0 });
 
-const X_OF_Q: Option<FieldLink> = Some(FieldLink::Instance { class: 32, slot: 3 });
+const X_OF_Q: Option<FieldLink> = Some(FieldLink::Instance { class: 38, slot: 3 });
 
 static FIELDS: [Row<Option<FieldLink>>; 15] = [
-    (30, Entry::Field(b"P", b"x", b"I"), X_OF_P),
-    (30, Entry::Field(b"Q", b"x", b"I"), X_OF_Q),
-    (30, Entry::Field(b"R", b"x", b"I"), X_OF_Q),
+    (36, Entry::Field(b"P", b"x", b"I"), X_OF_P),
+    (36, Entry::Field(b"Q", b"x", b"I"), X_OF_Q),
+    (36, Entry::Field(b"R", b"x", b"I"), X_OF_Q),
     (
-        30,
+        36,
         Entry::Field(b"R", b"y", b"I"),
-        Some(FieldLink::Instance { class: 32, slot: 2 }),
+        Some(FieldLink::Instance { class: 38, slot: 2 }),
     ),
     (
-        30,
+        36,
         Entry::Field(b"R", b"p", b"I"),
-        Some(FieldLink::Instance { class: 33, slot: 1 }),
+        Some(FieldLink::Instance { class: 39, slot: 1 }),
     ),
     (
-        30,
+        36,
         Entry::Field(b"R", b"s", b"I"),
-        Some(FieldLink::Static { class: 33, slot: 2 }),
+        Some(FieldLink::Static { class: 39, slot: 2 }),
     ),
     (
-        30,
+        36,
         Entry::Field(b"Q", b"t", b"I"),
-        Some(FieldLink::Static { class: 32, slot: 0 }),
+        Some(FieldLink::Static { class: 38, slot: 0 }),
     ),
     (
-        30,
+        36,
         Entry::Field(b"java/lang/System", b"out", b"Ljava/io/PrintStream;"),
         Some(FieldLink::SystemOut),
     ),
@@ -104,24 +104,24 @@ static FIELDS: [Row<Option<FieldLink>>; 15] = [
         Some(FieldLink::Instance { class: 2, slot: 0 }),
     ),
     // no field y is found in P, and these are no Fieldrefs
-    (30, Entry::Field(b"P", b"y", b"I"), None),
-    (30, Entry::Class(b"A"), None),
-    (30, Entry::At(0), None),
-    (30, Entry::At(0xffff), None),
-    // there is no class 34
-    (34, Entry::At(2), None),
-    (34, Entry::At(10), None),
+    (36, Entry::Field(b"P", b"y", b"I"), None),
+    (36, Entry::Class(b"A"), None),
+    (36, Entry::At(0), None),
+    (36, Entry::At(0xffff), None),
+    // there is no class 40
+    (40, Entry::At(2), None),
+    (40, Entry::At(10), None),
 ];
 
 /// Classes by their numbers, and how many slots their objects have.
 const SLOT_COUNTS: [(usize, Option<usize>); 7] = [
     (0, Some(0)),
     (2, Some(1)),
-    (30, Some(0)),
-    (31, Some(5)),
-    (32, Some(4)),
-    (33, Some(2)),
-    (34, None),
+    (36, Some(0)),
+    (37, Some(5)),
+    (38, Some(4)),
+    (39, Some(2)),
+    (40, None),
 ];
 
 /// The place of the first row of `FIELDS` that isn't so.
@@ -172,15 +172,15 @@ fn fields_have_slots(rt: HostRuntime) -> Result<(), Fail> {
 }
 
 static NUMBERS: [Row<Option<usize>>; 9] = [
-    (30, Entry::Class(b"A"), Some(30)),
-    (30, Entry::Class(OBJECT), Some(0)),
-    (30, Entry::Class(b"P"), Some(33)),
-    (30, Entry::Class(b"Q"), Some(32)),
-    (31, Entry::Class(b"Q"), Some(32)),
-    (31, Entry::Text(b"Q"), None),
-    (31, Entry::At(0), None),
-    (31, Entry::At(0xffff), None),
-    (34, Entry::At(2), None),
+    (36, Entry::Class(b"A"), Some(36)),
+    (36, Entry::Class(OBJECT), Some(0)),
+    (36, Entry::Class(b"P"), Some(39)),
+    (36, Entry::Class(b"Q"), Some(38)),
+    (37, Entry::Class(b"Q"), Some(38)),
+    (37, Entry::Text(b"Q"), None),
+    (37, Entry::At(0), None),
+    (37, Entry::At(0xffff), None),
+    (40, Entry::At(2), None),
 ];
 
 /// The place of the first row of `NUMBERS` that isn't so.
@@ -215,13 +215,13 @@ fn classes_have_numbers(rt: HostRuntime) -> Result<(), Fail> {
 }
 
 static STRINGS: [Row<Option<usize>>; 7] = [
-    (30, Entry::String(b"one"), Some(0)),
-    (31, Entry::String(b"two"), Some(1)),
-    (32, Entry::String(b"one"), Some(0)),
-    (33, Entry::String(b""), Some(2)),
-    (30, Entry::Text(b"one"), None),
+    (36, Entry::String(b"one"), Some(0)),
+    (37, Entry::String(b"two"), Some(1)),
+    (38, Entry::String(b"one"), Some(0)),
+    (39, Entry::String(b""), Some(2)),
+    (36, Entry::Text(b"one"), None),
     (0, Entry::At(6), None),
-    (34, Entry::At(6), None),
+    (40, Entry::At(6), None),
 ];
 
 /// The place of the first row of `STRINGS` that isn't so, and how many texts have numbers.

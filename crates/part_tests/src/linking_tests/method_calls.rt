@@ -11,26 +11,26 @@ use std::test::Fail;
 /// Numbers of methods, with the class that declares each, and how many operands a call takes: one for each argument
 /// and one for a receiver. They are main, P.m, P.n, P.s, J.j, and of Thread the second constructor and currentThread.
 const OPERANDS: [(usize, usize, usize); 7] = [
-    (46, 30, 1),
-    (52, 33, 1),
-    (53, 33, 2),
-    (55, 33, 3),
-    (58, 35, 3),
-    (7, 2, 2),
-    (13, 2, 0),
+    (119, 36, 1),
+    (125, 39, 1),
+    (126, 39, 2),
+    (128, 39, 3),
+    (131, 41, 3),
+    (8, 2, 2),
+    (14, 2, 0),
 ];
 
 /// Numbers of methods, and whether each is static, private, synchronized, native and abstract: P.m, P.s, P.p, Q.m,
 /// P.a, R.n, and Thread's start and yield.
 const FLAGS: [(usize, [bool; 5]); 8] = [
-    (52, [false, false, false, false, false]),
-    (55, [true, false, false, false, false]),
-    (54, [false, true, false, false, false]),
-    (48, [false, false, true, false, false]),
-    (56, [false, false, false, false, true]),
-    (47, [false, false, false, false, true]),
-    (8, [false, false, false, true, false]),
-    (12, [true, false, false, true, false]),
+    (125, [false, false, false, false, false]),
+    (128, [true, false, false, false, false]),
+    (127, [false, true, false, false, false]),
+    (121, [false, false, true, false, false]),
+    (129, [false, false, false, false, true]),
+    (120, [false, false, false, false, true]),
+    (9, [false, false, false, true, false]),
+    (13, [true, false, false, true, false]),
 ];
 
 /// The class that declares a method, and how many operands a call takes.
@@ -114,9 +114,9 @@ impl Answers for CallAnswers {
         Ok(CallAnswers {
             wrong_operands: wrong_operands(&calls),
             wrong_flags: wrong_flags(&calls),
-            have_parts: [has_parts(&calls, 46, MAIN), has_parts(&calls, 53, GIVES)],
-            code_length: code_length(&calls, 5),
-            is_behind_the_last: calls.call(59).is_none(),
+            have_parts: [has_parts(&calls, 119, MAIN), has_parts(&calls, 126, GIVES)],
+            code_length: code_length(&calls, 6),
+            is_behind_the_last: calls.call(132).is_none(),
         })
     }
 }

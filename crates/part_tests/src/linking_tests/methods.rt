@@ -163,77 +163,82 @@ const J: Class = Class {
     ..I
 };
 
-/// The classes with the numbers from 30 on, behind the built-in ones. Their methods have the numbers from 46 on: A's
-/// 46, R's 47, Q's 48 to 51, P's 52 to 56, I's 57 and J's 58.
+/// The classes with the numbers from 36 on, behind the built-in ones. Their methods have the numbers from 119 on: A's
+/// 119, R's 120, Q's 121 to 124, P's 125 to 129, I's 130 and J's 131.
 pub(crate) static CLASSES: [Class; 6] = [A, R, Q, P, I, J];
 
 static NAMED: [Row<Option<usize>>; 21] = [
     // R.s, which P declares; R.m, which Q declares nearest; Q.n, which P declares; and J.i, which I declares
     (
-        30,
+        36,
         Entry::Method(b"R", b"s", b"(ILjava/lang/Object;[I)V"),
-        Some(55),
+        Some(128),
     ),
-    (30, Entry::Method(b"R", b"m", b"()V"), Some(48)),
-    (30, Entry::Method(b"Q", b"n", b"(I)I"), Some(53)),
-    (30, Entry::InterfaceMethod(b"J", b"i", b"()V"), Some(57)),
+    (36, Entry::Method(b"R", b"m", b"()V"), Some(121)),
+    (36, Entry::Method(b"Q", b"n", b"(I)I"), Some(126)),
+    (36, Entry::InterfaceMethod(b"J", b"i", b"()V"), Some(130)),
     // R.m with a parameter; R.n and R.i, which R and Q declare again; P.i, which only I declares
-    (30, Entry::Method(b"R", b"m", b"(I)V"), Some(51)),
-    (30, Entry::Method(b"R", b"n", b"(I)I"), Some(47)),
-    (30, Entry::Method(b"R", b"i", b"()V"), Some(50)),
-    (30, Entry::Method(b"P", b"i", b"()V"), Some(57)),
+    (36, Entry::Method(b"R", b"m", b"(I)V"), Some(124)),
+    (36, Entry::Method(b"R", b"n", b"(I)I"), Some(120)),
+    (36, Entry::Method(b"R", b"i", b"()V"), Some(123)),
+    (36, Entry::Method(b"P", b"i", b"()V"), Some(130)),
     // J.notify, which Object declares
-    (30, Entry::InterfaceMethod(b"J", b"notify", b"()V"), Some(2)),
+    (36, Entry::InterfaceMethod(b"J", b"notify", b"()V"), Some(3)),
     // Thread.run's invokeinterface Runnable.run
-    (2, Entry::At(14), Some(4)),
+    (2, Entry::At(14), Some(5)),
     // R.z is declared nowhere, and there is no class X; R.m by an InterfaceMethodref is no method of an interface
-    (30, Entry::Method(b"R", b"z", b"()V"), None),
-    (30, Entry::Method(b"X", b"m", b"()V"), None),
-    (30, Entry::InterfaceMethod(b"R", b"m", b"()V"), None),
+    (36, Entry::Method(b"R", b"z", b"()V"), None),
+    (36, Entry::Method(b"X", b"m", b"()V"), None),
+    (36, Entry::InterfaceMethod(b"R", b"m", b"()V"), None),
     // other entries, and none; in Thread a Fieldref
-    (30, Entry::Class(b"A"), None),
-    (30, Entry::NameAndType(b"m", b"()V"), None),
-    (30, Entry::At(0), None),
-    (30, Entry::At(0xffff), None),
+    (36, Entry::Class(b"A"), None),
+    (36, Entry::NameAndType(b"m", b"()V"), None),
+    (36, Entry::At(0), None),
+    (36, Entry::At(0xffff), None),
     (2, Entry::At(10), None),
     // a class without such an entry, and no class
-    (31, Entry::At(200), None),
-    (36, Entry::At(2), None),
-    (36, Entry::At(14), None),
+    (37, Entry::At(200), None),
+    (42, Entry::At(2), None),
+    (42, Entry::At(14), None),
 ];
 
 pub(crate) const NO_ROWS: [Row<()>; 0] = [];
 
-/// Numbers of methods, each with the class and the place among its methods. Object declares four methods, Runnable
-/// one, Thread eleven; String, Class and System none; PrintStream seven; and each of the 23 classes from Throwable on
-/// one. Then come the files, in their order.
-const PLACES: [(usize, usize, usize); 17] = [
+/// Numbers of methods, each with the class and the place among its methods. Object declares five methods, Runnable one,
+/// Thread eleven, String 29, Class one, System none, PrintStream seven, Comparable one, CharSequence four and Cloneable
+/// none; and the 26 classes of what is thrown 60. Then come the files, in their order.
+const PLACES: [(usize, usize, usize); 22] = [
     (0, 0, 0),
-    (3, 0, 3),
-    (4, 1, 0),
-    (5, 2, 0),
-    (15, 2, 10),
-    (16, 6, 0),
-    (22, 6, 6),
-    (23, 7, 0),
-    (45, 29, 0),
-    (46, 30, 0),
-    (48, 32, 0),
-    (51, 32, 3),
-    (52, 33, 0),
-    (56, 33, 4),
-    (57, 34, 0),
-    (58, 35, 0),
-    (47, 31, 0),
+    (4, 0, 4),
+    (5, 1, 0),
+    (6, 2, 0),
+    (16, 2, 10),
+    (17, 3, 0),
+    (45, 3, 28),
+    (46, 4, 0),
+    (47, 6, 0),
+    (53, 6, 6),
+    (54, 7, 0),
+    (56, 7, 2),
+    (118, 35, 1),
+    (119, 36, 0),
+    (121, 38, 0),
+    (124, 38, 3),
+    (125, 39, 0),
+    (129, 39, 4),
+    (130, 40, 0),
+    (131, 41, 0),
+    (120, 37, 0),
+    (115, 34, 0),
 ];
 
-/// Places at which no method stands: behind the last of Thread, in String, behind the last of all, and in one more
+/// Places at which no method stands: behind the last of Thread, in System, behind the last of all, and in one more
 /// class.
 const NO_PLACES: [(usize, usize); 5] = [
     (2, 11),
-    (3, 0),
-    (35, 1),
-    (36, 0),
+    (5, 0),
+    (41, 1),
+    (42, 0),
     (usize::MAX, usize::MAX),
 ];
 
@@ -280,7 +285,7 @@ impl Answers for PlaceAnswers {
             wrong_place: wrong_place(&numbers),
             wrong_no_place: wrong_no_place(&numbers),
             count: numbers.count(),
-            behind_the_last: numbers.place(59),
+            behind_the_last: numbers.place(132),
         })
     }
 }
@@ -290,7 +295,7 @@ fn methods_have_numbers(rt: HostRuntime) -> Result<(), Fail> {
     let found: PlaceAnswers = asked(rt.alloc(), &CLASSES, &NO_ROWS)?;
     assert_eq!(rt; found.wrong_place, None);
     assert_eq!(rt; found.wrong_no_place, None);
-    assert!(rt; found.count == 59 && found.behind_the_last.is_none());
+    assert!(rt; found.count == 132 && found.behind_the_last.is_none());
     Ok(())
 }
 
@@ -333,38 +338,38 @@ fn entries_name_what_is_found(rt: HostRuntime) -> Result<(), Fail> {
 /// A class, a method, and the method that receivers of the class have in its place.
 const SELECTED: [(usize, usize, Option<usize>); 24] = [
     // P.m is overridden in Q, from which A and R have it
-    (33, 52, Some(52)),
-    (32, 52, Some(48)),
-    (31, 52, Some(48)),
-    (30, 52, Some(48)),
+    (39, 125, Some(125)),
+    (38, 125, Some(121)),
+    (37, 125, Some(121)),
+    (36, 125, Some(121)),
     // a class above the one that declares the method has one of its own, too
-    (33, 48, Some(52)),
+    (39, 121, Some(125)),
     // the m with a parameter is another one
-    (30, 51, Some(51)),
-    (33, 51, None),
+    (36, 124, Some(124)),
+    (39, 124, None),
     // P.n is inherited by Q, and so is Object's notify
-    (32, 53, Some(53)),
-    (30, 53, Some(53)),
-    (32, 2, Some(2)),
+    (38, 126, Some(126)),
+    (36, 126, Some(126)),
+    (38, 3, Some(3)),
     // Thread declares Runnable's run
-    (2, 4, Some(5)),
+    (2, 5, Some(6)),
     // p is private in P, and public in Q
-    (33, 54, None),
-    (33, 49, None),
-    (32, 54, Some(49)),
-    (30, 54, Some(49)),
+    (39, 127, None),
+    (39, 122, None),
+    (38, 127, Some(122)),
+    (36, 127, Some(122)),
     // P.s and main are static
-    (33, 55, None),
-    (32, 55, None),
-    (30, 46, None),
+    (39, 128, None),
+    (38, 128, None),
+    (36, 119, None),
     // R declares P.n again as an abstract one, and nothing below P declares a
-    (31, 53, Some(47)),
-    (33, 56, Some(56)),
-    (30, 56, Some(56)),
+    (37, 126, Some(120)),
+    (39, 129, Some(129)),
+    (36, 129, Some(129)),
     // I.i is declared by Q, and by no class above it; methods of interfaces aren't selected
-    (30, 57, Some(50)),
-    (33, 57, None),
-    (30, 58, None),
+    (36, 130, Some(123)),
+    (39, 130, None),
+    (36, 131, None),
 ];
 
 /// The place of the first row of `SELECTED` that isn't so.

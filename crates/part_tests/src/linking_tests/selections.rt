@@ -14,21 +14,21 @@ use std::test::Fail;
 /// Of A.m, which Q declares; of P's m, i, which only I declares, and private p; of I.i and J.i; of P.m again; and of
 /// Object.wait.
 static CALLS: [(CallKind, usize, usize); 8] = [
-    (CallKind::Virtual, 30, 48),
-    (CallKind::Virtual, 33, 52),
-    (CallKind::Virtual, 33, 57),
-    (CallKind::Virtual, 33, 54),
-    (CallKind::Interface, 34, 57),
-    (CallKind::Interface, 35, 57),
-    (CallKind::Virtual, 33, 52),
-    (CallKind::Virtual, 0, 1),
+    (CallKind::Virtual, 36, 121),
+    (CallKind::Virtual, 39, 125),
+    (CallKind::Virtual, 39, 130),
+    (CallKind::Virtual, 39, 127),
+    (CallKind::Interface, 40, 130),
+    (CallKind::Interface, 41, 130),
+    (CallKind::Virtual, 39, 125),
+    (CallKind::Virtual, 0, 2),
 ];
 
 static TARGETS: [CallTarget; 8] = [
     CallTarget::Place(3),
     CallTarget::Place(1),
     CallTarget::Place(2),
-    CallTarget::Method(54),
+    CallTarget::Method(127),
     CallTarget::Selector(0),
     CallTarget::Selector(1),
     CallTarget::Place(1),
@@ -38,18 +38,18 @@ static TARGETS: [CallTarget; 8] = [
 /// Rows of Object, Thread, String, A, R, Q, P and I: a class has the places of its superclass. P has no i, and runs
 /// the abstract Runnable.run in its place.
 static ROWS: [(usize, &[u32]); 8] = [
-    (0, &[1]),
-    (2, &[1, 5]),
-    (3, &[1]),
-    (30, &[1, 48, 50, 48]),
-    (31, &[1, 48, 50, 48]),
-    (32, &[1, 48, 50, 48]),
-    (33, &[1, 52, 4]),
-    (34, &[1]),
+    (0, &[2]),
+    (2, &[2, 6]),
+    (3, &[2]),
+    (36, &[2, 121, 123, 121]),
+    (37, &[2, 121, 123, 121]),
+    (38, &[2, 121, 123, 121]),
+    (39, &[2, 125, 5]),
+    (40, &[2]),
 ];
 
 /// How many selectors the rows of Object, Q, I and J have, and the method of the first.
-static INTERFACE_ROWS: [(usize, usize, u32); 4] = [(0, 0, 0), (32, 1, 50), (34, 1, 57), (35, 2, 4)];
+static INTERFACE_ROWS: [(usize, usize, u32); 4] = [(0, 0, 0), (38, 1, 123), (40, 1, 130), (41, 2, 5)];
 
 fn calls_of(alloc: Global) -> Result<Vec<NamedCall>, AllocError> {
     let mut calls = Vec::new(alloc);

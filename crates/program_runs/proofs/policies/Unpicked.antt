@@ -62,6 +62,7 @@ others_may built_in.ThreadCurrentThread n t k world ops = past_zero k
 others_may built_in.ThreadJoin n t k world ops = and_false (suc k == 0) _ (past_zero k)
 others_may built_in.ThreadIsAlive n t k world ops = past_zero k
 others_may (built_in.PrintStreamPrints print) n t k world ops = past_zero k
+others_may (built_in.StringAnswers method) n t k world ops = past_zero k
 
 -- a notify picks one of the members, by the owner
 pub notify_may : (owner : Bool) (n k : ℕ) → (if owner && nat_lt 0 n then nat_lt (suc k) n else (suc k == 0)) ≡ nat_lt (suc k) (if owner then n else 0)

@@ -1,15 +1,15 @@
 -- All code of linked files decodes: where decoding ended, a condition of refusal would stand.
-use Rattle.std.proofs.Common.{◌≡◌, ℕ, List, [], ◌∷◌, Bool, true, false, not, ◌&&◌, ◌||◌, Option, Some, None, find, refl, sym, ap, ◌∙◌, subst}
+use Rattle.std.proofs.Common.{◌≡◌, ℕ, List, [], ◌∷◌, Bool, true, false, not, ◌&&◌, ◌||◌, Option, Some, None, refl, sym, ap, ◌∙◌}
 use Rattle.std.specs.Prelude.{is_some}
 use Rattle.std.specs.Option.{option_map_or}
 use Rattle.std.specs.List.{list_any, AllByRecursion}
-use Rattle.std.proofs.lemmas.Bool.{false≢true, true≢false, or_parts}
+use Rattle.std.proofs.lemmas.Bool.{true≢false, or_parts}
 use Rattle.model.specs.declared.instr.Instr.{Instr}
 use Rattle.model.specs.Tree.{MethodTree, CodeTree, FileTree}
 use Rattle.model.specs.Instruction.{sized_at}
 use Rattle.model.specs.Classes.{Program, code_in}
-use Rattle.model.specs.CodeParts.{boundaries, begins_none, end_of_decoding, decodes, any_code, any_instruction, any_decoded, any_decoded_in}
-use Rattle.model.specs.Profile.{is_known_opcode, unknown_opcode, field_outside_profile, method_outside_profile, instruction_outside_profile, is_outside_profile}
+use Rattle.model.specs.CodeParts.{boundaries, begins_none, end_of_decoding, decodes, any_code, any_instruction, any_decoded}
+use Rattle.model.specs.Profile.{is_known_opcode, unknown_opcode, field_outside_profile, method_outside_profile, is_outside_profile}
 use Rattle.model.specs.CodeConditions.{low_above_high, negative_count, too_few_locals, malformed_offset, ends_in_instruction, malformed_code, has_malformed_code}
 use Rattle.run_laws.proofs.laws.Found.{found_passes}
 

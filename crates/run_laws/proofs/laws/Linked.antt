@@ -1,6 +1,5 @@
 -- What linking gives to the proof: facts of the files of a program that is linked.
 use Rattle.std.proofs.Common.{◌≡◌, ℕ, List, [], Bool, true, false, ◌&&◌, ◌||◌, Some, None}
-use Rattle.std.specs.Prelude.{codes}
 use Rattle.std.specs.List.{list_any, AllByRecursion}
 use Rattle.model.specs.declared.class_file.ExceptionEntry.{ExceptionEntry}
 use Rattle.model.specs.declared.instr.Instr.TheVariants.{Invoke, InvokeInterface}
@@ -19,16 +18,16 @@ use Rattle.model.specs.Instruction.{sized_at}
 use Rattle.model.specs.InstructionStarts.{is_start}
 use Rattle.model.specs.ReferenceTypes.{ClassType, is_subclass_or_implements, is_assignable}
 use Rattle.model.specs.Lookup.{method_of, find_method, find_interface_method}
-use Rattle.model.specs.DescriptorParts.{is_array_class}
+use Rattle.model.specs.DescriptorParts.{is_array_class, returns_void}
 use Rattle.model.specs.DescribedTypes.{results_declared, made_type}
 use Rattle.model.specs.BuiltInMethods.{built_in_methods, is_row_of}
 use Rattle.model.specs.Step.{initial_class}
 use Rattle.run_laws.specs.laws.Steps.{Rooted}
 
--- a method of the machine: one of its table, or a constructor without parameters
+-- a method of the machine: one of its table, or a constructor
 abbrev pub is_of_the_machine : Member → Bool
 is_of_the_machine method =
-    list_any (is_row_of method) built_in_methods || (name_eq method.name constructor_name && name_eq method.descriptor (codes "()V"))
+    list_any (is_row_of method) built_in_methods || (name_eq method.name constructor_name && returns_void method.descriptor)
 
 -- what is called is not the initialiser of a class
 abbrev pub IsCallable : Member → Type 0

@@ -8,7 +8,8 @@ use Rattle.model.specs.Names.{Name, name_eq, Member, java_lang_object}
 use Rattle.model.specs.Tree.{Entry, MethodTree}
 use Rattle.model.specs.Pool.{class_name_at}
 use Rattle.model.specs.AccessFlags.{is_private_method}
-use Rattle.model.specs.BuiltIn.{built_in_classes, object_class}
+use Rattle.model.specs.BuiltIn.{built_in_classes}
+use Rattle.model.specs.built_in.Object.{object_class}
 use Rattle.model.specs.Classes.{Program, Body, super_name_of, classes_of, class_of, superclass_of, is_within, is_subclass, lineage_of, lineage, interface_names, is_interface, interfaces_from, interfaces_above, all_superinterfaces, is_method, body_of}
 use Rattle.model.specs.ReferenceTypes.{ClassType, is_subclass_or_implements, is_assignable}
 use Rattle.model.specs.DescribedTypes.{made_type}

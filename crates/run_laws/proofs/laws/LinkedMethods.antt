@@ -55,6 +55,20 @@ and_rest : (a x y : Bool) → (a && (x || y)) ≡ false → (a && y) ≡ false
 and_rest true x y h = (or_parts x y h).1
 and_rest false x y h = refl
 
+-- ---- a method that returns void
+
+no_result : (o : Option FieldType) → not (is_some o) ≡ true → returned_type o ≡ []
+no_result None h = refl
+no_result (Some t) h = absurd (false≢true h)
+
+no_results : (o : Option MethodType) → option_map_or (λ (m : MethodType). not (is_some m.returns)) o false ≡ true
+    → option_map_or (λ (m : MethodType). returned_type m.returns) o [] ≡ []
+no_results None h = refl
+no_results (Some m) h = no_result m.returns h
+
+pub returns_nothing : (descriptor : Name) → returns_void descriptor ≡ true → results_declared descriptor ≡ []
+returns_nothing descriptor h = no_results (method_type descriptor) h
+
 -- ---- what holds of each method, as a test
 
 abbrev pub is_regular : FileTree → MethodTree → Bool
@@ -212,22 +226,13 @@ module _ (files : Program) (ok : Unrefused files) where
       let t = (tests method m h).constructor in
       given_not (is_constructor h.file m) (is_abstract_method m) t (is_named_so method m h constructor_name true s)
 
-  no_results : (o : Option MethodType) → option_map_or (λ (m : MethodType). not (is_some m.returns)) o false ≡ true
-      → option_map_or (λ (m : MethodType). returned_type m.returns) o [] ≡ []
-  no_results None h = refl
-  no_results (Some m) h = nothing m.returns h
-    where
-      nothing : (o : Option FieldType) → not (is_some o) ≡ true → returned_type o ≡ []
-      nothing None h = refl
-      nothing (Some t) h = absurd (false≢true h)
-
   pub constructor_returns_nothing : (method : Member) (m : MethodTree) → method_of files method ≡ Some m
       → name_eq method.name constructor_name ≡ true → results_declared method.descriptor ≡ []
   constructor_returns_nothing method m e s =
       let h = home_of files method m e in
       let t = (tests method m h).returns in
       let void = given (is_constructor h.file m) (returns_void (method_descriptor h.file m)) t (is_named_so method m h constructor_name true s) in
-      no_results (method_type method.descriptor) (subst (λ d. returns_void d ≡ true) h.descriptor void)
+      returns_nothing method.descriptor (subst (λ d. returns_void d ≡ true) h.descriptor void)
 
   other_of : (n p : Bool) → (n || not p) ≡ true → n ≡ false → p ≡ false
   other_of true p h e = absurd (true≢false e)

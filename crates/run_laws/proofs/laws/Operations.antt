@@ -1,6 +1,6 @@
--- What the instruction of a site comes to, once what its operand names is found: an operation (JVMS 6.5), the same one for every
--- kind of values. A proof about all instructions goes through these.
-use Rattle.std.proofs.Common.{◌≡◌, ℕ, List, Bool, true, false, if◌then◌else◌, Option, Some, None, option_map, refl}
+-- What the instruction of a site comes to, once what its operand names is found: an operation (JVMS 6.5), the same one for
+-- every kind of values. A proof about all instructions goes through these.
+use Rattle.std.proofs.Common.{◌≡◌, ℕ, Bool, true, false, if◌then◌else◌, Option, Some, None, option_map, refl}
 use Rattle.std.specs.Option.{option_and_then, option_map_or}
 use Rattle.model.specs.declared.instr.ArrayKind.{ArrayKind}
 use Rattle.model.specs.declared.instr.FieldAccess.{FieldAccess}

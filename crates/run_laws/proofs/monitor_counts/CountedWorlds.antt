@@ -6,12 +6,13 @@ use Rattle.model.specs.Operands.{Slots, Carrier}
 use Rattle.model.specs.State.{WorldOf, Waiter, WakeCause, Notified, Interrupted, ThreadStatus, Running, Waiting, Relock, Ended}
 use Rattle.model.specs.Outcomes.{Cost, Joins, OutcomeOf, Goes, Raises, Throws, Interrupts, Calls, Returns, Waits, not_null}
 use Rattle.model.specs.Monitors as monitors
+use Rattle.model.specs.StringMethods.{StringAnswer, IsNull, IsOutside, Answers, Same, Composes, string_answer}
 use Rattle.model.specs.Monitors.{unlocked, owns, monitor_at}
 use Rattle.model.specs.Worlds.{thread_at, thread_of, is_alive, is_owner, with_monitors, with_entry, entry_cost, with_exit, with_status, with_interrupted, woken, all_woken, waiters_of}
-use Rattle.model.specs.Sites.{pushing}
-use Rattle.model.specs.BuiltInMethods.{BuiltInMethod, Construct, ConstructWithTarget, ObjectWait, ObjectNotify, ObjectNotifyAll, ThreadStart, ThreadInterrupt, ThreadIsInterrupted, ThreadInterrupted, ThreadYield, ThreadCurrentThread, ThreadJoin, ThreadIsAlive, PrintStreamPrints, object_of, waiting, wait_by, notified_one, notified, notified_all, if_owner, start_by, interrupted_in, interrupted_on, join_by, built_in_does}
+use Rattle.model.specs.Sites.{int_operand, pushing}
+use Rattle.model.specs.BuiltInMethods.{BuiltInMethod, Construct, ConstructWithTarget, ObjectWait, ObjectNotify, ObjectNotifyAll, ThreadStart, ThreadInterrupt, ThreadIsInterrupted, ThreadInterrupted, ThreadYield, ThreadCurrentThread, ThreadJoin, ThreadIsAlive, PrintStreamPrints, StringAnswers, object_of, waiting, wait_by, notified_one, notified, notified_all, if_owner, start_by, interrupted_in, interrupted_on, join_by, string_operand, answered, built_in_does}
 use Rattle.run_laws.specs.monitor_counts.Counts.{is_fat_after, IsStatusCounted, AreMonitorsCounted, Returns as ReturnsTo}
-use Rattle.run_laws.proofs.monitor_counts.Counted.{Each, fat_still, fat_joined, counted_more, owner_entries, enter_counted, exit_counted, wait_counted, notify_counted, emptied_counted, interrupt_counted, relock_counted, as_owner_counted, with_one, with_same, more_threads, called}
+use Rattle.run_laws.proofs.monitor_counts.Counted.{Each, fat_still, fat_joined, counted_more, owner_entries, enter_counted, exit_counted, wait_counted, notify_counted, emptied_counted, interrupt_counted, relock_counted, as_owner_counted, with_one, with_same, more_threads, more_monitors, called}
 
 -- what an instruction leaves, by the locks that are fat before it
 abbrev pub OutcomeCounted : {A : Type 0} → (ℕ → Bool) → OutcomeOf A → Type 0
@@ -140,6 +141,15 @@ module _ {A : Type 0} where
     join_counted true next slots rest = tt
     join_counted false next slots rest = h
 
+    -- a new String has a monitor that nobody owns
+    answered_counted : (C : Carrier A) (answer : StringAnswer) (next : ℕ) (slots : Slots A) (ops rest : List A)
+        → OutcomeCounted fat (answered C answer next world slots ops rest)
+    answered_counted C IsNull next slots ops rest = tt
+    answered_counted C IsOutside next slots ops rest = tt
+    answered_counted C (Answers bits) next slots ops rest = h
+    answered_counted C (Same k) next slots ops rest = h
+    answered_counted C (Composes text) next slots ops rest = more_monitors fat world.monitors world.threads h
+
     pub built_in_counted : (C : Carrier A) (method : BuiltInMethod) (next : ℕ) (event : Event) (slots : Slots A) (ops rest : List A)
         → OutcomeCounted fat (built_in_does C method next event world slots ops rest)
     built_in_counted C Construct next event slots ops rest = h
@@ -161,3 +171,5 @@ module _ {A : Type 0} where
     built_in_counted C ThreadJoin next event slots ops rest = join_counted (is_alive world (object_of C ops 0)) next slots rest
     built_in_counted C ThreadIsAlive next event slots ops rest = h
     built_in_counted C (PrintStreamPrints print) next event slots ops rest = h
+    built_in_counted C (StringAnswers method) next event slots ops rest =
+        answered_counted C (string_answer method (int_operand C ops) (string_operand C world ops)) next slots ops rest

@@ -25,12 +25,12 @@ use Rattle.run_laws.proofs.object_counts.CountedSteps.{StateCounted, stepped_cou
 
 -- ---- the opening state
 
-built_in_count : length built_in_classes ≡ 30
+built_in_count : length built_in_classes ≡ 36
 unfolding built_in_classes
 built_in_count = refl
 
 opened_count : {A : Type 0} (C : Carrier A) (files : Program)
-    → length (opening_heap C files) ≡ 33 + length files + length (string_texts files)
+    → length (opening_heap C files) ≡ 39 + length files + length (string_texts files)
 unfolding opening_heap
 opened_count {A} C files =
     let classes : List (ObjectOf A) = map (λ file. Instance java_lang_class []) (classes_of files) in

@@ -1,16 +1,18 @@
--- How many objects there are after what an instruction does: outcomes, the changes of the world, and the methods of the machine.
+-- How many objects there are after what an instruction does: outcomes, the changes of the world, and the methods of the
+-- machine.
 use Rattle.std.proofs.Common.{◌≡◌, ℕ, ◌+◌, List, [], ◌∷◌, length, Bool, true, false, Option, Some, None, refl, arith}
 use Rattle.std.specs.Prelude.{if◌then◌else◌, slice_get, is_some}
-use Rattle.std.proofs.lemmas.List.{length-set}
+use Rattle.std.proofs.lemmas.List.{length-set, length_push}
 use Rattle.model.specs.declared.event.Event.{Event}
 use Rattle.model.specs.Names.{thread_target}
 use Rattle.model.specs.Operands.{Slots, Carrier}
-use Rattle.model.specs.State.{ObjectOf, WorldOf, Waiter, WakeCause, Notified, ThreadStatus, Running, Waiting, Relock, Ended}
+use Rattle.model.specs.State.{ObjectOf, WorldOf, Waiter, WakeCause, Notified, ThreadStatus, Running, Waiting, Relock, Ended, Characters}
 use Rattle.model.specs.Monitors as monitors
+use Rattle.model.specs.StringMethods.{StringAnswer, IsNull, IsOutside, Answers, Same, Composes, string_answer}
 use Rattle.model.specs.Outcomes.{OutcomeOf, Goes, Raises, Throws, Interrupts, Calls, Returns, Waits, not_null}
 use Rattle.model.specs.Worlds.{thread_at, thread_of, is_alive, object_at, with_object, with_field, is_owner, with_monitors, woken, all_woken, waiters_of}
-use Rattle.model.specs.Sites.{operand, pushing}
-use Rattle.model.specs.BuiltInMethods.{BuiltInMethod, Construct, ConstructWithTarget, ObjectWait, ObjectNotify, ObjectNotifyAll, ThreadStart, ThreadInterrupt, ThreadIsInterrupted, ThreadInterrupted, ThreadYield, ThreadCurrentThread, ThreadJoin, ThreadIsAlive, PrintStreamPrints, object_of, wait_by, notified_one, notified, notified_all, if_owner, start_by, interrupted_in, interrupted_on, join_by, built_in_does}
+use Rattle.model.specs.Sites.{operand, int_operand, pushing}
+use Rattle.model.specs.BuiltInMethods.{BuiltInMethod, Construct, ConstructWithTarget, ObjectWait, ObjectNotify, ObjectNotifyAll, ThreadStart, ThreadInterrupt, ThreadIsInterrupted, ThreadInterrupted, ThreadYield, ThreadCurrentThread, ThreadJoin, ThreadIsAlive, PrintStreamPrints, StringAnswers, object_of, wait_by, notified_one, notified, notified_all, if_owner, start_by, interrupted_in, interrupted_on, join_by, string_operand, answered, built_in_does}
 use Rattle.run_laws.specs.object_counts.Bounds.{made}
 
 -- ---- lists
@@ -90,6 +92,15 @@ module _ {A : Type 0} where
   join_counted true next world slots rest = tt
   join_counted false next world slots rest = unchanged (length world.heap)
 
+  -- a new String is one object
+  answered_counted : (C : Carrier A) (answer : StringAnswer) (next : ℕ) (world : WorldOf A) (slots : Slots A) (ops rest : List A)
+      → OutcomeCounted (length world.heap) (answered C answer next world slots ops rest)
+  answered_counted C IsNull next world slots ops rest = tt
+  answered_counted C IsOutside next world slots ops rest = tt
+  answered_counted C (Answers bits) next world slots ops rest = unchanged (length world.heap)
+  answered_counted C (Same k) next world slots ops rest = unchanged (length world.heap)
+  answered_counted C (Composes text) next world slots ops rest = length_push world.heap (Characters text)
+
   pub built_in_counted : (C : Carrier A) (method : BuiltInMethod) (next : ℕ) (event : Event) (world : WorldOf A) (slots : Slots A)
       (ops rest : List A) → OutcomeCounted (length world.heap) (built_in_does C method next event world slots ops rest)
   built_in_counted C Construct next event world slots ops rest = unchanged (length world.heap)
@@ -120,3 +131,5 @@ module _ {A : Type 0} where
   built_in_counted C ThreadJoin next event world slots ops rest = join_counted (is_alive world (object_of C ops 0)) next world slots rest
   built_in_counted C ThreadIsAlive next event world slots ops rest = unchanged (length world.heap)
   built_in_counted C (PrintStreamPrints print) next event world slots ops rest = unchanged (length world.heap)
+  built_in_counted C (StringAnswers method) next event world slots ops rest =
+      answered_counted C (string_answer method (int_operand C ops) (string_operand C world ops)) next world slots ops rest

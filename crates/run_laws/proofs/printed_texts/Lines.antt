@@ -1,17 +1,17 @@
 -- The text of ints is ASCII, and ends a line.
-use Rattle.std.proofs.Common.{◌≡◌, ℕ, ℤ, pos, negsuc, ◌<◌, ◌^◌, List, [], ◌∷◌, ◌++◌, Some, None, Bool, true, false, refl, ap, ◌∙◌, append-nil, arith}
-use Rattle.std.specs.Prelude.{FitsSigned, ◌&&◌, nat_le, nat_lt, if◌then◌else◌}
+use Rattle.std.proofs.Common.{◌≡◌, ℕ, ℤ, pos, negsuc, ◌<◌, ◌^◌, List, [], ◌∷◌, ◌++◌, Some, None, Bool, true, refl, ap, ◌∙◌, append-nil, arith}
+use Rattle.std.specs.Prelude.{FitsSigned, ◌&&◌, nat_lt, if◌then◌else◌}
 use Rattle.std.specs.List.{All, flat_map}
 use Rattle.std.specs.Int.{w32}
 use Rattle.std.specs.Int.Signed.{mag}
-use Rattle.std.specs.Char.Utf16.{lone_unit_char, utf16_chars}
+use Rattle.std.specs.Char.Utf16.{lone_unit_char}
 use Rattle.std.proofs.lemmas.Bool.{lt-leb}
 use Rattle.std.proofs.lemmas.Fmt.{IsAscii-signed}
 use Rattle.std.proofs.lemmas.Str.{encode_ascii, utf16_chars-nil, utf16_chars_lone}
 use Rattle.std.proofs.lemmas.Str.Ascii.{All-from_ascii}
 use Rattle.std.proofs.lemmas.List.Elements.{All-append, All-head, All-nil, All-push, All-tail}
-use Rattle.model.specs.Texts.{Text, character_bytes, encoded, ends_line, number_line, printed_lines}
-use Rattle.model.specs.Report.{line, signed_number}
+use Rattle.model.specs.Texts.{Text, character_bytes, encoded, ends_line, number_line}
+use Rattle.model.specs.Report.{signed_number}
 use Rattle.run_laws.specs.printed_texts.Lines.{ArePrintedAsLines}
 
 abbrev pub IsAsciiUnit : ℕ → Type 0

@@ -1,5 +1,5 @@
 -- Why a whole search lists all outcomes.
-use Rattle.std.proofs.Common.{◌≡◌, ℕ, zero, suc, ◌<◌, ◌≤◌, List, [], ◌∷◌, length, Bool, true, false, Option, Some, None, refl, sym, ap, ◌∙◌, subst, arith}
+use Rattle.std.proofs.Common.{◌≡◌, ℕ, zero, suc, ◌<◌, ◌≤◌, List, [], ◌∷◌, length, true, Option, Some, None, refl, sym, ap, ◌∙◌, subst, arith}
 use Rattle.std.specs.Option.{option_and_then}
 use Rattle.std.proofs.lemmas.Option.{same_Some, none-some}
 use Rattle.model.specs.declared.event.Event.{Event}
@@ -13,7 +13,7 @@ use Rattle.model.specs.Run.{run, run_from, is_quiet}
 use Rattle.model.specs.State.{State, StateOf}
 use Rattle.model.specs.Step.{SteppedOf, NotEnabled, WrongKind, Next, next_by, stepped, step}
 use Rattle.model.specs.WellTyped.{IsWellTyped}
-use Rattle.model.specs.Words.{words_of, AreWordsOf}
+use Rattle.model.specs.Words.{words_of}
 use Rattle.run_laws.specs.laws.Steps.{Rooted}
 use Rattle.run_laws.proofs.laws.LinkedOf.{linked_of}
 use Rattle.run_laws.proofs.soundness.Sound.{kept}
@@ -23,8 +23,8 @@ use Rattle.run_laws.specs.word_reports.Reports.{IsReportedAs}
 use Rattle.run_laws.proofs.word_reports.Reported.{reported}
 use Rattle.run_laws.specs.interleavings.Ends.{Has, Outcome, outcome_of, AreAllOutcomes}
 use Rattle.run_laws.specs.interleavings.Local.{with_stack}
-use Rattle.run_laws.proofs.interleavings.Reduction.{Moved, event_0, local_step, move_front, opened, run_typed}
-use Rattle.run_laws.specs.searches.Searches.{IsMet, AreLocal, IsFollowed, IsWhole, AreSearchesComplete}
+use Rattle.run_laws.proofs.interleavings.Reduction.{event_0, local_step, move_front, opened, run_typed}
+use Rattle.run_laws.specs.searches.Searches.{AreLocal, IsFollowed, IsWhole, AreSearchesComplete}
 
 -- ---- states with the same words
 

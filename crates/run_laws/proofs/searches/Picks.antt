@@ -1,6 +1,7 @@
--- Where a pick is enabled, so is each lower one: only a notify has a pick, and it only asks whether there is such a member.
+-- Where a pick is enabled, so is each lower one: only a notify has a pick, and a notify only asks whether there is such a
+-- member.
 use Rattle.std.proofs.Common.{◌≡◌, ℕ, zero, suc, ◌≤◌, List, [], ◌∷◌, length, Bool, true, false, ◌==◌, ◌&&◌, nat_lt, Option, Some, None, refl, sym, ap, ◌∙◌, subst, arith}
-use Rattle.std.specs.Prelude.{slice_get, if◌then◌else◌, unwrap_or}
+use Rattle.std.specs.Prelude.{slice_get, if◌then◌else◌}
 use Rattle.std.specs.Option.{option_and_then}
 use Rattle.std.proofs.lemmas.Bool.{false≢true, and_parts}
 use Rattle.std.proofs.lemmas.Bool.Decides.{nat_tests}
@@ -11,15 +12,15 @@ use Rattle.model.specs.declared.instr.Returned.{Returned}
 use Rattle.model.specs.declared.instr.Returned.TheVariants as returned
 use Rattle.model.specs.Names.{Name, Member}
 use Rattle.model.specs.Arrays.{load_of, store_of}
-use Rattle.model.specs.BuiltInMethods.{BuiltInMethod, Construct, ConstructWithTarget, ObjectWait, ObjectNotify, ObjectNotifyAll, ThreadStart, ThreadInterrupt, ThreadIsInterrupted, ThreadInterrupted, ThreadYield, ThreadCurrentThread, ThreadJoin, ThreadIsAlive, PrintStreamPrints, built_in_method, built_in_may, built_in_does, if_owner, object_of}
-use Rattle.model.specs.Calls.{Chosen, Fails, Runs, invoked, runs, may_run, may_invoke, return_of, call_on, of_receiver, parameter_count}
+use Rattle.model.specs.BuiltInMethods.{BuiltInMethod, Construct, ConstructWithTarget, ObjectWait, ObjectNotify, ObjectNotifyAll, ThreadStart, ThreadInterrupt, ThreadIsInterrupted, ThreadInterrupted, ThreadYield, ThreadCurrentThread, ThreadJoin, ThreadIsAlive, PrintStreamPrints, StringAnswers, built_in_method, built_in_may, built_in_does, if_owner, object_of}
+use Rattle.model.specs.Calls.{Chosen, Fails, Runs, invoked, runs, may_run, may_invoke, return_of}
 use Rattle.model.specs.Classes.{Program, Body, body_of}
 use Rattle.model.specs.ClassInitialisation.{Look, IsReady, IsNew, IsHeld, HasFailed, look_by, status_of}
 use Rattle.model.specs.Meanings.{meaning_of}
 use Rattle.model.specs.Operands.{Slots, Carrier, values, under}
 use Rattle.model.specs.Outcomes.{OutcomeOf, Goes, Raises, Throws, Interrupts, Calls, Returns, Waits}
-use Rattle.model.specs.Sites.{MeaningOf, Site, site_at, operand}
-use Rattle.model.specs.State.{types_of, ThreadStatus, Running, Waiting, Relock, Ended, FrameOf, Invocation, Initialisation, StackOf, WorldOf, StateOf, State}
+use Rattle.model.specs.Sites.{MeaningOf, Site, site_at}
+use Rattle.model.specs.State.{types_of, ThreadStatus, Running, Waiting, Relock, Ended, FrameOf, Invocation, Initialisation, StackOf, WorldOf, StateOf}
 use Rattle.model.specs.Step.{SteppedOf, NotEnabled, WrongKind, Next, PartOf, enabled_if, unpicked, settled, needing, needing_class, become, ops_of, done, bytecode_by, bytecode_in, running_event, going_event, thread_event, thread_at, with_part, event_of, stepped, is_enabled_by, is_enabled}
 use Rattle.model.specs.Worlds.{is_owner, waiters_of}
 use Rattle.run_laws.proofs.laws.Operations.{Operation, OfRow, GetSystemOut, GetStatic, PutStatic, GetField, PutField, Println, CallVirtual, CallConstructor, CallSpecial, CallStatic, CallInterface, Return, LoadClass, LoadString, New, NewArray, NewReferenceArray, ArrayLength, LoadElement, StoreElement, CheckCast, InstanceOf, Throw, MonitorEnter, MonitorExit, operation, OfMeaning, each_meaning}
@@ -87,6 +88,7 @@ module _ {A : Type 0} where
     built_in_lower ThreadJoin t k next world ops e = none_past k (and_parts _ _ e).0
     built_in_lower ThreadIsAlive t k next world ops e = none_past k e
     built_in_lower (PrintStreamPrints print) t k next world ops e = none_past k e
+    built_in_lower (StringAnswers method) t k next world ops e = none_past k e
 
     module _ (files : Program) (site : Site) where
       run_lower : (method : Member) (o : Option Body) (t k : ℕ) (world : WorldOf A) (ops : List A) (object : ℕ)

@@ -1,5 +1,5 @@
 -- The built-in methods without code: each brings about what a call of it has to.
-use Rattle.std.proofs.Common.{◌≡◌, ℕ, zero, suc, List, [], ◌∷◌, ◌++◌, reverse, Bool, true, false, Some, None, refl, sym, ap, ◌∙◌, subst, ⊎_elim}
+use Rattle.std.proofs.Common.{◌≡◌, ℕ, zero, suc, List, [], ◌∷◌, ◌++◌, map, reverse, length, drop, Bool, true, false, Option, Some, None, refl, sym, ap, ◌∙◌, subst, ⊎_elim}
 use Rattle.std.specs.Prelude.{slice_get, slice_index_or, find, unwrap_or, is_some, codes}
 use Rattle.std.specs.Option.{option_map}
 use Rattle.std.specs.List.{AllByRecursion, list_any}
@@ -8,7 +8,8 @@ use Rattle.std.proofs.lemmas.List.{reverse-reverse}
 use Rattle.model.specs.declared.event.Event.{Event}
 use Rattle.model.specs.declared.value.Value.{Value}
 use Rattle.model.specs.declared.value.Value.TheVariants as value
-use Rattle.model.specs.Names.{Name, Member, java_lang_object, java_lang_runnable, java_lang_thread, java_io_print_stream, constructor_name, thread_target, println_int}
+use Rattle.model.specs.Names.{Name, Member, java_lang_object, java_lang_string, java_lang_runnable, java_lang_thread, java_io_print_stream, constructor_name, thread_target, println_int}
+use Rattle.model.specs.DescriptorParts.{returns_void}
 use Rattle.model.specs.DescriptorScan.{method_type, field_type, parameters_at, field_at, element_at}
 use Rattle.model.specs.BuiltIn.{built_in_classes}
 use Rattle.model.specs.Classes.{Program}
@@ -16,28 +17,34 @@ use Rattle.model.specs.ReferenceTypes.{ReferenceType, ClassType}
 use Rattle.model.specs.Types.{VerificationType, Unusable, IntType, OfType, UninitialisedThis, is_value_below}
 use Rattle.model.specs.DescribedTypes.{field_declared, verification_type, made_type}
 use Rattle.model.specs.Operands.{values, reference_of}
-use Rattle.model.specs.State.{types_of, Thread, Frame, World, new_thread}
-use Rattle.model.specs.Outcomes.{OutcomeOf, Free}
-use Rattle.model.specs.Worlds.{thread_at, object_at, with_object, with_field, with_interrupted, is_owner, is_alive, is_interrupted, thread_of}
+use Rattle.model.specs.State.{types_of, Characters, Thread, Frame, World, new_thread}
+use Rattle.model.specs.Outcomes.{Cost, OutcomeOf, Makes, Free}
+use Rattle.model.specs.Worlds.{thread_at, allocated, object_at, with_object, with_field, with_interrupted, is_owner, is_alive, is_interrupted, thread_of}
 use Rattle.model.specs.Frames.{at_offset, at_call}
-use Rattle.model.specs.Sites.{pushing, operand}
+use Rattle.model.specs.Sites.{pushing, pushing_at, operand, int_operand}
 use Rattle.model.specs.Calls.{parameter_count, result_types}
+use Rattle.model.specs.declared.string_method.StringMethod.{StringMethod}
+use Rattle.model.specs.declared.string_method.StringMethod.TheVariants.{Length, CharAt, Equals, HashCode, CompareTo, Concat, Substring, IndexOf, RegionMatches}
+use Rattle.model.specs.StringMethods.{StringAnswer, IsNull, IsOutside, Answers, Same, Composes, string_answer}
+use Rattle.model.specs.Texts.{Text}
 use Rattle.model.specs.BuiltInMethods
 use Rattle.model.specs.declared.print_method.PrintMethod.{PrintMethod}
 use Rattle.model.specs.declared.print_method.PrintMethod.TheVariants.{Println, PrintlnChar, PrintlnInt, PrintlnString, PrintChar, PrintInt, PrintString}
-use Rattle.model.specs.BuiltInMethods.{BuiltInMethod, Construct, ConstructWithTarget, PrintStreamPrints, of_object, of_thread, of_print_stream, printed_by, built_in_methods, is_row_of, built_in_does, wait_by, notified, notified_all, if_owner, with_started, start_by, interrupted_on, join_by, bit, with_printed, object_of}
+use Rattle.model.specs.BuiltInMethods.{BuiltInMethod, Construct, ConstructWithTarget, PrintStreamPrints, StringAnswers, of_object, of_thread, of_print_stream, of_string, printed_by, built_in_methods, is_row_of, built_in_does, wait_by, notified, notified_all, if_owner, with_started, start_by, interrupted_on, join_by, bit, with_printed, string_operand, answered, object_of}
 use Rattle.model.specs.Typing.{has_no_receiver, argument_types}
 use Rattle.model.specs.WellTyped.{has_type, is_object_in, are_typed, Ready, Awaits}
 use Rattle.run_laws.proofs.laws.Lists.{Pairwise, pairs_of, pair_get, get_front}
-use Rattle.run_laws.proofs.laws.Classes.{names_same, members_same}
+use Rattle.run_laws.proofs.laws.Classes.{members_same}
 use Rattle.run_laws.proofs.laws.Order.{Extends, extends_self}
+use Rattle.run_laws.proofs.laws.StringAnswers.{IsOfInt, IsOfString, length_of_int, char_of_int, equals_of_int, hash_of_int, compared_of_int, index_of_int, regions_of_int, concat_of_string, substring_of_string}
 use Rattle.run_laws.proofs.typed_runs.Invariant.{awaits_more}
-use Rattle.run_laws.proofs.typed_runs.Objects.{object_found}
+use Rattle.run_laws.proofs.typed_runs.Objects.{object_found, added_below}
 use Rattle.run_laws.proofs.typed_runs.Frames.{resumed}
 use Rattle.run_laws.proofs.typed_runs.Changes.{Started, Go, OutcomeTyped}
 use Rattle.run_laws.proofs.laws.Linked.{Linked}
+use Rattle.run_laws.proofs.laws.LinkedMethods.{returns_nothing}
 use Rattle.run_laws.proofs.typed_runs.Threads.{kept_self, waits, wait_sets_weaken}
-use Rattle.run_laws.proofs.typed_runs.WorldChanges.{Keeps, self_keeps, object_keeps, printed_keeps, interrupted_keeps, goes_on}
+use Rattle.run_laws.proofs.typed_runs.WorldChanges.{Keeps, self_keeps, object_keeps, allocated_keeps, printed_keeps, interrupted_keeps, goes_on}
 use Rattle.run_laws.proofs.typed_runs.WaitChanges.{notified_keeps, notified_all_keeps, interrupted_on_keeps, waiting_changes, waits_on}
 use Rattle.run_laws.proofs.typed_runs.Called.{Called, BuiltInTyped}
 use Rattle.run_laws.proofs.typed_runs.Instructions.{at_typed, at_there, with_field_typed, with_field_same}
@@ -77,6 +84,60 @@ module _ (files : Program) where
   string_printed_results : (name : Name) → result_types files (of_print_stream name (codes "(Ljava/lang/String;)V")) ≡ []
   unfolding method_type parameters_at field_at element_at field_type
   string_printed_results name = refl
+
+  -- methods of String
+  int_answered_results : (name : Name) → result_types files (of_string name (codes "()I")) ≡ IntType ∷ []
+  unfolding method_type parameters_at field_at element_at field_type
+  int_answered_results name = refl
+
+  char_at_results : result_types files (of_string (codes "charAt") (codes "(I)C")) ≡ IntType ∷ []
+  unfolding method_type parameters_at field_at element_at field_type
+  char_at_results = refl
+
+  equals_results : result_types files (of_string (codes "equals") (codes "(Ljava/lang/Object;)Z")) ≡ IntType ∷ []
+  unfolding method_type parameters_at field_at element_at field_type
+  equals_results = refl
+
+  compare_results : result_types files (of_string (codes "compareTo") (codes "(Ljava/lang/String;)I")) ≡ IntType ∷ []
+  unfolding method_type parameters_at field_at element_at field_type
+  compare_results = refl
+
+  index_results : result_types files (of_string (codes "indexOf") (codes "(II)I")) ≡ IntType ∷ []
+  unfolding method_type parameters_at field_at element_at field_type
+  index_results = refl
+
+  regions_results : result_types files (of_string (codes "regionMatches") (codes "(ILjava/lang/String;II)Z")) ≡ IntType ∷ []
+  unfolding method_type parameters_at field_at element_at field_type
+  regions_results = refl
+
+  abbrev a_string : List VerificationType
+  a_string = OfType (ClassType java_lang_string) ∷ []
+
+  concat_results : result_types files (of_string (codes "concat") (codes "(Ljava/lang/String;)Ljava/lang/String;")) ≡ a_string
+  unfolding method_type parameters_at field_at element_at field_type built_in_classes
+  concat_results = refl
+
+  concat_arguments : argument_types files (of_string (codes "concat") (codes "(Ljava/lang/String;)Ljava/lang/String;"))
+      ≡ OfType (ClassType java_lang_string) ∷ a_string
+  unfolding method_type parameters_at field_at element_at field_type built_in_classes
+  concat_arguments = refl
+
+  substring_results : result_types files (of_string (codes "substring") (codes "(II)Ljava/lang/String;")) ≡ a_string
+  unfolding method_type parameters_at field_at element_at field_type built_in_classes
+  substring_results = refl
+
+  substring_arguments : argument_types files (of_string (codes "substring") (codes "(II)Ljava/lang/String;"))
+      ≡ OfType (ClassType java_lang_string) ∷ IntType ∷ IntType ∷ []
+  unfolding method_type parameters_at field_at element_at field_type built_in_classes
+  substring_arguments = refl
+
+  int_text_results : result_types files (of_string (codes "valueOf") (codes "(I)Ljava/lang/String;")) ≡ a_string
+  unfolding method_type parameters_at field_at element_at field_type built_in_classes
+  int_text_results = refl
+
+  char_text_results : result_types files (of_string (codes "valueOf") (codes "(C)Ljava/lang/String;")) ≡ a_string
+  unfolding method_type parameters_at field_at element_at field_type built_in_classes
+  char_text_results = refl
 
   wait_arguments : argument_types files (of_object (codes "wait")) ≡ OfType (ClassType java_lang_object) ∷ []
   unfolding method_type parameters_at field_at element_at field_type built_in_classes
@@ -149,11 +210,16 @@ module _ (files : Program) (linked : Linked files) (event : Event) (w : World) (
       subst (λ to. Ready files (types_of after.heap) (at_offset f to (record { locals = f.place.slots.locals; stack = vs ++ rest }))) (sym c.next_is)
       (resumed files linked.rooted (types_of after.heap) (result_types files method) (at_call f rest) vs (awaits_more files (types_of w.heap) (types_of after.heap) x (result_types files method) (at_call f rest) c.awaits) typed)
 
+  carries_at : (cost : Cost) (ts : List VerificationType) (after : World) (vs : List Value) → result_types files method ≡ ts
+      → Keeps files w after → are_typed files (types_of after.heap) ts vs ≡ true
+      → OutcomeTyped files event.thread w f (pushing_at cost next vs after f.place.slots rest)
+  carries_at cost ts after vs e k typed =
+      goes_on files event.thread w after f cost (record { locals = f.place.slots.locals; stack = vs ++ rest }) next c.live k
+      (ready_after after vs k.extends (subst (λ l. are_typed files (types_of after.heap) l vs ≡ true) (sym e) typed))
+
   carries : (ts : List VerificationType) (after : World) (vs : List Value) → result_types files method ≡ ts → Keeps files w after
       → are_typed files (types_of after.heap) ts vs ≡ true → OutcomeTyped files event.thread w f (pushing next vs after f.place.slots rest)
-  carries ts after vs e k typed =
-      goes_on files event.thread w after f Free (record { locals = f.place.slots.locals; stack = vs ++ rest }) next c.live k
-      (ready_after after vs k.extends (subst (λ l. are_typed files (types_of after.heap) l vs ≡ true) (sym e) typed))
+  carries ts after vs e k typed = carries_at Free ts after vs e k typed
 
   -- ---- operands
 
@@ -237,6 +303,95 @@ module _ (files : Program) (linked : Linked files) (event : Event) (w : World) (
       let text = printed_by values print w ops in
       carries [] (with_printed w text) [] (ap (result_types files) e ∙ void) (printed_keeps files w c.fits text) refl
 
+  -- ---- methods of String
+
+  int_answered : (a : StringAnswer) → result_types files method ≡ IntType ∷ [] → IsOfInt a
+      → OutcomeTyped files event.thread w f (answered values a next w f.place.slots ops rest)
+  int_answered IsNull e is = tt
+  int_answered IsOutside e is = tt
+  int_answered (Answers bits) e is = carries (IntType ∷ []) w (value.Int bits ∷ []) e (self_keeps files w c.fits) refl
+  int_answered (Same k) e is = absurd is
+  int_answered (Composes text) e is = absurd is
+
+  composed : (text : Text) → result_types files method ≡ a_string files
+      → OutcomeTyped files event.thread w f (answered values (Composes text) next w f.place.slots ops rest)
+  composed text e =
+      carries_at (Makes (length text)) (a_string files) (allocated w (Characters text)) (value.Reference (length w.heap) ∷ []) e
+      (allocated_keeps files w c.fits (Characters text) refl)
+      (and_from _ _ (added_below files w.heap c.fits.heap (Characters text)) refl)
+
+  string_answered : (place : ℕ) (a : StringAnswer) → result_types files method ≡ a_string files
+      → has_type files (types_of w.heap) (OfType (ClassType java_lang_string)) (operand values ops place) ≡ true → IsOfString place a
+      → OutcomeTyped files event.thread w f (answered values a next w f.place.slots ops rest)
+  string_answered place IsNull e typed is = tt
+  string_answered place IsOutside e typed is = tt
+  string_answered place (Answers bits) e typed is = absurd is
+  string_answered place (Same k) e typed is =
+      carries (a_string files) w (operand values ops k ∷ []) e (self_keeps files w c.fits)
+      (and_from _ _ (subst (λ n. has_type files (types_of w.heap) (OfType (ClassType java_lang_string)) (operand values ops n) ≡ true) (sym is) typed) refl)
+  string_answered place (Composes text) e typed is = composed text e
+
+  abbrev ints : ℕ → ℕ
+  ints = int_operand values ops
+
+  abbrev texts : ℕ → Option Text
+  texts = string_operand values w ops
+
+  abbrev answer : StringMethod → StringAnswer
+  answer m = string_answer m ints texts
+
+  answers_int : (string : StringMethod) (m : Member) → result_types files m ≡ IntType ∷ [] → IsOfInt (answer string) → method ≡ m
+      → Typed (StringAnswers string)
+  answers_int string m results is e = int_answered (answer string) (ap (result_types files) e ∙ results) is
+
+  concat_typed : method ≡ of_string (codes "concat") (codes "(Ljava/lang/String;)Ljava/lang/String;") → Typed (StringAnswers Concat)
+  concat_typed e =
+      string_answered 1 (answer Concat) (ap (result_types files) e ∙ concat_results files)
+      (typed_operand (OfType (ClassType java_lang_string) ∷ a_string files) (ap (argument_types files) e ∙ concat_arguments files) 1)
+      (concat_of_string ints texts)
+
+  substring_typed : method ≡ of_string (codes "substring") (codes "(II)Ljava/lang/String;") → Typed (StringAnswers Substring)
+  substring_typed e =
+      string_answered 2 (answer Substring) (ap (result_types files) e ∙ substring_results files)
+      (typed_operand (OfType (ClassType java_lang_string) ∷ IntType ∷ IntType ∷ []) (ap (argument_types files) e ∙ substring_arguments files) 2)
+      (substring_of_string ints texts)
+
+  string_rows : AllByRecursion (λ (row : Member × BuiltInMethod). method ≡ row.0 → Typed row.1) (drop 19 built_in_methods)
+  string_rows = (
+    answers_int Length (of_string (codes "length") (codes "()I")) (int_answered_results files (codes "length")) (length_of_int ints texts),
+    (
+      answers_int CharAt (of_string (codes "charAt") (codes "(I)C")) (char_at_results files) (char_of_int ints texts),
+      (
+        answers_int Equals (of_string (codes "equals") (codes "(Ljava/lang/Object;)Z")) (equals_results files) (equals_of_int ints texts),
+        (
+          answers_int HashCode (of_string (codes "hashCode") (codes "()I")) (int_answered_results files (codes "hashCode")) (hash_of_int ints texts),
+          (
+            answers_int CompareTo (of_string (codes "compareTo") (codes "(Ljava/lang/String;)I")) (compare_results files) (compared_of_int ints texts),
+            (
+              concat_typed,
+              (
+                substring_typed,
+                (
+                  answers_int IndexOf (of_string (codes "indexOf") (codes "(II)I")) (index_results files) (index_of_int ints texts),
+                  (
+                    answers_int RegionMatches (of_string (codes "regionMatches") (codes "(ILjava/lang/String;II)Z")) (regions_results files) (regions_of_int ints texts),
+                    (
+                      λ e. composed _ (ap (result_types files) e ∙ int_text_results files),
+                      (
+                        λ e. composed _ (ap (result_types files) e ∙ char_text_results files),
+                        tt,
+                      ),
+                    ),
+                  ),
+                ),
+              ),
+            ),
+          ),
+        ),
+      ),
+    ),
+  )
+
   on_rows : AllByRecursion (λ (row : Member × BuiltInMethod). method ≡ row.0 → Typed row.1) built_in_methods
   on_rows = (
     λ e. waited e (is_owner w event.thread (object_of values ops 0)) (thread_at w event.thread).interrupted refl,
@@ -276,7 +431,7 @@ module _ (files : Program) (linked : Linked files) (event : Event) (w : World) (
                                       printed PrintInt (of_print_stream (codes "print") (codes "(I)V")) (int_printed_results files (codes "print")),
                                       (
                                         printed PrintString (of_print_stream (codes "print") (codes "(Ljava/lang/String;)V")) (string_printed_results files (codes "print")),
-                                        tt,
+                                        string_rows,
                                       ),
                                     ),
                                   ),
@@ -297,9 +452,9 @@ module _ (files : Program) (linked : Linked files) (event : Event) (w : World) (
     ),
   )
 
-  -- a constructor without parameters
-  constructed : method.descriptor ≡ codes "()V" → Typed Construct
-  constructed e = carries [] w [] (ap (λ d. result_types files (record { class = method.class; name = method.name; descriptor = d })) e ∙ void_results files method.class method.name) (self_keeps files w c.fits) refl
+  -- a constructor
+  constructed : returns_void method.descriptor ≡ true → Typed Construct
+  constructed void = carries [] w [] (ap (map (verification_type files)) (returns_nothing method.descriptor void)) (self_keeps files w c.fits) refl
 
   walk : (rows : List (Member × BuiltInMethod)) → AllByRecursion (λ (row : Member × BuiltInMethod). method ≡ row.0 → Typed row.1) rows
       → (list_any (is_row_of method) rows ≡ false → Typed Construct)
@@ -313,7 +468,7 @@ module _ (files : Program) (linked : Linked files) (event : Event) (w : World) (
       f (built_in_does values (BuiltInMethods.built_in_method method) next event w f.place.slots ops rest)
   built_in_case =
       walk built_in_methods on_rows
-      (λ n. constructed (⊎_elim (λ q. absurd (false≢true (sym n ∙ q))) (λ q. names_same method.descriptor (codes "()V") (and_parts _ _ q).1) (or_cases (list_any (is_row_of method) built_in_methods) _ c.machine)))
+      (λ n. constructed (⊎_elim (λ q. absurd (false≢true (sym n ∙ q))) (λ q. (and_parts _ _ q).1) (or_cases (list_any (is_row_of method) built_in_methods) _ c.machine)))
 
 -- each built-in method brings about what a call of it has to
 pub built_in_typed : (files : Program) → Linked files → BuiltInTyped files

@@ -1,4 +1,5 @@
--- What a step of a thread leaves: a world that it may leave, with its own stack typed. And the exceptions that the machine makes.
+-- What a step of a thread leaves: a world that it may leave, with its own stack typed. And the exceptions that the
+-- machine makes.
 use Rattle.std.proofs.Common.{◌≡◌, ℕ, [], ◌∷◌, ◌++◌, length, true, false, Some, refl, sym, ap, ◌∙◌, subst}
 use Rattle.std.specs.Prelude.{slice_get}
 use Rattle.std.proofs.lemmas.Bool.{false≢true, eq-eqb}
@@ -11,7 +12,7 @@ use Rattle.model.specs.Classes.{Program, is_within}
 use Rattle.model.specs.ReferenceTypes.{ClassType}
 use Rattle.model.specs.Types.{OfType}
 use Rattle.model.specs.State.{Instance, types_of, ThreadStatus, Running, Relock, Thread, StackOf, World}
-use Rattle.model.specs.Outcomes.{MachineException, exception_class, NullPointer, Arithmetic, ArrayIndexOutOfBounds, NegativeArraySize, ArrayStore, ClassCast, IllegalMonitorState, IllegalThreadState, InterruptedWait, IncompatibleClassChange, AbstractMethod, StackOverflow, NoClassDefFound, ExceptionInInitializer}
+use Rattle.model.specs.Outcomes.{MachineException, exception_class, NullPointer, Arithmetic, ArrayIndexOutOfBounds, StringIndexOutOfBounds, NegativeArraySize, ArrayStore, ClassCast, IllegalMonitorState, IllegalThreadState, InterruptedWait, IncompatibleClassChange, AbstractMethod, StackOverflow, NoClassDefFound, ExceptionInInitializer}
 use Rattle.model.specs.Worlds.{no_thread, thread_at, with_thread, with_pending, with_interrupted, allocated}
 use Rattle.model.specs.Step.{SteppedOf, NotEnabled, WrongKind, Next, PartOf, part, raised, raised_by_interrupt}
 use Rattle.model.specs.WellTyped.{is_object_in, is_waiting_for, Failing, IsRunning, IsStackTyped}
@@ -60,6 +61,7 @@ unfolding built_in_classes
 fault_within files NullPointer = refl
 fault_within files Arithmetic = refl
 fault_within files ArrayIndexOutOfBounds = refl
+fault_within files StringIndexOutOfBounds = refl
 fault_within files NegativeArraySize = refl
 fault_within files ArrayStore = refl
 fault_within files ClassCast = refl

@@ -1,30 +1,26 @@
 -- A local instruction of linked files reads and writes local variables of its frame alone.
-use Rattle.std.proofs.Common.{◌≡◌, ℕ, zero, suc, ◌+◌, ◌<◌, List, [], ◌∷◌, Bool, true, false, not, option_map, Option, Some, None, refl, sym, ap, ◌∙◌, subst, arith}
+use Rattle.std.proofs.Common.{◌≡◌, ℕ, zero, suc, ◌+◌, ◌<◌, List, [], ◌∷◌, Bool, true, false, option_map, Option, Some, None, refl, sym, ap, ◌∙◌, subst, arith}
 use Rattle.std.specs.Prelude.{slice_index_or, nat_le}
 use Rattle.std.specs.Option.{option_map_or}
-use Rattle.std.specs.List.{list_any, list_all}
-use Rattle.std.proofs.lemmas.Bool.{false≢true, or_parts, not-true, leb-false}
+use Rattle.std.specs.List.{list_any}
+use Rattle.std.proofs.lemmas.Bool.{false≢true, or_parts, leb-false}
 use Rattle.std.proofs.lemmas.Option.{same_Some}
 use Rattle.model.specs.declared.instr.Instr.{Instr}
 use Rattle.model.specs.declared.instr.Instr.TheVariants as instr
 use Rattle.model.specs.declared.instr.StackMove.{StackMove}
 use Rattle.model.specs.declared.instr.StackMove.TheVariants.{Pop, Pop2, Dup, DupX1, DupX2, Dup2, Dup2X1, Dup2X2, Swap}
-use Rattle.model.specs.Names.{Name, Member}
-use Rattle.model.specs.Tree.{CodeTree, FileTree}
+use Rattle.model.specs.Names.{Member}
+use Rattle.model.specs.Tree.{CodeTree}
 use Rattle.model.specs.Pool.{integers_of}
-use Rattle.model.specs.BuiltIn.{built_in_classes}
-use Rattle.model.specs.Classes.{Program, Body, class_of, body_of}
-use Rattle.model.specs.Instruction.{Sized, instr_at, sized_at, wide_at, table_switch_at, lookup_switch_at}
-use Rattle.model.specs.OpcodeTable.{low_form, high_form}
-use Rattle.model.specs.DescriptorScan.{element_at, field_at, field_type, parameters_at, method_type}
-use Rattle.model.specs.InstructionStarts.{starts_from, is_start}
+use Rattle.model.specs.Classes.{Program, Body, body_of}
+use Rattle.model.specs.Instruction.{Sized, instr_at, sized_at}
+use Rattle.model.specs.InstructionStarts.{is_start}
 use Rattle.model.specs.CodeParts.{marked_from, any_instruction}
-use Rattle.model.specs.CodeConditions.{jump_off_boundary, unsorted_matches, local_above_max, malformed_instruction, malformed_code, has_malformed_code}
+use Rattle.model.specs.CodeConditions.{jump_off_boundary, unsorted_matches, local_above_max, malformed_instruction}
 use Rattle.model.specs.Rows.{Row, move_row, constant_row, local_row}
 use Rattle.model.specs.Sites.{Site, site_with, site_at}
-use Rattle.run_laws.proofs.laws.Lists.{every_weaken}
-use Rattle.run_laws.proofs.laws.Found.{every_all, map_or_at}
-use Rattle.run_laws.proofs.laws.Homes.{Coded, class_has, coded_of}
+use Rattle.run_laws.proofs.laws.Found.{map_or_at}
+use Rattle.run_laws.proofs.laws.Homes.{Coded, coded_of}
 use Rattle.run_laws.proofs.laws.Unrefused.{Unrefused}
 use Rattle.run_laws.proofs.laws.LinkedCode.{well_formed}
 use Rattle.run_laws.specs.word_operands.Operands.{IsInFrame}

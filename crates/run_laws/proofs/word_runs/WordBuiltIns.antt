@@ -1,9 +1,10 @@
 -- Methods of the machine by their words.
-use Rattle.std.proofs.Common.{◌≡◌, ℕ, List, map, length, find, Bool, true, false, not, ◌&&◌, ◌==◌, nat_lt, is_some, if◌then◌else◌, Option, Some, None, option_map, refl, sym, ap, ◌∙◌, subst, zero, suc, [], ◌∷◌, ◌++◌, reverse}
+use Rattle.std.proofs.Common.{◌≡◌, ℕ, List, map, length, find, Bool, true, false, not, ◌&&◌, ◌==◌, nat_lt, is_some, if◌then◌else◌, Option, Some, None, option_map, refl, sym, ap, ◌∙◌, subst, zero, suc, [], ◌∷◌, ◌++◌, reverse, ⊎_elim}
 use Rattle.std.specs.Prelude.{unwrap_or, slice_get}
-use Rattle.std.specs.Option.{option_map_or}
+use Rattle.std.specs.Option.{option_map_or, option_and_then}
 use Rattle.std.specs.List.{list_all}
-use Rattle.std.proofs.lemmas.Bool.{and_parts, not-true, false≢true, eqb-true}
+use Rattle.std.proofs.lemmas.Bool.{and_parts, or_cases, not-true, false≢true, eqb-true}
+use Rattle.std.proofs.lemmas.List.{length-map}
 use Rattle.model.specs.declared.event.Event.{Event}
 use Rattle.model.specs.declared.value.Value.{Value}
 use Rattle.model.specs.declared.value.Value.TheVariants as value
@@ -13,16 +14,18 @@ use Rattle.model.specs.BuiltIn.{built_in_classes}
 use Rattle.model.specs.DescriptorScan.{element_at, field_at, field_type, parameters_at, method_type}
 use Rattle.model.specs.Classes.{Program}
 use Rattle.model.specs.Operands.{Slots, words, values, word_of}
-use Rattle.model.specs.State.{Waiter, Notified, ThreadStatus, Running, Waiting, Relock, Ended, World}
-use Rattle.model.specs.Outcomes.{Free, Goes}
-use Rattle.model.specs.Worlds.{with_monitors, thread_at, object_at, with_object, with_field, is_owner, is_alive, is_interrupted, thread_of, waiters_of, text_of}
+use Rattle.model.specs.State.{Characters, Waiter, Notified, ThreadStatus, Running, Waiting, Relock, Ended, World}
+use Rattle.model.specs.Outcomes.{Free, Makes, Goes}
+use Rattle.model.specs.Worlds.{allocated, with_monitors, thread_at, object_at, with_object, with_field, is_owner, is_alive, is_interrupted, thread_of, waiters_of, text_of}
 use Rattle.model.specs.Monitors as monitors
-use Rattle.model.specs.Sites.{operand, referent}
+use Rattle.model.specs.Sites.{operand, referent, int_operand}
 use Rattle.model.specs.Calls.{is_one, parameter_count}
-use Rattle.model.specs.BuiltInMethods.{BuiltInMethod, Construct, ConstructWithTarget, ObjectWait, ObjectNotify, ObjectNotifyAll, ThreadStart, ThreadInterrupt, ThreadIsInterrupted, ThreadInterrupted, ThreadYield, ThreadCurrentThread, ThreadJoin, ThreadIsAlive, PrintStreamPrints, printed_by, built_in_methods, is_row_of, built_in_method, wait_by, notified_one, notified, if_owner, start_by, interrupted_in, interrupted_on, may_join, notified_all, bit, join_by, with_printed, object_of, built_in_may, built_in_does, string_shown}
+use Rattle.model.specs.BuiltInMethods.{BuiltInMethod, Construct, ConstructWithTarget, ObjectWait, ObjectNotify, ObjectNotifyAll, ThreadStart, ThreadInterrupt, ThreadIsInterrupted, ThreadInterrupted, ThreadYield, ThreadCurrentThread, ThreadJoin, ThreadIsAlive, PrintStreamPrints, StringAnswers, printed_by, built_in_methods, is_row_of, built_in_method, wait_by, notified_one, notified, if_owner, start_by, interrupted_in, interrupted_on, may_join, notified_all, bit, join_by, with_printed, object_of, built_in_may, built_in_does, string_shown, string_text, string_operand, answered}
 use Rattle.model.specs.Words.{map_slots}
 use Rattle.model.specs.declared.print_method.PrintMethod.{PrintMethod}
 use Rattle.model.specs.declared.print_method.PrintMethod.TheVariants.{Println, PrintlnChar, PrintlnInt, PrintlnString, PrintChar, PrintInt, PrintString}
+use Rattle.model.specs.declared.string_method.StringMethod.{StringMethod}
+use Rattle.model.specs.StringMethods.{StringAnswer, IsNull, IsOutside, Answers, Same, Composes, string_answer}
 use Rattle.model.specs.declared.instr.Conversion.TheVariants.{ToChar}
 use Rattle.model.specs.Ints.{signed, converted}
 use Rattle.model.specs.Texts.{int_line}
@@ -30,36 +33,44 @@ use Rattle.model.specs.ReferenceTypes.{ReferenceType}
 use Rattle.model.specs.DescribedTypes.{declared_want, parameters_declared}
 use Rattle.model.specs.Types.{Want, AReference, value_meets}
 use Rattle.model.specs.Objects.{any_object}
-use Rattle.std.proofs.lemmas.Option.{none-some}
 use Rattle.run_laws.proofs.laws.WordLists.{is_object_want}
 use Rattle.run_laws.proofs.laws.Lists.{Pairwise}
+use Rattle.run_laws.proofs.laws.StringAnswers.{string_places, is_place_of, same_answers}
 use Rattle.std.specs.Fmt.{signed_decimal}
 use Rattle.run_laws.specs.word_runs.Words.{map_outcome}
 use Rattle.run_laws.proofs.laws.Found.{found_passes, found_has, every_all}
 use Rattle.run_laws.proofs.laws.Classes.{members_same}
-use Rattle.run_laws.proofs.word_runs.WordWorlds.{all_words, world_words, object_at_words, with_field_words, with_object_words, text_words}
-use Rattle.run_laws.proofs.word_runs.WordMeanings.{operand_words, int_words, pushes_words, becomes_words, referent_words}
+use Rattle.run_laws.proofs.word_runs.WordWorlds.{all_words, world_words, object_words, allocated_words, string_text_words, object_at_words, with_field_words, with_object_words, text_words}
+use Rattle.run_laws.proofs.word_runs.WordMeanings.{operand_words, int_words, pushes_words, becomes_words, goes_words, referent_words}
 
 -- ---- what holds of each row holds of the methods
 
-module _ (place : BuiltInMethod → Option ℕ) (none : place Construct ≡ None) (test : Member → ℕ → Bool) where
-  abbrev passes : Member × BuiltInMethod → Bool
-  passes row = option_map_or (test row.0) (place row.1) true
+module _ (test : Member → BuiltInMethod → Bool) where
+  abbrev on_row : Member × BuiltInMethod → Bool
+  on_row row = test row.0 row.1
 
-  of_row : (row : Member × BuiltInMethod) (o : Option ℕ) (k : ℕ) → place row.1 ≡ o → o ≡ Some k → passes row ≡ true → test row.0 k ≡ true
-  of_row row None k p q t = absurd cc
-  of_row row (Some j) k p q t = let j_is : j ≡ k = cc in subst (λ i. test row.0 i ≡ true) j_is (sym (ap (λ o. option_map_or (test row.0) o true) p) ∙ t)
-
-  passed : list_all passes built_in_methods ≡ true → (method : Member) (k : ℕ) → place (built_in_method method) ≡ Some k → test method k ≡ true
-  passed all method k e = by (find (is_row_of method) built_in_methods) refl e
+  on_method : list_all on_row built_in_methods ≡ true → (method : Member) → test method Construct ≡ true
+      → test method (built_in_method method) ≡ true
+  on_method all method construct = by (find (is_row_of method) built_in_methods) refl
     where
       by : (o : Option (Member × BuiltInMethod)) → find (is_row_of method) built_in_methods ≡ o
-          → place (unwrap_or (option_map (λ (row : Member × BuiltInMethod). row.1) o) Construct) ≡ Some k → test method k ≡ true
-      by None f q = absurd (none-some k (sym none ∙ q))
-      by (Some row) f q =
+          → test method (unwrap_or (option_map (λ (row : Member × BuiltInMethod). row.1) o) Construct) ≡ true
+      by None f = construct
+      by (Some row) f =
           let is : row.0 ≡ method = members_same row.0 method (found_passes (is_row_of method) built_in_methods row f) in
-          subst (λ m. test m k ≡ true) is
-          (of_row row (place row.1) k refl q (found_has (λ r. passes r ≡ true) (is_row_of method) built_in_methods row (every_all passes built_in_methods all) f))
+          subst (λ m. test m row.1 ≡ true) is
+          (found_has (λ r. on_row r ≡ true) (is_row_of method) built_in_methods row (every_all on_row built_in_methods all) f)
+
+-- of what a method has, if it has it
+module _ {A : Type 0} (place : BuiltInMethod → Option A) (none : place Construct ≡ None) (test : Member → A → Bool) where
+  abbrev pub passes : Member × BuiltInMethod → Bool
+  passes row = option_map_or (test row.0) (place row.1) true
+
+  pub passed : list_all passes built_in_methods ≡ true → (method : Member) (a : A) → place (built_in_method method) ≡ Some a
+      → test method a ≡ true
+  passed all method a e =
+      let construct : option_map_or (test method) (place Construct) true ≡ true = ap (λ o. option_map_or (test method) o true) none in
+      sym (ap (λ o. option_map_or (test method) o true) e) ∙ on_method (λ m b. option_map_or (test m) (place b) true) all method construct
 
 -- ---- the operand that a method of the machine takes as its receiver, if it has one
 
@@ -78,6 +89,7 @@ receiver_place ThreadCurrentThread = None
 receiver_place ThreadJoin = Some 0
 receiver_place ThreadIsAlive = Some 0
 receiver_place (PrintStreamPrints print) = None
+receiver_place (StringAnswers string) = None
 
 -- it is under the parameters, and the method is not static
 abbrev is_placed : Program → Member → ℕ → Bool
@@ -96,20 +108,21 @@ placed files method k e =
     let here = and_parts (parameter_count method == k) (not (is_one is_static_method files method)) (passed receiver_place refl (is_placed files) (all_placed files) method k e) in
     record { place = eqb-true (parameter_count method) k here.0; instance = not-true (is_one is_static_method files method) here.1 }
 
--- ---- the operand that it takes as an object, which is the receiver or a String
+-- ---- the operands that it takes as objects: the receiver, or Strings
 
-abbrev pub string_place : PrintMethod → Option ℕ
-string_place Println = None
-string_place PrintlnChar = None
-string_place PrintlnInt = None
-string_place PrintlnString = Some 0
-string_place PrintChar = None
-string_place PrintInt = None
-string_place PrintString = Some 0
+abbrev pub print_places : PrintMethod → List ℕ
+print_places Println = []
+print_places PrintlnChar = []
+print_places PrintlnInt = []
+print_places PrintlnString = 0 ∷ []
+print_places PrintChar = []
+print_places PrintInt = []
+print_places PrintString = 0 ∷ []
 
-abbrev pub object_place : BuiltInMethod → Option ℕ
-object_place (PrintStreamPrints print) = string_place print
-object_place other = receiver_place other
+abbrev pub object_places : BuiltInMethod → List ℕ
+object_places (PrintStreamPrints print) = print_places print
+object_places (StringAnswers string) = string_places string
+object_places other = option_map_or (λ k. k ∷ []) (receiver_place other) []
 
 -- an object is wanted at a place
 abbrev pub wants_object : List Want → ℕ → Bool
@@ -119,11 +132,14 @@ wants_object ws k = option_map_or is_object_want (slice_get ws k) false
 abbrev pub wants_on : Program → Name → Want → List Want
 wants_on files descriptor receiver = reverse (map (declared_want files) (parameters_declared descriptor)) ++ receiver ∷ []
 
--- so is that operand, and the method is not static
+-- so is each of those operands, and the method is not static
 abbrev is_wanted : Program → Member → ℕ → Bool
 is_wanted files method k = wants_object (wants_on files method.descriptor (AReference any_object)) k && not (is_one is_static_method files method)
 
-all_wanted : (files : Program) → list_all (passes object_place refl (is_wanted files)) built_in_methods ≡ true
+abbrev are_wanted : Program → Member → BuiltInMethod → Bool
+are_wanted files method built_in = list_all (is_wanted files method) (object_places built_in)
+
+all_wanted : (files : Program) → list_all (on_row (are_wanted files)) built_in_methods ≡ true
 unfolding built_in_classes method_type parameters_at field_at field_type element_at
 all_wanted files = refl
 
@@ -131,9 +147,17 @@ pub record IsWanted (files : Program) (method : Member) (k : ℕ) : Type 0 where
   pub object : wants_object (wants_on files method.descriptor (AReference any_object)) k ≡ true
   pub instance : is_one is_static_method files method ≡ false
 
-pub wanted : (files : Program) (method : Member) (k : ℕ) → object_place (built_in_method method) ≡ Some k → IsWanted files method k
+passes_at : (p : ℕ → Bool) (places : List ℕ) (k : ℕ) → list_all p places ≡ true → is_place_of places k ≡ true → p k ≡ true
+passes_at p [] k all h = absurd (false≢true h)
+passes_at p (place ∷ places) k all h =
+    let here = and_parts (p place) (list_all p places) all in
+    ⊎_elim (λ q. subst (λ n. p n ≡ true) (eqb-true place k q) here.0) (λ q. passes_at p places k here.1 q) (or_cases (place == k) (is_place_of places k) h)
+
+pub wanted : (files : Program) (method : Member) (k : ℕ) → is_place_of (object_places (built_in_method method)) k ≡ true
+    → IsWanted files method k
 wanted files method k e =
-    let here = and_parts (wants_object (wants_on files method.descriptor (AReference any_object)) k) (not (is_one is_static_method files method)) (passed object_place refl (is_wanted files) (all_wanted files) method k e) in
+    let all = on_method (are_wanted files) (all_wanted files) method refl in
+    let here = and_parts (wants_object (wants_on files method.descriptor (AReference any_object)) k) (not (is_one is_static_method files method)) (passes_at (is_wanted files method) (object_places (built_in_method method)) k all e) in
     record { object = here.0; instance = not-true (is_one is_static_method files method) here.1 }
 
 -- whatever object the receiver is wanted as
@@ -156,9 +180,9 @@ wanted_words files os ws ops k q h = by (slice_get ws k) refl h
 
 -- ---- what the methods do
 
--- the operand that is taken as an object is so by its word
+-- each operand that is taken as an object is so by its word
 abbrev pub Agrees : BuiltInMethod → List Value → Type 0
-Agrees method ops = (k : ℕ) → object_place method ≡ Some k → referent words (map word_of ops) k ≡ referent values ops k
+Agrees method ops = (k : ℕ) → is_place_of (object_places method) k ≡ true → referent words (map word_of ops) k ≡ referent values ops k
 
 -- so it is of a method that is called on an object, with the operands that its descriptor wants
 pub agrees_on : (files : Program) (os : List ReferenceType) (method : Member) (receiver : Want) (ops : List Value)
@@ -191,6 +215,7 @@ module _ (event : Event) (world : World) where
   may_words ThreadJoin ops a = ap (λ o. (event.pick == 0) && may_join world event.thread o) (as_object ops 0 (a 0 refl))
   may_words ThreadIsAlive ops a = refl
   may_words (PrintStreamPrints print) ops a = refl
+  may_words (StringAnswers string) ops a = refl
 
   module _ (next : ℕ) (slots : Slots Value) (rest : List Value) where
     abbrev Carries : BuiltInMethod → List Value → Type 0
@@ -262,6 +287,33 @@ module _ (event : Event) (world : World) where
     printed_words PrintInt ops a = ap (λ n. signed_decimal (signed n)) (int_words ops 0)
     printed_words PrintString ops a = string_words ops (a 0 refl)
 
+    text_if : (o : Option ℕ) → option_and_then (λ r. string_text (object_at (world_words world) r)) o
+        ≡ option_and_then (λ r. string_text (object_at world r)) o
+    text_if None = refl
+    text_if (Some r) = ap string_text (object_at_words world r) ∙ string_text_words (object_at world r)
+
+    operand_text : (ops : List Value) (k : ℕ) → referent words (map word_of ops) k ≡ referent values ops k
+        → string_operand words (world_words world) (map word_of ops) k ≡ string_operand values world ops k
+    operand_text ops k e = ap (option_and_then (λ r. string_text (object_at (world_words world) r))) e ∙ text_if (referent values ops k)
+
+    answer_words : (string : StringMethod) (ops : List Value) → Agrees (StringAnswers string) ops
+        → string_answer string (int_operand words (map word_of ops)) (string_operand words (world_words world) (map word_of ops))
+        ≡ string_answer string (int_operand values ops) (string_operand values world ops)
+    answer_words string ops a =
+        ap (λ int. string_answer string int (string_operand words (world_words world) (map word_of ops))) (λ i k. int_words ops k i)
+        ∙ same_answers string (int_operand values ops) (string_operand words (world_words world) (map word_of ops)) (string_operand values world ops) (λ k p. operand_text ops k (a k p))
+
+    answered_words : (ops : List Value) (answer : StringAnswer)
+        → answered words answer next (world_words world) (map_slots word_of slots) (map word_of ops) (map word_of rest)
+        ≡ map_outcome word_of (answered values answer next world slots ops rest)
+    answered_words ops IsNull = refl
+    answered_words ops IsOutside = refl
+    answered_words ops (Answers bits) = refl
+    answered_words ops (Same k) = pushes_words world _ (operand values ops k) rest slots.locals next (operand_words ops k)
+    answered_words ops (Composes text) =
+        goes_words (Makes (length text)) (Makes (length text)) _ (allocated world (Characters text)) _ (value.Reference (length world.heap) ∷ rest) slots.locals next refl
+        (allocated_words world (Characters text)) (ap (λ n. suc n ∷ map word_of rest) (length-map world.heap object_words))
+
     pub does_words : (method : BuiltInMethod) (ops : List Value) → Agrees method ops → Carries method ops
     does_words Construct ops a = refl
     does_words ConstructWithTarget ops a = target_words ops a
@@ -295,3 +347,6 @@ module _ (event : Event) (world : World) where
         pushes_words world _ (value.Int (bit (is_alive world (object_of values ops 0)))) rest slots.locals next (ap (λ o. bit (is_alive world o)) (as_object ops 0 (a 0 refl)))
     does_words (PrintStreamPrints print) ops a =
         becomes_words _ (with_printed world (printed_by values print world ops)) rest slots.locals next (ap (with_printed (world_words world)) (printed_words print ops a))
+    does_words (StringAnswers string) ops a =
+        ap (λ o. answered words o next (world_words world) (map_slots word_of slots) (map word_of ops) (map word_of rest)) (answer_words string ops a)
+        ∙ answered_words ops (string_answer string (int_operand values ops) (string_operand values world ops))

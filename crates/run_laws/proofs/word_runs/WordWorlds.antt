@@ -17,6 +17,7 @@ use Rattle.model.specs.Operands.{values, words, word_of}
 use Rattle.model.specs.State.{Waiter, WakeCause, ObjectOf, Instance, Primitives, References, InProgress, type_of, types_of, World, WorldOf, Characters}
 use Rattle.model.specs.Opening.{first_value, first_of, with_first, new_instance, string_reference}
 use Rattle.model.specs.Worlds.{woken, all_woken, allocated, no_object, object_at, with_object, value_in, with_value, fields_of, with_field, with_static, elements_of, with_element, element_kept, type_kept, put_value, class_of_object, text_of}
+use Rattle.model.specs.BuiltInMethods.{string_text}
 use Rattle.model.specs.ClassInitialisation.{constant_in, constant_of, constant_value, with_constant, with_constants, with_class_status, with_class_begun}
 use Rattle.model.specs.Words.{map_field, map_object, map_world}
 use Rattle.run_laws.proofs.laws.WordLists.{map_index, map_set, map_same}
@@ -124,6 +125,12 @@ text_words (Instance class fields) = refl
 text_words (Primitives of elements) = refl
 text_words (References of elements) = refl
 text_words (Characters text) = refl
+
+pub string_text_words : (o : ObjectOf Value) → string_text (object_words o) ≡ string_text o
+string_text_words (Instance class fields) = refl
+string_text_words (Primitives of elements) = refl
+string_text_words (References of elements) = refl
+string_text_words (Characters text) = refl
 
 -- ---- what a put keeps
 

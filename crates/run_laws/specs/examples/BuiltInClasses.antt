@@ -13,8 +13,8 @@ use Rattle.model.specs.State.{State, types_of}
 use Rattle.model.specs.Opening.{opening}
 use Rattle.run_laws.specs.examples.OnlyReturns.{only_returns_file}
 
--- names, superclasses and access flags (JVMS table 4.1-A): 0021 is public, 0031 public and final, 0421 public and abstract,
--- 0601 a public interface. A platform has classes between PrintStream and Object.
+-- names, superclasses and access flags (JVMS table 4.1-A): 0021 is public, 0031 public and final, 0421 public and
+-- abstract, 0601 a public interface. A platform has classes between PrintStream and Object.
 abbrev pub platform : List (Name × Option Name × ℕ)
 platform =
     (codes "java/lang/Object", None, 0x0021)
@@ -47,6 +47,12 @@ platform =
     ∷ (codes "java/lang/NullPointerException", Some (codes "java/lang/RuntimeException"), 0x0021)
     ∷ (codes "java/lang/IllegalThreadStateException", Some (codes "java/lang/IllegalArgumentException"), 0x0021)
     ∷ (codes "java/lang/ArrayIndexOutOfBoundsException", Some (codes "java/lang/IndexOutOfBoundsException"), 0x0021)
+    ∷ (codes "java/lang/Comparable", Some (codes "java/lang/Object"), 0x0601)
+    ∷ (codes "java/lang/CharSequence", Some (codes "java/lang/Object"), 0x0601)
+    ∷ (codes "java/lang/StringIndexOutOfBoundsException", Some (codes "java/lang/IndexOutOfBoundsException"), 0x0021)
+    ∷ (codes "java/lang/Cloneable", Some (codes "java/lang/Object"), 0x0601)
+    ∷ (codes "java/lang/CloneNotSupportedException", Some (codes "java/lang/Exception"), 0x0021)
+    ∷ (codes "java/lang/AssertionError", Some (codes "java/lang/Error"), 0x0021)
     ∷ []
 
 -- how a class of that name is declared
@@ -84,4 +90,6 @@ pub record BuiltInClasses : Type 0 where
 -- Before any event there are the stream, the arguments, the Thread of main, and a Class for each class.
 abbrev pub OpeningObjects : Type 0
 OpeningObjects =
-    types_of (let s : State = opening values (only_returns_file ∷ []) in s).world.heap ≡ ClassType java_io_print_stream ∷ ReferenceArray (ClassType java_lang_string) ∷ ClassType java_lang_thread ∷ replicate 31 (ClassType java_lang_class)
+    types_of (let s : State = opening values (only_returns_file ∷ []) in s).world.heap
+    ≡ ClassType java_io_print_stream ∷ ReferenceArray (ClassType java_lang_string)
+    ∷ ClassType java_lang_thread ∷ replicate 37 (ClassType java_lang_class)

@@ -17,6 +17,8 @@ use Rattle.run_laws.specs.examples.InitialisersInOrder as initialisers_in_order
 use Rattle.run_laws.specs.examples.InterruptedWaits as interrupted_waits
 use Rattle.run_laws.specs.examples.LockOrderDeadlock as lock_order_deadlock
 use Rattle.run_laws.specs.examples.LostUpdate as lost_update
+use Rattle.run_laws.specs.examples.MadeStrings as made_strings
+use Rattle.run_laws.specs.examples.TextMethods as text_methods
 use Rattle.run_laws.specs.examples.NarrowArrays as narrow_arrays
 use Rattle.run_laws.specs.examples.NotARunnable as not_a_runnable
 use Rattle.run_laws.specs.examples.SameString as same_string
@@ -50,6 +52,7 @@ pub record ProgramsLink : Type 0 where
   pub interrupted_waits_links : all_standing interrupted_waits.files ≡ []
   pub lock_order_deadlock_links : all_standing lock_order_deadlock.files ≡ []
   pub lost_update_links : all_standing lost_update.files ≡ []
+  pub made_strings_links : all_standing made_strings.files ≡ []
   pub narrow_arrays_links : all_standing narrow_arrays.files ≡ []
   pub not_a_runnable_links : all_standing not_a_runnable.files ≡ []
   pub same_string_links : all_standing same_string.files ≡ []
@@ -57,6 +60,7 @@ pub record ProgramsLink : Type 0 where
   pub stack_overflow_links : all_standing stack_overflow.files ≡ []
   pub super_call_links : all_standing super_call.files ≡ []
   pub superclass_constant_links : all_standing superclass_constant.files ≡ []
+  pub text_methods_links : all_standing text_methods.files ≡ []
   pub uncaught_exception_links : all_standing uncaught_exception.files ≡ []
   pub wait_keeps_count_links : all_standing wait_keeps_count.files ≡ []
   pub waiter_of_a_thread_links : all_standing waiter_of_a_thread.files ≡ []

@@ -6,8 +6,8 @@ use Rattle.std.specs.List.Sorted.{IsStrictlySortedBy}
 use Rattle.std.specs.BTreeSet.{insert_key}
 use Rattle.std.specs.Ordering.{eq_by_cmp, nat_cmp, ordering_then}
 use Rattle.std.specs.declared.cmp.Ordering.{Ordering}
-use Rattle.model.specs.Report.{ThreadEnd, Ended, Threw, Blocked, Waiting, Joining, Initialising, Runnable, end_state_of, line, signed_number}
-use Rattle.model.specs.Texts.{encoded, printed_lines}
+use Rattle.model.specs.Report.{ThreadEnd, Ended, Threw, Blocked, Waiting, Joining, Initialising, Runnable, end_state_of}
+use Rattle.model.specs.Texts.{Text, number_line, printed_lines}
 use Rattle.run_laws.specs.interleavings.Ends.{Outcome, Has}
 use Rattle.search.specs.run_outcomes.Lines.{text_cmp}
 use Rattle.search.specs.declared.run_outcomes.outcomes.Outcome.{Outcome as TheOutcome}
@@ -35,15 +35,15 @@ abbrev pub has_thrown : ThreadEnd → Bool
 has_thrown (Threw name) = Bool.true
 has_thrown end = false
 
--- the bytes of ints that are printed, each on a line
-abbrev pub printed_text : List ℤ → List ℕ
-printed_text printed = flat_map (λ z. line (signed_number z)) printed
+-- the text of ints that are printed, each on a line
+abbrev pub printed_text : List ℤ → Text
+printed_text ints = flat_map number_line ints
 
 abbrev pub IsWanted : Wanted → Outcome → Type 0
 IsWanted wanted.Nothing o = ⊥
 IsWanted wanted.Stuck o = IsTrue (list_any is_stuck o.ends)
 IsWanted wanted.Uncaught o = IsTrue (list_any has_thrown o.ends)
-IsWanted (wanted.Printed text) o = encoded o.printed ≡ text.items
+IsWanted (wanted.Printed text) o = o.printed ≡ text.items
 IsWanted (wanted.PrintedOther text) o = printed_lines o.printed ≡ text.items → ⊥
 
 -- ---- their order

@@ -4,7 +4,7 @@
 //!
 //! - `Wanted::is`, memory aside: whether an outcome is the one that is wanted (`IsWanted`): a thread waits for ever,
 //!   one ended with an exception, what was printed is a text, or is another one.
-//! - `printed_lines`, memory aside: it makes of ints the bytes of what a run prints of them (`printed_text`).
+//! - `printed_lines`, memory aside: it makes of ints the text that a run prints of them (`printed_text`).
 //! - `Outcomes`: its outcomes are in an order, each once (`AreInOrder`); `add` lists one more and keeps the others
 //!   (`IsAdded`).
 //! - Outcomes are in the order of the texts that were printed, and those are in that of their lines (`text_cmp`): lines

@@ -3,13 +3,13 @@
 ghost use Rattle.std.specs.Prelude.{◌≡◌, ◌↔◌, IfOk, IsTrue};
 ghost use Rattle.std.specs.List.{list_any};
 ghost use Rattle.model.specs.Report.{end_state_of};
-ghost use Rattle.model.specs.Texts.{encoded, printed_lines};
+ghost use Rattle.model.specs.Texts.{printed_lines};
 ghost use Rattle.search.specs.run_outcomes.Outcomes.{told_by, IsWanted};
 ghost use Rattle.search.specs.run_outcomes.Outcomes as spec;
 
 use crate::run_outcomes::outcomes::Outcome;
 use model::EndState;
-use schedule::report::{push_printed, push_text};
+use schedule::report::push_printed;
 use std::alloc::{AllocError, Global};
 
 /// The outcome that a search is to find.
@@ -21,8 +21,8 @@ pub enum Wanted {
     Stuck,
     /// A thread ended with an exception that nothing caught.
     Uncaught,
-    /// The run printed this text, in UTF-8.
-    Printed(Vec<u8>),
+    /// The run printed this text, by its UTF-16 units.
+    Printed(Vec<u16>),
     /// A report shows another text than this of what was printed: there the last line has a line feed.
     PrintedOther(Vec<u8>),
 }
@@ -61,13 +61,10 @@ fn are_same(one: &[u8], other: &[u8]) -> bool
     one == other
 }
 
-/// Whether a text is what was printed. The only error is a want of memory.
-fn is_printed(alloc: Global, outcome: &Outcome, text: &[u8]) -> Result<bool, AllocError>
-    ensures { IfOk result (λ b. IsTrue b ↔ (encoded outcome.now.printed.items ≡ text.now)) }
+fn are_same_units(one: &[u16], other: &[u16]) -> bool
+    ensures { IsTrue result ↔ (one.now ≡ other.now) }
 {
-    let mut printed = Vec::new(alloc);
-    push_text(&mut printed, &outcome.printed)?;
-    Ok(are_same(&printed, text))
+    one == other
 }
 
 /// Whether a text is what a report shows of what was printed. The only error is a want of memory.
@@ -88,7 +85,7 @@ impl Wanted {
             Wanted::Nothing => Ok(false),
             Wanted::Stuck => Ok(any_is_stuck(&outcome.threads)),
             Wanted::Uncaught => Ok(any_has_thrown(&outcome.threads)),
-            Wanted::Printed(text) => is_printed(alloc, outcome, text),
+            Wanted::Printed(text) => Ok(are_same_units(&outcome.printed, text)),
             Wanted::PrintedOther(text) => Ok(!is_shown(alloc, outcome, text)?),
         }
     }

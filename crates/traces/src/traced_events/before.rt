@@ -37,6 +37,8 @@ pub struct Before {
     pub(crate) waiting: Vec<u16>,
     /// How many units were printed.
     pub(crate) printed: usize,
+    /// How many objects there were.
+    pub(crate) objects: u32,
 }
 
 /// The operands on top of a frame, the topmost first.
@@ -91,6 +93,7 @@ impl Before {
             called: None,
             waiting: Vec::new(alloc),
             printed: 0,
+            objects: 0,
         }
     }
 
@@ -104,6 +107,7 @@ impl Before {
         ensures { IsSeen program.now stack.now self.new.frame self.new.class }
     {
         self.printed = shared.printed.len();
+        self.objects = shared.heap.len();
         self.frames = stack.frame_count();
         self.operands = operands_of(stack.frame());
         self.instruction = instruction_of(self.rule, program, stack);

@@ -1,5 +1,8 @@
 //! What calls of methods did that have no code.
 
+ghost use Rattle.std.specs.Prelude.{◌≡◌};
+ghost use Rattle.traces.specs.traced_events.Answered.{answered};
+
 use crate::traced_events::before::Before;
 use crate::traced_events::deed::Deed;
 use linked_code::{BuiltInMethod, LinkedProgram, MethodBody};
@@ -32,12 +35,31 @@ pub(crate) fn print_deed(before: &Before, method: PrintMethod) -> Deed {
     }
 }
 
-/// What a call of a built-in method did: `top` is the word on top after it, and `pick` that of its event.
+/// The word on top of a stack, and how many objects there are.
+#[derive(Clone, Copy)]
+pub(crate) struct Answer {
+    pub(crate) word: u32,
+    pub(crate) objects: u32,
+}
+
+/// What a method of String did that answered: it made the String of the word where there are more objects since.
+fn answer_deed(objects: u32, answer: Answer) -> Deed
+    ensures { result ≡ answered objects answer.objects answer.word }
+{
+    if answer.objects > objects {
+        return Deed::Makes {
+            object: answer.word.saturating_sub(1),
+        };
+    }
+    Deed::Pushes { word: answer.word }
+}
+
+/// What a call of a built-in method did, by what is there after it and the pick of its event.
 pub(crate) fn built_in_deed(
     before: &Before,
     method: u32,
     built_in: BuiltInMethod,
-    top: u32,
+    answer: Answer,
     pick: u16,
 ) -> Deed {
     let object = before.receiver.saturating_sub(1);
@@ -55,7 +77,8 @@ pub(crate) fn built_in_deed(
         BuiltInMethod::ThreadIsInterrupted
         | BuiltInMethod::ThreadInterrupted
         | BuiltInMethod::ThreadCurrentThread
-        | BuiltInMethod::ThreadIsAlive => Deed::Pushes { word: top },
+        | BuiltInMethod::ThreadIsAlive => Deed::Pushes { word: answer.word },
         BuiltInMethod::PrintStreamPrints(method) => print_deed(before, method),
+        BuiltInMethod::StringAnswers(_) => answer_deed(before.objects, answer),
     }
 }

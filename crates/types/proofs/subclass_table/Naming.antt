@@ -6,7 +6,8 @@ use Rattle.std.proofs.lemmas.Bool.{or_parts}
 use Rattle.std.proofs.lemmas.Bool.Decides.{nat_tests}
 use Rattle.model.specs.Names.{name_eq, java_lang_object}
 use Rattle.model.specs.Tree.{FileTree}
-use Rattle.model.specs.BuiltIn.{built_in_classes, object_class}
+use Rattle.model.specs.BuiltIn.{built_in_classes}
+use Rattle.model.specs.built_in.Object.{object_class}
 use Rattle.model.specs.Classes.{Program, name_of, is_named, classes_of}
 use Rattle.model.specs.Linkable.{stands, TooLarge, DuplicateClass, OutsideProfile, MalformedCode, BadHierarchy, Unresolved, TooManyFields, NoMain, two_of_one_name, IsLinkable}
 use Rattle.hierarchy.proofs.Apart.{all_differ}

@@ -1,29 +1,21 @@
-//! The built-in classes as tables.
+//! The built-in classes as tables, in the order of the definitions.
 //!
 //! Made by `tools/build-built-in` of the class files of builtin/classes. Not to be edited.
 
+mod class;
+mod object;
+mod string;
 mod thread;
 
 use crate::builtin::form::{BuiltInClass, Declared, Operand, Stored};
+use crate::builtin::tables::class::CLASS;
+use crate::builtin::tables::object::OBJECT;
+use crate::builtin::tables::string::STRING;
 use crate::builtin::tables::thread::THREAD;
 
-/// The built-in classes, in the order of the definitions.
-pub(crate) static CLASSES: [BuiltInClass; 30] = [
-    BuiltInClass {
-        flags: 0x0021,
-        name: b"java/lang/Object",
-        superclass: None,
-        interfaces: &[],
-        operands: &[],
-        fields: &[],
-        coded: &[],
-        natives: &[
-            Declared(0x0101, b"<init>", b"()V"),
-            Declared(0x0111, b"wait", b"()V"),
-            Declared(0x0111, b"notify", b"()V"),
-            Declared(0x0111, b"notifyAll", b"()V"),
-        ],
-    },
+/// The built-in classes by their numbers: 0 to 1.
+pub(crate) static FROM_OBJECT: [BuiltInClass; 2] = [
+    OBJECT,
     BuiltInClass {
         flags: 0x0601,
         name: b"java/lang/Runnable",
@@ -34,27 +26,17 @@ pub(crate) static CLASSES: [BuiltInClass; 30] = [
         coded: &[],
         natives: &[Declared(0x0401, b"run", b"()V")],
     },
-    THREAD,
-    BuiltInClass {
-        flags: 0x0031,
-        name: b"java/lang/String",
-        superclass: Some(b"java/lang/Object"),
-        interfaces: &[],
-        operands: &[],
-        fields: &[],
-        coded: &[],
-        natives: &[],
-    },
-    BuiltInClass {
-        flags: 0x0031,
-        name: b"java/lang/Class",
-        superclass: Some(b"java/lang/Object"),
-        interfaces: &[],
-        operands: &[],
-        fields: &[],
-        coded: &[],
-        natives: &[],
-    },
+];
+
+/// The built-in classes by their numbers: 2.
+pub(crate) static FROM_THREAD: [BuiltInClass; 1] = [THREAD];
+
+/// The built-in classes by their numbers: 3.
+pub(crate) static FROM_STRING: [BuiltInClass; 1] = [STRING];
+
+/// The built-in classes by their numbers: 4 to 11.
+pub(crate) static FROM_CLASS: [BuiltInClass; 8] = [
+    CLASS,
     BuiltInClass {
         flags: 0x0031,
         name: b"java/lang/System",
@@ -94,7 +76,15 @@ pub(crate) static CLASSES: [BuiltInClass; 30] = [
         operands: &[],
         fields: &[],
         coded: &[],
-        natives: &[Declared(0x0101, b"<init>", b"()V")],
+        natives: &[
+            Declared(0x0101, b"<init>", b"()V"),
+            Declared(0x0101, b"<init>", b"(Ljava/lang/String;)V"),
+            Declared(
+                0x0101,
+                b"<init>",
+                b"(Ljava/lang/String;Ljava/lang/Throwable;)V",
+            ),
+        ],
     },
     BuiltInClass {
         flags: 0x0021,
@@ -104,7 +94,15 @@ pub(crate) static CLASSES: [BuiltInClass; 30] = [
         operands: &[],
         fields: &[],
         coded: &[],
-        natives: &[Declared(0x0101, b"<init>", b"()V")],
+        natives: &[
+            Declared(0x0101, b"<init>", b"()V"),
+            Declared(0x0101, b"<init>", b"(Ljava/lang/String;)V"),
+            Declared(
+                0x0101,
+                b"<init>",
+                b"(Ljava/lang/String;Ljava/lang/Throwable;)V",
+            ),
+        ],
     },
     BuiltInClass {
         flags: 0x0021,
@@ -114,7 +112,15 @@ pub(crate) static CLASSES: [BuiltInClass; 30] = [
         operands: &[],
         fields: &[],
         coded: &[],
-        natives: &[Declared(0x0101, b"<init>", b"()V")],
+        natives: &[
+            Declared(0x0101, b"<init>", b"()V"),
+            Declared(0x0101, b"<init>", b"(Ljava/lang/String;)V"),
+            Declared(
+                0x0101,
+                b"<init>",
+                b"(Ljava/lang/String;Ljava/lang/Throwable;)V",
+            ),
+        ],
     },
     BuiltInClass {
         flags: 0x0021,
@@ -124,7 +130,15 @@ pub(crate) static CLASSES: [BuiltInClass; 30] = [
         operands: &[],
         fields: &[],
         coded: &[],
-        natives: &[Declared(0x0101, b"<init>", b"()V")],
+        natives: &[
+            Declared(0x0101, b"<init>", b"()V"),
+            Declared(0x0101, b"<init>", b"(Ljava/lang/String;)V"),
+            Declared(
+                0x0101,
+                b"<init>",
+                b"(Ljava/lang/String;Ljava/lang/Throwable;)V",
+            ),
+        ],
     },
     BuiltInClass {
         flags: 0x0421,
@@ -134,8 +148,20 @@ pub(crate) static CLASSES: [BuiltInClass; 30] = [
         operands: &[],
         fields: &[],
         coded: &[],
-        natives: &[Declared(0x0101, b"<init>", b"()V")],
+        natives: &[
+            Declared(0x0101, b"<init>", b"()V"),
+            Declared(0x0101, b"<init>", b"(Ljava/lang/String;)V"),
+            Declared(
+                0x0101,
+                b"<init>",
+                b"(Ljava/lang/String;Ljava/lang/Throwable;)V",
+            ),
+        ],
     },
+];
+
+/// The built-in classes by their numbers: 12 to 19.
+pub(crate) static FROM_INCOMPATIBLE_CLASS_CHANGE_ERROR: [BuiltInClass; 8] = [
     BuiltInClass {
         flags: 0x0021,
         name: b"java/lang/IncompatibleClassChangeError",
@@ -144,7 +170,10 @@ pub(crate) static CLASSES: [BuiltInClass; 30] = [
         operands: &[],
         fields: &[],
         coded: &[],
-        natives: &[Declared(0x0101, b"<init>", b"()V")],
+        natives: &[
+            Declared(0x0101, b"<init>", b"()V"),
+            Declared(0x0101, b"<init>", b"(Ljava/lang/String;)V"),
+        ],
     },
     BuiltInClass {
         flags: 0x0021,
@@ -154,7 +183,10 @@ pub(crate) static CLASSES: [BuiltInClass; 30] = [
         operands: &[],
         fields: &[],
         coded: &[],
-        natives: &[Declared(0x0101, b"<init>", b"()V")],
+        natives: &[
+            Declared(0x0101, b"<init>", b"()V"),
+            Declared(0x0101, b"<init>", b"(Ljava/lang/String;)V"),
+        ],
     },
     BuiltInClass {
         flags: 0x0021,
@@ -164,7 +196,10 @@ pub(crate) static CLASSES: [BuiltInClass; 30] = [
         operands: &[],
         fields: &[],
         coded: &[],
-        natives: &[Declared(0x0101, b"<init>", b"()V")],
+        natives: &[
+            Declared(0x0101, b"<init>", b"()V"),
+            Declared(0x0101, b"<init>", b"(Ljava/lang/String;)V"),
+        ],
     },
     BuiltInClass {
         flags: 0x0021,
@@ -174,7 +209,10 @@ pub(crate) static CLASSES: [BuiltInClass; 30] = [
         operands: &[],
         fields: &[],
         coded: &[],
-        natives: &[Declared(0x0101, b"<init>", b"()V")],
+        natives: &[
+            Declared(0x0101, b"<init>", b"()V"),
+            Declared(0x0101, b"<init>", b"(Ljava/lang/String;)V"),
+        ],
     },
     BuiltInClass {
         flags: 0x0021,
@@ -184,7 +222,10 @@ pub(crate) static CLASSES: [BuiltInClass; 30] = [
         operands: &[],
         fields: &[],
         coded: &[],
-        natives: &[Declared(0x0101, b"<init>", b"()V")],
+        natives: &[
+            Declared(0x0101, b"<init>", b"()V"),
+            Declared(0x0101, b"<init>", b"(Ljava/lang/String;)V"),
+        ],
     },
     BuiltInClass {
         flags: 0x0021,
@@ -194,7 +235,15 @@ pub(crate) static CLASSES: [BuiltInClass; 30] = [
         operands: &[],
         fields: &[],
         coded: &[],
-        natives: &[Declared(0x0101, b"<init>", b"()V")],
+        natives: &[
+            Declared(0x0101, b"<init>", b"()V"),
+            Declared(0x0101, b"<init>", b"(Ljava/lang/String;)V"),
+            Declared(
+                0x0101,
+                b"<init>",
+                b"(Ljava/lang/String;Ljava/lang/Throwable;)V",
+            ),
+        ],
     },
     BuiltInClass {
         flags: 0x0021,
@@ -204,7 +253,10 @@ pub(crate) static CLASSES: [BuiltInClass; 30] = [
         operands: &[],
         fields: &[],
         coded: &[],
-        natives: &[Declared(0x0101, b"<init>", b"()V")],
+        natives: &[
+            Declared(0x0101, b"<init>", b"()V"),
+            Declared(0x0101, b"<init>", b"(Ljava/lang/String;)V"),
+        ],
     },
     BuiltInClass {
         flags: 0x0021,
@@ -214,8 +266,15 @@ pub(crate) static CLASSES: [BuiltInClass; 30] = [
         operands: &[],
         fields: &[],
         coded: &[],
-        natives: &[Declared(0x0101, b"<init>", b"()V")],
+        natives: &[
+            Declared(0x0101, b"<init>", b"()V"),
+            Declared(0x0101, b"<init>", b"(Ljava/lang/String;)V"),
+        ],
     },
+];
+
+/// The built-in classes by their numbers: 20 to 27.
+pub(crate) static FROM_ARRAY_STORE_EXCEPTION: [BuiltInClass; 8] = [
     BuiltInClass {
         flags: 0x0021,
         name: b"java/lang/ArrayStoreException",
@@ -224,7 +283,10 @@ pub(crate) static CLASSES: [BuiltInClass; 30] = [
         operands: &[],
         fields: &[],
         coded: &[],
-        natives: &[Declared(0x0101, b"<init>", b"()V")],
+        natives: &[
+            Declared(0x0101, b"<init>", b"()V"),
+            Declared(0x0101, b"<init>", b"(Ljava/lang/String;)V"),
+        ],
     },
     BuiltInClass {
         flags: 0x0021,
@@ -234,7 +296,10 @@ pub(crate) static CLASSES: [BuiltInClass; 30] = [
         operands: &[],
         fields: &[],
         coded: &[],
-        natives: &[Declared(0x0101, b"<init>", b"()V")],
+        natives: &[
+            Declared(0x0101, b"<init>", b"()V"),
+            Declared(0x0101, b"<init>", b"(Ljava/lang/String;)V"),
+        ],
     },
     BuiltInClass {
         flags: 0x0021,
@@ -244,7 +309,10 @@ pub(crate) static CLASSES: [BuiltInClass; 30] = [
         operands: &[],
         fields: &[],
         coded: &[],
-        natives: &[Declared(0x0101, b"<init>", b"()V")],
+        natives: &[
+            Declared(0x0101, b"<init>", b"()V"),
+            Declared(0x0101, b"<init>", b"(Ljava/lang/String;)V"),
+        ],
     },
     BuiltInClass {
         flags: 0x0021,
@@ -254,7 +322,15 @@ pub(crate) static CLASSES: [BuiltInClass; 30] = [
         operands: &[],
         fields: &[],
         coded: &[],
-        natives: &[Declared(0x0101, b"<init>", b"()V")],
+        natives: &[
+            Declared(0x0101, b"<init>", b"()V"),
+            Declared(0x0101, b"<init>", b"(Ljava/lang/String;)V"),
+            Declared(
+                0x0101,
+                b"<init>",
+                b"(Ljava/lang/String;Ljava/lang/Throwable;)V",
+            ),
+        ],
     },
     BuiltInClass {
         flags: 0x0021,
@@ -264,7 +340,15 @@ pub(crate) static CLASSES: [BuiltInClass; 30] = [
         operands: &[],
         fields: &[],
         coded: &[],
-        natives: &[Declared(0x0101, b"<init>", b"()V")],
+        natives: &[
+            Declared(0x0101, b"<init>", b"()V"),
+            Declared(0x0101, b"<init>", b"(Ljava/lang/String;)V"),
+            Declared(
+                0x0101,
+                b"<init>",
+                b"(Ljava/lang/String;Ljava/lang/Throwable;)V",
+            ),
+        ],
     },
     BuiltInClass {
         flags: 0x0021,
@@ -274,7 +358,10 @@ pub(crate) static CLASSES: [BuiltInClass; 30] = [
         operands: &[],
         fields: &[],
         coded: &[],
-        natives: &[Declared(0x0101, b"<init>", b"()V")],
+        natives: &[
+            Declared(0x0101, b"<init>", b"()V"),
+            Declared(0x0101, b"<init>", b"(Ljava/lang/String;)V"),
+        ],
     },
     BuiltInClass {
         flags: 0x0021,
@@ -284,7 +371,10 @@ pub(crate) static CLASSES: [BuiltInClass; 30] = [
         operands: &[],
         fields: &[],
         coded: &[],
-        natives: &[Declared(0x0101, b"<init>", b"()V")],
+        natives: &[
+            Declared(0x0101, b"<init>", b"()V"),
+            Declared(0x0101, b"<init>", b"(Ljava/lang/String;)V"),
+        ],
     },
     BuiltInClass {
         flags: 0x0021,
@@ -294,8 +384,15 @@ pub(crate) static CLASSES: [BuiltInClass; 30] = [
         operands: &[],
         fields: &[],
         coded: &[],
-        natives: &[Declared(0x0101, b"<init>", b"()V")],
+        natives: &[
+            Declared(0x0101, b"<init>", b"()V"),
+            Declared(0x0101, b"<init>", b"(Ljava/lang/String;)V"),
+        ],
     },
+];
+
+/// The built-in classes by their numbers: 28 to 35.
+pub(crate) static FROM_ILLEGAL_THREAD_STATE_EXCEPTION: [BuiltInClass; 8] = [
     BuiltInClass {
         flags: 0x0021,
         name: b"java/lang/IllegalThreadStateException",
@@ -304,7 +401,10 @@ pub(crate) static CLASSES: [BuiltInClass; 30] = [
         operands: &[],
         fields: &[],
         coded: &[],
-        natives: &[Declared(0x0101, b"<init>", b"()V")],
+        natives: &[
+            Declared(0x0101, b"<init>", b"()V"),
+            Declared(0x0101, b"<init>", b"(Ljava/lang/String;)V"),
+        ],
     },
     BuiltInClass {
         flags: 0x0021,
@@ -314,6 +414,87 @@ pub(crate) static CLASSES: [BuiltInClass; 30] = [
         operands: &[],
         fields: &[],
         coded: &[],
-        natives: &[Declared(0x0101, b"<init>", b"()V")],
+        natives: &[
+            Declared(0x0101, b"<init>", b"()V"),
+            Declared(0x0101, b"<init>", b"(Ljava/lang/String;)V"),
+        ],
+    },
+    BuiltInClass {
+        flags: 0x0601,
+        name: b"java/lang/Comparable",
+        superclass: Some(b"java/lang/Object"),
+        interfaces: &[],
+        operands: &[],
+        fields: &[],
+        coded: &[],
+        natives: &[Declared(0x0401, b"compareTo", b"(Ljava/lang/Object;)I")],
+    },
+    BuiltInClass {
+        flags: 0x0601,
+        name: b"java/lang/CharSequence",
+        superclass: Some(b"java/lang/Object"),
+        interfaces: &[],
+        operands: &[],
+        fields: &[],
+        coded: &[],
+        natives: &[
+            Declared(0x0401, b"length", b"()I"),
+            Declared(0x0401, b"charAt", b"(I)C"),
+            Declared(0x0401, b"subSequence", b"(II)Ljava/lang/CharSequence;"),
+            Declared(0x0401, b"toString", b"()Ljava/lang/String;"),
+        ],
+    },
+    BuiltInClass {
+        flags: 0x0021,
+        name: b"java/lang/StringIndexOutOfBoundsException",
+        superclass: Some(b"java/lang/IndexOutOfBoundsException"),
+        interfaces: &[],
+        operands: &[],
+        fields: &[],
+        coded: &[],
+        natives: &[
+            Declared(0x0101, b"<init>", b"()V"),
+            Declared(0x0101, b"<init>", b"(Ljava/lang/String;)V"),
+        ],
+    },
+    BuiltInClass {
+        flags: 0x0601,
+        name: b"java/lang/Cloneable",
+        superclass: Some(b"java/lang/Object"),
+        interfaces: &[],
+        operands: &[],
+        fields: &[],
+        coded: &[],
+        natives: &[],
+    },
+    BuiltInClass {
+        flags: 0x0021,
+        name: b"java/lang/CloneNotSupportedException",
+        superclass: Some(b"java/lang/Exception"),
+        interfaces: &[],
+        operands: &[],
+        fields: &[],
+        coded: &[],
+        natives: &[
+            Declared(0x0101, b"<init>", b"()V"),
+            Declared(0x0101, b"<init>", b"(Ljava/lang/String;)V"),
+        ],
+    },
+    BuiltInClass {
+        flags: 0x0021,
+        name: b"java/lang/AssertionError",
+        superclass: Some(b"java/lang/Error"),
+        interfaces: &[],
+        operands: &[],
+        fields: &[],
+        coded: &[],
+        natives: &[
+            Declared(0x0101, b"<init>", b"()V"),
+            Declared(
+                0x0101,
+                b"<init>",
+                b"(Ljava/lang/String;Ljava/lang/Throwable;)V",
+            ),
+        ],
     },
 ];

@@ -3,7 +3,7 @@ use Rattle.std.specs.Prelude.{codes}
 use Rattle.std.specs.Fmt.{digits}
 use Rattle.std.specs.Char.{encode_utf8}
 use Rattle.std.specs.Char.Utf16.{utf16_chars}
-use Rattle.model.specs.Names.{main_of, thread_run}
+use Rattle.model.specs.Names.{main_of}
 use Rattle.model.specs.OpcodeTable.{low_form, high_form}
 use Rattle.model.specs.Instruction.{wide_at, table_switch_at, lookup_switch_at}
 use Rattle.model.specs.InstructionStarts.{starts_from}
@@ -14,14 +14,15 @@ use Rattle.model.specs.Typing.{HasTyping}
 use Rattle.run_laws.specs.examples.Bytes.{hex}
 use Rattle.run_laws.specs.examples.Printing as printing
 use Rattle.run_laws.specs.examples.AcceptedProgram.{files, without_operand}
-use Rattle.run_laws.specs.examples.Typings.{strings, body_with, prints_seven_types, run_types}
+use Rattle.run_laws.specs.examples.Typings.{strings, body_with, prints_seven_types}
 use Rattle.run_laws.proofs.examples.Fits.{fits}
 use Rattle.run_laws.proofs.examples.TypingProofs.{fails, next, begins}
-use Rattle.run_laws.proofs.examples.TableProofs.{Table, are_typed}
+use Rattle.run_laws.proofs.examples.TableProofs.{Table}
+use Rattle.run_laws.proofs.examples.BuiltInTypingProofs.{program_typed}
 use Rattle.run_laws.proofs.examples.accepted_program.Goals as goal
 
 abbrev table : Table
-table = (main_of (codes "A"), prints_seven_types) ∷ (thread_run, run_types) ∷ []
+table = (main_of (codes "A"), prints_seven_types) ∷ []
 
 -- the `iadd` at 1 finds one int
 untyped : HasTyping without_operand (main_of (codes "A")) (body_with printing.pool 2 1 (hex (codes "0360b1"))) → ⊥
@@ -45,7 +46,7 @@ returns c =
             );
             no_refusal = refl;
           };
-          typed = are_typed files table refl;
+          typed = program_typed files table refl;
         };
         printed = refl;
         ended = refl;

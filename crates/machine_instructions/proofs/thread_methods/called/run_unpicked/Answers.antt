@@ -82,3 +82,8 @@ pub returns-in-PrintStreamPrints : goal.returns-in-PrintStreamPrints
 returns-in-PrintStreamPrints c =
     subst (λ m. DoesUnpicked m c.args.operands c.args.next c.args.thread c.print.result c.args.shared.now c.print.new.shared c.args.stack.now c.print.new.stack)
     (sym c.in-PrintStreamPrints.is) (c.print.ensures c.args.thread)
+
+pub returns-in-StringAnswers : goal.returns-in-StringAnswers
+returns-in-StringAnswers c =
+    subst (λ m. DoesUnpicked m c.args.operands c.args.next c.args.thread c.answer_call.result c.args.shared.now c.answer_call.new.shared c.args.stack.now c.answer_call.new.stack)
+    (sym c.in-StringAnswers.is) (c.answer_call.ensures c.args.thread)

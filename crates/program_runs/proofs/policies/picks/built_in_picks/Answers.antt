@@ -53,3 +53,4 @@ returns-in_default c = λ trees p bounds inflated state frame rest operands next
     not_notify method.ThreadJoin n e = cc
     not_notify method.ThreadIsAlive n e = cc
     not_notify (method.PrintStreamPrints print) n e = cc
+    not_notify (method.StringAnswers answer) n e = cc

@@ -1,0 +1,8 @@
+package java.lang;
+
+/** An assertion that fails (JLS 14.10). */
+public class AssertionError extends Error {
+    public AssertionError() {}
+
+    public AssertionError(String message, Throwable cause) {}
+}

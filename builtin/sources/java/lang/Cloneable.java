@@ -1,0 +1,4 @@
+package java.lang;
+
+/** What may be cloned. */
+public interface Cloneable {}

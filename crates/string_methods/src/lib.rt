@@ -1,0 +1,26 @@
+//! What the methods of `java.lang.String` that have no code answer of texts and ints (the API of String).
+//!
+//! A text is a list of UTF-16 units, each a word. Ints are told by their bits.
+//!
+//! # Proved
+//!
+//! - Each function is the definition of `StringMethods` in `model` that has its name, of any words: `length`, `unit_at`
+//!   (`charAt`), `is_same_text` (`equals`), `hash_code`, `compared` (`compareTo`), `index_of` and `regions_match`.
+//! - So is each that may make a text: `joined` (`concat`), `part_of` (`substring`), `text_of_int` and `text_of_char`
+//!   (`valueOf`). Only where the answer is a new text may it be refused, for want of memory (`IsAnswer`).
+//!
+//! # Not proved
+//!
+//! - That memory was missing where it is said to be, and time.
+//!
+#![tactic(auto)]
+
+mod answer;
+mod composed;
+mod questions;
+mod regions;
+
+pub use answer::StringAnswer;
+pub use composed::{joined, part_of, text_of_char, text_of_int};
+pub use questions::{compared, hash_code, index_of, is_same_text, length, unit_at};
+pub use regions::regions_match;

@@ -1,5 +1,0 @@
-package java.lang;
-
-/** A mark. Nothing is cloned here. */
-public interface Cloneable {
-}
