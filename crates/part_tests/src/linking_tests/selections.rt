@@ -49,7 +49,12 @@ static ROWS: [(usize, &[u32]); 8] = [
 ];
 
 /// How many selectors the rows of Object, Q, I and J have, and the method of the first.
-static INTERFACE_ROWS: [(usize, usize, u32); 4] = [(0, 0, 0), (38, 1, 123), (40, 1, 130), (41, 2, 5)];
+static INTERFACE_ROWS: [(usize, usize, u32); 4] = [
+    (0, 0, 0),
+    (38, 1, 123),
+    (40, 1, 130),
+    (41, 2, 5),
+];
 
 fn calls_of(alloc: Global) -> Result<Vec<NamedCall>, AllocError> {
     let mut calls = Vec::new(alloc);

@@ -9,10 +9,7 @@ use verifier::{MOST_STEPS, verify_within};
 /// How many steps are given, and what is told of a main with a loop over many local variables. The built-in methods
 /// with code are verified before it, Object.equals first, and are in no file.
 const ROWS: [(u64, &str); 4] = [
-    (
-        0,
-        "refused 8 TooLarge method equals(Ljava/lang/Object;)Z",
-    ),
+    (0, "refused 8 TooLarge method equals(Ljava/lang/Object;)Z"),
     (
         100_000,
         "refused 8 TooLarge file 0 method main([Ljava/lang/String;)V",
