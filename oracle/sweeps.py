@@ -142,7 +142,8 @@ def cases_of(folder: str, names: List[str], options: str) -> Tuple[List[str], st
     words = words_of([*options.split(), *names])
     files = class_files(LESSONS / folder)
     sweep = Sweep([files[f"{name}.class"] for name in names], words)
-    name = "-".join([folder, names[0], re.sub(r"[ =\\]", "-", options.replace("--for ", "").replace("--", "").replace("..", "-to-"))])
+    asked = options.replace("--for ", "").replace("--", "").replace("..", "-to-")
+    name = "-".join([folder, names[0], re.sub(r"[ =\\]", "-", asked)])
     paths = " ".join(f"{folder}/{one}.class" for one in names)
     text = [f"case sweep-{name}", f"  run {options} {paths}"]
     told = f"case sweep-{name}\n{sweep.text(repeated(words.policy, paths))}status {int(sweep.is_found)}\n"

@@ -35,7 +35,7 @@
 //!
 //! # Not proved
 //!
-//! - Tested in `verification_tests`: that no steps end in the built-in Thread.run, some in the method that takes many,
+//! - Tested in `verification_tests`: that no steps end in a built-in method, some in the method that takes many,
 //!   which is named, and that many suffice.
 //! - Shown by cases alone: the offset that a refusal names. Cases show the rules by pairs of methods, one that just
 //!   passes and one that just fails. Where a JDK's older verifier was asked of such methods it said the same of all but
