@@ -1,16 +1,18 @@
 /*
- * Strings and output: `StringBuilder` and `StringBuffer`
+ * Strings and output: `StringBuilder`
  *
- * Builders.java:12: the class java.lang.StringBuilder, of + of strings: join them by concat, and take String.valueOf of
- *     an int or a char
- * Builders.java:13: the class java.lang.StringBuilder, of + of strings: join them by concat, and take String.valueOf of
- *     an int or a char
- * Builders.java:14: the class java.lang.StringBuffer: join Strings by concat, and take valueOf of an int or a char
+ * It works.
  */
 class Builders {
     public static void main(String[] words) {
         StringBuilder builder = new StringBuilder();
-        builder.append(7);
-        StringBuffer buffer = new StringBuffer();
+        for (int number = 0; number < 3; number++) {
+            builder.append(number).append(", ");
+        }
+        builder.setLength(builder.length() - 2);
+        builder.insert(0, '[').append(']').setCharAt(1, '-');
+        CharSequence turned = new StringBuilder("321").reverse();
+        System.out.println(builder.append(turned).append(false).toString());
+        System.out.println(builder.indexOf("2") + builder.substring(3, 5) + builder.charAt(0));
     }
 }

@@ -1,15 +1,13 @@
 /*
- * Strings and output: `+` of strings
+ * Strings and output: `+` of strings, ints, chars and booleans
  *
- * Concatenation.java:12: the class java.lang.StringBuilder, of + of strings: join them by concat, and take
- *     String.valueOf of an int or a char
- * Concatenation.java:13: the class java.lang.StringBuilder, of + of strings: join them by concat, and take
- *     String.valueOf of an int or a char
+ * It works.
  */
 class Concatenation {
     public static void main(String[] words) {
         int number = 7;
-        String text = "number " + number;
-        text += "!";
+        String text = "number " + number + '!' + true;
+        text += null == text ? "" : text.length() + "";
+        System.out.println(text);
     }
 }

@@ -1,7 +1,7 @@
 /*
- * Strings and output: `System.err`
+ * Strings and output: `System.err`, whose text stands between that of `System.out`
  *
- * PrintError.java:8: java.lang.System.err: print by System.out
+ * It works.
  */
 class PrintError {
     public static void main(String[] words) {

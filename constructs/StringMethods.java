@@ -1,15 +1,15 @@
 /*
  * Strings and output: `length`, `charAt`, `equals`, `hashCode`, `compareTo`, `concat`, `substring`, `indexOf` and
- *     `regionMatches` of a `String`, and `valueOf` of an `int` or a `char`
+ *     `regionMatches` of a `String`, and `valueOf` of an `int`, a `char` or a `boolean`
  *
  * It works.
  */
 class StringMethods {
     public static void main(String[] words) {
-        String word = "seven".concat(String.valueOf(7)).concat(String.valueOf('!'));
+        String word = "seven".concat(String.valueOf(7)).concat(String.valueOf('!')).concat(String.valueOf(true));
         System.out.println(word.length());
         System.out.println(word.charAt(0));
-        System.out.println(word.equals("seven7!") ? 1 : 0);
+        System.out.println(word.equals("seven7!true") ? 1 : 0);
         System.out.println(word.hashCode());
         System.out.println(word.compareTo("six"));
         System.out.println(word.substring(1, 4));

@@ -5,19 +5,21 @@ What the next event of a thread accesses, and who holds what it needs, is read o
 run from a state ends is told by the states to which events lead.
 """
 
+from itertools import combinations
 from typing import Any, Dict, Iterator, List, NamedTuple, Optional, Sequence, Set, Tuple
 
+from oracle.calls import INVOKEINTERFACE, Called
 from oracle.classes import Class, ClassReader
 from oracle.frames import Frame, short
 from oracle.machine import ELEMENTS, Machine
-from oracle.state import JavaThread, NotEnabled, Refused, component
+from oracle.state import BUILDER_TEXT, JavaThread, NotEnabled, Object, Refused, component
 
 # The kinds, in the order in which they are told.
 KINDS = ["race", "uncaught", "deadlock", "endless"]
 
 VOLATILE = 0x0040
 
-GETSTATIC, PUTSTATIC, GETFIELD, PUTFIELD, AASTORE = 0xB2, 0xB3, 0xB4, 0xB5, 0x53
+GETSTATIC, PUTSTATIC, GETFIELD, PUTFIELD, INVOKEVIRTUAL, AASTORE = 0xB2, 0xB3, 0xB4, 0xB5, 0xB6, 0x53
 
 # Methods of Thread by which threads see of each other what the JLS orders nothing by.
 OWN_EDGES = {("isAlive", "()Z"), ("interrupt", "()V"), ("isInterrupted", "()Z"), ("interrupted", "()Z")}
@@ -66,22 +68,42 @@ def of_field(machine: Machine, thread: JavaThread, frame: Frame) -> Optional[Acc
     return Access((of, one.name, field, descriptor), opcode in (PUTSTATIC, PUTFIELD)) if is_there else None
 
 
-def access_of(machine: Machine, thread: JavaThread) -> Optional[Access]:
-    """What the next event of a thread accesses, where it accesses an ordinary variable."""
+def of_call(machine: Machine, thread: JavaThread, frame: Frame) -> List[Access]:
+    """The texts of StringBuilders that a call reads and writes in its own event, where that throws nothing."""
+    try:
+        called = machine.called(thread, frame, frame.opcode())
+    except (NotEnabled, Refused):
+        return []
+    if not isinstance(called, Called) or called.method.code is not None or called.method.owner.name != BUILDER_TEXT[0]:
+        return []
+    this, *rest = called.arguments
+    own, name = (id(this), *BUILDER_TEXT), called.method.name
+    if name == "<init>":
+        return [] if None in rest else [Access(own, True)]
+    operands = [one for one in rest if isinstance(one, Object) and one.kind == BUILDER_TEXT[0]]
+    found = [Access(own, False), *(Access((id(one), *BUILDER_TEXT), False) for one in operands)]
+    return [*found, Access(own, True)] if name == "append" else found
+
+
+def accesses_of(machine: Machine, thread: JavaThread) -> List[Access]:
+    """The ordinary variables that the next event of a thread accesses."""
     top = thread.top()
     if thread.has_ended or thread.waits or thread.relock or thread.pending or not isinstance(top, Frame):
-        return None
+        return []
+    if INVOKEVIRTUAL <= top.opcode() <= INVOKEINTERFACE:
+        return of_call(machine, thread, top)
+    found = None
     if top.opcode() in ELEMENTS:
-        return of_element(machine, top)
-    if GETSTATIC <= top.opcode() <= PUTFIELD:
-        return of_field(machine, thread, top)
-    return None
+        found = of_element(machine, top)
+    elif GETSTATIC <= top.opcode() <= PUTFIELD:
+        found = of_field(machine, thread, top)
+    return [found] if found else []
 
 
 def is_racy(machine: Machine) -> bool:
     """Whether two threads may each do an access next of one variable, one of them a write."""
-    found = [one for one in (access_of(machine, thread) for thread in machine.threads) if one is not None]
-    pairs = [(one, other) for at, one in enumerate(found) for other in found[at + 1 :]]
+    found = [accesses_of(machine, thread) for thread in machine.threads]
+    pairs = [(one, other) for first, second in combinations(found, 2) for one in first for other in second]
     return any(one.variable == other.variable and (one.is_write or other.is_write) for one, other in pairs)
 
 

@@ -59,6 +59,7 @@ TOPICS = {
     "threads": "Interrupts InterruptedJoin Holder FailingInitialisers CrossedInitialisers",
     "prints": "Hello Letters Surrogates Unfinished NoStream Quoted OneLine Words TwoVoices",
     "strings": "Answers Pieces Sought Ordered Asked TooShort Speakers Kept",
+    "builders": "Sums Joined Truths Builds Built Edited Beyond BothStreams Reported Counted Chorus Gathered Halves",
 }
 
 # Further cases of a program.
@@ -94,11 +95,23 @@ FURTHER: Dict[str, List[Way]] = {
     ],
     "TooShort": [("objects", "whole", "--objects 4", None)],
     "Speakers": [("cut", "turns", "", 40), ("cells", "turns", "--cells 27", None)],
+    "Sums": [
+        ("exact", "alone", "--objects 88 --cells 632", None),
+        ("objects", "alone", "--objects 87", None),
+        ("cells", "alone", "--cells 631", None),
+    ],
+    "Builds": [("both", "alone", "--objects 61 --cells 600", None)],
+    "Counted": [("no-cells", "turns", "--cells 2", None), ("cells", "whole", "--cells 9", None)],
+    "Gathered": [("objects", "hostile", "--objects 9", None)],
+    "BothStreams": [("cut", "hostile", "", 60)],
     "OneLine": [("halves", "0*11 1*7 0*", "", None), ("cut", "0*11 1*4", "", 15)],
 }
 
 # No run goes on beyond so many events.
 MOST = 10_000
+
+# What java prints of an exception that ends a thread.
+UNCAUGHT = re.compile(r'Exception in thread "[^"]*" ([\w.$]+).*\n(?:\s+at .*\n|Caused by: .*\n|\t\.\.\. .*\n)*')
 
 TURN = 2
 
@@ -184,11 +197,11 @@ class Program:
         return self.told.endswith("Races.")
 
     def java(self) -> Java:
-        """What `java` prints, and the exceptions that end its threads."""
+        """What `java` prints, by both streams as they come, and the exceptions that end its threads."""
         words = ["java", "-ea", "-Dfile.encoding=UTF-8", "-cp", str(self.folder), self.name]
-        ran = subprocess.run(words, capture_output=True, encoding="latin-1", timeout=60)
-        thrown = re.findall(r'^Exception in thread "[^"]*" ([\w.$]+)', ran.stderr, re.MULTILINE)
-        return ran.stdout, sorted(name.replace(".", "/") for name in thrown)
+        ran = subprocess.run(words, stdout=subprocess.PIPE, stderr=subprocess.STDOUT, encoding="latin-1", timeout=60)
+        thrown = UNCAUGHT.findall(ran.stdout)
+        return UNCAUGHT.sub("", ran.stdout), sorted(name.replace(".", "/") for name in thrown)
 
     def runs(self) -> List[Way]:
         """Names of cases, with the way of the schedule, options, and the most events."""

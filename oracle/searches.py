@@ -74,7 +74,8 @@ class Numbered(Machine):
         for text, string in self.strings.items():
             if string is thing:
                 return text
-        return 0
+        streams = self.classes["java/lang/System"].statics.items()
+        return next((name for name, stream in streams if stream is thing), 0)
 
     def monitor(self, thing: Object) -> Tuple[Any, ...]:
         owner = self.threads.index(thing.owner) if thing.owner else None
@@ -323,6 +324,7 @@ PROGRAMS = [
     ("races/OneLock", "--for any"),
     ("races/Interrupted", "--for race"),
     ("races/OneElement", "--for race"),
+    ("races/AsksWhatGrows", "--for race"),
     ("kinds/CircleBesideLoop", "--for deadlock"),
     ("kinds/CircleBesideLoop", "--for race"),
     ("kinds/CircleBesideLoop", "--for output="),

@@ -15,6 +15,9 @@ Value = Any
 
 LIMITS = {"objects": 1_000_000, "cells": 16_000_000, "monitors": 65_536, "threads": 256, "frames": 1_024}
 
+# Of a StringBuilder its text, which is no cell.
+BUILDER_TEXT = "java/lang/StringBuilder", "text", "Ljava/lang/String;"
+
 # A lock keeps this many entries of one owner without a monitor.
 THIN_ENTRIES = 256
 
@@ -108,7 +111,9 @@ class State:
                 for flags, name, descriptor, _ in one.fields
                 if flags & STATIC
             }
-        self.classes["java/lang/System"].statics["out"] = Object("java/io/PrintStream")
+        self.classes["java/lang/System"].statics.update(
+            (name, Object("java/io/PrintStream")) for name in ("out", "err")
+        )
         self.initial, self.done = read[0], 0
         self.strings: Dict[str, Object] = {}
         # The text that was printed: UTF-16 code units.
@@ -189,6 +194,11 @@ class State:
                 if not flags & STATIC:
                     thing.fields[one.name, name, descriptor] = None if descriptor[0] in "L[" else 0
         return thing
+
+    @staticmethod
+    def cells_of(thing: Object) -> int:
+        """How many cells an object takes that `new` makes."""
+        return len(thing.fields.keys() - {BUILDER_TEXT})
 
     def room(self, cells: int) -> None:
         """Refuses where a limit stands at one more object with so many cells."""

@@ -15,14 +15,23 @@ def java_text(text: str) -> str:
     return "".join(map(chr, decoded(text.encode("latin-1"))))
 
 
-class Spelled(str):
-    """Words that are in one line already."""
+# Between these characters, which stand for no byte, a part of a text is in one line already.
+BEGIN, END = "\ue000", "\ue001"
+
+
+def spelled(text: str) -> str:
+    """A part of a text that is in one line already."""
+    return f"{BEGIN}{text}{END}"
 
 
 def in_one_line(text: str) -> str:
     """A line in which a backslash is doubled, and a control character is `\\x` and its two digits."""
-    if isinstance(text, Spelled):
-        return text
+    parts = re.split(f"{BEGIN}(.*?){END}", text)
+    parts[::2] = map(escaped, parts[::2])
+    return "".join(parts)
+
+
+def escaped(text: str) -> str:
     doubled = text.replace("\\", "\\\\")
     return re.sub(r"[\x00-\x1f\x7f]", lambda found: f"\\x{ord(found[0]):02x}", doubled)
 
@@ -48,7 +57,7 @@ class Told:
     ) -> None:
         self.number, self.thread, self.is_local = number, thread, is_local
         self.method, self.source, self.instruction = place
-        self.did = ", ".join(words)
+        self.did = re.sub(f"[{BEGIN}{END}]", "", ", ".join(words))
         self.did_in_one_line = ", ".join(map(in_one_line, words))
 
     def words(self) -> str:

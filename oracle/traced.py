@@ -2,13 +2,15 @@
 
 from typing import Dict, List, NamedTuple, Optional, Sequence, Tuple, Union
 
+from oracle.classes import Class
 from oracle.frames import Frame
 from oracle.listing import Lines, instruction
 from oracle.machine import Machine
 from oracle.opcodes import MNEMONICS, PRIMITIVES, SILENT
 from oracle.state import Initialisation, JavaThread, NotEnabled, Object, Value, component
+from oracle.strings import STRING
 from oracle.texts import quoted
-from oracle.told import Spelled, Told
+from oracle.told import Told, spelled
 
 
 def ordinal(number: int) -> str:
@@ -50,19 +52,30 @@ def seen_before(thread: JavaThread, pick: int, printed: int, objects: int) -> Be
     return Before(top, len(thread.entries), thread.frames(), at, stack, waiting, pick, printed, objects)
 
 
+# Texts that the machine itself has Strings of: main's name, and what the message of a division by zero is.
+MACHINE_TEXTS = ["main", "/ by zero"]
+
+
+def texts_of(given: Sequence[Class], classes: Sequence[Class]) -> List[str]:
+    """The texts of which there are Strings before any event: those of files, of built-in classes, and of the machine."""
+    pools = [one.pool for one in [*given, *classes]]
+    texts = [value for pool in pools for sort, value in pool.values() if sort == "string"]
+    return list(dict.fromkeys([*texts, *MACHINE_TEXTS]))
+
+
 class Traced(Machine):
     """A machine whose objects have numbers, and which tells each event."""
 
     def __init__(self, files: Sequence[bytes]) -> None:
         super().__init__(files)
-        # What is there before any event: System.out, the arguments, main's Thread, a Class each, and the strings.
-        things = [self.classes["java/lang/System"].statics["out"], None, self.threads[0].object]
+        # What is there before any event: System.out, the arguments, main's Thread, a Class each, the strings, and
+        # System.err.
+        streams, classes = self.classes["java/lang/System"].statics, list(self.classes.values())
+        given = classes[-len(files) :]
+        things = [streams["out"], None, self.threads[0].object, *(one.object for one in classes)]
+        things += [*map(self.string, texts_of(given, classes)), streams["err"]]
         self.numbers = {id(thing): number for number, thing in enumerate(things) if thing is not None}
-        texts = [value for one in self.classes.values() for sort, value in one.pool.values() if sort == "string"]
-        self.next = 3 + len(self.classes) + len(dict.fromkeys(texts))
-        for place, text in enumerate(dict.fromkeys(texts)):
-            self.numbers[id(self.string(text))] = 3 + len(self.classes) + place
-        given = list(self.classes.values())[-len(files) :]
+        self.next = len(things)
         self.sources = {one.name: lines for one, lines in zip(given, map(Lines, files))}
         self.named = {id(one.object): one.name for one in self.classes.values()}
         self.kept: List[Object] = []
@@ -76,11 +89,14 @@ class Traced(Machine):
         """An object by its class and its number."""
         if id(thing) in self.named:
             return f"{self.named[id(thing)]}.class"
+        number = self.numbers.get(id(thing), 1)
+        if thing.kind == STRING:
+            return f"{spelled(quoted(thing.text))} #{number}"
         kind, arrays = thing.kind, 0
         while kind[0] == "[":
             kind, arrays = component(kind), arrays + 1
         kind = PRIMITIVES.get(kind, kind) if arrays else kind
-        return f"{kind}{'[]' * arrays} #{self.numbers.get(id(thing), 1)}"
+        return f"{kind}{'[]' * arrays} #{number}"
 
     def value(self, value: Value, descriptor: str = "I") -> str:
         if descriptor == "Z":
@@ -221,7 +237,7 @@ class Traced(Machine):
         if name in ("print", "println"):
             if (name, descriptor) == ("println", "(I)V"):
                 return [f"prints {before.stack[-1]}"]
-            return [Spelled(f"prints {quoted(self.printed[before.printed :])}")]
+            return [f"prints {spelled(quoted(self.printed[before.printed :]))}"]
         if name in ("wait", "join") and thread.waits:
             return [f"waits on {self.thing(thread.waits[0])}"]
         if name in ("notify", "notifyAll"):
@@ -233,10 +249,10 @@ class Traced(Machine):
             return [f"{verb} {self.thread_word(this)}"]
         if name == "<init>":
             return [f"runs {self.found_method(owner, name, descriptor).owner.name}.<init>"]
-        if self.objects > before.objects:
-            return [f"makes {self.thing(before.frame().stack[-1])}"]
-        result = descriptor[descriptor.index(")") + 1 :]
-        return [f"pushes {self.value(before.frame().stack[-1], result)}"]
+        given = before.frame().stack[-1]
+        if self.objects > before.objects and given is self.kept[-1]:
+            return [f"makes {self.thing(given)}"]
+        return [f"pushes {self.value(given, descriptor[descriptor.index(')') + 1 :])}"]
 
     def notify_words(self, name: str, before: Before) -> str:
         members = before.waiting[id(before.stack[-1])]

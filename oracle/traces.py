@@ -220,13 +220,21 @@ def cases() -> Tuple[str, str]:
 PROGRAMS = [
     ("prints", "Quoted", 37, "What is printed is told in quotation marks, but for a println of an int."),
     ("strings", "Asked", 54, "A method of String makes a String, or pushes what is there, or throws."),
+    ("builders", "Told", 68, "A method of StringBuilder makes a String, and pushes what is there; both streams print."),
 ]
+
+# In the place of a method that javac takes there stands another one, which no class of Java has for others to call.
+CHANGED = {
+    "(Ljava/lang/CharSequence;)Ljava/lang/StringBuilder;": "(Ljava/lang/StringBuilder;)Ljava/lang/StringBuilder;",
+}
 
 
 def traced_program(folder: str, name: str, events: int, comment: str) -> Tuple[List[str], str]:
     """The lines of the cases of a program of one thread, and what they have to print."""
     with tempfile.TemporaryDirectory() as classes:
         data = compiled([ROOT / f"programs/{name}.java"], classes)[0].read_bytes()
+    for old, new in CHANGED.items():
+        data = data.replace(utf8(old), utf8(new))
     text = ["", f"# {comment}", f"text {folder}.schedule"]
     text += [f"  0*{events}", *file_lines(f"{folder}/{name}.class", data)]
     printed = ""

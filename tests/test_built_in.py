@@ -4,7 +4,7 @@ import pathlib
 import tempfile
 import unittest
 
-from tools import built_in_tables
+from tools import built_in_tables, built_in_typings
 from tools.built_in_files import BuiltInFault, Told, laid_out, read_tree, spelled
 from tools.class_files import METHODREF, Pool, class_file, code_attribute, member
 from tools.definitions import Definitions
@@ -110,6 +110,24 @@ class LaidOut(unittest.TestCase):
         data = of_javac("public")
         with self.assertRaises(BuiltInFault):
             read_tree(data[:7] + b"\x34" + data[8:])
+
+
+class InTypings(unittest.TestCase):
+    def test_a_constructor(self) -> None:
+        told = Told(laid_out(of_javac("made")))
+        found = built_in_typings.Search({"A": told}, told, told.methods[0]).found
+        this, made = ("UninitialisedThis", "A", 0), ("OfType", "A", 0)
+        frames = {at: (frame.locals, frame.stack, frame.constructed) for at, frame in found.items()}
+        before = {at: ((this,), (this,) * at, False) for at in range(3)}
+        self.assertEqual(frames, {**before, 5: ((made,), (made,), True)})
+
+    def test_an_instruction_that_is_not_known(self) -> None:
+        told = Told(laid_out(of_javac("made")))
+        method = told.methods[0]
+        assert method.code is not None
+        method.code["code"] = list(b"\x2a\xbe\xac")
+        with self.assertRaises(built_in_typings.Fault):
+            built_in_typings.Search({"A": told}, told, method)
 
 
 class InTables(unittest.TestCase):

@@ -1,4 +1,4 @@
-// refused 4 Unresolved file 0 method main([Ljava/lang/String;)V offset 0
+// accepted
 /** Texts are put together by a StringBuilder. */
 final class HasConcatenation {
     static String text;

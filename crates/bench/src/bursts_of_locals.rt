@@ -47,7 +47,7 @@ fn argument_word(heap: &mut Heap, argument: Argument, number: u32) -> u32 {
     let made = match argument {
         Argument::Nothing => return 0,
         Argument::Ints => heap.alloc_ints(number),
-        Argument::Object => heap.alloc_object(0, 1),
+        Argument::Object => heap.alloc_object(0, 1, 1),
     };
     match made {
         Ok(reference) => reference.wrapping_add(1),

@@ -11,7 +11,7 @@ use std::env::Args;
 
 /// Whether one more object was made, whose field holds its reference and which thread 0 has entered.
 fn is_made(heap: &mut Heap) -> bool {
-    let Ok(object) = heap.alloc_object(0, 1) else {
+    let Ok(object) = heap.alloc_object(0, 1, 1) else {
         return false;
     };
     heap.put_field(object, 0, object);

@@ -11,7 +11,7 @@ use Rattle.model.specs.declared.instr.FieldAccess.{FieldAccess}
 use Rattle.model.specs.declared.instr.FieldAccess.TheVariants as access
 use Rattle.model.specs.declared.instr.Invocation.{Invocation}
 use Rattle.model.specs.declared.instr.Invocation.TheVariants as invocation
-use Rattle.model.specs.Names.{Name, Member}
+use Rattle.model.specs.Names.{Name, name_eq, Member, constructor_name, builder_text}
 use Rattle.model.specs.Pool.{field_at, method_at, interface_method_at}
 use Rattle.model.specs.Classes.{Program, Body, body_of}
 use Rattle.model.specs.ReferenceTypes.{ClassType, is_subtype}
@@ -24,12 +24,14 @@ use Rattle.model.specs.Outcomes.{OutcomeOf, Goes}
 use Rattle.model.specs.Monitors.{owns}
 use Rattle.model.specs.Worlds.{thread_at, thread_of, has_ended, is_owner, object_at}
 use Rattle.model.specs.ClassInitialisation.{status_of, Look, IsReady, IsNew, IsHeld, HasFailed, look_at}
-use Rattle.model.specs.Sites.{MeaningOf, Site, site_at, referent, int_operand}
-use Rattle.model.specs.BuiltInMethods.{BuiltInMethod, ObjectWait, ThreadStart, ThreadInterrupt, ThreadIsInterrupted, ThreadInterrupted, ThreadJoin, ThreadIsAlive, built_in_method, object_of}
+use Rattle.model.specs.Sites.{MeaningOf, Site, site_at, referent, int_operand, object_of}
+use Rattle.model.specs.declared.builder_method.BuilderMethod.{BuilderMethod}
+use Rattle.model.specs.declared.builder_method.BuilderMethod.TheVariants.{ConstructEmpty, ConstructOfString, AppendString, AppendInt, AppendChar, AppendBuilder, ToString}
+use Rattle.model.specs.BuiltInMethods.{BuiltInMethod, ObjectWait, ThreadStart, ThreadInterrupt, ThreadIsInterrupted, ThreadInterrupted, ThreadJoin, ThreadIsAlive, StringBuilderBuilds, built_in_method}
 use Rattle.model.specs.Calls.{Chosen, Fails, Runs, parameter_count, selected, its_class, of_receiver, if_implements, special_class}
 use Rattle.model.specs.Meanings.{meaning_of}
 use Rattle.model.specs.Step.{ops_of, before, initial_class, step}
-use Rattle.data_races.specs.Variables.{InstanceField, StaticField, Element}
+use Rattle.data_races.specs.Variables.{Variable, InstanceField, StaticField, Element}
 use Rattle.data_races.specs.Actions.{Action, Read, Write, Lock, Unlock, Begin, Finish, Start, Interrupt, ClearInterrupt, Wake, FinishInitialisation, FindStarted, FindFinished, FindInterrupted, FindNotInterrupted, FindWoken, FindInitialised}
 
 -- ---- what a thread does next, by the rules of events
@@ -123,10 +125,12 @@ abbrev pub run_virtual : Program → World → List Value → Member → Option 
 run_virtual files world ops named =
     option_and_then (λ (method : Member). chosen_on (λ other r. selected files (its_class other r) method) world ops method) (find_method files named)
 
--- (a constructor has no action)
+-- a constructor is the one that the named class declares
 abbrev pub run_special : Program → Site → World → List Value → Member → Option Member
 run_special files site world ops named =
-    option_and_then (λ (method : Member). chosen_on (λ other r. selected files (special_class files site.method.class named.class) method) world ops method)
+    if name_eq named.name constructor_name
+    then chosen_on (λ other r. Runs named) world ops named
+    else option_and_then (λ (method : Member). chosen_on (λ other r. selected files (special_class files site.method.class named.class) method) world ops method)
     (find_method files named)
 
 abbrev pub run_interface : Program → World → List Value → Member → Option Member
@@ -191,7 +195,7 @@ abbrev pub interrupts_on : World → ℕ → BuiltInMethod → List Action
 interrupts_on world object ThreadInterrupt = of_thread (thread_of world object) (λ u. only_if (not (is_over world u)) (Interrupt u ∷ []))
 interrupts_on world object _ = []
 
--- ---- which variables an instruction reads and writes, where it goes on to the next one
+-- ---- which variables an event reads and writes, where its instruction goes on to the next one
 
 -- a reference among the operands
 abbrev pub at_reference : List Value → ℕ → (ℕ → Action) → List Action
@@ -209,6 +213,24 @@ access_by files site ops (instr.Field access index) =
 access_by files site ops (instr.LoadElement kind) = at_reference ops 1 (λ r. Read (Element r (int_operand values ops 0)))
 access_by files site ops (instr.StoreElement kind) = at_reference ops 2 (λ r. Write (Element r (int_operand values ops 1)))
 access_by files site ops _ = []
+
+-- the text of a StringBuilder among the operands, if that is not null
+abbrev pub text_access : List Value → ℕ → (Variable → Action) → List Action
+text_access ops k action = at_reference ops k (λ r. action (InstanceField r builder_text))
+
+-- append reads the receiver's text, and that of a StringBuilder which it adds, and writes the receiver's
+abbrev pub builder_accesses : List Value → BuilderMethod → List Action
+builder_accesses ops ConstructEmpty = text_access ops 0 Write
+builder_accesses ops ConstructOfString = text_access ops 1 Write
+builder_accesses ops AppendString = text_access ops 1 Read ++ text_access ops 1 Write
+builder_accesses ops AppendInt = text_access ops 1 Read ++ text_access ops 1 Write
+builder_accesses ops AppendChar = text_access ops 1 Read ++ text_access ops 1 Write
+builder_accesses ops AppendBuilder = text_access ops 1 Read ++ text_access ops 0 Read ++ text_access ops 1 Write
+builder_accesses ops ToString = text_access ops 0 Read
+
+abbrev pub built_in_accesses : List Value → BuiltInMethod → List Action
+built_in_accesses ops (StringBuilderBuilds method) = builder_accesses ops method
+built_in_accesses ops _ = []
 
 abbrev pub goes_on : OutcomeOf Value → Bool
 goes_on (Goes cost world slots to) = true
@@ -239,6 +261,12 @@ built_in_at files world instruction = built_in_run files instruction.site world 
 abbrev pub receiver_of : Instruction → ℕ
 receiver_of instruction = object_of values (operands_of instruction) 0
 
+-- by the instruction itself, or by the built-in method that it runs
+abbrev pub accesses_at : Program → World → Instruction → List Action
+accesses_at files world instruction =
+    access_by files instruction.site (operands_of instruction) instruction.site.instr
+    ++ option_map_or (built_in_accesses (operands_of instruction)) (built_in_at files world instruction) []
+
 abbrev pub finds_of : Program → Event → World → Rule → List Action
 finds_of files event world Begins = Begin event.thread ∷ []
 finds_of files event world (Does instruction) =
@@ -251,8 +279,7 @@ finds_of files event world Other = []
 
 abbrev pub accesses_of : Program → Event → World → Rule → List Action
 accesses_of files event world (Does instruction) =
-    only_if (is_done event.thread world instruction && goes_on (outcome_at event world instruction))
-    (access_by files instruction.site (operands_of instruction) instruction.site.instr)
+    only_if (is_done event.thread world instruction && goes_on (outcome_at event world instruction)) (accesses_at files world instruction)
 accesses_of files event world _ = []
 
 abbrev pub interrupts_of : Program → Event → World → Rule → List Action

@@ -7,11 +7,10 @@ use Rattle.std.proofs.Math.Nat.{sub_self}
 use Rattle.std.proofs.Math.Seq.{take-set-lt, take-length, drop-append_seam}
 use Rattle.std.proofs.lemmas.List.{take-append-le, drop-append-le, length-set, length-take, set_past, get_or-take}
 use Rattle.std.proofs.lemmas.List.{get_or-drop, get_or_past, drop-set-lt, drop-set-add, take-set-le}
-use Rattle.std.proofs.lemmas.List.Sums.{sum_by-cons}
 use Rattle.heap.specs.declared.kind.ObjectKind.{ObjectKind}
 use Rattle.heap.specs.declared.layout.Entry.{Entry}
 use Rattle.heap.specs.Elements.{stored}
-use Rattle.heap.specs.Heap.{Object, cell_count, words_at, word_at, changed, with_word, put_field, put_element, kind_of}
+use Rattle.heap.specs.Heap.{Object, words_at, word_at, changed, with_word, put_field, put_element, kind_of}
 use Rattle.heap.specs.Layout.{first_start, object_of, objects_of, AreLaid, start_at, entry_kind}
 
 -- ---- parts of the list of cells
@@ -104,36 +103,11 @@ pub length-objects_of : (es : List Entry) (cells : List ℕ) → length (objects
 length-objects_of [] cells = refl
 length-objects_of (e ∷ es) cells = ap suc (length-objects_of es cells)
 
-pub drop-objects_of : (k : ℕ) (es : List Entry) (cells : List ℕ)
-    → drop k (objects_of es cells) ≡ objects_of (drop k es) cells
-drop-objects_of zero es cells = refl
-drop-objects_of (suc k) [] cells = refl
-drop-objects_of (suc k) (e ∷ es) cells = drop-objects_of k es cells
-
 pub kind-objects_of : (es : List Entry) (cells : List ℕ) (r : ℕ)
     → option_map kind_of (slice_get (objects_of es cells) r) ≡ option_map entry_kind (slice_get es r)
 kind-objects_of [] cells r = refl
 kind-objects_of (e ∷ es) cells zero = refl
 kind-objects_of (e ∷ es) cells (suc r) = kind-objects_of es cells r
-
-pub cells-objects_of : (es : List Entry) (cells : List ℕ) → AreLaid es (length cells)
-    → cell_count (objects_of es cells) + first_start es (length cells) ≡ length cells
-cells-objects_of [] cells h = omega arith
-cells-objects_of (e ∷ es) cells h =
-    let next : first_start es (length cells) ≤ length cells = first_le_end es (length cells) h.2 in
-    omega (
-      arith,
-      h.0,
-      cells-objects_of es cells h.2,
-      length-range cells e.start (first_start es (length cells)) next,
-      sum_by-cons (λ (object : Object). length object.words) (object_of e (first_start es (length cells)) cells)
-          (objects_of es cells),
-    )
-
-pub cells_from : (es : List Entry) (cells : List ℕ) (r : ℕ) → AreLaid es (length cells)
-    → cell_count (drop r (objects_of es cells)) + start_at es (length cells) r ≡ length cells
-cells_from es cells r h = rw (drop-objects_of r es cells) (cells-objects_of (drop r es) cells
-    (laid-drop r es (length cells) h))
 
 -- ---- one more object
 
@@ -144,12 +118,6 @@ pub first_start-push : (es : List Entry) (kind : ObjectKind) (n m : ℕ)
     → first_start (es ++ entry kind n ∷ []) m ≡ first_start es n
 first_start-push [] kind n m = refl
 first_start-push (e ∷ es) kind n m = refl
-
-pub start_at-push : (es : List Entry) (kind : ObjectKind) (n m k : ℕ) → k ≤ length es
-    → start_at (es ++ entry kind n ∷ []) m k ≡ start_at es n k
-start_at-push es kind n m zero h = first_start-push es kind n m
-start_at-push [] kind n m (suc k) h = absurd (omega (arith, h))
-start_at-push (e ∷ es) kind n m (suc k) h = start_at-push es kind n m k (omega (arith, h))
 
 pub laid-push : (es : List Entry) (kind : ObjectKind) (n k : ℕ) → AreLaid es n → k < 2 ^ 32
     → AreLaid (es ++ entry kind n ∷ []) (n + k)

@@ -1,6 +1,6 @@
 -- Objects by their references, as lists of words, with their monitors (own): what each call of the heap makes of them.
 use Rattle.std.specs.Prelude.{◌≡◌, ℕ, ◌+◌, ◌-◌, ◌<◌, ◌≤◌, ◌^◌, List, [], ◌∷◌, ◌++◌, Option, Some, None, Result, Ok, Err}
-use Rattle.std.specs.Prelude.{false, length, drop, replicate, sum_by, slice_get, slice_index, slice_set}
+use Rattle.std.specs.Prelude.{false, length, replicate, slice_get, slice_index, slice_set}
 use Rattle.model.specs.Monitors.{unlocked, monitor_at}
 use Rattle.model.specs.declared.monitor_answer.MonitorAnswer.{MonitorAnswer}
 use Rattle.heap.specs.monitor.Locks.{Locks, Answers}
@@ -17,12 +17,13 @@ pub record Object : Type 0 where
   pub kind : ObjectKind
   pub words : List ℕ
 
--- the objects and the locks by their references; how many of the objects belong to the opening state; how many more
--- objects may be allocated, and how many cells (fields and elements) these may have together
+-- the objects and the locks by their references; how many of the objects belong to the opening state; how many cells
+-- were counted of those that were allocated since; how many such objects there may be, and how many such cells
 pub record Heap : Type 0 where
   pub objects : List Object
   pub locks : Locks
   pub opening : ℕ
+  pub counted : ℕ
   pub object_limit : ℕ
   pub cell_limit : ℕ
 
@@ -30,12 +31,6 @@ pub record Heap : Type 0 where
 
 abbrev pub made : Heap → ℕ
 made heap = length heap.objects - heap.opening
-
-abbrev pub cell_count : List Object → ℕ
-cell_count objects = sum_by (λ (object : Object). length object.words) objects
-
-abbrev pub cells_made : Heap → ℕ
-cells_made heap = cell_count (drop heap.opening heap.objects)
 
 -- ---- a new object
 
@@ -47,32 +42,40 @@ fresh kind count = record { kind = kind; words = replicate count 0 }
 abbrev pub with_lock : Locks → Locks
 with_lock locks = record locks { monitors = locks.monitors ++ unlocked ∷ []; fat = locks.fat ++ false ∷ [] }
 
-abbrev pub with_object : Heap → Object → Heap
-with_object heap object = record heap { objects = heap.objects ++ object ∷ []; locks = with_lock heap.locks }
+-- so many of its words count as cells
+abbrev pub with_object : Heap → Object → (counted : ℕ) → Heap
+with_object heap object counted = record heap {
+  objects = heap.objects ++ object ∷ [];
+  locks = with_lock heap.locks;
+  counted = heap.counted + counted;
+}
 
--- an object of so many words was allocated, and no limit stood: its reference r is the next, and r + 1 is a word
-pub record IsAllocated (reference : ℕ) (kind : ObjectKind) (count : ℕ) (old new : Heap) : Type 0 where
+-- an object of so many words, of which so many count as cells, was allocated, and no limit stood: its reference r is
+-- the next, and r + 1 is a word
+pub record IsAllocated (reference : ℕ) (kind : ObjectKind) (count counted : ℕ) (old new : Heap) : Type 0 where
   pub answer : reference ≡ length old.objects
   pub fits : reference + 1 < 2 ^ 32
+  pub opened : old.opening ≤ length old.objects
   pub objects : made old < old.object_limit
-  pub cells : cells_made old + count ≤ old.cell_limit
-  pub after : new ≡ with_object old (fresh kind count)
+  pub cells : old.counted + counted ≤ old.cell_limit
+  pub after : new ≡ with_object old (fresh kind count) counted
 
 -- it was not, for this cause: nothing has changed; where both limits stand, it is Objects
 abbrev pub IsRefused : AllocRefusal → ℕ → Heap → Heap → Type 0
-IsRefused Objects count old new = (old.object_limit ≤ made old) × (new ≡ old)
-IsRefused Cells count old new = (made old < old.object_limit) × (old.cell_limit < cells_made old + count) × (new ≡ old)
-IsRefused Memory count old new = (made old < old.object_limit) × (cells_made old + count ≤ old.cell_limit) × (new ≡ old)
+IsRefused Objects counted old new = (old.object_limit ≤ made old) × (new ≡ old)
+IsRefused Cells counted old new = (made old < old.object_limit) × (old.cell_limit < old.counted + counted) × (new ≡ old)
+IsRefused Memory counted old new =
+    (made old < old.object_limit) × (old.counted + counted ≤ old.cell_limit) × (new ≡ old)
 
-abbrev pub Allocates : Result ℕ AllocRefusal → ObjectKind → ℕ → Heap → Heap → Type 0
-Allocates (Ok reference) kind count old new = IsAllocated reference kind count old new
-Allocates (Err refusal) kind count old new = IsRefused refusal count old new
+abbrev pub Allocates : Result ℕ AllocRefusal → ObjectKind → (count counted : ℕ) → Heap → Heap → Type 0
+Allocates (Ok reference) kind count counted old new = IsAllocated reference kind count counted old new
+Allocates (Err refusal) kind count counted old new = IsRefused refusal counted old new
 
--- an object of the opening state was added, and all before it belong to the opening state
+-- an object of the opening state was added, and all before it belong to the opening state: no cell counts
 pub record IsOpened (reference : ℕ) (kind : ObjectKind) (count : ℕ) (old new : Heap) : Type 0 where
   pub answer : reference ≡ length old.objects
   pub fits : reference + 1 < 2 ^ 32
-  pub after : new ≡ record (with_object old (fresh kind count)) { opening = length old.objects + 1 }
+  pub after : new ≡ record (with_object old (fresh kind count) 0) { opening = length old.objects + 1; counted = 0 }
 
 -- ---- fields and elements
 

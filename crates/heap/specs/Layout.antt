@@ -38,22 +38,23 @@ pub record IsPlace (place : ℕ) (entries : List Entry) (end reference number : 
   pub there : place < end
 
 -- what a heap shows
-abbrev pub heap_of : List Entry → List ℕ → Locks → (opening object_limit cell_limit : ℕ) → Heap
-heap_of entries cells locks opening object_limit cell_limit =
+abbrev pub heap_of : List Entry → List ℕ → Locks → (opening counted object_limit cell_limit : ℕ) → Heap
+heap_of entries cells locks opening counted object_limit cell_limit =
     record {
       objects = objects_of entries cells;
       locks = locks;
       opening = opening;
+      counted = counted;
       object_limit = object_limit;
       cell_limit = cell_limit;
     }
 
 -- what it keeps
-pub record IsSound (entries : List Entry) (end monitors opening object_limit cell_limit : ℕ) : Type 0 where
+pub record IsSound (entries : List Entry) (end monitors opening counted object_limit cell_limit : ℕ) : Type 0 where
   pub laid : AreLaid entries end
   pub monitored : monitors ≡ length entries
   pub opened : opening ≤ length entries
   pub opening_fits : opening ≤ 294967295
   pub objects_fit : length entries ≤ opening + object_limit
   pub limit_fits : object_limit ≤ 4000000000
-  pub cells_fit : end ≤ start_at entries end opening + cell_limit
+  pub cells_fit : counted ≤ cell_limit

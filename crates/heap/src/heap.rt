@@ -3,7 +3,7 @@
 ghost use Rattle.std.specs.Prelude.{◌≡◌, ◌+◌, ◌<◌, ◌↔◌, [], Ok, IfOk, OnErr, IsTrue, length, slice_get, option_map};
 ghost use Rattle.model.specs.Monitors.{monitor_at};
 ghost use Rattle.heap.specs.monitor.Locks.{IsAllowed, is_fat_at};
-ghost use Rattle.heap.specs.Heap.{made, cells_made, Allocates, IsOpened, words_at, word_at, put_field, put_element};
+ghost use Rattle.heap.specs.Heap.{made, Allocates, IsOpened, words_at, word_at, put_field, put_element};
 ghost use Rattle.heap.specs.Heap.{HandsOn, kind_of};
 
 mod parts;
@@ -30,6 +30,7 @@ pub struct Heap {
     cells: Vec<u32>,
     monitors: Monitors,
     opening: u32,
+    counted: u32,
     object_limit: u32,
     cell_limit: u32,
 }
@@ -41,10 +42,11 @@ impl Model for Heap {
 
     ghost Value = { Shown };
 
-    ghost view = { λ h. heap_of h.table.items h.cells.items h.monitors h.opening h.object_limit h.cell_limit };
+    ghost view = { λ h. heap_of h.table.items h.cells.items h.monitors
+        h.opening h.counted h.object_limit h.cell_limit };
 
     ghost invariant = { λ h. IsSound h.table.items (length h.cells.items) (length h.monitors.monitors)
-        h.opening h.object_limit h.cell_limit };
+        h.opening h.counted h.object_limit h.cell_limit };
 }
 
 impl Heap {
@@ -54,6 +56,7 @@ impl Heap {
           objects = [];
           locks = record { monitors = []; fat = []; limit = limits.monitors };
           opening = 0;
+          counted = 0;
           object_limit = limits.objects;
           cell_limit = limits.cells;
         } }
@@ -63,6 +66,7 @@ impl Heap {
             cells: Vec::new(alloc),
             monitors: Monitors::new(alloc, limits.monitors),
             opening: 0,
+            counted: 0,
             object_limit: limits.objects,
             cell_limit: limits.cells,
         }
@@ -83,6 +87,7 @@ impl Heap {
             count,
         )?;
         self.opening = reference + 1;
+        self.counted = 0;
         Ok(reference)
     }
 
@@ -93,24 +98,21 @@ impl Heap {
         self.object_limit - (self.table.len() - self.opening as usize) as u32
     }
 
-    /// How many cells the objects may still have that are allocated.
-    pub(crate) fn cells_left(&self) -> usize
-        ensures { result + cells_made self.now ≡ self.now.cell_limit }
+    /// How many cells may still be counted of objects that are allocated.
+    pub(crate) fn cells_left(&self) -> u32
+        ensures { result + self.now.counted ≡ self.now.cell_limit }
     {
-        let table = self.table.as_slice();
-        let cells = self.cells.as_slice();
-        let opened = layout::start(table, cells, self.opening as usize);
-        self.cell_limit as usize - (cells.len() - opened)
+        self.cell_limit - self.counted
     }
 
-    /// One more object, where no limit stands.
-    fn alloc(&mut self, kind: ObjectKind, count: u32) -> Result<u32, AllocRefusal>
-        ensures { Allocates result kind count self.old self.new }
+    /// One more object, where no limit stands. Of its words so many count as cells.
+    fn alloc(&mut self, kind: ObjectKind, count: u32, counted: u32) -> Result<u32, AllocRefusal>
+        ensures { Allocates result kind count counted self.old self.new }
     {
         if self.objects_left() == 0 {
             return Err(AllocRefusal::Objects);
         }
-        if self.cells_left() < count as usize {
+        if self.cells_left() < counted {
             return Err(AllocRefusal::Cells);
         }
         let reference = self.len();
@@ -121,35 +123,41 @@ impl Heap {
             kind,
             count,
         )?;
+        self.counted += counted;
         Ok(reference)
     }
 
-    /// One more instance of a class, whose fields are 0.
-    pub fn alloc_object(&mut self, class: u32, fields: u32) -> Result<u32, AllocRefusal>
-        ensures { Allocates result (ObjectKind.Instance class) fields self.old self.new }
+    /// One more instance of a class, whose fields are 0. So many of them count as cells.
+    pub fn alloc_object(
+        &mut self,
+        class: u32,
+        fields: u32,
+        counted: u32,
+    ) -> Result<u32, AllocRefusal>
+        ensures { Allocates result (ObjectKind.Instance class) fields counted self.old self.new }
     {
-        self.alloc(ObjectKind::Instance { class }, fields)
+        self.alloc(ObjectKind::Instance { class }, fields, counted)
     }
 
     /// One more array of ints, which are 0.
     pub fn alloc_ints(&mut self, length: u32) -> Result<u32, AllocRefusal>
-        ensures { Allocates result ObjectKind.Ints length self.old self.new }
+        ensures { Allocates result ObjectKind.Ints length length self.old self.new }
     {
-        self.alloc(ObjectKind::Ints, length)
+        self.alloc(ObjectKind::Ints, length, length)
     }
 
     /// One more array of references, which are null. Its type has this number.
     pub fn alloc_refs(&mut self, of: u32, length: u32) -> Result<u32, AllocRefusal>
-        ensures { Allocates result (ObjectKind.References of) length self.old self.new }
+        ensures { Allocates result (ObjectKind.References of) length length self.old self.new }
     {
-        self.alloc(ObjectKind::References { of }, length)
+        self.alloc(ObjectKind::References { of }, length, length)
     }
 
     /// One more array of booleans, chars, bytes or shorts, which are 0.
     pub fn alloc_narrow(&mut self, kind: NarrowKind, length: u32) -> Result<u32, AllocRefusal>
-        ensures { Allocates result (ObjectKind.Narrow kind) length self.old self.new }
+        ensures { Allocates result (ObjectKind.Narrow kind) length length self.old self.new }
     {
-        self.alloc(ObjectKind::Narrow(kind), length)
+        self.alloc(ObjectKind::Narrow(kind), length, length)
     }
 
     /// How many objects there are, each of which has a monitor.

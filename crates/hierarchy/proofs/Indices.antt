@@ -79,14 +79,14 @@ pub get_behind : {A : Type 0} (xs ys : List A) (k : ℕ) → slice_get (xs ++ ys
 get_behind [] ys k = let same : zero + k ≡ k = omega arith in ap (slice_get ys) same
 get_behind (x ∷ xs) ys k = let same : suc (length xs) + k ≡ suc (length xs + k) = omega arith in rw same (get_behind xs ys k)
 
-pub built_in_count : length built_in_classes ≡ 36
+pub built_in_count : length built_in_classes ≡ 37
 unfolding built_in_classes
 built_in_count = refl
 
-pub file_behind : (files : Program) (k : ℕ) → slice_get (classes_of files) (36 + k) ≡ slice_get files k
+pub file_behind : (files : Program) (k : ℕ) → slice_get (classes_of files) (37 + k) ≡ slice_get files k
 file_behind files k = ap (λ n. slice_get (classes_of files) (n + k)) (sym built_in_count) ∙ get_behind built_in_classes files k
 
-pub count_behind : (files : Program) → length (classes_of files) ≡ 36 + length files
+pub count_behind : (files : Program) → length (classes_of files) ≡ 37 + length files
 count_behind files = length-append built_in_classes files ∙ ap (λ n. n + length files) built_in_count
 
 pub take_enough : {A : Type 0} (xs : List A) (n : ℕ) → length xs ≤ n → take n xs ≡ xs

@@ -47,6 +47,12 @@ pub narrowed_type : (files : Program) (site : Site) (t : reference.ReferenceType
 narrowed_type files site t (Ok m) M h = h files site t
 narrowed_type files site t (Err e) M h = tt
 
+-- and what is told of each number
+pub narrowed_number : (files : Program) (site : Site) (n : ℕ) (r : Result Meaning NoMeaning) (M : Site → ℕ → MeaningOf Value)
+    → IfOk r (λ m. (files : Program) (site : Site) (n : ℕ) → Means files site m (M site n)) → IfOk r (λ m. Means files site m (M site n))
+narrowed_number files site n (Ok m) M h = h files site n
+narrowed_number files site n (Err e) M h = tt
+
 module _ (files : Program) (site : Site) (refused : Bool) where
   -- ---- answers
 

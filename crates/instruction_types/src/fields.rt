@@ -1,21 +1,21 @@
 //! Instructions on fields (JVMS 6.5).
 
-ghost use Rattle.std.specs.Prelude.{◌≡◌, ◌||◌, Bool, Some, IsFalse, IfOk, IfErr};
+ghost use Rattle.std.specs.Prelude.{◌≡◌, ◌||◌, ℕ, Bool, Some, IsFalse, IfOk, IfErr};
 ghost use Rattle.std.specs.List.{list_any};
-ghost use Rattle.model.specs.Names.{member_eq, system_out};
+ghost use Rattle.model.specs.Names.{member_eq, system_out, system_err};
 ghost use Rattle.model.specs.Classes.{Program};
 ghost use Rattle.model.specs.Linkable.{stands, DuplicateClass};
 ghost use Rattle.model.specs.Resolution.{is_missing, member_classes, wants_static_field};
 ghost use Rattle.model.specs.Operands.{values};
 ghost use Rattle.model.specs.Sites.{Site};
-ghost use Rattle.model.specs.Meanings.{system_out_meaning, field_meaning, owner_want};
+ghost use Rattle.model.specs.Meanings.{system_stream_meaning, field_meaning, owner_want};
 ghost use Rattle.constant_pool.specs.View.{reference_of};
 ghost use Rattle.hierarchy.specs.Places.{member_in};
 ghost use Rattle.instruction_types.specs.operand_types.View.{want_in};
 ghost use Rattle.types.specs.described_types.Described.{Gives};
 ghost use Rattle.instruction_types.specs.Means.{Means};
 ghost use Rattle.instruction_types.specs.Answers.{Answers};
-ghost use Rattle.instruction_types.specs.Fields.{gets_system_out, accessed};
+ghost use Rattle.instruction_types.specs.Fields.{gets_system_stream, accessed};
 
 use crate::leads::Leads;
 use crate::meaning::{Meaning, NoMeaning, popping};
@@ -38,11 +38,19 @@ fn is_system_out(field: Reference<'_>) -> bool
         && field.descriptor == b"Ljava/io/PrintStream;".as_slice()
 }
 
-/// `getstatic` of System.out.
+fn is_system_err(field: Reference<'_>) -> bool
+    ensures { result ≡ member_eq (reference_of field.entry) system_err }
+{
+    field.class == b"java/lang/System".as_slice()
+        && field.name == b"err".as_slice()
+        && field.descriptor == b"Ljava/io/PrintStream;".as_slice()
+}
+
+/// `getstatic` of System.out or System.err.
 #[tactic(auto, unfolding(model::specs::BuiltIn::built_in_classes))]
-fn system_out(alloc: Global) -> Result<Meaning, NoMeaning>
-    ensures means { IfOk result (λ m. (files : Program) (site : Site)
-        → Means files site m (system_out_meaning values site.next)) }
+fn system_stream(alloc: Global) -> Result<Meaning, NoMeaning>
+    ensures means { IfOk result (λ m. (files : Program) (site : Site) (stream : ℕ)
+        → Means files site m (system_stream_meaning values site.next stream)) }
     ensures memory { IfErr result (λ e. e ≡ NoMeaning.OutOfMemory) }
 {
     let stream = VerificationType::Object(class_type(PRINT_STREAM));
@@ -110,11 +118,11 @@ fn wants_static(access: FieldAccess) -> bool
     }
 }
 
-fn gets_system_out(access: FieldAccess, field: Reference<'_>) -> bool
-    ensures { result ≡ gets_system_out access (reference_of field.entry) }
+fn gets_system_stream(access: FieldAccess, field: Reference<'_>) -> bool
+    ensures { result ≡ gets_system_stream access (reference_of field.entry) }
 {
     match access {
-        FieldAccess::GetStatic => is_system_out(field),
+        FieldAccess::GetStatic => is_system_out(field) || is_system_err(field),
         FieldAccess::PutStatic => false,
         FieldAccess::GetField => false,
         FieldAccess::PutField => false,
@@ -134,8 +142,8 @@ pub(crate) fn on_field(
         (list_any (is_missing hierarchy.now) (member_classes (Some (reference_of field.entry))) || others)
         (field_meaning values hierarchy.now site.next access (reference_of field.entry)) result }
 {
-    if gets_system_out(access, field) {
-        return system_out(alloc);
+    if gets_system_stream(access, field) {
+        return system_stream(alloc);
     }
     let set = hierarchy.set();
     let Some(found) = hierarchy.find_field(field) else {

@@ -5,7 +5,7 @@ use Rattle.std.proofs.Math.Seq.{get_or-append_seam, set-append_seam}
 use Rattle.model.specs.State.{Monitor, Thread, new_thread}
 use Rattle.model.specs.Monitors.{monitor_at, unlocked}
 use Rattle.heap.specs.monitor.Locks.{Locks, is_fat_at}
-use Rattle.heap.specs.Heap.{Object, Heap}
+use Rattle.heap.specs.Heap.{Object, Heap, with_object}
 use Rattle.heap.specs.declared.kind.ObjectKind.{ObjectKind}
 use Rattle.heap.specs.java_threads.Table.{ThreadTable, thread_at, with_thread}
 use Rattle.heap.specs.java_threads.Statuses.{status_of}
@@ -104,7 +104,11 @@ kept_last : (opening : Bool) (count object : ℕ) (o : Object) (m : Monitor) (fa
 kept_last false count object o m fat old a b =
     ap (λ (l : Locks). record old { objects = old.objects ++ o ∷ []; locks = l }) (locks_last old.locks object m fat a b)
 kept_last true count object o m fat old a b =
-    ap (λ (l : Locks). record old { objects = old.objects ++ o ∷ []; locks = l; opening = count }) (locks_last old.locks object m fat a b)
+    ap (λ (l : Locks). record old { objects = old.objects ++ o ∷ []; locks = l; opening = count; counted = 0 }) (locks_last old.locks object m fat a b)
+
+-- an object of which no cell counts
+pub none_counted : (o : Object) (old new : Heap) → new ≡ with_object old o 0 → new ≡ with_kept o unlocked false old
+none_counted o old new is = is ∙ ap (λ (n : ℕ). record (with_kept o unlocked false old) { counted = n }) (omega arith)
 
 pub object_read : (opening fat : Bool) (object count : ℕ) (kind : ObjectKind) (words row first second third rest : List ℕ) (old mid new : Heap)
     → object ≡ length old.locks.monitors → object ≡ length old.locks.fat

@@ -160,12 +160,13 @@ pub record AreRead (parts : List (List ℕ)) (limits : Limits) (opening place : 
   pub fat_many : length heap.locks.fat ≡ place
   pub below : place ≤ opening → heap.opening ≡ place
   pub above : opening ≤ place → heap.opening ≡ opening
+  pub counted_is : heap.counted ≡ 0
   pub objects_limited : heap.object_limit ≡ limits.objects
   pub cells_limited : heap.cell_limit ≡ limits.cells
   pub monitors_limited : heap.locks.limit ≡ limits.monitors
 
 pub none_read : (parts : List (List ℕ)) (limits : Limits) (opening : ℕ) (numbers fat : List ℕ) (heap : Heap)
-    → heap ≡ record { objects = []; locks = record { monitors = []; fat = []; limit = limits.monitors }; opening = 0; object_limit = limits.objects; cell_limit = limits.cells }
+    → heap ≡ record { objects = []; locks = record { monitors = []; fat = []; limit = limits.monitors }; opening = 0; counted = 0; object_limit = limits.objects; cell_limit = limits.cells }
     → AreRead parts limits opening 0 numbers fat heap
 none_read parts limits opening numbers fat heap is =
     subst (λ (h : Heap). AreRead parts limits opening 0 numbers fat h) (sym is) (record {
@@ -175,6 +176,7 @@ none_read parts limits opening numbers fat heap is =
       fat_many = refl;
       below = λ h. refl;
       above = λ h. omega (arith, h);
+      counted_is = refl;
       objects_limited = refl;
       cells_limited = refl;
       monitors_limited = refl;
@@ -223,6 +225,7 @@ one_opening parts limits opening place number word numbers fat old new a there e
       fat_many = so.fat_many;
       below = λ h. omega (arith, a.many);
       above = λ h. omega (arith, a.many, h, early);
+      counted_is = refl;
       objects_limited = a.objects_limited;
       cells_limited = a.cells_limited;
       monitors_limited = a.monitors_limited;
@@ -242,6 +245,7 @@ one_behind parts limits opening place number word numbers fat old new a there ev
       fat_many = so.fat_many;
       below = λ h. absurd (omega (arith, h, late));
       above = λ h. a.above late;
+      counted_is = a.counted_is;
       objects_limited = a.objects_limited;
       cells_limited = a.cells_limited;
       monitors_limited = a.monitors_limited;
@@ -249,11 +253,12 @@ one_behind parts limits opening place number word numbers fat old new a there ev
 
 pub all_read : (parts : List (List ℕ)) (limits : Limits) (opening place : ℕ) (numbers fat : List ℕ) (heap : Heap)
     → AreRead parts limits opening place numbers fat heap → length numbers ≤ place → length fat ≡ length numbers → opening ≤ length numbers
-    → IsHeapRead parts limits opening numbers fat heap
+    → IsHeapRead parts limits opening 0 numbers fat heap
 all_read parts limits opening place numbers fat heap a all even within = record {
   are = rw (take_all place numbers all) at a.are;
   fat_is = sym (take_all place fat (omega (arith, all, even))) ∙ a.fat_is;
   opening_is = a.above (omega (arith, all, within));
+  counted_is = a.counted_is;
   objects_limited = a.objects_limited;
   cells_limited = a.cells_limited;
   monitors_limited = a.monitors_limited;

@@ -23,12 +23,14 @@ pub record IsHeapWritten (heap : Heap) (number : ℕ) (numbers : List ℕ) (old 
   pub are : IsHeapKept new numbers heap
   pub stands : StandsFor new number numbers
 
--- a heap was read under these limits, with flags of the locks that are inflated
-pub record IsHeapRead (parts : List (List ℕ)) (limits : Limits) (opening : ℕ) (numbers fat : List ℕ)
+-- A heap was read under these limits, with flags of the locks that are inflated. So many objects belong to the opening
+-- state, and so many cells of the others count.
+pub record IsHeapRead (parts : List (List ℕ)) (limits : Limits) (opening counted : ℕ) (numbers fat : List ℕ)
     (heap : Heap) : Type 0 where
   pub are : IsHeapKept parts numbers heap
   pub fat_is : fat ≡ flags_row heap.locks.fat
   pub opening_is : heap.opening ≡ opening
+  pub counted_is : heap.counted ≡ counted
   pub objects_limited : heap.object_limit ≡ limits.objects
   pub cells_limited : heap.cell_limit ≡ limits.cells
   pub monitors_limited : heap.locks.limit ≡ limits.monitors

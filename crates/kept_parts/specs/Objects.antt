@@ -100,10 +100,10 @@ with_kept object monitor fat heap =
       locks = record heap.locks { monitors = heap.locks.monitors ++ monitor ∷ []; fat = heap.locks.fat ++ fat ∷ [] };
     }
 
--- an object was read, and all before it belong to the opening state, too, if it does
+-- an object was read, and all before it belong to the opening state, too, if it does; no cell of these counts
 abbrev pub opened : Bool → (count : ℕ) → Heap → Heap
 opened Bool.false count heap = heap
-opened Bool.true count heap = record heap { opening = count }
+opened Bool.true count heap = record heap { opening = count; counted = 0 }
 
 pub record IsObjectRead (opening fat : Bool) (row : List ℕ) (old new : Heap) : Type 0 where
   pub object : Object

@@ -200,7 +200,7 @@ fn read_numbered(
 }
 
 /// A heap of the objects of these numbers, so many of which belong to the opening state. The flags say which locks are
-/// inflated.
+/// inflated. No cell of the objects counts.
 pub fn read_heap(
     alloc: Global,
     parts: &WordTable,
@@ -209,7 +209,7 @@ pub fn read_heap(
     numbers: &[u32],
     fat: &[u32],
 ) -> Result<Heap, AllocError>
-    ensures { IfOk result (IsHeapRead parts.now limits opening numbers.now fat.now) }
+    ensures { IfOk result (IsHeapRead parts.now limits opening 0 numbers.now fat.now) }
 {
     if fat.len() != numbers.len() || numbers.len() < opening as usize {
         return Err(AllocError);

@@ -10,7 +10,8 @@
 //! - `push_thread` puts the row of a thread behind other words. `heap_number` writes the row of each object, and
 //!   answers a number that stands for the list of their numbers. What is the same in a heap before keeps its number:
 //!   then the number stands for it, too. `fat_number` does the same for the flags of inflated locks.
-//! - `read_heap`, `read_main` and `read_thread` answer only what has these rows, under the limits that are given.
+//! - `read_heap`, `read_main` and `read_thread` answer only what has these rows, under the limits that are given. No
+//!   cell of the heap that is read counts: a row of an object doesn't tell how many of its words do.
 //! - What `is_same_stack` and `is_same_thread` find to be the same is.
 //!
 //! # Not proved
@@ -25,6 +26,7 @@
 //!   a list of numbers stands for another one; refused by the contracts of `heap_number` and of what it calls.
 //! - `row-without-the-monitor`, `waiter-joins-with-one-entry`: a monitor is left out, or read as another one;
 //!   refused by the contracts of `push_object` and `read_monitor`.
+//! - `object-read-counts-a-cell`: a cell counts of each object that is read; refused by that of `add_object`.
 //! - `operands-are-not-compared`: a stack is found to be the same where an entry has fewer operands; refused by that of
 //!   `is_same_stack`.
 #![tactic(auto)]

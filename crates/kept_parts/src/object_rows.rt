@@ -29,7 +29,9 @@ pub(crate) fn push_object(row: &mut Vec<u32>, heap: &Heap, object: u32) -> Resul
     push_monitor(row, heap, object)
 }
 
-/// Adds an object to a heap, where it belongs to the opening state with all objects before it, or does not.
+/// Adds an object to a heap, where it belongs to the opening state with all objects before it, or does not. No cell of
+/// the object counts.
+#[tactic(auto, using(crate::proofs::Fields::none_counted))]
 fn add_object(
     heap: &mut Heap,
     kind: ObjectKind,
@@ -41,7 +43,7 @@ fn add_object(
         (with_kept (record { kind = kind; words = words.now }) unlocked false heap.old)) }
 {
     if !opening {
-        match heap.add_words(kind, words) {
+        match heap.add_words(kind, words, 0) {
             Ok(()) => Ok(()),
             Err(_) => Err(AllocError),
         }

@@ -108,15 +108,17 @@ row_stays old new row s grows is = record {
 pub record AreNearlyTheSame (one other : Shared) : Type 0 where
   pub alike : AreAlike one other
   pub opening : one.heap.opening ≡ other.heap.opening
+  pub counted : one.heap.counted ≡ other.heap.counted
   pub object_limit : one.heap.object_limit ≡ other.heap.object_limit
   pub cell_limit : one.heap.cell_limit ≡ other.heap.cell_limit
   pub monitor_limit : one.heap.locks.limit ≡ other.heap.locks.limit
   pub thread_limit : one.threads.limit ≡ other.threads.limit
   pub ready : one.ready.items ≡ other.ready.items
 
--- the nine words beside objects and threads
+-- the ten words beside objects and threads
 record AreWords (one other : Shared) (n m : GlobalNumbers) : Type 0 where
   opening : one.heap.opening ≡ other.heap.opening
+  counted : one.heap.counted ≡ other.heap.counted
   object_limit : one.heap.object_limit ≡ other.heap.object_limit
   cell_limit : one.heap.cell_limit ≡ other.heap.cell_limit
   monitor_limit : one.heap.locks.limit ≡ other.heap.locks.limit
@@ -136,16 +138,18 @@ words_one one other n m h =
     let h6 = tail_is _ _ _ _ h5 in
     let h7 = tail_is _ _ _ _ h6 in
     let h8 = tail_is _ _ _ _ h7 in
+    let h9 = tail_is _ _ _ _ h8 in
     record {
       opening = head_is _ _ _ _ h;
-      object_limit = head_is _ _ _ _ h1;
-      cell_limit = head_is _ _ _ _ h2;
-      monitor_limit = head_is _ _ _ _ h3;
-      thread_limit = head_is _ _ _ _ h4;
-      statics = head_is _ _ _ _ h5;
-      statuses = head_is _ _ _ _ h6;
-      ready = head_is _ _ _ _ h7;
-      printed = head_is _ _ _ _ h8;
+      counted = head_is _ _ _ _ h1;
+      object_limit = head_is _ _ _ _ h2;
+      cell_limit = head_is _ _ _ _ h3;
+      monitor_limit = head_is _ _ _ _ h4;
+      thread_limit = head_is _ _ _ _ h5;
+      statics = head_is _ _ _ _ h6;
+      statuses = head_is _ _ _ _ h7;
+      ready = head_is _ _ _ _ h8;
+      printed = head_is _ _ _ _ h9;
     }
 
 -- what stands for both at numbers that are the same
@@ -189,6 +193,7 @@ rows_one parts row one other a b =
         stacks = stacks.1;
       };
       opening = words.opening;
+      counted = words.counted;
       object_limit = words.object_limit;
       cell_limit = words.cell_limit;
       monitor_limit = words.monitor_limit;
@@ -203,26 +208,27 @@ rows_alike parts row one other a b = (rows_one parts row one other a b).alike
 abbrev locks_of : List Monitor → List Bool → ℕ → Locks
 locks_of monitors fat limit = record { monitors = monitors; fat = fat; limit = limit }
 
-abbrev heap_of : List Object → Locks → (opening object_limit cell_limit : ℕ) → Heap
-heap_of objects locks opening object_limit cell_limit =
-    record { objects = objects; locks = locks; opening = opening; object_limit = object_limit; cell_limit = cell_limit }
+abbrev heap_of : List Object → Locks → (opening counted object_limit cell_limit : ℕ) → Heap
+heap_of objects locks opening counted object_limit cell_limit =
+    record { objects = objects; locks = locks; opening = opening; counted = counted; object_limit = object_limit; cell_limit = cell_limit }
 
 abbrev table_of : List Thread → ℕ → ThreadTable
 table_of threads limit = record { threads = threads; limit = limit }
 
 heap_is : (one other : Heap) → one.objects ≡ other.objects → one.locks.monitors ≡ other.locks.monitors → one.locks.fat ≡ other.locks.fat
-    → one.locks.limit ≡ other.locks.limit → one.opening ≡ other.opening → one.object_limit ≡ other.object_limit → one.cell_limit ≡ other.cell_limit
+    → one.locks.limit ≡ other.locks.limit → one.opening ≡ other.opening → one.counted ≡ other.counted → one.object_limit ≡ other.object_limit → one.cell_limit ≡ other.cell_limit
     → one ≡ other
-heap_is one other a b c d e f g =
+heap_is one other a b c d e k f g =
     let locks : one.locks ≡ other.locks =
     ap (λ (x : List Monitor). locks_of x one.locks.fat one.locks.limit) b
     ∙ ap (λ (x : List Bool). locks_of other.locks.monitors x one.locks.limit) c
     ∙ ap (λ (x : ℕ). locks_of other.locks.monitors other.locks.fat x) d in
-    ap (λ (x : List Object). heap_of x one.locks one.opening one.object_limit one.cell_limit) a
-    ∙ ap (λ (x : Locks). heap_of other.objects x one.opening one.object_limit one.cell_limit) locks
-    ∙ ap (λ (x : ℕ). heap_of other.objects other.locks x one.object_limit one.cell_limit) e
-    ∙ ap (λ (x : ℕ). heap_of other.objects other.locks other.opening x one.cell_limit) f
-    ∙ ap (λ (x : ℕ). heap_of other.objects other.locks other.opening other.object_limit x) g
+    ap (λ (x : List Object). heap_of x one.locks one.opening one.counted one.object_limit one.cell_limit) a
+    ∙ ap (λ (x : Locks). heap_of other.objects x one.opening one.counted one.object_limit one.cell_limit) locks
+    ∙ ap (λ (x : ℕ). heap_of other.objects other.locks x one.counted one.object_limit one.cell_limit) e
+    ∙ ap (λ (x : ℕ). heap_of other.objects other.locks other.opening x one.object_limit one.cell_limit) k
+    ∙ ap (λ (x : ℕ). heap_of other.objects other.locks other.opening other.counted x one.cell_limit) f
+    ∙ ap (λ (x : ℕ). heap_of other.objects other.locks other.opening other.counted other.object_limit x) g
 
 threads_are_one : (one other : ThreadTable) → one.threads ≡ other.threads → one.limit ≡ other.limit → one ≡ other
 threads_are_one one other a b = ap (λ (x : List Thread). table_of x one.limit) a ∙ ap (λ (x : ℕ). table_of other.threads x) b
@@ -236,7 +242,7 @@ states_one parts row fat one other a b f g =
     let flags : one.heap.locks.fat ≡ other.heap.locks.fat =
     flags_one one.heap.locks.fat other.heap.locks.fat (stands_one parts fat (flags_row one.heap.locks.fat) (flags_row other.heap.locks.fat) f g) in
     record {
-      heap = heap_is one.heap other.heap near.alike.objects near.alike.monitors flags near.monitor_limit near.opening near.object_limit near.cell_limit;
+      heap = heap_is one.heap other.heap near.alike.objects near.alike.monitors flags near.monitor_limit near.opening near.counted near.object_limit near.cell_limit;
       statics = near.alike.statics;
       statuses = near.alike.statuses;
       ready = near.ready;

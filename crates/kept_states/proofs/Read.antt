@@ -1,5 +1,7 @@
 -- A state that is read by the numbers of its parts.
-use Rattle.std.proofs.Common.{◌≡◌, ℕ, List}
+use Rattle.std.proofs.Common.{◌≡◌, ℕ, List, refl, sym, subst}
+use Rattle.model.specs.declared.limits.Limits.{Limits}
+use Rattle.heap.specs.Heap.{Heap}
 use Rattle.word_table.specs.Lists.{StandsFor}
 use Rattle.kept_parts.specs.Rows.{flags_row}
 use Rattle.kept_parts.specs.Heaps.{IsHeapRead}
@@ -8,7 +10,21 @@ use Rattle.kept_states.specs.declared.globals.Globals.{Globals}
 use Rattle.kept_states.specs.Rows.{statuses_row}
 use Rattle.kept_states.specs.States.{AreThreads, IsSharedRead}
 
-pub shared_read : (parts : List (List ℕ)) (g : Globals) (objects threads fat : List ℕ) (s : Shared) → IsHeapRead parts g.limits g.opening objects fat s.heap
+pub heap_read : (parts : List (List ℕ)) (limits : Limits) (opening before counted : ℕ) (objects fat : List ℕ) (old new : Heap)
+    → IsHeapRead parts limits opening before objects fat old → new ≡ record old { counted = counted }
+    → IsHeapRead parts limits opening counted objects fat new
+heap_read parts limits opening before counted objects fat old new read is =
+    subst (λ heap. IsHeapRead parts limits opening counted objects fat heap) (sym is) (record {
+      are = read.are;
+      fat_is = read.fat_is;
+      opening_is = read.opening_is;
+      counted_is = refl;
+      objects_limited = read.objects_limited;
+      cells_limited = read.cells_limited;
+      monitors_limited = read.monitors_limited;
+    })
+
+pub shared_read : (parts : List (List ℕ)) (g : Globals) (objects threads fat : List ℕ) (s : Shared) → IsHeapRead parts g.limits g.opening g.counted objects fat s.heap
     → StandsFor parts g.numbers.statics s.statics.items → StandsFor parts g.numbers.statuses (statuses_row s.statuses.items)
     → StandsFor parts g.numbers.ready (flags_row s.ready.items) → StandsFor parts g.numbers.printed s.printed.items
     → AreThreads parts threads s.threads.threads s.stacks.items → s.threads.limit ≡ g.limits.threads → IsSharedRead parts g objects threads fat s

@@ -23,6 +23,7 @@ world_same trees p bounds inflated one other state same s =
     let w : ShowsWorld trees p one state.world = s.represents.world_is in
     record {
       objects = subst (λ (h : Heap). ShowsObjects trees p.components.items h.objects state.world.heap) same.heap w.objects;
+      counted = sym (ap (λ (h : Heap). h.counted) same.heap) ∙ w.counted;
       monitors = sym (ap (λ (h : Heap). h.locks.monitors) same.heap) ∙ w.monitors;
       statics = subst (λ (xs : List ℕ). ShowsStatics trees xs state.world.statics) same.statics w.statics;
       statuses = subst (λ (xs : List ClassStatus). ShowsStatuses trees xs state.world.classes) same.statuses w.statuses;

@@ -280,13 +280,13 @@ globals_written s numbers number a b c n w = record {
 
 -- the row that was read is that of the state
 pub globals_read : (g : Globals) (objects threads fat row : List ℕ) (parts : List (List ℕ)) (s : Shared)
-    → row ≡ g.opening ∷ g.limits.objects ∷ g.limits.cells ∷ g.limits.monitors ∷ g.limits.threads ∷ g.numbers.statics ∷ g.numbers.statuses ∷ g.numbers.ready ∷ g.numbers.printed ∷ []
+    → row ≡ g.opening ∷ g.counted ∷ g.limits.objects ∷ g.limits.cells ∷ g.limits.monitors ∷ g.limits.threads ∷ g.numbers.statics ∷ g.numbers.statuses ∷ g.numbers.ready ∷ g.numbers.printed ∷ []
     → IsSharedRead parts g objects threads fat s → row ≡ globals_row s g.numbers
 globals_read g objects threads fat row parts s is r =
-    is ∙ sym (rw (r.heap.opening_is, r.heap.objects_limited, r.heap.cells_limited, r.heap.monitors_limited, r.limit) refl)
+    is ∙ sym (rw (r.heap.opening_is, r.heap.counted_is, r.heap.objects_limited, r.heap.cells_limited, r.heap.monitors_limited, r.limit) refl)
 
 pub numbered_read : (parts : List (List ℕ)) (n : Numbered) (g : Globals) (row objects threads fat : List ℕ) → StandsFor parts n.globals row
-    → row ≡ g.opening ∷ g.limits.objects ∷ g.limits.cells ∷ g.limits.monitors ∷ g.limits.threads ∷ g.numbers.statics ∷ g.numbers.statuses ∷ g.numbers.ready ∷ g.numbers.printed ∷ []
+    → row ≡ g.opening ∷ g.counted ∷ g.limits.objects ∷ g.limits.cells ∷ g.limits.monitors ∷ g.limits.threads ∷ g.numbers.statics ∷ g.numbers.statuses ∷ g.numbers.ready ∷ g.numbers.printed ∷ []
     → StandsFor parts n.heap objects → StandsFor parts n.fat fat → IsSharedRead parts g objects threads fat n.shared → n.numbers ≡ g.numbers
     → n.objects.items ≡ objects → n.threads.items ≡ threads → IsNumbered parts n
 numbered_read parts n g row objects threads fat globals is heap flags r numbers os ts =

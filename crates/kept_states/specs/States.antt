@@ -47,7 +47,7 @@ pub record AreThreadsPushed (s : Shared) (count : ℕ) (before after : List ℕ)
 
 abbrev pub globals_row : Shared → GlobalNumbers → List ℕ
 globals_row s n =
-    s.heap.opening ∷ s.heap.object_limit ∷ s.heap.cell_limit ∷ s.heap.locks.limit ∷ s.threads.limit ∷ n.statics ∷ n.statuses ∷ n.ready ∷ n.printed ∷ []
+    s.heap.opening ∷ s.heap.counted ∷ s.heap.object_limit ∷ s.heap.cell_limit ∷ s.heap.locks.limit ∷ s.threads.limit ∷ n.statics ∷ n.statuses ∷ n.ready ∷ n.printed ∷ []
 
 pub record AreGlobals (parts : List (List ℕ)) (numbers : GlobalNumbers) (s : Shared) : Type 0 where
   pub statics : StandsFor parts numbers.statics s.statics.items
@@ -103,7 +103,7 @@ pub record AreTheSame (one other : Shared) : Type 0 where
 
 -- a state was read by the numbers of its objects and threads, and what is kept beside them
 pub record IsSharedRead (parts : List (List ℕ)) (globals : Globals) (objects threads fat : List ℕ) (s : Shared) : Type 0 where
-  pub heap : IsHeapRead parts globals.limits globals.opening objects fat s.heap
+  pub heap : IsHeapRead parts globals.limits globals.opening globals.counted objects fat s.heap
   pub each : AreGlobals parts globals.numbers s
   pub limit : s.threads.limit ≡ globals.limits.threads
   pub threads_are : AreThreads parts threads s.threads.threads s.stacks.items

@@ -23,6 +23,7 @@ use word_table::WordTable;
 pub struct Globals {
     pub limits: Limits,
     pub opening: u32,
+    pub counted: u32,
     pub numbers: GlobalNumbers,
 }
 
@@ -59,17 +60,20 @@ fn read_limits(reader: &mut Reader<'_>) -> Result<Limits, AllocError>
 }
 
 pub(crate) fn read_globals(row: &[u32]) -> Result<Globals, AllocError>
-    ensures { IfOk result (λ g. row.now ≡ g.opening ∷ g.limits.objects ∷ g.limits.cells ∷ g.limits.monitors
-        ∷ g.limits.threads ∷ g.numbers.statics ∷ g.numbers.statuses ∷ g.numbers.ready ∷ g.numbers.printed ∷ []) }
+    ensures { IfOk result (λ g. row.now ≡ g.opening ∷ g.counted ∷ g.limits.objects ∷ g.limits.cells
+        ∷ g.limits.monitors ∷ g.limits.threads
+        ∷ g.numbers.statics ∷ g.numbers.statuses ∷ g.numbers.ready ∷ g.numbers.printed ∷ []) }
 {
     let mut reader = Reader::new(row);
     let opening = reader.next_word()?;
+    let counted = reader.next_word()?;
     let limits = read_limits(&mut reader)?;
     let numbers = read_numbers(&mut reader)?;
     if reader.is_done() {
         Ok(Globals {
             limits,
             opening,
+            counted,
             numbers,
         })
     } else {
@@ -194,7 +198,7 @@ fn are_same_limits(shared: &Shared, before: &Shared) -> bool
         && before.threads.limit() == shared.threads.limit()
 }
 
-/// Whether these are the numbers of a state before, and so are the limits. Then so is the row.
+/// Whether these are the numbers of a state before, and so are the limits and the count of cells. Then so is the row.
 fn are_globals_before(shared: &Shared, numbers: GlobalNumbers, before: &Numbered) -> bool
     ensures { IsTrue result → globals_row before.now.shared before.now.numbers ≡ globals_row shared.now numbers }
 {
@@ -202,6 +206,7 @@ fn are_globals_before(shared: &Shared, numbers: GlobalNumbers, before: &Numbered
         && numbers.statuses == before.numbers.statuses
         && numbers.ready == before.numbers.ready
         && numbers.printed == before.numbers.printed
+        && shared.heap.counted() == before.shared.heap.counted()
         && are_same_limits(shared, &before.shared)
 }
 
@@ -214,6 +219,7 @@ fn push_globals(
     ensures { OnOk result (row.new.items ≡ row.old.items ++ globals_row shared.now numbers) }
 {
     push(row, shared.heap.opening())?;
+    push(row, shared.heap.counted())?;
     push(row, shared.heap.object_limit())?;
     push(row, shared.heap.cell_limit())?;
     push(row, shared.heap.monitor_limit())?;

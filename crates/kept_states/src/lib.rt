@@ -8,7 +8,7 @@
 //!   too, all that is kept of them is the same (`states_one`). A row goes on to stand for its state (`row_stays`).
 //! - `write` makes a row of a state. What is the same in the state before keeps its number. `find` answers only numbers
 //!   of states with this very row. `push` keeps the state with the next number, and none goes.
-//! - `read` answers only the state of the number, with the numbers of its parts.
+//! - `read` answers only the state of the number, with the numbers of its parts. Its heap has counted as many cells.
 //! - `copied` makes what threads share in another state, in the room of what they share in this one. What the one shows
 //!   the copy shows (`shown_same`, `run_same`).
 //!
@@ -21,6 +21,9 @@
 //!
 //! - `globals_before-another-limit`: the row of a state with a higher limit is taken for that of this one; refused by
 //!   the contract of `are_same_limits`.
+//! - `globals_before-another-count`, `count-is-not-kept`, `count-is-lost`: the row of a state with a lower count of
+//!   cells is taken for that of this one, the count is kept as 0, or read as 0; refused by the contracts of
+//!   `are_globals_before`, `push_globals` and `heap_of`.
 //! - `thread_before-another-stack`: a thread keeps its number though its stack has changed; refused by that of
 //!   `thread_before`.
 //! - `read-flags-of-another-state`: a state is read with the inflated locks of another one; refused by that of `read`.

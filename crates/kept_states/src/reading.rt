@@ -5,12 +5,14 @@ ghost use Rattle.word_table.specs.Lists.{StandsFor};
 ghost use Rattle.kept_parts.specs.Rows.{flags_row};
 ghost use Rattle.kept_states.specs.Rows.{statuses_row};
 ghost use Rattle.kept_states.specs.Kept.{IsNumbered};
+ghost use Rattle.kept_parts.specs.Heaps.{IsHeapRead};
 ghost use Rattle.kept_states.specs.States.{IsSharedRead};
 
 use crate::globals::{Globals, read_globals};
 use crate::numbered::Numbered;
 use crate::shared_rows::{read_statuses, read_units};
 use crate::threads::read_threads;
+use heap::Heap;
 use kept_parts::heap_rows::read_heap;
 use kept_parts::rows::read_flags;
 use machine_state::{ClassStatus, Shared};
@@ -63,6 +65,25 @@ fn printed_of(alloc: Global, parts: &WordTable, number: u32) -> Result<Vec<u16>,
     Ok(printed)
 }
 
+/// The objects of these numbers, of which as many cells count as is kept. The flags say which locks are inflated.
+#[tactic(auto, using(crate::proofs::Read::heap_read))]
+fn heap_of(
+    alloc: Global,
+    parts: &WordTable,
+    globals: Globals,
+    objects: &[u32],
+    fat: &[u32],
+) -> Result<Heap, AllocError>
+    ensures { IfOk result (IsHeapRead parts.now globals.limits globals.opening globals.counted objects.now fat.now) }
+{
+    let mut heap = read_heap(alloc, parts, globals.limits, globals.opening, objects, fat)?;
+    if heap.cell_limit() < globals.counted {
+        return Err(AllocError);
+    }
+    heap.set_counted(globals.counted);
+    Ok(heap)
+}
+
 /// What threads share, by what is kept beside objects and threads, the numbers of objects and threads, and the flags of
 /// inflated locks.
 #[tactic(auto, using(crate::proofs::Read::shared_read))]
@@ -76,7 +97,7 @@ fn read_shared(
 ) -> Result<Shared, AllocError>
     ensures { IfOk result (IsSharedRead parts.now globals objects.now threads.now fat.now) }
 {
-    let heap = read_heap(alloc, parts, globals.limits, globals.opening, objects, fat)?;
+    let heap = heap_of(alloc, parts, globals, objects, fat)?;
     let statics = statics_of(alloc, parts, globals.numbers.statics)?;
     let statuses = statuses_of(alloc, parts, globals.numbers.statuses)?;
     let ready = ready_of(alloc, parts, globals.numbers.ready)?;

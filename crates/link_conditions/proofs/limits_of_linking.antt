@@ -1,3 +1,4 @@
 pub mod TextLaws
+pub mod CellLaws
 pub mod ClimbLaws
 pub mod MainLaws

@@ -1,2 +1,3 @@
 pub mod Texts
 pub mod Climbing
+pub mod Cells

@@ -21,7 +21,7 @@ use Rattle.linked_program.proofs.class_rows.Counts.{number_fits}
 use Rattle.linked_program.proofs.linked_calls.Specials.{numbered}
 
 -- the class behind the built-in ones is that of the first file
-pub first_file : (files : Program) (o : Option FileTree) → o ≡ class_at files 36 → option_map_or name_of o [] ≡ initial_class files
+pub first_file : (files : Program) (o : Option FileTree) → o ≡ class_at files 37 → option_map_or name_of o [] ≡ initial_class files
 first_file files o e = ap (λ x. option_map_or name_of x []) (e ∙ file_behind files 0) ∙ by files
   where
     by : (files : Program) → option_map_or name_of (slice_get files 0) [] ≡ initial_class files

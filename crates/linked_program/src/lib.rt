@@ -3,9 +3,9 @@
 //! # Proved
 //!
 //! - `linked_program`: of linked files all of `IsLinkedProgram`: classes, methods, component types, the table of
-//!   subclasses, how many static fields there are, the texts of string constants, and the numbers of String, of main of
-//!   the initial class and of the place of Thread.run. It asks for nothing but linked files; its only error is a want
-//!   of memory.
+//!   subclasses, how many static fields there are, the texts of string constants and the word of the empty one, and the
+//!   numbers of String, of main of the initial class and of the place of Thread.run. It asks for nothing but linked
+//!   files; its only error is a want of memory.
 //!
 //! # Not proved
 //!
@@ -14,6 +14,7 @@
 
 mod calls;
 pub mod class_rows;
+mod empty_text;
 pub mod linked_calls;
 pub mod linked_methods;
 pub mod linked_operands;

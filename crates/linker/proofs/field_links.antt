@@ -10,3 +10,4 @@ pub mod FieldPlaces
 pub mod RowLaws
 pub mod TableLaws
 pub mod NumberLaws
+pub mod TextNumbers

@@ -3,3 +3,4 @@ pub mod Moves
 pub mod Growth
 pub mod Texts
 pub mod Printed
+pub mod Builders

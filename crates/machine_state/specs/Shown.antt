@@ -5,7 +5,7 @@ use Rattle.model.specs.Classes.{Program, name_of}
 use Rattle.model.specs.Linkable.{IsLinkable}
 use Rattle.model.specs.State as model
 use Rattle.model.specs.State.{StackOf, WorldOf, StateOf}
-use Rattle.model.specs.LimitStands.{Bounds, opening_count}
+use Rattle.model.specs.LimitStands.{Bounds, opening_count, cells_made}
 use Rattle.model.specs.ClassInitialisation.{status_of}
 use Rattle.model.specs.Words.{AreWellTypedWords}
 use Rattle.run_laws.specs.monitor_counts.Counts.{is_inflated, AreMonitorsCounted}
@@ -56,6 +56,7 @@ AreInitialised trees ready world =
 
 pub record ShowsWorld (trees : Program) (p : LinkedProgram) (shared : Shared) (world : WorldOf ℕ) : Type 0 where
   pub objects : ShowsObjects trees p.components.items shared.heap.objects world.heap
+  pub counted : shared.heap.counted ≡ cells_made trees world
   pub monitors : shared.heap.locks.monitors ≡ world.monitors
   pub statics : ShowsStatics trees shared.statics.items world.statics
   pub statuses : ShowsStatuses trees shared.statuses.items world.classes

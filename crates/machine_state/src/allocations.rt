@@ -4,9 +4,10 @@
 //! # Proved
 //!
 //! - Of a machine whose words show a world: an object that its heap allocates is one that an event makes of that world,
-//!   with the next reference, whose word fits 32 bits, and no limit stood (`objects_are_made`); so is a String whose
-//!   words are the units of a text (`texts_are_made`); where the heap refuses, it tells the limit that stands, objects
-//!   before cells, or memory was missing, and nothing has changed (`allocations_are_refused`).
+//!   with the next reference, whose word fits 32 bits, and no limit stood (`objects_are_made`). The heap counts as many
+//!   cells of it as the object has by the definitions. So is a String whose words are the units of a text, all of which
+//!   count (`texts_are_made`). Where the heap refuses, it tells the limit that stands, objects before cells, or memory
+//!   was missing, and nothing has changed (`allocations_are_refused`).
 
 ghost use Rattle.machine_state.specs.allocations.Allocated.{AreMade, AreRefused, AreTextsMade};
 

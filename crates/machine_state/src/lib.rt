@@ -3,8 +3,8 @@
 //!
 //! # Proved
 //!
-//! - Defined: `Represents`, when the words of a machine (`Shared`) show a world, and `IsLent`, when they show a state
-//!   whose thread has its own stack lent out.
+//! - Defined: `Represents`, when the words of a machine (`Shared`) show a world, and its heap has counted the cells that
+//!   were made since the opening. `IsLent`: when they show a state whose thread has its own stack lent out.
 //! - Defined: `Becomes`, when an answer (`Answer`, `EventRefusal`) is what becomes of an event. It is done, with no
 //!   limit standing and the locks fat that the event makes fat; or it is not enabled; or it is refused at a limit that
 //!   stands or for want of memory. In the latter two nothing has changed.

@@ -10,7 +10,8 @@
 //! - Where that holds: references are the same (`objects_are_counted`); one more object is shown by one more
 //!   (`objects_are_added`); a field of an instance is the word in its slot, and a put of the word there shows the put
 //!   of the field (`fields_are_slots`; `statics_are_slots` of static fields); the elements of an array are its words,
-//!   and it keeps of a stored word what one of its kind keeps (`elements_are_words`).
+//!   and it keeps of a stored word what one of its kind keeps (`elements_are_words`). After a put there are as many
+//!   cells as before.
 //!
 //! # Not proved
 //!

@@ -3,11 +3,13 @@
 -- Made by `tools/build-built-in` of the class files of builtin/classes. Not to be edited.
 use Rattle.std.specs.Prelude.{List, [], ◌∷◌, Some, codes}
 use Rattle.model.specs.Tree.{Entry, Utf8, FileTree}
-use Rattle.model.specs.BuiltInForm.{Declared, declared, field, tree_of, public_class, final_class, abstract_class, public_interface, native_method, abstract_method, constructor, with_message, with_cause, built_in}
+use Rattle.model.specs.BuiltInForm.{Declared, declared, field, tree_of, public_class, final_class, abstract_class, public_interface, abstract_method, constructor, with_message, with_cause, built_in}
 use Rattle.model.specs.built_in.Object.{object_class}
 use Rattle.model.specs.built_in.Thread.{thread_class}
 use Rattle.model.specs.built_in.String.{string_class}
 use Rattle.model.specs.built_in.Class.{class_class}
+use Rattle.model.specs.built_in.PrintStream.{print_stream_class}
+use Rattle.model.specs.built_in.StringBuilder.{string_builder_class}
 
 abbrev pub runnable_methods : List Declared
 runnable_methods =
@@ -19,7 +21,7 @@ runnable_class = built_in public_interface (codes "java/lang/Runnable") (codes "
 
 abbrev pub system_operands : List Entry
 system_operands =
-    Utf8 (codes "out") ∷ Utf8 (codes "Ljava/io/PrintStream;") ∷ []
+    Utf8 (codes "out") ∷ Utf8 (codes "Ljava/io/PrintStream;") ∷ Utf8 (codes "err") ∷ []
 
 abbrev pub system_class : FileTree
 system_class =
@@ -29,24 +31,10 @@ system_class =
       superclass = Some (codes "java/lang/Object");
       interfaces = [];
       operands = system_operands;
-      fields = field 0x0019 5 6 ∷ [];
+      fields = field 0x0019 5 6 ∷ field 0x0019 7 6 ∷ [];
       coded = [];
       natives = [];
     })
-
-abbrev pub print_stream_methods : List Declared
-print_stream_methods =
-    declared native_method (codes "println") (codes "()V")
-    ∷ declared native_method (codes "println") (codes "(C)V")
-    ∷ declared native_method (codes "println") (codes "(I)V")
-    ∷ declared native_method (codes "println") (codes "(Ljava/lang/String;)V")
-    ∷ declared native_method (codes "print") (codes "(C)V")
-    ∷ declared native_method (codes "print") (codes "(I)V")
-    ∷ declared native_method (codes "print") (codes "(Ljava/lang/String;)V")
-    ∷ []
-
-abbrev pub print_stream_class : FileTree
-print_stream_class = built_in public_class (codes "java/io/PrintStream") (codes "java/lang/Object") print_stream_methods
 
 abbrev pub comparable_methods : List Declared
 comparable_methods =
@@ -105,4 +93,5 @@ built_in_classes =
     ∷ built_in public_interface (codes "java/lang/Cloneable") (codes "java/lang/Object") []
     ∷ built_in public_class (codes "java/lang/CloneNotSupportedException") (codes "java/lang/Exception") (constructor ∷ with_message ∷ [])
     ∷ built_in public_class (codes "java/lang/AssertionError") (codes "java/lang/Error") (constructor ∷ with_cause ∷ [])
+    ∷ string_builder_class
     ∷ []

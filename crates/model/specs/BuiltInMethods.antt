@@ -3,12 +3,14 @@
 use Rattle.std.specs.Prelude.{ℕ, List, [], ◌∷◌, ◌++◌, Option, Some, None, Bool, true, false, not, ◌&&◌, ◌||◌, if◌then◌else◌, nat_lt, codes, find, is_some, length, slice_get, unwrap_or}
 use Rattle.std.specs.Option.{option_map, option_and_then}
 use Rattle.model.specs.declared.event.Event.{Event}
-use Rattle.model.specs.Names.{Name, Member, member_eq, java_lang_object, java_lang_string, java_lang_thread, java_io_print_stream, thread_target, println_int, constructor_name}
+use Rattle.model.specs.Names.{Name, Member, member_eq, java_lang_object, java_lang_string, java_lang_string_builder, java_lang_thread, java_io_print_stream, thread_target, println_int, constructor_name}
 use Rattle.std.specs.Fmt.{signed_decimal}
 use Rattle.model.specs.declared.print_method.PrintMethod.{PrintMethod}
 use Rattle.model.specs.declared.print_method.PrintMethod.TheVariants.{Println, PrintlnChar, PrintlnInt, PrintlnString, PrintChar, PrintInt, PrintString}
 use Rattle.model.specs.declared.string_method.StringMethod.{StringMethod}
 use Rattle.model.specs.declared.string_method.StringMethod.TheVariants.{Length, CharAt, Equals, HashCode, CompareTo, Concat, Substring, IndexOf, RegionMatches, ValueOfInt, ValueOfChar}
+use Rattle.model.specs.declared.builder_method.BuilderMethod.{BuilderMethod}
+use Rattle.model.specs.declared.builder_method.BuilderMethod.TheVariants.{ConstructEmpty, ConstructOfString, AppendString, AppendInt, AppendChar, AppendBuilder, ToString}
 use Rattle.model.specs.StringMethods.{StringAnswer, IsNull, IsOutside, Answers, Same, Composes, string_answer}
 use Rattle.model.specs.declared.instr.Conversion.TheVariants.{ToChar}
 use Rattle.model.specs.Ints.{signed, converted}
@@ -20,6 +22,11 @@ use Rattle.model.specs.Monitors as monitors
 use Rattle.model.specs.Monitors.{monitor_at}
 use Rattle.model.specs.Worlds.{thread_at, with_status, with_interrupted, thread_of, is_alive, is_interrupted, allocated, object_at, with_object, with_field, is_owner, text_of, with_monitors, woken, all_woken, waiters_of}
 use Rattle.model.specs.Sites.{picks_none, pushing, pushing_at, operand, referent, int_operand}
+pub use Rattle.model.specs.Worlds.{string_shown}
+pub use Rattle.model.specs.Sites.{object_of}
+use Rattle.model.specs.Classes.{Program}
+use Rattle.model.specs.Opening.{string_reference}
+use Rattle.model.specs.BuilderMethods.{builder_does}
 
 pub data BuiltInMethod : Type 0 where
   -- the constructors of Object and of the classes of exceptions, and Thread's without a target. A message and a cause
@@ -40,6 +47,7 @@ pub data BuiltInMethod : Type 0 where
   ThreadIsAlive : BuiltInMethod
   PrintStreamPrints : PrintMethod → BuiltInMethod
   StringAnswers : StringMethod → BuiltInMethod
+  StringBuilderBuilds : BuilderMethod → BuiltInMethod
 
 -- ---- by their names
 
@@ -54,6 +62,9 @@ of_print_stream name descriptor = record { class = java_io_print_stream; name = 
 
 abbrev pub of_string : Name → Name → Member
 of_string name descriptor = record { class = java_lang_string; name = name; descriptor = descriptor }
+
+abbrev pub of_string_builder : Name → Name → Member
+of_string_builder name descriptor = record { class = java_lang_string_builder; name = name; descriptor = descriptor }
 
 abbrev pub built_in_methods : List (Member × BuiltInMethod)
 built_in_methods =
@@ -87,6 +98,13 @@ built_in_methods =
     ∷ (of_string (codes "regionMatches") (codes "(ILjava/lang/String;II)Z"), StringAnswers RegionMatches)
     ∷ (of_string (codes "valueOf") (codes "(I)Ljava/lang/String;"), StringAnswers ValueOfInt)
     ∷ (of_string (codes "valueOf") (codes "(C)Ljava/lang/String;"), StringAnswers ValueOfChar)
+    ∷ (of_string_builder constructor_name (codes "()V"), StringBuilderBuilds ConstructEmpty)
+    ∷ (of_string_builder constructor_name (codes "(Ljava/lang/String;)V"), StringBuilderBuilds ConstructOfString)
+    ∷ (of_string_builder (codes "append") (codes "(Ljava/lang/String;)Ljava/lang/StringBuilder;"), StringBuilderBuilds AppendString)
+    ∷ (of_string_builder (codes "append") (codes "(I)Ljava/lang/StringBuilder;"), StringBuilderBuilds AppendInt)
+    ∷ (of_string_builder (codes "append") (codes "(C)Ljava/lang/StringBuilder;"), StringBuilderBuilds AppendChar)
+    ∷ (of_string_builder (codes "append") (codes "(Ljava/lang/StringBuilder;)Ljava/lang/StringBuilder;"), StringBuilderBuilds AppendBuilder)
+    ∷ (of_string_builder (codes "toString") (codes "()Ljava/lang/String;"), StringBuilderBuilds ToString)
     ∷ []
 
 abbrev pub is_row_of : Member → Member × BuiltInMethod → Bool
@@ -162,11 +180,6 @@ bit b = if b then 1 else 0
 
 -- ---- println, print (own: all streams are one text)
 
--- a String is its text, and null the word `null`
-abbrev pub string_shown : {A : Type 0} → WorldOf A → Option ℕ → Text
-string_shown world None = codes "null"
-string_shown world (Some r) = text_of (object_at world r)
-
 -- what is printed of the operand on top of the stack: an int in decimal, a char as its unit
 abbrev pub printed_by : {A : Type 0} → Carrier A → PrintMethod → WorldOf A → List A → Text
 printed_by C Println world ops = 10 ∷ []
@@ -204,10 +217,6 @@ answered C (Composes text) next world slots ops rest =
 
 -- ---- the table
 
--- the object of a reference
-abbrev pub object_of : {A : Type 0} → Carrier A → List A → ℕ → ℕ
-object_of C ops k = unwrap_or (referent C ops k) 0
-
 -- whether the event may do it now; a method without parameters has its receiver on top
 abbrev pub built_in_may : {A : Type 0} → Carrier A → BuiltInMethod → Event → WorldOf A → List A → Bool
 built_in_may C ObjectNotify event world ops =
@@ -217,36 +226,39 @@ built_in_may C ObjectNotify event world ops =
 built_in_may C ThreadJoin event world ops = picks_none event world ops && may_join world event.thread (object_of C ops 0)
 built_in_may C method event world ops = picks_none event world ops
 
-abbrev pub built_in_does : {A : Type 0} → Carrier A → BuiltInMethod → ℕ → Event → WorldOf A → Slots A → List A → List A → OutcomeOf A
+abbrev pub built_in_does : {A : Type 0} → Carrier A → Program → BuiltInMethod → ℕ → Event → WorldOf A → Slots A → List A → List A → OutcomeOf A
 -- .., objectref, [message, [cause]] -> ..
-built_in_does C Construct next event world slots ops rest = pushing next [] world slots rest
+built_in_does C files Construct next event world slots ops rest = pushing next [] world slots rest
 -- .., objectref, target -> ..
-built_in_does C ConstructWithTarget next event world slots ops rest =
+built_in_does C files ConstructWithTarget next event world slots ops rest =
     pushing next [] (with_object world (object_of C ops 1) (with_field thread_target (operand C ops 0) (object_at world (object_of C ops 1)))) slots rest
 -- .., objectref -> ..
-built_in_does C ObjectWait next event world slots ops rest =
+built_in_does C files ObjectWait next event world slots ops rest =
     wait_by (is_owner world event.thread (object_of C ops 0)) (thread_at world event.thread).interrupted event.thread (object_of C ops 0) world rest
-built_in_does C ObjectNotify next event world slots ops rest =
+built_in_does C files ObjectNotify next event world slots ops rest =
     if_owner (is_owner world event.thread (object_of C ops 0)) (pushing next [] (notified world event.thread (object_of C ops 0) event.pick) slots rest)
-built_in_does C ObjectNotifyAll next event world slots ops rest =
+built_in_does C files ObjectNotifyAll next event world slots ops rest =
     if_owner (is_owner world event.thread (object_of C ops 0)) (pushing next [] (notified_all world event.thread (object_of C ops 0)) slots rest)
-built_in_does C ThreadStart next event world slots ops rest = start_by (is_some (thread_of world (object_of C ops 0))) next (object_of C ops 0) world slots rest
-built_in_does C ThreadInterrupt next event world slots ops rest = pushing next [] (interrupted_on world (thread_of world (object_of C ops 0))) slots rest
+built_in_does C files ThreadStart next event world slots ops rest = start_by (is_some (thread_of world (object_of C ops 0))) next (object_of C ops 0) world slots rest
+built_in_does C files ThreadInterrupt next event world slots ops rest = pushing next [] (interrupted_on world (thread_of world (object_of C ops 0))) slots rest
 -- .., objectref -> .., result
-built_in_does C ThreadIsInterrupted next event world slots ops rest = pushing next (C.int (bit (is_interrupted world (object_of C ops 0))) ∷ []) world slots rest
+built_in_does C files ThreadIsInterrupted next event world slots ops rest = pushing next (C.int (bit (is_interrupted world (object_of C ops 0))) ∷ []) world slots rest
 -- .. -> .., result: the status of the thread itself, which is cleared
-built_in_does C ThreadInterrupted next event world slots ops rest =
+built_in_does C files ThreadInterrupted next event world slots ops rest =
     pushing next (C.int (bit (thread_at world event.thread).interrupted) ∷ []) (with_interrupted world event.thread false) slots rest
 -- .. -> ..
-built_in_does C ThreadYield next event world slots ops rest = pushing next [] world slots rest
+built_in_does C files ThreadYield next event world slots ops rest = pushing next [] world slots rest
 -- .. -> .., result
-built_in_does C ThreadCurrentThread next event world slots ops rest = pushing next (C.reference (thread_at world event.thread).object ∷ []) world slots rest
+built_in_does C files ThreadCurrentThread next event world slots ops rest = pushing next (C.reference (thread_at world event.thread).object ∷ []) world slots rest
 -- .., objectref -> ..: where the target is alive, the thread was interrupted
-built_in_does C ThreadJoin next event world slots ops rest = join_by (is_alive world (object_of C ops 0)) next world slots rest
+built_in_does C files ThreadJoin next event world slots ops rest = join_by (is_alive world (object_of C ops 0)) next world slots rest
 -- .., objectref -> .., result
-built_in_does C ThreadIsAlive next event world slots ops rest = pushing next (C.int (bit (is_alive world (object_of C ops 0))) ∷ []) world slots rest
+built_in_does C files ThreadIsAlive next event world slots ops rest = pushing next (C.int (bit (is_alive world (object_of C ops 0))) ∷ []) world slots rest
 -- .., objectref, [value] -> ..
-built_in_does C (PrintStreamPrints method) next event world slots ops rest = pushing next [] (with_printed world (printed_by C method world ops)) slots rest
+built_in_does C files (PrintStreamPrints method) next event world slots ops rest = pushing next [] (with_printed world (printed_by C method world ops)) slots rest
 -- .., [objectref], [value, ..] -> .., result
-built_in_does C (StringAnswers method) next event world slots ops rest =
+built_in_does C files (StringAnswers method) next event world slots ops rest =
     answered C (string_answer method (int_operand C ops) (string_operand C world ops)) next world slots ops rest
+-- .., [objectref], [value] -> .., [result]
+built_in_does C files (StringBuilderBuilds method) next event world slots ops rest =
+    builder_does C (string_reference files []) method next world slots ops rest

@@ -4,7 +4,7 @@ use Rattle.std.specs.Prelude.{ℕ}
 
 -- how many classes are built in
 abbrev pub built_in_count : ℕ
-built_in_count = 36
+built_in_count = 37
 
 -- ---- classes
 
@@ -22,6 +22,9 @@ class_number = 4
 
 abbrev pub print_stream_number : ℕ
 print_stream_number = 6
+
+abbrev pub string_builder_number : ℕ
+string_builder_number = 36
 
 -- ---- the errors and exceptions that the machine makes
 

@@ -68,7 +68,7 @@ of_receiver (Some r) choose = choose r
 
 abbrev pub runs : {A : Type 0} → Carrier A → Program → Site → Event → WorldOf A → Slots A → List A → List A → ℕ → Member → Option Body
     → OutcomeOf A
-runs C files site event world slots ops rest object method None = built_in_does C (built_in_method method) site.next event world slots ops rest
+runs C files site event world slots ops rest object method None = built_in_does C files (built_in_method method) site.next event world slots ops rest
 runs C files site event world slots ops rest object method (Some body) = Calls (frame_with C method (reverse ops) (entered_by files method object) body) rest
 
 -- `object` is the one whose monitor a synchronized method enters

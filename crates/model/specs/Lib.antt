@@ -1,6 +1,7 @@
 pub mod Devices
 pub mod LimitRanges
 pub mod Names
+pub mod HiddenFields
 pub mod Tree
 pub mod Spelling
 pub mod Pool
@@ -45,6 +46,7 @@ pub mod Objects
 pub mod Arrays
 pub mod MonitorMeanings
 pub mod ThrowMeaning
+pub mod BuilderMethods
 pub mod BuiltInMethods
 pub mod BuiltInNumbers
 pub mod Calls

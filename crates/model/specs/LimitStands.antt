@@ -8,9 +8,10 @@ use Rattle.model.specs.declared.end.RunCause.{RunCause}
 use Rattle.model.specs.declared.end.RunCause.TheVariants as cause
 use Rattle.model.specs.Classes.{Program}
 use Rattle.model.specs.Operands.{values}
-use Rattle.model.specs.State.{ObjectOf, Instance, Primitives, References, Characters, WorldOf, State}
+use Rattle.model.specs.State.{WorldOf, State}
 use Rattle.model.specs.Opening.{opening, opening_heap}
 use Rattle.model.specs.Outcomes.{Cost, Free, Makes, Starts, Enters, Joins}
+use Rattle.model.specs.Worlds.{cells_of}
 use Rattle.model.specs.Step.{SteppedOf, NotEnabled, WrongKind, Next, stepped}
 use Rattle.model.specs.Run.{run}
 
@@ -33,13 +34,6 @@ opening_count files = length (opening_heap values files)
 
 abbrev pub objects_made : {A : Type 0} → Program → WorldOf A → ℕ
 objects_made files world = length world.heap - opening_count files
-
--- a cell is a field of an object, an element of an array or a unit of a String
-abbrev pub cells_of : {A : Type 0} → ObjectOf A → ℕ
-cells_of (Instance class fields) = length fields
-cells_of (Primitives of elements) = length elements
-cells_of (References of elements) = length elements
-cells_of (Characters text) = length text
 
 abbrev pub cells_made : {A : Type 0} → Program → WorldOf A → ℕ
 cells_made files world = sum_by cells_of (drop (opening_count files) world.heap)

@@ -8,7 +8,7 @@ use Rattle.model.specs.Spells.{Spells}
 use Rattle.model.specs.AccessFlags.{is_static_method}
 use Rattle.model.specs.Classes.{Program, name_of, is_named, is_built_in}
 use Rattle.model.specs.Lookup.{method_of, instance_fields}
-use Rattle.model.specs.StringConstants.{string_texts}
+use Rattle.model.specs.StringConstants.{file_texts}
 use Rattle.model.specs.Profile.{is_outside_profile}
 use Rattle.model.specs.CodeConditions.{has_malformed_code}
 use Rattle.model.specs.Hierarchy.{has_bad_hierarchy}
@@ -19,9 +19,9 @@ use Rattle.model.specs.Resolution.{is_unresolved}
 abbrev pub too_many_files : Program → Bool
 too_many_files files = nat_lt 65000 (length files)
 
--- texts of string constants
+-- texts of the files' string constants
 abbrev pub too_many_strings : Program → Bool
-too_many_strings files = nat_lt 200000000 (length (string_texts files))
+too_many_strings files = nat_lt 200000000 (length (file_texts files))
 
 -- instance fields of a class, those of its superclasses included
 abbrev pub too_many_fields : Program → FileTree → Bool

@@ -44,6 +44,9 @@ java_lang_class = codes "java/lang/Class"
 abbrev pub java_lang_string : Name
 java_lang_string = codes "java/lang/String"
 
+abbrev pub java_lang_string_builder : Name
+java_lang_string_builder = codes "java/lang/StringBuilder"
+
 abbrev pub java_lang_system : Name
 java_lang_system = codes "java/lang/System"
 
@@ -66,9 +69,17 @@ java_lang_error = codes "java/lang/Error"
 abbrev pub system_out : Member
 system_out = record { class = java_lang_system; name = codes "out"; descriptor = codes "Ljava/io/PrintStream;" }
 
+-- the field System.err
+abbrev pub system_err : Member
+system_err = record { class = java_lang_system; name = codes "err"; descriptor = codes "Ljava/io/PrintStream;" }
+
 -- the field of a Thread that keeps what its constructor was given to run
 abbrev pub thread_target : Member
 thread_target = record { class = java_lang_thread; name = codes "target"; descriptor = codes "Ljava/lang/Runnable;" }
+
+-- the field of a StringBuilder that keeps its text
+abbrev pub builder_text : Member
+builder_text = record { class = java_lang_string_builder; name = codes "text"; descriptor = codes "Ljava/lang/String;" }
 
 -- PrintStream.println of an int
 abbrev pub println_int : Member

@@ -14,7 +14,7 @@ use Rattle.model.specs.Operands.{Slots, Carrier}
 use Rattle.model.specs.State.{types_of, WorldOf}
 use Rattle.model.specs.Opening.{new_instance, class_reference, string_reference}
 use Rattle.model.specs.Outcomes.{OutcomeOf, Raises, ClassCast, Makes}
-use Rattle.model.specs.Worlds.{allocated, fields_of}
+use Rattle.model.specs.Worlds.{allocated, cells_of}
 use Rattle.model.specs.Sites.{MeaningOf, Site, picks_none, wants_of, to_next, pushing, pushing_at, operand, referent}
 
 -- any initialised reference, or null
@@ -38,7 +38,7 @@ new_meaning C files site class =
       leads = new_leads site class;
       may = picks_none;
       does = λ event world slots ops rest.
-          pushing_at (Makes (length (fields_of (new_instance C files class)))) site.next (C.reference (length world.heap) ∷ []) (allocated world (new_instance C files class)) slots rest;
+          pushing_at (Makes (cells_of (new_instance C files class))) site.next (C.reference (length world.heap) ∷ []) (allocated world (new_instance C files class)) slots rest;
     }
 
 abbrev pub new_named : {A : Type 0} → Carrier A → Program → Site → Name → Option (MeaningOf A)

@@ -40,6 +40,7 @@ static_fields files = flat_map static_fields_in files
 
 -- ---- the objects
 
+-- the PrintStream of System.out
 abbrev pub print_stream_reference : ℕ
 print_stream_reference = 0
 
@@ -58,13 +59,19 @@ class_reference files name = first_class_reference + position_or_len (is_named n
 abbrev pub string_reference : Program → List ℕ → ℕ
 string_reference files text = first_class_reference + length (classes_of files) + position_or_len (name_eq text) (string_texts files)
 
--- the PrintStream of System.out, the arguments, the Thread of main, a Class for each class, and a String for each text
+-- the PrintStream of System.err, behind the Strings
+abbrev pub error_stream_reference : Program → ℕ
+error_stream_reference files = first_class_reference + length (classes_of files) + length (string_texts files)
+
+-- the PrintStream of System.out, the arguments, the Thread of main, a Class for each class, a String for each text, and the
+-- PrintStream of System.err
 unfoldable pub opening_heap : {A : Type 0} → Carrier A → Program → List (ObjectOf A)
 opening_heap C files =
     Instance java_io_print_stream []
     ∷ References (ClassType java_lang_string) []
     ∷ new_instance C files java_lang_thread
-    ∷ (map (λ file. Instance java_lang_class []) (classes_of files) ++ map (λ bytes. Characters (decoded bytes)) (string_texts files))
+    ∷ (map (λ file. Instance java_lang_class []) (classes_of files)
+    ++ (map (λ bytes. Characters (decoded bytes)) (string_texts files) ++ Instance java_io_print_stream [] ∷ []))
 
 -- ---- the state
 

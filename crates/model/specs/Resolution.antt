@@ -8,7 +8,8 @@ use Rattle.model.specs.declared.instr.Instr.TheVariants.{Field, Invoke, InvokeIn
 use Rattle.model.specs.declared.instr.FieldAccess.{FieldAccess}
 use Rattle.model.specs.declared.instr.FieldAccess.TheVariants as access
 use Rattle.model.specs.declared.instr.Invocation.TheVariants as invocation
-use Rattle.model.specs.Names.{Name, name_eq, Member, member_eq, constructor_name, system_out, thread_target}
+use Rattle.model.specs.Names.{Name, name_eq, Member, member_eq, constructor_name, system_out, system_err}
+use Rattle.model.specs.HiddenFields.{is_hidden}
 use Rattle.model.specs.Tree.{Entry, FieldTree, MethodTree, FileTree}
 use Rattle.model.specs.Pool.{class_name_at, method_at, interface_method_at, field_at}
 use Rattle.model.specs.Conditions.{text_at}
@@ -97,14 +98,16 @@ field_of_other_kind files file (Field access index) =
     (option_and_then (field_of files) (option_and_then (find_field files) (field_at file.pool index))) false
 field_of_other_kind files file other = false
 
--- a putstatic of System.out
-abbrev pub puts_system_out : Program → FileTree → Instr → Bool
-puts_system_out files file (Field access.PutStatic index) = option_map_or (member_eq system_out) (option_and_then (find_field files) (field_at file.pool index)) false
-puts_system_out files file other = false
+abbrev pub is_system_stream : Member → Bool
+is_system_stream field = member_eq system_out field || member_eq system_err field
 
--- the field `target` of Thread, which no file may name
-abbrev pub names_thread_target : Program → FileTree → Instr → Bool
-names_thread_target files file i = option_map_or (member_eq thread_target) (found_field files file.pool i) false
+-- a putstatic of System.out or System.err
+abbrev pub puts_system_stream : Program → FileTree → Instr → Bool
+puts_system_stream files file (Field access.PutStatic index) = option_map_or is_system_stream (option_and_then (find_field files) (field_at file.pool index)) false
+puts_system_stream files file other = false
+
+abbrev pub names_hidden_field : Program → FileTree → Instr → Bool
+names_hidden_field files file i = option_map_or is_hidden (found_field files file.pool i) false
 
 -- ---- methods (JVMS 5.4.3.3, 5.4.3.4)
 
@@ -148,8 +151,8 @@ unresolved_instruction files file i =
     || (new_of_abstract files file i
     || (field_missing files file i
     || (field_of_other_kind files file i
-    || (puts_system_out files file i
-    || (names_thread_target files file i
+    || (puts_system_stream files file i
+    || (names_hidden_field files file i
     || (method_missing files file i
     || (method_of_other_kind files file i
     || call_on_other_kind files file i)))))))

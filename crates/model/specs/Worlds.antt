@@ -1,9 +1,10 @@
 -- Reading and changing what the threads share (JVMS 2.5; JLS 17): threads, objects and their fields, and monitors.
 use Rattle.model.specs.Texts.{Text}
-use Rattle.std.specs.Prelude.{ℕ, ◌%◌, ◌^◌, List, [], ◌∷◌, ◌++◌, Option, Some, None, Bool, true, false, ◌==◌, if◌then◌else◌, slice_get, slice_index_or, slice_set}
+use Rattle.std.specs.Prelude.{ℕ, ◌%◌, ◌^◌, List, [], ◌∷◌, ◌++◌, Option, Some, None, Bool, true, false, ◌==◌, if◌then◌else◌, codes, length, slice_get, slice_index_or, slice_set}
 use Rattle.std.specs.Option.{option_map_or}
-use Rattle.std.specs.List.{position}
+use Rattle.std.specs.List.{position, filter}
 use Rattle.model.specs.Names.{Name, Member, member_eq, java_lang_object, java_lang_string}
+use Rattle.model.specs.HiddenFields.{is_cell}
 use Rattle.model.specs.declared.instr.Conversion.TheVariants.{ToByte, ToShort}
 use Rattle.model.specs.declared.monitor_answer.MonitorAnswer.{MonitorAnswer}
 use Rattle.model.specs.declared.monitor_answer.MonitorAnswer.TheVariants.{Done, Held, NotOwner}
@@ -122,6 +123,18 @@ with_field field value (Characters text) = Characters text
 abbrev pub with_static : {A : Type 0} → WorldOf A → Member → A → WorldOf A
 with_static world field value = record world { statics = with_value field value world.statics }
 
+-- ---- what counts for the limit on cells (own)
+
+abbrev pub is_cell_field : {A : Type 0} → Member × A → Bool
+is_cell_field field = is_cell field.0
+
+-- a cell is a field of an object, an element of an array or a unit of a String
+abbrev pub cells_of : {A : Type 0} → ObjectOf A → ℕ
+cells_of (Instance class fields) = length (filter is_cell_field fields)
+cells_of (Primitives of elements) = length elements
+cells_of (References of elements) = length elements
+cells_of (Characters text) = length text
+
 -- ---- elements
 
 abbrev pub elements_of : {A : Type 0} → ObjectOf A → List A
@@ -144,6 +157,11 @@ text_of (Instance class fields) = []
 text_of (Primitives of elements) = []
 text_of (References of elements) = []
 text_of (Characters text) = text
+
+-- a String is its text, and null the word `null`
+abbrev pub string_shown : {A : Type 0} → WorldOf A → Option ℕ → Text
+string_shown world None = codes "null"
+string_shown world (Some r) = text_of (object_at world r)
 
 -- ---- what is kept of a stored int (JVMS 2.11.1)
 

@@ -1,7 +1,7 @@
 //! What is built in, by number: classes come first among those of each program, and a run opens with objects of theirs.
 
 /// How many classes are built in. Among the classes of a program they come first, and those of its files behind them.
-pub const BUILT_IN_CLASSES: usize = 36;
+pub const BUILT_IN_CLASSES: usize = 37;
 
 /// The number of java/lang/Object: its place among the classes of each program.
 pub const OBJECT: usize = 0;
@@ -17,6 +17,9 @@ pub const CLASS: usize = 4;
 
 /// The number of java/io/PrintStream.
 pub const PRINT_STREAM: usize = 6;
+
+/// The number of java/lang/StringBuilder, the last of the built-in classes.
+pub const STRING_BUILDER: usize = 36;
 
 /// The number of java/lang/Throwable.
 pub const THROWABLE: usize = 7;

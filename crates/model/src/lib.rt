@@ -19,6 +19,7 @@
 //!   sections beside them; the theorems of `examples` show what they say on cases.
 #![tactic(auto)]
 
+mod builder_method;
 pub mod built_in;
 mod class_file;
 mod device;
@@ -33,6 +34,7 @@ mod report;
 mod string_method;
 mod value;
 
+pub use builder_method::BuilderMethod;
 pub use built_in::BUILT_IN_CLASSES;
 pub use class_file::ExceptionEntry;
 pub use device::{DeviceFault, Sink, Source};

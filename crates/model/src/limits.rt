@@ -4,9 +4,9 @@ ghost use Rattle.std.specs.Prelude.{◌≡◌, ◌≤◌, ◌↔◌, IsSome, IfS
 ghost use Rattle.model.specs.BuiltInNumbers.{most_threads};
 ghost use Rattle.model.specs.LimitRanges.{AreLimits};
 
-/// What a run may use: the objects that it makes, their cells (instance fields and array elements), the
-/// monitors that have waiters or many entries, the threads that are started, the main thread included, and the
-/// method frames of one thread.
+/// What a run may use: the objects that it makes, their cells (instance fields but for hidden ones, array elements and
+/// units of Strings), the monitors that have waiters or many entries, the threads that are started, the main thread
+/// included, and the method frames of one thread.
 #[derive(Clone, Copy)]
 pub struct Limits {
     pub objects: u32,

@@ -2,3 +2,4 @@ pub mod Parts
 pub mod Stepping
 pub mod Passing
 pub mod Meant
+pub mod Called

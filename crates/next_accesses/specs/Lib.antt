@@ -4,3 +4,5 @@ pub mod access_tables
 pub mod access_conditions
 pub mod next_access
 pub mod racy_states
+pub mod builder_texts
+pub mod builder_calls

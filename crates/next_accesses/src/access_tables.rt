@@ -1,5 +1,5 @@
-//! What the instructions of linked class files are, and which fields they name: what the accesses of a machine's threads
-//! are looked up in.
+//! What the instructions of linked class files are, which fields they name, and which methods their calls name and
+//! select: what the accesses of a machine's threads are looked up in.
 //!
 //! # Proved
 //!
@@ -8,23 +8,30 @@
 //! - `AccessTables::field_named`: the field that it names (`IsFieldNamed`).
 
 ghost use Rattle.std.specs.Prelude.{◌≡◌, IfOk};
+ghost use Rattle.method_tables.specs.method_links.Named.{AreNamedOf};
 ghost use Rattle.method_tables.specs.method_links.Numbers.{AreNumbersOf};
+ghost use Rattle.method_tables.specs.method_links.Selected.{AreSelectionsOf};
 ghost use Rattle.next_accesses.specs.access_tables.Tables.{IsFieldNamed, IsInstructionAt};
 
 use code_places::method_of;
 use field_names::named_fields::{NamedField, field_at};
 use linker::Linked;
-use method_tables::method_links::MethodNumbers;
+use method_tables::method_links::{MethodNumbers, NamedMethods, SelectedMethods};
 use model::Instr;
 use opcodes::decode_at;
 use std::alloc::{AllocError, Global};
 
-/// Linked class files, and which methods the numbers of their program stand for.
+/// Linked class files, which methods the numbers of their program stand for, which of them entries of constant pools
+/// name, and which of them classes select.
 #[derive(Drop)]
 pub struct AccessTables<'a> {
     pub(crate) linked: &'a Linked,
-    numbers: MethodNumbers,
+    pub(crate) numbers: MethodNumbers,
+    pub(crate) named: NamedMethods,
+    pub(crate) selected: SelectedMethods,
     ghost numbered: { AreNumbersOf linked.now numbers },
+    ghost are_named: { AreNamedOf linked.now named },
+    ghost are_selected: { AreSelectionsOf linked.now selected },
 }
 
 impl<'a> AccessTables<'a> {
@@ -33,7 +40,14 @@ impl<'a> AccessTables<'a> {
         ensures { IfOk result (λ tables. tables.linked.now ≡ linked.entry.now) }
     {
         let numbers = MethodNumbers::new(alloc, linked.set())?;
-        Ok(AccessTables { linked, numbers })
+        let named = NamedMethods::new(alloc, linked.hierarchy(), &numbers)?;
+        let selected = SelectedMethods::new(alloc, linked.set(), &numbers)?;
+        Ok(AccessTables {
+            linked,
+            numbers,
+            named,
+            selected,
+        })
     }
 
     /// The instruction at an offset of a method, by the method's number.

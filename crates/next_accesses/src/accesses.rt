@@ -58,7 +58,7 @@ fn static_field(field: NamedField) -> Variable
 }
 
 /// A read of a variable, if there is one.
-fn read(variable: Option<Variable>, is_volatile: bool) -> Option<Action>
+pub(crate) fn read(variable: Option<Variable>, is_volatile: bool) -> Option<Action>
     ensures { result ≡ read_of is_volatile variable }
 {
     match variable {
@@ -71,7 +71,7 @@ fn read(variable: Option<Variable>, is_volatile: bool) -> Option<Action>
 }
 
 /// A write of a variable, if there is one.
-fn write(variable: Option<Variable>, is_volatile: bool) -> Option<Action>
+pub(crate) fn write(variable: Option<Variable>, is_volatile: bool) -> Option<Action>
     ensures { result ≡ write_of is_volatile variable }
 {
     match variable {

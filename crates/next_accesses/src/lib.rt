@@ -5,6 +5,8 @@
 pub mod access_conditions;
 pub mod access_tables;
 pub mod accesses;
+pub mod builder_calls;
+pub mod builder_texts;
 pub mod next_access;
 pub mod racy_states;
 pub mod read_operands;

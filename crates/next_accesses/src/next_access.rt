@@ -1,15 +1,15 @@
-//! What the next event of a thread reads or writes.
+//! What the next event of a thread reads and writes.
 //!
 //! # Proved
 //!
 //! - `next_access`: in each state to which a run of the accepted class files led and whose words are shown, by the names
-//!   of the class files, the one read or write among the actions of the thread's next event, or none where there is
-//!   none (`TellsNext`, `accesses_next`); the class and the field that it names are there, and it tells whether that is
-//!   volatile (`IsRight`).
+//!   of the class files, the reads and writes among the actions of the thread's next event, in their order, or none
+//!   where there are none (`TellsNext`, `accesses_next`); the classes and the fields that they name are there, and each
+//!   tells whether its field is volatile (`AreRight`).
 //!
 //! # Wrong bodies
 //!
-//! - `next_access-null-has-an-access`: an instruction that throws does its access; refused by `access_on`.
+//! - `next_access-null-has-an-access`: an instruction that throws does its access; refused by `accesses_on`.
 
 ghost use Rattle.std.specs.Prelude.{◌≡◌, option_map, slice_get};
 ghost use Rattle.thread_stacks.specs.Stacks.{shown_frame};
@@ -19,13 +19,14 @@ ghost use Rattle.next_accesses.specs.next_access.Next.{TellsFrame, TellsNext, Te
 use crate::access_conditions::goes_on;
 use crate::access_tables::AccessTables;
 use crate::accesses::access_of;
+use crate::builder_calls::builder_called;
+use crate::builder_texts::{EventAccesses, one_access_of, texts_on};
 use crate::read_operands::operands_are_read;
 use linked_code::{LinkedProgram, MethodBody};
 use machine_state::Shared;
 use machine_state::linked_frames::tops_are_shown;
 use machine_state::method_selection::method_at;
 use model::built_in::NO_OFFSET;
-use race_places::run_actions::Action;
 use run_laws::soundness::no_event_is_wrong;
 use run_laws::word_operands::receivers_fit;
 use thread_rules::next_rules::{NextRule, next_rule, rules_are_meant};
@@ -54,14 +55,14 @@ fn offset_of(program: &LinkedProgram, method: u32, place: usize) -> u16
     }
 }
 
-/// What the instruction of the frame on top of a thread that runs reads or writes.
-fn access_on(
+/// What the instruction of the frame on top of a thread that runs reads and writes.
+fn accesses_on(
     tables: &AccessTables<'_>,
     program: &LinkedProgram,
     shared: &Shared,
     thread: u16,
     frame: &Frame<'_>,
-) -> Option<Action>
+) -> EventAccesses
     ensures { TellsFrame tables.now.linked.now program.now shared.now thread (shown_frame frame.now) result }
 {
     no_event_is_wrong();
@@ -69,32 +70,39 @@ fn access_on(
     operands_are_read();
     tops_are_shown();
     let offset = offset_of(program, frame.method, frame.place);
-    let instruction = tables.instruction_at(frame.method, offset)?;
-    let field = tables.field_named(frame.method, offset, instruction);
-    if goes_on(program, shared, thread, frame, instruction, field) {
-        access_of(frame, instruction, field)
-    } else {
-        None
+    let Some(instruction) = tables.instruction_at(frame.method, offset) else {
+        return one_access_of(None);
+    };
+    match builder_called(tables, program, shared, thread, frame, instruction) {
+        Some(method) => texts_on(frame, method),
+        None => {
+            let field = tables.field_named(frame.method, offset, instruction);
+            if goes_on(program, shared, thread, frame, instruction, field) {
+                one_access_of(access_of(frame, instruction, field))
+            } else {
+                one_access_of(None)
+            }
+        }
     }
 }
 
-/// What the next event of a thread reads or writes, by the thread's stack.
-fn access_with(
+/// What the next event of a thread reads and writes, by the thread's stack.
+fn accesses_with(
     tables: &AccessTables<'_>,
     program: &LinkedProgram,
     shared: &Shared,
     thread: u16,
     stack: &ThreadStack,
-) -> Option<Action>
+) -> EventAccesses
     ensures { TellsStack tables.now.linked.now program.now shared.now thread stack.now result }
 {
     rules_are_meant();
     match next_rule(&shared.threads, stack, thread) {
         NextRule::Bytecode => match stack.frame() {
-            Some(frame) => access_on(tables, program, shared, thread, &frame),
-            None => None,
+            Some(frame) => accesses_on(tables, program, shared, thread, &frame),
+            None => one_access_of(None),
         },
-        _ => None,
+        _ => one_access_of(None),
     }
 }
 
@@ -105,17 +113,17 @@ fn stack_of(shared: &Shared, thread: u16) -> Option<&ThreadStack>
     shared.stacks.get(usize::from(thread))
 }
 
-/// What the next event of a thread reads or writes, if it does.
+/// What the next event of a thread reads and writes, if it does.
 pub fn next_access(
     tables: &AccessTables<'_>,
     program: &LinkedProgram,
     shared: &Shared,
     thread: u16,
-) -> Option<Action>
+) -> EventAccesses
     ensures { TellsNext tables.now.linked.now program.now shared.now thread result }
 {
     match stack_of(shared, thread) {
-        Some(stack) => access_with(tables, program, shared, thread, stack),
-        None => None,
+        Some(stack) => accesses_with(tables, program, shared, thread, stack),
+        None => one_access_of(None),
     }
 }

@@ -4,8 +4,8 @@
 //!
 //! - `is_racy`, memory aside: of whatever run of the accepted class files the machine has done, whether the state to
 //!   which that led is racy (`TellsState`, `IsRacy`).
-//! - `racing`, memory aside: a race exactly where that state is racy, and the accesses that it tells are those of the
-//!   next events of its threads (`TellsRace`).
+//! - `racing`, memory aside: a race exactly where that state is racy, and the accesses that it tells are among
+//!   those of the next events of its threads (`TellsRace`).
 //!
 //! # Not proved
 //!
@@ -22,6 +22,7 @@ ghost use Rattle.next_accesses.specs.racy_states.Racy.{AreNext, IsConflictIn, Is
 ghost use Rattle.next_accesses.specs.racy_states.Racy as racy;
 
 use crate::access_tables::AccessTables;
+use crate::builder_texts::EventAccesses;
 use crate::next_access::next_access;
 use field_names::named_fields::names_are_apart;
 use linked_code::LinkedProgram;
@@ -148,7 +149,7 @@ fn race_among(actions: &[RunAction]) -> Option<Race>
     None
 }
 
-/// Adds what the next event of a thread reads or writes, if it does.
+/// Adds an access of the next event of a thread, if there is one.
 fn add_next(
     found: &mut Vec<RunAction>,
     thread: u16,
@@ -166,6 +167,19 @@ fn add_next(
     Ok(())
 }
 
+/// Adds what the next event of a thread reads and writes.
+fn add_accesses(
+    found: &mut Vec<RunAction>,
+    thread: u16,
+    accesses: EventAccesses,
+) -> Result<(), AllocError>
+    ensures { OnOk result (found.new.items ≡ racy.with_accesses thread accesses found.old.items) }
+{
+    add_next(found, thread, accesses.first)?;
+    add_next(found, thread, accesses.second)?;
+    add_next(found, thread, accesses.third)
+}
+
 /// What the next events of the first threads read and write, of so many threads. The only error is a want of memory.
 fn next_accesses(
     alloc: Global,
@@ -178,8 +192,8 @@ fn next_accesses(
 {
     let mut found = Vec::new(alloc);
     'threads: for thread in 0..threads {
-        let action = next_access(tables, program, shared, thread);
-        add_next(&mut found, thread, action)?;
+        let accesses = next_access(tables, program, shared, thread);
+        add_accesses(&mut found, thread, accesses)?;
     }
     Ok(found)
 }

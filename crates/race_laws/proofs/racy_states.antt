@@ -1,7 +1,9 @@
 pub mod Unordered
 pub mod Shapes
+pub mod Later
 pub mod Accessing
 pub mod Instructions
+pub mod Accesses
 pub mod Stepping
 pub mod Upto
 pub mod Silent

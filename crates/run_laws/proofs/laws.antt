@@ -20,3 +20,4 @@ pub mod LinkedOf
 pub mod WordLists
 pub mod Operations
 pub mod StringAnswers
+pub mod Distinct

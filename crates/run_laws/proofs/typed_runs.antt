@@ -15,6 +15,7 @@ pub mod NewFrames
 pub mod Called
 pub mod Going
 pub mod Instructions
+pub mod Texts
 pub mod Subtypes
 pub mod ObjectInstructions
 pub mod ArrayInstructions
@@ -28,4 +29,5 @@ pub mod Settled
 pub mod Handlers
 pub mod Events
 pub mod Begins
+pub mod Builders
 pub mod BuiltIns

@@ -22,6 +22,9 @@ pub mod MalformedFiles
 pub mod Lookups
 pub mod TypeJoins
 pub mod Typings
+pub mod FrameTypes
+pub mod StringTypings
+pub mod StringBuilderTypings
 pub mod BuiltInTypings
 pub mod Constructors
 pub mod StringListing
@@ -50,6 +53,7 @@ pub mod NarrowArrays
 pub mod SameString
 pub mod MadeStrings
 pub mod TextMethods
+pub mod BuiltTexts
 pub mod WaiterOfAThread
 pub mod UncaughtException
 pub mod Entry257

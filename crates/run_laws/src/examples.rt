@@ -26,7 +26,7 @@
 //!     `failing_initial_class`;
 //!   - exceptions: `handler_order`, `uncaught_exception`, `stack_overflow`, `not_a_runnable`, `array_store`;
 //!   - fields, arrays, strings and calls: `shadowed_fields`, `narrow_arrays`, `same_string`, `made_strings`,
-//!     `text_methods`, `super_call`.
+//!     `text_methods`, `built_texts`, `super_call`.
 //! - Programs in Java that print what `java` prints: `java_objects`, `java_calls`, `java_threads`. Threads in Java that
 //!   wait for all that there is to wait for: `threads_that_wait`.
 
@@ -37,6 +37,7 @@ ghost use Rattle.run_laws.specs.examples.Branches.{Branches};
 ghost use Rattle.run_laws.specs.examples.BuiltInClasses.{BuiltInClasses, OpeningObjects};
 ghost use Rattle.run_laws.specs.examples.BuiltInMembers.{BuiltInMembers};
 ghost use Rattle.run_laws.specs.examples.BuiltInTypings.{BuiltInTyped};
+ghost use Rattle.run_laws.specs.examples.BuiltTexts.{BuiltTexts};
 ghost use Rattle.run_laws.specs.examples.Constructors as constructing;
 ghost use Rattle.run_laws.specs.examples.Constructors.{Constructors};
 ghost use Rattle.run_laws.specs.examples.CounterUnderLock.{CounterUnderLock};
@@ -362,6 +363,11 @@ pub fn made_strings()
 /// Methods of String that are built in and have code: indexOf finds a text, and trim leaves out a space.
 pub fn text_methods()
     ensures holds { TextMethods }
+{}
+
+/// Texts that a StringBuilder builds, and one that is printed to System.err: what they cost, and what is printed.
+pub fn built_texts()
+    ensures holds { BuiltTexts }
 {}
 
 /// Two String constants of one text are one object (JVMS 5.1).

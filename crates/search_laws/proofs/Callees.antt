@@ -20,7 +20,7 @@ use Rattle.model.specs.ReferenceTypes.{ReferenceType, ClassType, PrimitiveArray,
 use Rattle.model.specs.Sites.{MeaningOf, Site, operand, referent, int_operand}
 use Rattle.model.specs.State.{ObjectOf, Instance, Primitives, References, type_of, World, Characters}
 use Rattle.model.specs.Worlds.{is_owner, object_at, class_of_object}
-use Rattle.run_laws.proofs.laws.Operations.{Operation, OfRow, GetSystemOut, GetStatic, PutStatic, GetField, PutField, Println, CallVirtual, CallConstructor, CallSpecial, CallStatic, CallInterface, Return, LoadClass, LoadString, New, NewArray, NewReferenceArray, ArrayLength, LoadElement, StoreElement, CheckCast, InstanceOf, Throw, MonitorEnter, MonitorExit, operation, OfMeaning, each_meaning}
+use Rattle.run_laws.proofs.laws.Operations.{Operation, OfRow, GetSystemStream, GetStatic, PutStatic, GetField, PutField, Println, CallVirtual, CallConstructor, CallSpecial, CallStatic, CallInterface, Return, LoadClass, LoadString, New, NewArray, NewReferenceArray, ArrayLength, LoadElement, StoreElement, CheckCast, InstanceOf, Throw, MonitorEnter, MonitorExit, operation, OfMeaning, each_meaning}
 use Rattle.search_laws.specs.Waits.{callee_entered}
 use Rattle.search_laws.proofs.Plain.{IsPlain, null_plain, left_plain, cast_plain, array_plain, built_in_plain, row_plain, load_plain, store_plain}
 
@@ -77,7 +77,7 @@ module _ (files : Program) (site : Site) (one other : Event) (before after : Wor
       → Again (runs values files site one before slots ops rest r method o) (runs values files site other after slots ops rest r method o)
   runs_again r method None =
       plain_again (runs values files site one before slots ops rest r method None) (runs values files site other after slots ops rest r method None)
-      (built_in_plain (built_in_method method) site.next one before slots ops rest)
+      (built_in_plain files (built_in_method method) site.next one before slots ops rest)
   runs_again r method (Some body) = λ e. e
 
   invoked_again : (r : ℕ) (chosen : Chosen) → Again (calls before one r chosen) (calls after other r chosen)
@@ -91,7 +91,7 @@ module _ (files : Program) (site : Site) (one other : Event) (before after : Wor
 
   runs_receiver : (r : ℕ) (method : Member) (o : Option Body) → callee_entered (runs values files site one before slots ops rest r method o) ≡ Some object
       → r ≡ object
-  runs_receiver r method None e = none_of (callee_entered (runs values files site one before slots ops rest r method None)) object (plain_none (runs values files site one before slots ops rest r method None) (built_in_plain (built_in_method method) site.next one before slots ops rest)) e
+  runs_receiver r method None e = none_of (callee_entered (runs values files site one before slots ops rest r method None)) object (plain_none (runs values files site one before slots ops rest r method None) (built_in_plain files (built_in_method method) site.next one before slots ops rest)) e
   runs_receiver r method (Some body) e = entered_is method r (is_synchronized_one files method) e
 
   receiver_is : (r : ℕ) (chosen : Chosen) → callee_entered (calls before one r chosen) ≡ Some object → r ≡ object
@@ -135,7 +135,7 @@ module _ (files : Program) (site : Site) (one other : Event) (before after : Wor
 
     again : (o : Operation files site) → Once (operation values files site o)
     again (OfRow row e) = plain_at (OfRow row e) (row_plain files site one before slots ops rest row)
-    again (GetSystemOut index i) = none_at (GetSystemOut index i) refl
+    again (GetSystemStream index stream n) = none_at (GetSystemStream index stream n) refl
     again (GetStatic f) = none_at (GetStatic f) refl
     again (PutStatic f) = none_at (PutStatic f) refl
     again (GetField f) = plain_at (GetField f) (null_plain (referent values ops 0) _ (λ r. tt))

@@ -7,7 +7,7 @@ use Rattle.std.proofs.lemmas.List.{length-map}
 use Rattle.std.proofs.lemmas.Option.{get_or_from_slice_get, same_Some}
 use Rattle.model.specs.declared.event.Event.{Event}
 use Rattle.model.specs.declared.value.Value.{Value}
-use Rattle.model.specs.Names.{name_eq, java_lang_class}
+use Rattle.model.specs.Names.{name_eq, java_lang_class, java_io_print_stream}
 use Rattle.model.specs.Tree.{FileTree}
 use Rattle.model.specs.Classes.{Program, classes_of}
 use Rattle.model.specs.Opening.{opening_heap, opening, string_reference}
@@ -18,7 +18,7 @@ use Rattle.model.specs.StringConstants.{string_texts}
 use Rattle.model.specs.Texts.{decoded}
 use Rattle.model.specs.Worlds.{no_object, text_of}
 use Rattle.run_laws.proofs.laws.Classes.{names_same}
-use Rattle.run_laws.proofs.laws.Lists.{get_map}
+use Rattle.run_laws.proofs.laws.Lists.{get_front, get_map}
 use Rattle.search_laws.specs.Texts.{KeepsTexts, HaveConstantsTexts}
 use Rattle.search_laws.proofs.ClassesKept.{texts_kept}
 use Rattle.search_laws.proofs.Runs.{first_of}
@@ -56,14 +56,17 @@ unfolding opening_heap
 constant_there files bytes known =
     let class : FileTree → ObjectOf Value = λ file. Instance java_lang_class [] in
     let string : List ℕ → ObjectOf Value = λ text. Characters (decoded text) in
+    let strings = map string (string_texts files) in
+    let last : List (ObjectOf Value) = Instance java_io_print_stream [] ∷ [] in
     let n = length (classes_of files) in
     let m = position_or_len (name_eq bytes) (string_texts files) in
     let at = first_there (name_eq bytes) (string_texts files) known in
     let is : bytes ≡ at.0 = names_same bytes at.0 at.1.1 in
     let e : suc (suc (suc (n + m))) ≡ 3 + n + m = omega arith in
     subst (λ k. slice_get (opening_heap values files) k ≡ Some (string bytes)) e
-    (subst (λ k. slice_get (map class (classes_of files) ++ map string (string_texts files)) (k + m) ≡ Some (string bytes)) (length-map (classes_of files) class)
-    (get_behind (map class (classes_of files)) (map string (string_texts files)) m ∙ (get_map string (string_texts files) m at.0 at.1.0 ∙ ap (λ text. Some (string text)) (sym is))))
+    (subst (λ k. slice_get (map class (classes_of files) ++ (strings ++ last)) (k + m) ≡ Some (string bytes)) (length-map (classes_of files) class)
+    (get_behind (map class (classes_of files)) (strings ++ last) m
+    ∙ (get_front strings last m (string at.0) (get_map string (string_texts files) m at.0 at.1.0) ∙ ap (λ text. Some (string text)) (sym is))))
 
 -- ---- behind events
 

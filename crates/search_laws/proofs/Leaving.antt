@@ -1,5 +1,5 @@
 -- Which instructions end a frame, and which let their thread wait.
-use Rattle.std.proofs.Common.{◌≡◌, ℕ, List, Bool, true, false, if◌then◌else◌, Option, Some, None, refl, sym, ap, ◌∙◌}
+use Rattle.std.proofs.Common.{◌≡◌, ℕ, List, [], Bool, true, false, if◌then◌else◌, Option, Some, None, refl, sym, ap, ◌∙◌}
 use Rattle.std.specs.Prelude.{is_some, slice_get, slice_set}
 use Rattle.std.proofs.lemmas.Option.{get_or_from_slice_get}
 use Rattle.model.specs.declared.instr.ArrayKind.{ArrayKind}
@@ -9,7 +9,9 @@ use Rattle.model.specs.declared.instr.Returned.{Returned}
 use Rattle.model.specs.declared.instr.Returned.TheVariants as returned
 use Rattle.model.specs.declared.value.Value.{Value}
 use Rattle.model.specs.Arrays.{is_negative, made_array, in_range, at_index, may_stand_in, if_storable, load_of, store_of}
-use Rattle.model.specs.BuiltInMethods.{BuiltInMethod, Construct, ConstructWithTarget, ObjectWait, ObjectNotify, ObjectNotifyAll, ThreadStart, ThreadInterrupt, ThreadIsInterrupted, ThreadInterrupted, ThreadYield, ThreadCurrentThread, ThreadJoin, ThreadIsAlive, PrintStreamPrints, StringAnswers, built_in_method, object_of, string_operand, answered, wait_by, if_owner, start_by, join_by, built_in_does}
+use Rattle.model.specs.BuilderMethods as builder
+use Rattle.model.specs.BuilderMethods.{BuilderAnswer, KeepsEmpty, Keeps, Adds, GivesText, builds}
+use Rattle.model.specs.BuiltInMethods.{BuiltInMethod, Construct, ConstructWithTarget, ObjectWait, ObjectNotify, ObjectNotifyAll, ThreadStart, ThreadInterrupt, ThreadIsInterrupted, ThreadInterrupted, ThreadYield, ThreadCurrentThread, ThreadJoin, ThreadIsAlive, PrintStreamPrints, StringAnswers, StringBuilderBuilds, built_in_method, object_of, string_operand, answered, wait_by, if_owner, start_by, join_by, built_in_does}
 use Rattle.model.specs.Calls.{Chosen, Fails, Runs, runs, invoked, return_of}
 use Rattle.model.specs.Classes.{Program, Body, body_of}
 use Rattle.model.specs.Meanings.{local_meaning, meaning_of}
@@ -18,7 +20,7 @@ use Rattle.model.specs.Monitors as monitors
 use Rattle.model.specs.Monitors.{monitor_at}
 use Rattle.model.specs.Names.{Member}
 use Rattle.model.specs.Objects.{cast}
-use Rattle.model.specs.Opening.{class_reference}
+use Rattle.model.specs.Opening.{class_reference, string_reference}
 use Rattle.model.specs.Operands.{Slots, values}
 use Rattle.model.specs.Outcomes.{OutcomeOf, Goes, Raises, Throws, Interrupts, Calls, Returns, Waits, Free, Arithmetic, not_null}
 use Rattle.model.specs.Rows.{Row, after_row, row_target}
@@ -26,7 +28,7 @@ use Rattle.model.specs.Sites.{MeaningOf, Site, operand, referent, int_operand}
 use Rattle.model.specs.State.{ObjectOf, Thread, Running, Waiting, World}
 use Rattle.model.specs.StringMethods.{StringAnswer, IsNull, IsOutside, Answers, Same, Composes, string_answer}
 use Rattle.model.specs.Worlds.{thread_at, no_thread, with_thread, with_monitors, is_owner, object_at, thread_of, is_alive}
-use Rattle.run_laws.proofs.laws.Operations.{Operation, OfRow, GetSystemOut, GetStatic, PutStatic, GetField, PutField, Println, CallVirtual, CallConstructor, CallSpecial, CallStatic, CallInterface, Return, LoadClass, LoadString, New, NewArray, NewReferenceArray, ArrayLength, LoadElement, StoreElement, CheckCast, InstanceOf, Throw, MonitorEnter, MonitorExit, operation, OfMeaning, each_meaning}
+use Rattle.run_laws.proofs.laws.Operations.{Operation, OfRow, GetSystemStream, GetStatic, PutStatic, GetField, PutField, Println, CallVirtual, CallConstructor, CallSpecial, CallStatic, CallInterface, Return, LoadClass, LoadString, New, NewArray, NewReferenceArray, ArrayLength, LoadElement, StoreElement, CheckCast, InstanceOf, Throw, MonitorEnter, MonitorExit, operation, OfMeaning, each_meaning}
 use Rattle.run_laws.proofs.typed_runs.Threads.{get_set_at}
 use Rattle.search_laws.specs.Alone.{next_event}
 
@@ -105,7 +107,14 @@ module _ (files : Program) (site : Site) (t : ℕ) (world : World) (thread : Thr
   answered_told (Same k) next = tt
   answered_told (Composes text) next = tt
 
-  built_in_told : (method : BuiltInMethod) (next : ℕ) → Told (built_in_does values method next (next_event t) world slots ops rest)
+  builds_told : (empty : ℕ) (answer : BuilderAnswer) (next : ℕ) → Told (builds values empty answer next world slots ops rest)
+  builds_told empty builder.IsNull next = tt
+  builds_told empty KeepsEmpty next = tt
+  builds_told empty Keeps next = tt
+  builds_told empty (Adds added) next = tt
+  builds_told empty GivesText next = tt
+
+  built_in_told : (method : BuiltInMethod) (next : ℕ) → Told (built_in_does values files method next (next_event t) world slots ops rest)
   built_in_told Construct next = tt
   built_in_told ConstructWithTarget next = tt
   built_in_told ObjectWait next = wait_told (is_owner world t (object_of values ops 0)) (thread_at world t).interrupted (object_of values ops 0)
@@ -121,6 +130,7 @@ module _ (files : Program) (site : Site) (t : ℕ) (world : World) (thread : Thr
   built_in_told ThreadIsAlive next = tt
   built_in_told (PrintStreamPrints print) next = tt
   built_in_told (StringAnswers method) next = answered_told (string_answer method (int_operand values ops) (string_operand values world ops)) next
+  built_in_told (StringBuilderBuilds method) next = builds_told (string_reference files []) _ next
 
   runs_told : (r : ℕ) (method : Member) (o : Option Body) → Told (runs values files site (next_event t) world slots ops rest r method o)
   runs_told r method None = built_in_told (built_in_method method) site.next
@@ -163,7 +173,7 @@ module _ (files : Program) (site : Site) (t : ℕ) (world : World) (thread : Thr
 
   told : (o : Operation files site) → IsTold (operation values files site o)
   told (OfRow row e) = row_told row
-  told (GetSystemOut index i) = tt
+  told (GetSystemStream index stream n) = tt
   told (GetStatic f) = tt
   told (PutStatic f) = tt
   told (GetField f) = null_told (referent values ops 0) _ (λ r. tt)

@@ -1,7 +1,8 @@
 -- A monitor that a thread owns is changed by the thread: what instructions of the others do commutes with that.
 use Rattle.std.proofs.Common.{◌≡◌, ℕ, List, [], Bool, true, false, ◌==◌, ◌&&◌, nat_lt, length, if◌then◌else◌, Option, Some, None, refl, ap, ◌∙◌, ◌∷◌, ◌++◌}
-use Rattle.std.specs.Prelude.{replicate, is_some, slice_get}
+use Rattle.std.specs.Prelude.{replicate, is_none, is_some, slice_get}
 use Rattle.std.proofs.lemmas.Bool.{and_parts, and_from}
+use Rattle.model.specs.declared.builder_method.BuilderMethod.{BuilderMethod}
 use Rattle.model.specs.declared.event.Event.{Event}
 use Rattle.model.specs.declared.instr.ArrayKind.{ArrayKind}
 use Rattle.model.specs.declared.instr.ArrayKind.TheVariants as array_kind
@@ -9,7 +10,9 @@ use Rattle.model.specs.declared.instr.Returned.{Returned}
 use Rattle.model.specs.declared.instr.Returned.TheVariants as returned
 use Rattle.model.specs.declared.value.Value.{Value}
 use Rattle.model.specs.Arrays.{is_negative, made_array, in_range, at_index, may_stand_in, if_storable, load_of, store_of}
-use Rattle.model.specs.BuiltInMethods.{BuiltInMethod, Construct, ConstructWithTarget, ObjectWait, ObjectNotify, ObjectNotifyAll, ThreadStart, ThreadInterrupt, ThreadIsInterrupted, ThreadInterrupted, ThreadYield, ThreadCurrentThread, ThreadJoin, ThreadIsAlive, PrintStreamPrints, StringAnswers, built_in_method, object_of, string_operand, answered, wait_by, notified_one, notified, notified_all, if_owner, start_by, interrupted_in, interrupted_on, join_by, built_in_may, built_in_does, printed_by, string_shown, with_printed}
+use Rattle.model.specs.BuilderMethods as builder
+use Rattle.model.specs.BuilderMethods.{kept_string, text_or_empty, built_text, with_string, builder_shown, BuilderAnswer, KeepsEmpty, Keeps, Adds, GivesText, builder_answer, composed, builds, builder_does}
+use Rattle.model.specs.BuiltInMethods.{BuiltInMethod, Construct, ConstructWithTarget, ObjectWait, ObjectNotify, ObjectNotifyAll, ThreadStart, ThreadInterrupt, ThreadIsInterrupted, ThreadInterrupted, ThreadYield, ThreadCurrentThread, ThreadJoin, ThreadIsAlive, PrintStreamPrints, StringAnswers, StringBuilderBuilds, built_in_method, object_of, string_operand, answered, wait_by, notified_one, notified, notified_all, if_owner, start_by, interrupted_in, interrupted_on, join_by, built_in_may, built_in_does, printed_by, string_shown, with_printed}
 use Rattle.model.specs.Calls.{Chosen, Fails, Runs, runs, invoked, may_run, may_invoke, return_of}
 use Rattle.model.specs.Classes.{Program, Body, body_of}
 use Rattle.model.specs.MonitorMeanings.{left, may_enter_object}
@@ -19,16 +22,17 @@ use Rattle.model.specs.Monitors.{monitor_at}
 use Rattle.model.specs.Names.{Member}
 use Rattle.model.specs.Objects.{cast}
 use Rattle.model.specs.DescribedTypes.{type_named}
-use Rattle.model.specs.Opening.{class_reference, new_instance}
+use Rattle.model.specs.Opening.{class_reference, new_instance, string_reference}
 use Rattle.model.specs.Operands.{Slots, values}
 use Rattle.model.specs.Outcomes.{Cost, Free, Makes, Enters, Joins, OutcomeOf, Goes, Raises, Throws, Interrupts, Calls, Returns, Waits, not_null}
 use Rattle.model.specs.Sites.{MeaningOf, Site, operand, referent, int_operand, pushing, pushing_at}
 use Rattle.model.specs.State.{ObjectOf, Primitives, References, Monitor, Waiter, Notified, Interrupted, ThreadStatus, Running, Waiting, Relock, Ended, World, Characters}
+use Rattle.model.specs.Texts.{Text}
 use Rattle.model.specs.StringMethods.{StringAnswer, IsNull, IsOutside, Answers, Same, Composes, string_answer}
-use Rattle.model.specs.Worlds.{allocated, fields_of, thread_at, is_owner, is_done, object_at, with_status, with_interrupted, all_woken, with_monitors, with_entry, with_exit, entry_cost, may_enter, thread_of, is_alive, waiters_of}
+use Rattle.model.specs.Worlds.{allocated, cells_of, thread_at, is_owner, is_done, object_at, with_status, with_interrupted, all_woken, with_monitors, with_entry, with_exit, entry_cost, may_enter, thread_of, is_alive, waiters_of}
 use Rattle.model.specs.declared.print_method.PrintMethod.{PrintMethod}
 use Rattle.model.specs.declared.print_method.PrintMethod.TheVariants.{Println, PrintlnChar, PrintlnInt, PrintlnString, PrintChar, PrintInt, PrintString}
-use Rattle.run_laws.proofs.laws.Operations.{Operation, OfRow, GetSystemOut, GetStatic, PutStatic, GetField, PutField, Println, CallVirtual, CallConstructor, CallSpecial, CallStatic, CallInterface, Return, LoadClass, LoadString, New, NewArray, NewReferenceArray, ArrayLength, LoadElement, StoreElement, CheckCast, InstanceOf, Throw, MonitorEnter, MonitorExit, operation, OfMeaning, each_meaning}
+use Rattle.run_laws.proofs.laws.Operations.{Operation, OfRow, GetSystemStream, GetStatic, PutStatic, GetField, PutField, Println, CallVirtual, CallConstructor, CallSpecial, CallStatic, CallInterface, Return, LoadClass, LoadString, New, NewArray, NewReferenceArray, ArrayLength, LoadElement, StoreElement, CheckCast, InstanceOf, Throw, MonitorEnter, MonitorExit, operation, OfMeaning, each_meaning}
 use Rattle.search_laws.proofs.Locks.{IsChange, with_change, Owned, owned_apart, entered_apart, owner_same, waiters_same, count_same, answer_same, called_same, interrupted_same, allocated_same, woken_same}
 
 module _ (t r : ℕ) (change : Monitor → Monitor) (c : IsChange t change) where
@@ -189,35 +193,77 @@ module _ (t r : ℕ) (change : Monitor → Monitor) (c : IsChange t change) wher
     answered_is (Composes text) next slots ops rest =
         goes_is (Makes (length text)) (Makes (length text)) (allocated w (Characters text)) (allocated (f w) (Characters text)) _ next refl (allocated_same t r change c v ne w own (Characters text))
 
-    built_in_is : (method : BuiltInMethod) (next : ℕ) (slots : Slots Value) (ops rest : List Value)
-        → Is (built_in_does values method next event (f w) slots ops rest) (built_in_does values method next event w slots ops rest)
-    built_in_is Construct next slots ops rest = refl
-    built_in_is ConstructWithTarget next slots ops rest = refl
-    built_in_is ObjectWait next slots ops rest =
+    -- so is what a StringBuilder is given
+    text_same : (o : Option ℕ) → text_or_empty (f w) o ≡ text_or_empty w o
+    text_same None = refl
+    text_same (Some string) = refl
+
+    built_same : (builder : ℕ) → built_text values (f w) builder ≡ built_text values w builder
+    built_same builder = text_same (values.referent (kept_string values (object_at w builder)))
+
+    builder_shown_same : (o : Option ℕ) → builder_shown values (f w) o ≡ builder_shown values w o
+    builder_shown_same None = refl
+    builder_shown_same (Some builder) = built_same builder
+
+    composed_is : (text other : Text) (next : ℕ) (slots : Slots Value) (ops rest : List Value) → other ≡ text
+        → Is (composed values other next (f w) slots ops rest) (composed values text next w slots ops rest)
+    composed_is text other next slots ops rest e =
+        let builder = object_of values ops 1 in
+        let string = values.reference (length w.heap) in
+        let made = Characters text in
+        ap (λ k. composed values k next (f w) slots ops rest) e
+        ∙ goes_is (Makes (length text)) (Makes (length text)) (with_string (allocated w made) builder string) (with_string (allocated (f w) made) builder string) _ next refl
+        (ap (λ k. with_string k builder string) (allocated_same t r change c v ne w own made))
+
+    builds_is : (empty : ℕ) (answer : BuilderAnswer) (next : ℕ) (slots : Slots Value) (ops rest : List Value)
+        → Is (builds values empty answer next (f w) slots ops rest) (builds values empty answer next w slots ops rest)
+    builds_is empty builder.IsNull next slots ops rest = refl
+    builds_is empty KeepsEmpty next slots ops rest = refl
+    builds_is empty Keeps next slots ops rest = refl
+    builds_is empty (Adds added) next slots ops rest =
+        let object = object_of values ops 1 in
+        composed_is (built_text values w object ++ added) (built_text values (f w) object ++ added) next slots ops rest (ap (λ k. k ++ added) (built_same object))
+    builds_is empty GivesText next slots ops rest = refl
+
+    builder_is : (empty : ℕ) (method : BuilderMethod) (next : ℕ) (slots : Slots Value) (ops rest : List Value)
+        → Is (builder_does values empty method next (f w) slots ops rest) (builder_does values empty method next w slots ops rest)
+    builder_is empty method next slots ops rest =
+        let o = referent values ops 0 in
+        let bits = int_operand values ops 0 in
+        ap (λ k. builds values empty (builder_answer method bits (is_none o) k (builder_shown values (f w) o)) next (f w) slots ops rest) (shown_same o)
+        ∙ ap (λ k. builds values empty (builder_answer method bits (is_none o) (string_shown w o) k) next (f w) slots ops rest) (builder_shown_same o)
+        ∙ builds_is empty (builder_answer method bits (is_none o) (string_shown w o) (builder_shown values w o)) next slots ops rest
+
+    built_in_is : (files : Program) (method : BuiltInMethod) (next : ℕ) (slots : Slots Value) (ops rest : List Value)
+        → Is (built_in_does values files method next event (f w) slots ops rest) (built_in_does values files method next event w slots ops rest)
+    built_in_is files Construct next slots ops rest = refl
+    built_in_is files ConstructWithTarget next slots ops rest = refl
+    built_in_is files ObjectWait next slots ops rest =
         let object = object_of values ops 0 in
         waits_is (is_owner w v object) (is_owner (f w) v object) (thread_at w v).interrupted object rest refl (owner_same t r change c v ne w own object)
-    built_in_is ObjectNotify next slots ops rest =
+    built_in_is files ObjectNotify next slots ops rest =
         let object = object_of values ops 0 in
         owner_is (is_owner w v object) (is_owner (f w) v object) (pushing next [] (notified (f w) v object event.pick) slots rest) (pushing next [] (notified w v object event.pick) slots rest) (owner_same t r change c v ne w own object)
         (λ h. goes_is Free Free (notified w v object event.pick) (notified (f w) v object event.pick) _ next refl (notified_is object h))
-    built_in_is ObjectNotifyAll next slots ops rest =
+    built_in_is files ObjectNotifyAll next slots ops rest =
         let object = object_of values ops 0 in
         owner_is (is_owner w v object) (is_owner (f w) v object) (pushing next [] (notified_all (f w) v object) slots rest) (pushing next [] (notified_all w v object) slots rest) (owner_same t r change c v ne w own object)
         (λ h. goes_is Free Free (notified_all w v object) (notified_all (f w) v object) _ next refl (notified_all_is object h))
-    built_in_is ThreadStart next slots ops rest = start_is (is_some (thread_of w (object_of values ops 0))) next (object_of values ops 0) slots rest
-    built_in_is ThreadInterrupt next slots ops rest =
+    built_in_is files ThreadStart next slots ops rest = start_is (is_some (thread_of w (object_of values ops 0))) next (object_of values ops 0) slots rest
+    built_in_is files ThreadInterrupt next slots ops rest =
         let o = thread_of w (object_of values ops 0) in
         goes_is Free Free (interrupted_on w o) (interrupted_on (f w) o) _ next refl (interrupted_on_is o)
-    built_in_is ThreadIsInterrupted next slots ops rest = refl
-    built_in_is ThreadInterrupted next slots ops rest = refl
-    built_in_is ThreadYield next slots ops rest = refl
-    built_in_is ThreadCurrentThread next slots ops rest = refl
-    built_in_is ThreadJoin next slots ops rest = join_is (is_alive w (object_of values ops 0)) next slots rest
-    built_in_is ThreadIsAlive next slots ops rest = refl
-    built_in_is (PrintStreamPrints print) next slots ops rest =
+    built_in_is files ThreadIsInterrupted next slots ops rest = refl
+    built_in_is files ThreadInterrupted next slots ops rest = refl
+    built_in_is files ThreadYield next slots ops rest = refl
+    built_in_is files ThreadCurrentThread next slots ops rest = refl
+    built_in_is files ThreadJoin next slots ops rest = join_is (is_alive w (object_of values ops 0)) next slots rest
+    built_in_is files ThreadIsAlive next slots ops rest = refl
+    built_in_is files (PrintStreamPrints print) next slots ops rest =
         goes_is Free Free (with_printed w (printed_by values print w ops)) (with_printed (f w) (printed_by values print (f w) ops)) _ next refl (ap (with_printed (f w)) (printed_same print ops))
-    built_in_is (StringAnswers method) next slots ops rest =
+    built_in_is files (StringAnswers method) next slots ops rest =
         answered_is (string_answer method (int_operand values ops) (string_operand values w ops)) next slots ops rest
+    built_in_is files (StringBuilderBuilds method) next slots ops rest = builder_is (string_reference files []) method next slots ops rest
 
     -- an event that may be done may be done there
     built_in_may_same : (method : BuiltInMethod) (ops : List Value) → built_in_may values method event (f w) ops ≡ built_in_may values method event w ops
@@ -239,6 +285,7 @@ module _ (t r : ℕ) (change : Monitor → Monitor) (c : IsChange t change) wher
     built_in_may_same ThreadIsAlive ops = refl
     built_in_may_same (PrintStreamPrints print) ops = refl
     built_in_may_same (StringAnswers method) ops = refl
+    built_in_may_same (StringBuilderBuilds method) ops = refl
 
     -- ---- the table
 
@@ -261,7 +308,7 @@ module _ (t r : ℕ) (change : Monitor → Monitor) (c : IsChange t change) wher
 
       runs_is : (slots : Slots Value) (ops rest : List Value) (object : ℕ) (method : Member) (o : Option Body)
           → Is (runs values files site event (f w) slots ops rest object method o) (runs values files site event w slots ops rest object method o)
-      runs_is slots ops rest object method None = built_in_is (built_in_method method) site.next slots ops rest
+      runs_is slots ops rest object method None = built_in_is files (built_in_method method) site.next slots ops rest
       runs_is slots ops rest object method (Some body) = refl
 
       invoked_is : (slots : Slots Value) (ops rest : List Value) (object : ℕ) (chosen : Chosen)
@@ -325,7 +372,7 @@ module _ (t r : ℕ) (change : Monitor → Monitor) (c : IsChange t change) wher
       same : (o : Operation files site) → DoesSame (operation values files site o)
       same (OfRow row e) = call_same (operation values files site (OfRow row e)) (λ ops. refl)
           (λ slots ops rest. row_is (row.fails (values.words ops)) _ _ refl _ refl)
-      same (GetSystemOut index i) = call_same (operation values files site (GetSystemOut index i)) (λ ops. refl) (λ slots ops rest. refl)
+      same (GetSystemStream index stream n) = call_same (operation values files site (GetSystemStream index stream n)) (λ ops. refl) (λ slots ops rest. refl)
       same (GetStatic g) = call_same (operation values files site (GetStatic g)) (λ ops. refl) (λ slots ops rest. refl)
       same (PutStatic g) = call_same (operation values files site (PutStatic g)) (λ ops. refl) (λ slots ops rest. refl)
       same (GetField g) = call_same (operation values files site (GetField g)) (λ ops. refl) (λ slots ops rest. null_is (referent values ops 0) _ _ (λ o. refl))
@@ -349,7 +396,7 @@ module _ (t r : ℕ) (change : Monitor → Monitor) (c : IsChange t change) wher
           call_same (operation values files site (New class file e)) (λ ops. refl)
           (λ slots ops rest.
           let made = new_instance values files class.name in
-          goes_is (Makes (length (fields_of made))) (Makes (length (fields_of made))) (allocated w made) (allocated (f w) made) _ site.next refl (allocated_same t r change c v ne w own made))
+          goes_is (Makes (cells_of made)) (Makes (cells_of made)) (allocated w made) (allocated (f w) made) _ site.next refl (allocated_same t r change c v ne w own made))
       same (NewArray code of i e) =
           call_same (operation values files site (NewArray code of i e)) (λ ops. refl)
           (λ slots ops rest. array_is (is_negative (int_operand values ops 0)) site.next (int_operand values ops 0) (λ elements. Primitives of elements) (values.int 0) slots rest)

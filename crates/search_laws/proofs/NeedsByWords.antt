@@ -29,10 +29,11 @@ use Rattle.run_laws.specs.word_runs.Words.{map_outcome}
 use Rattle.run_laws.proofs.laws.Progress.{ready_finds}
 use Rattle.run_laws.proofs.laws.WordLists.{operands_words, under_words}
 use Rattle.run_laws.proofs.typed_runs.Settled.{thread_there}
+use Rattle.run_laws.proofs.typed_runs.Texts.{texts_kept}
 use Rattle.run_laws.proofs.word_runs.WordEvents.{stack_words}
 use Rattle.run_laws.proofs.word_runs.WordMeanings.{Kinded, Same, referent_words}
 use Rattle.run_laws.proofs.word_runs.WordTable.{SameIf, meaning_same}
-use Rattle.run_laws.proofs.word_runs.WordWorlds.{world_words, object_at_words, class_words}
+use Rattle.run_laws.proofs.word_runs.WordWorlds.{KeepsTexts, world_words, object_at_words, class_words}
 use Rattle.search_laws.specs.Waits.{Need, MonitorOf, callee_entered, class_need, frame_need, instruction_need, meant_need, site_need, body_need, begin_need, stack_need, going_need, status_need, next_need}
 use Rattle.search_laws.proofs.Operands.{kinded}
 use Rattle.search_laws.proofs.Waiting.{enter_means}
@@ -51,7 +52,7 @@ count_words [] = refl
 count_words (Invocation frame ∷ stack) = ap suc (count_words stack)
 count_words (Initialisation class phase ∷ stack) = count_words stack
 
-module _ (files : Program) (frames t : ℕ) (world : World) where
+module _ (files : Program) (frames t : ℕ) (world : World) (texts : KeepsTexts world) where
   abbrev event : Event
   event = record { thread = t; pick = 0 }
 
@@ -79,7 +80,7 @@ module _ (files : Program) (frames t : ℕ) (world : World) where
       does_same =
           ap (λ o. w.does event (world_words world) slots o (under w.wants slots)) ops_same
           ∙ (ap (λ r. w.does event (world_words world) slots ops r) under_same
-          ∙ same.does event world frame.place.slots (under v.wants frame.place.slots) q)
+          ∙ same.does event world frame.place.slots (under v.wants frame.place.slots) q texts)
 
       abbrev by_words : Instr → List ℕ → OutcomeOf ℕ → Option Need
       by_words = instruction_need words files frames t (world_words world) (stack_words whole)
@@ -159,7 +160,7 @@ module _ (files : Program) (rooted : Rooted files) (frames : ℕ) (s : State) (t
       let it = get_or_from_slice_get s.world.threads t at.0 no_thread at.1.0 in
       let runs : at.0.status ≡ Running = sym (ap (λ (th : Thread). th.status) it) ∙ is in
       let running = subst (λ z. IsStackTyped files os at.0.pending stack z) runs at.1.1.stack_typed in
-      by_pending files frames t s.world rooted stack (thread_at s.world t).pending
+      by_pending files frames t s.world (texts_kept files s.world typed.heap) rooted stack (thread_at s.world t).pending
       (subst (λ p. IsRunning files os p stack) (sym (ap (λ (th : Thread). th.pending) it)) running)
   by_status stack q (Waiting object count) is = refl
   by_status stack q (Relock object count cause) is = refl

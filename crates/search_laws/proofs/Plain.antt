@@ -1,16 +1,19 @@
 -- Outcomes of instructions that neither call nor return.
-use Rattle.std.proofs.Common.{ℕ, List, Bool, true, false, if◌then◌else◌, Option, Some, None}
+use Rattle.std.proofs.Common.{ℕ, List, [], Bool, true, false, if◌then◌else◌, Option, Some, None}
 use Rattle.std.specs.Prelude.{is_some}
 use Rattle.model.specs.declared.event.Event.{Event}
 use Rattle.model.specs.declared.instr.ArrayKind.{ArrayKind}
 use Rattle.model.specs.declared.instr.ArrayKind.TheVariants as array_kind
 use Rattle.model.specs.declared.value.Value.{Value}
 use Rattle.model.specs.Arrays.{made_array, in_range, at_index, may_stand_in, if_storable, load_of, store_of}
-use Rattle.model.specs.BuiltInMethods.{BuiltInMethod, Construct, ConstructWithTarget, ObjectWait, ObjectNotify, ObjectNotifyAll, ThreadStart, ThreadInterrupt, ThreadIsInterrupted, ThreadInterrupted, ThreadYield, ThreadCurrentThread, ThreadJoin, ThreadIsAlive, PrintStreamPrints, StringAnswers, object_of, string_operand, answered, wait_by, if_owner, start_by, join_by, built_in_does}
+use Rattle.model.specs.BuilderMethods as builder
+use Rattle.model.specs.BuilderMethods.{BuilderAnswer, KeepsEmpty, Keeps, Adds, GivesText, builds}
+use Rattle.model.specs.BuiltInMethods.{BuiltInMethod, Construct, ConstructWithTarget, ObjectWait, ObjectNotify, ObjectNotifyAll, ThreadStart, ThreadInterrupt, ThreadIsInterrupted, ThreadInterrupted, ThreadYield, ThreadCurrentThread, ThreadJoin, ThreadIsAlive, PrintStreamPrints, StringAnswers, StringBuilderBuilds, object_of, string_operand, answered, wait_by, if_owner, start_by, join_by, built_in_does}
 use Rattle.model.specs.Classes.{Program}
 use Rattle.model.specs.MonitorMeanings.{left}
 use Rattle.model.specs.Meanings.{local_meaning}
 use Rattle.model.specs.Objects.{cast}
+use Rattle.model.specs.Opening.{string_reference}
 use Rattle.model.specs.Operands.{Slots, values}
 use Rattle.model.specs.Outcomes.{OutcomeOf, Goes, Raises, Throws, Interrupts, Calls, Returns, Waits, Free, Arithmetic, not_null}
 use Rattle.model.specs.Rows.{Row, after_row, row_target}
@@ -84,25 +87,34 @@ answered_plain (Answers bits) next world slots ops rest = tt
 answered_plain (Same k) next world slots ops rest = tt
 answered_plain (Composes text) next world slots ops rest = tt
 
-pub built_in_plain : (method : BuiltInMethod) (next : ℕ) (event : Event) (world : World) (slots : Slots Value) (ops rest : List Value)
-    → IsPlain (built_in_does values method next event world slots ops rest)
-built_in_plain Construct next event world slots ops rest = tt
-built_in_plain ConstructWithTarget next event world slots ops rest = tt
-built_in_plain ObjectWait next event world slots ops rest =
+builds_plain : (empty : ℕ) (answer : BuilderAnswer) (next : ℕ) (world : World) (slots : Slots Value) (ops rest : List Value)
+    → IsPlain (builds values empty answer next world slots ops rest)
+builds_plain empty builder.IsNull next world slots ops rest = tt
+builds_plain empty KeepsEmpty next world slots ops rest = tt
+builds_plain empty Keeps next world slots ops rest = tt
+builds_plain empty (Adds added) next world slots ops rest = tt
+builds_plain empty GivesText next world slots ops rest = tt
+
+pub built_in_plain : (files : Program) (method : BuiltInMethod) (next : ℕ) (event : Event) (world : World) (slots : Slots Value) (ops rest : List Value)
+    → IsPlain (built_in_does values files method next event world slots ops rest)
+built_in_plain files Construct next event world slots ops rest = tt
+built_in_plain files ConstructWithTarget next event world slots ops rest = tt
+built_in_plain files ObjectWait next event world slots ops rest =
     wait_plain (is_owner world event.thread (object_of values ops 0)) (thread_at world event.thread).interrupted event.thread (object_of values ops 0) world rest
-built_in_plain ObjectNotify next event world slots ops rest = owner_plain (is_owner world event.thread (object_of values ops 0)) _ tt
-built_in_plain ObjectNotifyAll next event world slots ops rest = owner_plain (is_owner world event.thread (object_of values ops 0)) _ tt
-built_in_plain ThreadStart next event world slots ops rest = start_plain (is_some (thread_of world (object_of values ops 0))) next (object_of values ops 0) world slots rest
-built_in_plain ThreadInterrupt next event world slots ops rest = tt
-built_in_plain ThreadIsInterrupted next event world slots ops rest = tt
-built_in_plain ThreadInterrupted next event world slots ops rest = tt
-built_in_plain ThreadYield next event world slots ops rest = tt
-built_in_plain ThreadCurrentThread next event world slots ops rest = tt
-built_in_plain ThreadJoin next event world slots ops rest = join_plain (is_alive world (object_of values ops 0)) next world slots rest
-built_in_plain ThreadIsAlive next event world slots ops rest = tt
-built_in_plain (PrintStreamPrints print) next event world slots ops rest = tt
-built_in_plain (StringAnswers method) next event world slots ops rest =
+built_in_plain files ObjectNotify next event world slots ops rest = owner_plain (is_owner world event.thread (object_of values ops 0)) _ tt
+built_in_plain files ObjectNotifyAll next event world slots ops rest = owner_plain (is_owner world event.thread (object_of values ops 0)) _ tt
+built_in_plain files ThreadStart next event world slots ops rest = start_plain (is_some (thread_of world (object_of values ops 0))) next (object_of values ops 0) world slots rest
+built_in_plain files ThreadInterrupt next event world slots ops rest = tt
+built_in_plain files ThreadIsInterrupted next event world slots ops rest = tt
+built_in_plain files ThreadInterrupted next event world slots ops rest = tt
+built_in_plain files ThreadYield next event world slots ops rest = tt
+built_in_plain files ThreadCurrentThread next event world slots ops rest = tt
+built_in_plain files ThreadJoin next event world slots ops rest = join_plain (is_alive world (object_of values ops 0)) next world slots rest
+built_in_plain files ThreadIsAlive next event world slots ops rest = tt
+built_in_plain files (PrintStreamPrints print) next event world slots ops rest = tt
+built_in_plain files (StringAnswers method) next event world slots ops rest =
     answered_plain (string_answer method (int_operand values ops) (string_operand values world ops)) next world slots ops rest
+built_in_plain files (StringBuilderBuilds method) next event world slots ops rest = builds_plain (string_reference files []) _ next world slots ops rest
 
 module _ (files : Program) (site : Site) (event : Event) (world : World) (slots : Slots Value) (ops rest : List Value) where
   pub load_plain : (kind : ArrayKind) → IsPlain ((load_of values files site kind).does event world slots ops rest)

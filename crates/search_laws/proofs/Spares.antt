@@ -2,7 +2,7 @@
 use Rattle.std.proofs.Common.{◌≡◌, ℕ, zero, suc, List, [], ◌∷◌, Bool, true, false, if◌then◌else◌, Option, Some, None, refl, sym, ap, ◌∙◌, subst}
 use Rattle.std.specs.List.{remove}
 use Rattle.std.specs.Option.{option_and_then}
-use Rattle.std.specs.Prelude.{◌+◌, ◌-◌, ◌++◌, slice_get, slice_set, unwrap_or, is_some}
+use Rattle.std.specs.Prelude.{◌+◌, ◌-◌, ◌++◌, length, slice_get, slice_set, unwrap_or, is_some}
 use Rattle.std.proofs.lemmas.Bool.{false≢true, true≢false}
 use Rattle.model.specs.declared.event.Event.{Event}
 use Rattle.model.specs.declared.instr.ArrayKind.{ArrayKind}
@@ -12,7 +12,9 @@ use Rattle.model.specs.declared.instr.Returned.{Returned}
 use Rattle.model.specs.declared.instr.Returned.TheVariants as returned
 use Rattle.model.specs.declared.value.Value.{Value}
 use Rattle.model.specs.Arrays.{is_negative, made_array, in_range, at_index, element_at, load_of, stored, kept_by, may_stand_in, if_storable, store_of, store_reference_meaning}
-use Rattle.model.specs.BuiltInMethods.{BuiltInMethod, Construct, ConstructWithTarget, ObjectWait, ObjectNotify, ObjectNotifyAll, ThreadStart, ThreadInterrupt, ThreadIsInterrupted, ThreadInterrupted, ThreadYield, ThreadCurrentThread, ThreadJoin, ThreadIsAlive, PrintStreamPrints, StringAnswers, built_in_method, object_of, string_operand, answered, wait_by, notified_one, notified, notified_all, if_owner, start_by, interrupted_in, interrupted_on, join_by, built_in_does}
+use Rattle.model.specs.BuilderMethods as builder
+use Rattle.model.specs.BuilderMethods.{built_text, with_string, BuilderAnswer, KeepsEmpty, Keeps, Adds, GivesText, builds}
+use Rattle.model.specs.BuiltInMethods.{BuiltInMethod, Construct, ConstructWithTarget, ObjectWait, ObjectNotify, ObjectNotifyAll, ThreadStart, ThreadInterrupt, ThreadIsInterrupted, ThreadInterrupted, ThreadYield, ThreadCurrentThread, ThreadJoin, ThreadIsAlive, PrintStreamPrints, StringAnswers, StringBuilderBuilds, built_in_method, object_of, string_operand, answered, wait_by, notified_one, notified, notified_all, if_owner, start_by, interrupted_in, interrupted_on, join_by, built_in_does}
 use Rattle.model.specs.Calls.{Chosen, Fails, Runs, runs, invoked, of_receiver, parameter_count, return_of}
 use Rattle.model.specs.Classes.{Program, Body, body_of}
 use Rattle.model.specs.Lookup.{find_field, is_instance_field, is_static_field}
@@ -20,22 +22,23 @@ use Rattle.model.specs.MonitorMeanings.{left, monitor_exit_meaning}
 use Rattle.model.specs.Meanings.{local_meaning, meaning_of}
 use Rattle.model.specs.Monitors as monitors
 use Rattle.model.specs.Monitors.{Answered, unlocked, owns, monitor_at, as_owner, as_entrant, owned, answers_done, at_object, released, relock_from}
-use Rattle.model.specs.Names.{Member, member_eq, thread_target}
+use Rattle.model.specs.HiddenFields.{is_hidden}
+use Rattle.model.specs.Names.{Member, member_eq, thread_target, builder_text}
 use Rattle.model.specs.Objects.{cast}
-use Rattle.model.specs.Opening.{class_reference}
+use Rattle.model.specs.Opening.{class_reference, string_reference}
 use Rattle.model.specs.Operands.{Slots, values}
 use Rattle.model.specs.Outcomes.{OutcomeOf, Goes, Raises, Throws, Interrupts, Calls, Returns, Waits, Free, Arithmetic, not_null}
 use Rattle.model.specs.Rows.{Row, after_row, row_target}
 use Rattle.model.specs.Sites.{MeaningOf, Site, operand, referent, int_operand, pushing}
-use Rattle.model.specs.State.{ObjectOf, Monitor, Waiter, WakeCause, Notified, ThreadStatus, Running, Waiting, Relock, Ended, Thread, World}
+use Rattle.model.specs.State.{ObjectOf, Monitor, Waiter, WakeCause, Notified, ThreadStatus, Running, Waiting, Relock, Ended, Thread, World, Characters}
 use Rattle.model.specs.StringMethods.{StringAnswer, IsNull, IsOutside, Answers, Same, Composes, string_answer}
 use Rattle.model.specs.declared.monitor_answer.MonitorAnswer.TheVariants.{Held, NotOwner}
 use Rattle.model.specs.Worlds.{thread_at, with_monitors, with_entry, with_exit, is_owner, object_at, all_woken, woken, waiters_of, thread_of, is_alive, allocated, put_value, with_element, with_field, with_object, value_in}
 use Rattle.run_laws.proofs.laws.Classes.{members_same}
-use Rattle.run_laws.proofs.laws.Operations.{NamedField, Operation, OfRow, GetSystemOut, GetStatic, PutStatic, GetField, PutField, Println, CallVirtual, CallConstructor, CallSpecial, CallStatic, CallInterface, Return, LoadClass, LoadString, New, NewArray, NewReferenceArray, ArrayLength, LoadElement, StoreElement, CheckCast, InstanceOf, Throw, MonitorEnter, MonitorExit, operation, OfMeaning, each_meaning}
+use Rattle.run_laws.proofs.laws.Operations.{NamedField, Operation, OfRow, GetSystemStream, GetStatic, PutStatic, GetField, PutField, Println, CallVirtual, CallConstructor, CallSpecial, CallStatic, CallInterface, Return, LoadClass, LoadString, New, NewArray, NewReferenceArray, ArrayLength, LoadElement, StoreElement, CheckCast, InstanceOf, Throw, MonitorEnter, MonitorExit, operation, OfMeaning, each_meaning}
 use Rattle.search_laws.specs.Writes.{Variables, Fields, Statics, Elements, site_written, written_by, put_by, IsUnchanged, KeepsVariables}
 use Rattle.search_laws.proofs.Owners.{owner_is, differs}
-use Rattle.search_laws.proofs.Variables.{keeps_same, keeps_on, keeps_more, keeps_set, field_put, target_put, element_put, value_other}
+use Rattle.search_laws.proofs.Variables.{keeps_same, keeps_on, keeps_more, keeps_set, field_put, hidden_put, element_put, value_other}
 
 -- whoever else owns a monitor owns it still
 abbrev pub SparesMonitors : ℕ → List Monitor → List Monitor → Type 0
@@ -140,10 +143,25 @@ module _ (writes : Variables → Bool) (v : ℕ) where
       }
 
   -- an object is changed in what the thread may write
+  object_set_on : (before world : World) (r : ℕ) (object : ObjectOf Value) → IsUnchanged writes (object_at world r) object → Spares writes v before world
+      → Spares writes v before (with_object world r object)
+  object_set_on before world r object same s =
+      record {
+        monitors = s.monitors;
+        classes = s.classes;
+        variables = keeps_on writes before.heap world.heap (slice_set world.heap r object) s.variables (keeps_set writes world.heap r object same);
+        statics = s.statics;
+      }
+
   with_object_set : (world : World) (r : ℕ) (object : ObjectOf Value) → IsUnchanged writes (object_at world r) object
       → Spares writes v world (with_object world r object)
-  with_object_set world r object same =
-      record { monitors = λ u o ne own. own; classes = refl; variables = keeps_set writes world.heap r object same; statics = λ field first n. refl }
+  with_object_set world r object same = object_set_on world world r object same (itself world)
+
+  -- the text of a StringBuilder is hidden
+  with_string_put : (before world : World) (builder : ℕ) (string : Value) → Spares writes v before world
+      → Spares writes v before (with_string world builder string)
+  with_string_put before world builder string s =
+      object_set_on before world builder (with_field builder_text string (object_at world builder)) (hidden_put writes builder_text string (object_at world builder) refl) s
 
   pub entry_spares : (before world : World) (r : ℕ) → Spares writes v before world → Spares writes v before (with_entry world v r)
   entry_spares before world r s = called before world r (monitors.monitor_enter v) enter_leaves s
@@ -274,41 +292,52 @@ module _ (writes : Variables → Bool) (v : ℕ) where
     answered_ok (Same k) next slots ops rest = same_ok
     answered_ok (Composes text) next slots ops rest = with_object_made world world _ same_ok
 
+    builds_ok : (empty : ℕ) (answer : BuilderAnswer) (next : ℕ) (slots : Slots Value) (ops rest : List Value)
+        → Ok (builds values empty answer next world slots ops rest)
+    builds_ok empty builder.IsNull next slots ops rest = tt
+    builds_ok empty KeepsEmpty next slots ops rest = with_string_put world world (object_of values ops 0) (values.reference empty) same_ok
+    builds_ok empty Keeps next slots ops rest = with_string_put world world (object_of values ops 1) (operand values ops 0) same_ok
+    builds_ok empty (Adds added) next slots ops rest =
+        let made = Characters (built_text values world (object_of values ops 1) ++ added) in
+        with_string_put world (allocated world made) (object_of values ops 1) (values.reference (length world.heap)) (with_object_made world world made same_ok)
+    builds_ok empty GivesText next slots ops rest = same_ok
+
     module _ (event : Event) (is : event.thread ≡ v) where
-      built_in_ok : (method : BuiltInMethod) (next : ℕ) (slots : Slots Value) (ops rest : List Value)
-          → Ok (built_in_does values method next event world slots ops rest)
-      built_in_ok Construct next slots ops rest = same_ok
-      built_in_ok ConstructWithTarget next slots ops rest =
+      built_in_ok : (files : Program) (method : BuiltInMethod) (next : ℕ) (slots : Slots Value) (ops rest : List Value)
+          → Ok (built_in_does values files method next event world slots ops rest)
+      built_in_ok files Construct next slots ops rest = same_ok
+      built_in_ok files ConstructWithTarget next slots ops rest =
           let object = object_at world (object_of values ops 1) in
-          with_object_set world (object_of values ops 1) (with_field thread_target (operand values ops 0) object) (target_put writes (operand values ops 0) object)
-      built_in_ok ObjectWait next slots ops rest =
+          with_object_set world (object_of values ops 1) (with_field thread_target (operand values ops 0) object) (hidden_put writes thread_target (operand values ops 0) object refl)
+      built_in_ok files ObjectWait next slots ops rest =
           let object = object_of values ops 0 in
           subst (λ t. Ok (wait_by (is_owner world t object) (thread_at world t).interrupted t object world rest)) (sym is)
           (wait_ok (is_owner world v object) (thread_at world v).interrupted object rest)
-      built_in_ok ObjectNotify next slots ops rest =
+      built_in_ok files ObjectNotify next slots ops rest =
           let object = object_of values ops 0 in
           owner_ok (is_owner world event.thread object) _
           (subst (λ t. Spares writes v world (notified world t object event.pick)) (sym is) (notified_ok object event.pick))
-      built_in_ok ObjectNotifyAll next slots ops rest =
+      built_in_ok files ObjectNotifyAll next slots ops rest =
           let object = object_of values ops 0 in
           owner_ok (is_owner world event.thread object) _ (subst (λ t. Spares writes v world (notified_all world t object)) (sym is) (notified_all_ok object))
-      built_in_ok ThreadStart next slots ops rest = start_ok (is_some (thread_of world (object_of values ops 0))) next (object_of values ops 0) slots rest
-      built_in_ok ThreadInterrupt next slots ops rest = interrupted_on_ok (thread_of world (object_of values ops 0))
-      built_in_ok ThreadIsInterrupted next slots ops rest = same_ok
-      built_in_ok ThreadInterrupted next slots ops rest = record { monitors = same_ok.monitors; classes = refl; variables = same_ok.variables; statics = same_ok.statics }
-      built_in_ok ThreadYield next slots ops rest = same_ok
-      built_in_ok ThreadCurrentThread next slots ops rest = same_ok
-      built_in_ok ThreadJoin next slots ops rest = join_ok (is_alive world (object_of values ops 0)) next slots rest
-      built_in_ok ThreadIsAlive next slots ops rest = same_ok
-      built_in_ok (PrintStreamPrints print) next slots ops rest = record { monitors = same_ok.monitors; classes = refl; variables = same_ok.variables; statics = same_ok.statics }
-      built_in_ok (StringAnswers method) next slots ops rest =
+      built_in_ok files ThreadStart next slots ops rest = start_ok (is_some (thread_of world (object_of values ops 0))) next (object_of values ops 0) slots rest
+      built_in_ok files ThreadInterrupt next slots ops rest = interrupted_on_ok (thread_of world (object_of values ops 0))
+      built_in_ok files ThreadIsInterrupted next slots ops rest = same_ok
+      built_in_ok files ThreadInterrupted next slots ops rest = record { monitors = same_ok.monitors; classes = refl; variables = same_ok.variables; statics = same_ok.statics }
+      built_in_ok files ThreadYield next slots ops rest = same_ok
+      built_in_ok files ThreadCurrentThread next slots ops rest = same_ok
+      built_in_ok files ThreadJoin next slots ops rest = join_ok (is_alive world (object_of values ops 0)) next slots rest
+      built_in_ok files ThreadIsAlive next slots ops rest = same_ok
+      built_in_ok files (PrintStreamPrints print) next slots ops rest = record { monitors = same_ok.monitors; classes = refl; variables = same_ok.variables; statics = same_ok.statics }
+      built_in_ok files (StringAnswers method) next slots ops rest =
           answered_ok (string_answer method (int_operand values ops) (string_operand values world ops)) next slots ops rest
+      built_in_ok files (StringBuilderBuilds method) next slots ops rest = builds_ok (string_reference files []) _ next slots ops rest
 
       -- ---- the table
 
       module _ (files : Program) (site : Site) (permits : Permits (site_written files site)) (slots : Slots Value) (ops rest : List Value) where
         runs_ok : (object : ℕ) (method : Member) (o : Option Body) → Ok (runs values files site event world slots ops rest object method o)
-        runs_ok object method None = built_in_ok (built_in_method method) site.next slots ops rest
+        runs_ok object method None = built_in_ok files (built_in_method method) site.next slots ops rest
         runs_ok object method (Some body) = tt
 
         invoked_ok : (object : ℕ) (chosen : Chosen) → Ok (invoked values files site event world slots ops rest object chosen)
@@ -395,7 +424,7 @@ module _ (writes : Variables → Bool) (v : ℕ) where
 
         operation_ok : (o : Operation files site) → Ok ((operation values files site o).does event world slots ops rest)
         operation_ok (OfRow row e) = row_ok row
-        operation_ok (GetSystemOut index i) = same_ok
+        operation_ok (GetSystemStream index stream n) = same_ok
         operation_ok (GetStatic f) = same_ok
         operation_ok (PutStatic f) =
             record {

@@ -24,9 +24,10 @@ use Rattle.model.specs.DescribedTypes.{declared_want, made_type, parameters_decl
 use Rattle.model.specs.Frames.{frame_count, frame_with, entered_by, at_offset, at_call}
 use Rattle.model.specs.Lookup.{find_field, is_instance_field, is_static_field}
 use Rattle.model.specs.Meanings.{meaning_of}
-use Rattle.model.specs.Names.{Name, Member, member_eq, thread_target}
+use Rattle.model.specs.HiddenFields.{is_hidden}
+use Rattle.model.specs.Names.{Name, Member}
 use Rattle.model.specs.Objects.{any_object, cast, instance_bit}
-use Rattle.model.specs.Opening.{class_reference, first_of, print_stream_reference}
+use Rattle.model.specs.Opening.{class_reference, first_of}
 use Rattle.model.specs.Operands.{Slots, values}
 use Rattle.model.specs.Outcomes.{OutcomeOf, Goes, Raises, Throws, Interrupts, Calls, Returns, Waits, Free, StackOverflow, not_null}
 use Rattle.model.specs.Pool.{integers_of}
@@ -39,7 +40,7 @@ use Rattle.model.specs.Types.{AReference, AnArray, is_array_type, value_meets, i
 use Rattle.model.specs.WellTyped.{Extends}
 use Rattle.model.specs.Worlds.{elements_of, no_object, is_owner, object_at, fields_of, value_in}
 use Rattle.run_laws.proofs.laws.Lists.{Pairwise, get_last}
-use Rattle.run_laws.proofs.laws.Operations.{NamedField, Operation, OfRow, GetSystemOut, GetStatic, PutStatic, GetField, PutField, Println, CallVirtual, CallConstructor, CallSpecial, CallStatic, CallInterface, Return, LoadClass, LoadString, New, NewArray, NewReferenceArray, ArrayLength, LoadElement, StoreElement, CheckCast, InstanceOf, Throw, MonitorEnter, MonitorExit, operation, OfMeaning, each_meaning}
+use Rattle.run_laws.proofs.laws.Operations.{NamedField, NamedStream, Operation, OfRow, GetSystemStream, GetStatic, PutStatic, GetField, PutField, Println, CallVirtual, CallConstructor, CallSpecial, CallStatic, CallInterface, Return, LoadClass, LoadString, New, NewArray, NewReferenceArray, ArrayLength, LoadElement, StoreElement, CheckCast, InstanceOf, Throw, MonitorEnter, MonitorExit, operation, OfMeaning, each_meaning}
 use Rattle.run_laws.proofs.word_runs.WordMeanings.{Kinded, wanted_at}
 use Rattle.search_laws.specs.Alone.{next_event}
 use Rattle.search_laws.specs.OwnEvents.{KeepsStatics}
@@ -298,7 +299,7 @@ module _ (files : Program) (frames t : ℕ) (frame : Frame) (stack own : StackOf
         where
           by : (o : Option Body) → body_of files method ≡ o → Own is (runs values files site first before slots ops rest object method o)
               → IsCalled object (Runs method)
-          by None q e = plain_own is (runs values files site first before slots ops rest object method None) (built_in_plain (built_in_method method) site.next first before slots ops rest) n e
+          by None q e = plain_own is (runs values files site first before slots ops rest object method None) (built_in_plain files (built_in_method method) site.next first before slots ops rest) n e
           by (Some body) q e =
               let callee = frame_with values method (reverse ops) (entered_by files method object) body in
               record {
@@ -359,20 +360,20 @@ module _ (files : Program) (frames t : ℕ) (frame : Frame) (stack own : StackOf
         ∙ (ap (λ o. option_map_or (does_stay writes) (option_map (λ field. Fields field) (option_and_then (find_field files) o)) false) f.names
         ∙ ap (λ o. option_map_or (does_stay writes) (option_map (λ field. Fields field) o) false) f.found)
         in
-        let n = both (not (writes (Fields f.field))) (not (member_eq thread_target f.field)) (sym reads ∙ c) in
+        let n = both (not (writes (Fields f.field))) (not (is_hidden f.field)) (sym reads ∙ c) in
         let want = of_class files f.named.class in
         let meets = wanted_at (value_meets files (types_of before.heap)) (want ∷ []) ops 0 want value.Unset q refl in
         record {
           becomes = asked_becomes (λ o. value_in (first_of values f.field) f.field (fields_of o))
-              (λ old new u. u.fields f.field (first_of values f.field) (not_true (writes (Fields f.field)) n.0) (not_true (member_eq thread_target f.field) n.1)) c (referent values ops 0)
+              (λ old new u. u.fields f.field (first_of values f.field) (not_true (writes (Fields f.field)) n.0) (not_true (is_hidden f.field) n.1)) c (referent values ops 0)
               (object_there (operand values ops 0) (made_type files (ClassType f.named.class)) meets) own;
           may = λ pick. refl;
         }
 
-    out_steady : (index : ℕ) (i : site.instr ≡ instr.Field access.GetStatic index) (b : Bool) → is ≡ b → Steady (operation values files site (GetSystemOut index i))
-    out_steady index i false c = plain_at (GetSystemOut index i) c tt
-    out_steady index i true c = λ q ready own.
-        let v = values.reference print_stream_reference in record { becomes = answer_becomes site.next v v c refl own; may = λ pick. refl }
+    stream_steady : (index stream : ℕ) (n : NamedStream files site index stream) (b : Bool) → is ≡ b → Steady (operation values files site (GetSystemStream index stream n))
+    stream_steady index stream n false c = plain_at (GetSystemStream index stream n) c tt
+    stream_steady index stream n true c = λ q ready own.
+        let v = values.reference stream in record { becomes = answer_becomes site.next v v c refl own; may = λ pick. refl }
 
     static_steady : (f : NamedField files site access.GetStatic is_static_field) (b : Bool) → is ≡ b → Steady (operation values files site (GetStatic f))
     static_steady f false c = plain_at (GetStatic f) c tt
@@ -396,7 +397,7 @@ module _ (files : Program) (frames t : ℕ) (frame : Frame) (stack own : StackOf
     steady : (o : Operation files site) → Steady (operation values files site o)
     steady (OfRow row e) =
         plain_at (OfRow row e) (row_no_query writes files site (integers_of site.body.pool) site.body.code.code site.offset site.next site.instr row e) (row_plain files site first before slots ops rest row)
-    steady (GetSystemOut index i) = out_steady index i is refl
+    steady (GetSystemStream index stream n) = stream_steady index stream n is refl
     steady (GetStatic f) = static_steady f is refl
     steady (PutStatic f) = plain_at (PutStatic f) (no_query _ f.instruction refl) tt
     steady (GetField f) = get_steady f is refl

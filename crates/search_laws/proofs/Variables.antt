@@ -5,7 +5,8 @@ use Rattle.std.proofs.lemmas.Bool.{false≢true, true≢false, eqb-true, eq-eqb}
 use Rattle.std.proofs.lemmas.List.{length-set}
 use Rattle.std.proofs.lemmas.Option.{get_or_from_slice_get}
 use Rattle.model.specs.declared.value.Value.{Value}
-use Rattle.model.specs.Names.{Member, member_eq, thread_target}
+use Rattle.model.specs.HiddenFields.{is_hidden}
+use Rattle.model.specs.Names.{Member, member_eq}
 use Rattle.model.specs.State.{ObjectOf, Instance, Primitives, References, Characters}
 use Rattle.model.specs.Worlds.{no_object, value_in, with_element, with_field, with_value}
 use Rattle.search_laws.specs.Texts.{KeepsTexts}
@@ -74,7 +75,7 @@ module _ (writes : Variables → Bool) where
       by false q = (old, (get_set_other heap k r new (λ is. false≢true (sym q ∙ eq-eqb k r is)) ∙ e, unchanged old))
 
   put_beside : (field : Member) (value : Value) (o : ObjectOf Value)
-      → ((other : Member) → writes (Fields other) ≡ false → member_eq thread_target other ≡ false → member_eq field other ≡ false)
+      → ((other : Member) → writes (Fields other) ≡ false → is_hidden other ≡ false → member_eq field other ≡ false)
       → IsUnchanged writes o (with_field field value o)
   put_beside field value (Instance class fields) h =
       record { lengths = refl; fields = λ other first n k. value_other field other first value (h other n k) fields; elements = λ n. refl; texts = refl }
@@ -89,8 +90,12 @@ module _ (writes : Variables → Bool) where
       by other n true q = absurd (true≢false (sym w ∙ (ap (λ m. writes (Fields m)) (members_same field other q) ∙ n)))
       by other n false q = q
 
-  pub target_put : (value : Value) (o : ObjectOf Value) → IsUnchanged writes o (with_field thread_target value o)
-  target_put value o = put_beside thread_target value o (λ other n k. k)
+  pub hidden_put : (field : Member) (value : Value) (o : ObjectOf Value) → is_hidden field ≡ true → IsUnchanged writes o (with_field field value o)
+  hidden_put field value o hidden = put_beside field value o (λ other n k. by other k (member_eq field other) refl)
+    where
+      by : (other : Member) → is_hidden other ≡ false → (b : Bool) → member_eq field other ≡ b → member_eq field other ≡ false
+      by other k true q = absurd (true≢false (sym hidden ∙ (ap is_hidden (members_same field other q) ∙ k)))
+      by other k false q = q
 
   pub element_put : (index : ℕ) (value : Value) (o : ObjectOf Value) → writes Elements ≡ true → IsUnchanged writes o (with_element index value o)
   element_put index value (Instance class fields) w = unchanged (Instance class fields)

@@ -10,7 +10,8 @@ use Rattle.model.specs.declared.value.Value.{Value}
 use Rattle.model.specs.Classes.{Program, Body, body_of}
 use Rattle.model.specs.ClassInitialisation.{status_of}
 use Rattle.model.specs.Lookup.{find_field}
-use Rattle.model.specs.Names.{Member, member_eq, thread_target}
+use Rattle.model.specs.HiddenFields.{is_hidden}
+use Rattle.model.specs.Names.{Member}
 use Rattle.model.specs.Pool.{field_at}
 use Rattle.model.specs.Run.{run_from}
 use Rattle.model.specs.Sites.{Site, site_at}
@@ -63,7 +64,7 @@ read_by files site other = None
 
 -- these stay where no more is written
 abbrev pub does_stay : (Variables → Bool) → Variables → Bool
-does_stay writes (Fields field) = not (writes (Fields field)) && not (member_eq thread_target field)
+does_stay writes (Fields field) = not (writes (Fields field)) && not (is_hidden field)
 does_stay writes (Statics field) = not (writes (Statics field))
 does_stay writes Elements = not (writes Elements)
 
@@ -79,10 +80,10 @@ AreWritesOfOthers files frames writes state t =
 
 -- ---- what stays where these at most are written
 
--- The field `target` of Thread is left out, which a constructor of the machine puts. A String keeps its text.
+-- Hidden fields are left out, which methods of the machine put. A String keeps its text.
 pub record IsUnchanged (writes : Variables → Bool) (old new : ObjectOf Value) : Type 0 where
   pub lengths : length (elements_of new) ≡ length (elements_of old)
-  pub fields : (field : Member) (first : Value) → IsFalse (writes (Fields field)) → IsFalse (member_eq thread_target field)
+  pub fields : (field : Member) (first : Value) → IsFalse (writes (Fields field)) → IsFalse (is_hidden field)
       → value_in first field (fields_of new) ≡ value_in first field (fields_of old)
   pub elements : IsFalse (writes Elements) → elements_of new ≡ elements_of old
   pub texts : text_of new ≡ text_of old

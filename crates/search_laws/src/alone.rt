@@ -21,8 +21,9 @@
 //!   String its text (`strings_keep_their_texts`). So in each state of a run the String of a constant has the text of
 //!   the constant (`constants_keep_their_texts`).
 //!   Fields that the instruction of the thread doesn't put keep their values, and elements do where it stores none.
-//!   Left out are the field `target` of `Thread`, which a constructor of the machine puts, and static fields of a class
-//!   whose initialisation hasn't begun (`variables_that_are_not_written_are_kept`).
+//!   Left out are hidden fields (`is_hidden`), which methods without code put: the target of a Thread and the text of a
+//!   StringBuilder; and static fields of a class whose initialisation hasn't begun
+//!   (`variables_that_are_not_written_are_kept`).
 //! - An event is its thread's own (`IsOwnEvent`) where it changes the thread's stack alone, to the same one wherever
 //!   the thread stands as here, may use the classes that it may use here, and finds as here the variables of the kinds
 //!   that nothing may write. In a state of a run, where each event of others, behind each run of theirs, writes what may
@@ -33,8 +34,7 @@
 //! - A local event is its thread's own (`local_events_are_own`). So are the call of a method that is not synchronized,
 //!   the return from a method that is not, a cast that passes, a test of a type, and the length of an array. So are the
 //!   get of a field that nothing may put, static or not, and the load of an element where nothing may store one. What
-//!   is static is of a class that the thread may use, and the field `target` of `Thread` is left out
-//!   (`own_steps_are_own`).
+//!   is static is of a class that the thread may use, and hidden fields are left out (`own_steps_are_own`).
 //! - Where the stack of a thread tells that its event called a method, whose frame entered no monitor, or returned from
 //!   one that had entered none, that event is alone (`calls_and_returns_are_alone`).
 //! - A monitorexit of a monitor that the thread owns, a monitorenter of one, and the return from a synchronized method

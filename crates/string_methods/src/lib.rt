@@ -8,6 +8,8 @@
 //!   (`charAt`), `is_same_text` (`equals`), `hash_code`, `compared` (`compareTo`), `index_of` and `regions_match`.
 //! - So is each that may make a text: `joined` (`concat`), `part_of` (`substring`), `text_of_int` and `text_of_char`
 //!   (`valueOf`). Only where the answer is a new text may it be refused, for want of memory (`IsAnswer`).
+//! - What a StringBuilder makes is its text with more behind it: `appended` (the units of a text), `appended_int` (an
+//!   int in decimal), `appended_char` (one unit) and `appended_null` (`null`). They err for want of memory alone.
 //!
 //! # Not proved
 //!
@@ -16,11 +18,13 @@
 #![tactic(auto)]
 
 mod answer;
+mod builders;
 mod composed;
 mod questions;
 mod regions;
 
 pub use answer::StringAnswer;
+pub use builders::{appended, appended_char, appended_int, appended_null};
 pub use composed::{joined, part_of, text_of_char, text_of_int};
 pub use questions::{compared, hash_code, index_of, is_same_text, length, unit_at};
 pub use regions::regions_match;

@@ -2,3 +2,4 @@ mod Counts
 mod Escapes
 mod MethodPlaces
 mod OneLine
+mod Pieces

@@ -10,13 +10,14 @@ use Rattle.model.specs.Listing.{hex_byte, hex_digit, hex_short}
 use Rattle.model.specs.Names.{Member, Name}
 use Rattle.model.specs.Report.{number, line}
 use Rattle.model.specs.State.{Invocation, Initialisation, StackOf}
-use Rattle.model.specs.Texts.{Text, decoded}
+use Rattle.model.specs.Texts.{decoded}
 use Rattle.listings.specs.printed_names.Printed.{printed, printed_byte}
 use Rattle.traces.specs.declared.form.Form.{Form}
 use Rattle.traces.specs.declared.form.Form.TheVariants.{Plain, Columns, Json}
 use Rattle.traces.specs.JsonTexts.{escape, escaped, quoted, member, text_member}
 use Rattle.traces.specs.Quotations.{quotation, shown, shown_units}
-use Rattle.traces.specs.Lines.{IsOneLine, is_within_line, class_in, did, end_words, frame_in, head_words, in_seven, indent, instruction_words, line_words, method_members, method_words, nowhere_in, part, place_in}
+use Rattle.traces.specs.Pieces.{Piece, Words, Quoted, did, piece_in, pieces_in}
+use Rattle.traces.specs.Lines.{IsOneLine, is_within_line, class_in, end_words, frame_in, head_words, in_seven, indent, instruction_words, line_words, method_members, method_words, nowhere_in, part, place_in}
 
 abbrev Is : List ℕ → Type 0
 Is text = is_within_line text ≡ true
@@ -170,11 +171,26 @@ quotations text =
     (chosen (nat_le (length text) 40) (shown_units text ++ codes "\"") (shown_units (take 40 text) ++ codes "..\"")
     (both (shown_units text) (codes "\"") (shown_texts text) refl) (both (shown_units (take 40 text)) (codes "..\"") (shown_texts (take 40 text)) refl))
 
-dids : (form : Form) (words : List ℕ) (text : Option Text) → Is (did form words text)
-dids form words None = parts form (codes " | ") (codes "did") words refl refl
-dids Json words (Some text) = text_members (codes "did") (words ++ quotation text) refl
-dids Plain words (Some text) = both (codes " | ") (printed words ++ quotation text) refl (both (printed words) (quotation text) (printed_texts words) (quotations text))
-dids Columns words (Some text) = both (codes " | ") (printed words ++ quotation text) refl (both (printed words) (quotation text) (printed_texts words) (quotations text))
+pieces : (form : Form) (piece : Piece) → Is (piece_in form piece)
+unfolding escaped
+pieces Json (Words bytes) = all_of escape escapes (decoded bytes)
+pieces Json (Quoted text) = all_of escape escapes (decoded (quotation text))
+pieces Plain (Words bytes) = printed_texts bytes
+pieces Plain (Quoted text) = quotations text
+pieces Columns (Words bytes) = printed_texts bytes
+pieces Columns (Quoted text) = quotations text
+
+all_pieces : (form : Form) (all : List Piece) → Is (pieces_in form all)
+all_pieces form [] = refl
+all_pieces form (piece ∷ all) = both (piece_in form piece) (pieces_in form all) (pieces form piece) (all_pieces form all)
+
+dids : (form : Form) (deed : Option (List Piece)) → Is (did form deed)
+dids form None = refl
+dids Json (Some all) =
+    members (codes "did") (codes "\"" ++ (pieces_in Json all ++ codes "\"")) refl
+    (both (codes "\"") (pieces_in Json all ++ codes "\"") refl (both (pieces_in Json all) (codes "\"") (all_pieces Json all) refl))
+dids Plain (Some all) = both (codes " | ") (pieces_in Plain all) refl (all_pieces Plain all)
+dids Columns (Some all) = both (codes " | ") (pieces_in Columns all) refl (all_pieces Columns all)
 
 -- ---- the line
 
@@ -198,17 +214,17 @@ begins : (form : Form) (words text : List ℕ) → Is words → text ≡ words +
 begins form words text is e =
     (words ++ bracket form, e ∙ ap (λ (l : List ℕ). words ++ l) (ends form) ∙ sym (append_assoc words (bracket form) (10 ∷ [])), both words (bracket form) is (brackets form))
 
-pub is_one_line : {A : Type 0} (form : Form) (trees : Program) (n t : ℕ) (stack : StackOf A) (source deed : List ℕ) (text : Option Text)
-    → IsOneLine (line_words form trees n t stack source deed text)
-is_one_line form trees n t stack source deed text =
+pub is_one_line : {A : Type 0} (form : Form) (trees : Program) (n t : ℕ) (stack : StackOf A) (source : List ℕ) (deed : Option (List Piece))
+    → IsOneLine (line_words form trees n t stack source deed)
+is_one_line form trees n t stack source deed =
     let a = head_words form n t in
     let b = place_in form stack in
     let c = part form (codes " ") (codes "source") source in
     let d = part form (codes " ") (codes "instruction") (instruction_words trees stack) in
-    let e = did form deed text in
+    let e = did form deed in
     begins form (a ++ (b ++ (c ++ (d ++ e)))) (a ++ (b ++ (c ++ (d ++ (e ++ end_words form)))))
     (both a (b ++ (c ++ (d ++ e))) (heads form n t)
     (both b (c ++ (d ++ e)) (places form stack)
     (both c (d ++ e) (parts form (codes " ") (codes "source") source refl refl)
-    (both d e (parts form (codes " ") (codes "instruction") (instruction_words trees stack) refl refl) (dids form deed text)))))
+    (both d e (parts form (codes " ") (codes "instruction") (instruction_words trees stack) refl refl) (dids form deed)))))
     (simp append_assoc)

@@ -1,5 +1,5 @@
 -- The line of an event: where its thread stood, and its instruction (own; JVMS 2.6, 5.5).
-use Rattle.std.specs.Prelude.{◌≡◌, ℕ, ◌+◌, ◌-◌, ◌*◌, List, [], ◌∷◌, ◌++◌, Option, Some, None, Bool, IsTrue, length, replicate, codes, min, nat_lt, not, ◌==◌, if◌then◌else◌}
+use Rattle.std.specs.Prelude.{◌≡◌, ℕ, ◌+◌, ◌-◌, ◌*◌, List, [], ◌∷◌, ◌++◌, Option, Bool, IsTrue, length, replicate, codes, min, nat_lt, not, ◌==◌, if◌then◌else◌}
 use Rattle.std.specs.List.{list_all}
 use Rattle.std.specs.Option.{option_map_or}
 use Rattle.model.specs.Classes.{Program, Body, body_of}
@@ -8,12 +8,11 @@ use Rattle.model.specs.Listing.{meaning}
 use Rattle.model.specs.Names.{Name, Member}
 use Rattle.model.specs.Report.{number, line}
 use Rattle.model.specs.State.{Invocation, Initialisation, StackOf}
-use Rattle.model.specs.Texts.{Text}
 use Rattle.listings.specs.printed_names.Printed.{printed}
 use Rattle.traces.specs.declared.form.Form.{Form}
 use Rattle.traces.specs.declared.form.Form.TheVariants.{Plain, Columns, Json}
 use Rattle.traces.specs.JsonTexts.{member, text_member}
-use Rattle.traces.specs.Quotations.{quotation}
+use Rattle.traces.specs.Pieces.{Piece, did}
 
 -- ---- the event
 
@@ -84,24 +83,18 @@ part form mark key [] = []
 part Json mark key (x ∷ words) = text_member key (x ∷ words)
 part form mark key (x ∷ words) = mark ++ printed (x ∷ words)
 
--- what was done, and a text behind it that was printed
-abbrev pub did : Form → (words : List ℕ) → Option Text → List ℕ
-did form words None = part form (codes " | ") (codes "did") words
-did Json words (Some text) = text_member (codes "did") (words ++ quotation text)
-did form words (Some text) = codes " | " ++ (printed words ++ quotation text)
-
 abbrev pub end_words : Form → List ℕ
 end_words Json = codes "}\n"
 end_words form = codes "\n"
 
 -- the event, the thread's place, the source, the instruction, and what was done
-abbrev pub line_words : {A : Type 0} → Form → Program → (n t : ℕ) → StackOf A → (source deed : List ℕ) → Option Text → List ℕ
-line_words form trees n t stack source deed text =
+abbrev pub line_words : {A : Type 0} → Form → Program → (n t : ℕ) → StackOf A → (source : List ℕ) → Option (List Piece) → List ℕ
+line_words form trees n t stack source deed =
     head_words form n t
     ++ (place_in form stack
     ++ (part form (codes " ") (codes "source") source
     ++ (part form (codes " ") (codes "instruction") (instruction_words trees stack)
-    ++ (did form deed text
+    ++ (did form deed
     ++ end_words form))))
 
 -- no byte of a text is a line feed
@@ -112,9 +105,9 @@ is_within_line text = list_all (λ b. not (b == 10)) text
 abbrev pub IsOneLine : List ℕ → Type 0
 IsOneLine text = (words : List ℕ) × (text ≡ line words) × IsTrue (is_within_line words)
 
--- the one line of an event of a thread with this stack, whatever is said of the source and of what was done and printed
+-- the one line of an event of a thread with this stack, whatever is said of the source and of what was done
 abbrev pub IsLine : {A : Type 0} → Form → Program → (n t : ℕ) → StackOf A → List ℕ → Type 0
-IsLine form trees n t stack text = IsOneLine text × (source deed : List ℕ) × (printed : Option Text) × (text ≡ line_words form trees n t stack source deed printed)
+IsLine form trees n t stack text = IsOneLine text × (source : List ℕ) × (deed : Option (List Piece)) × (text ≡ line_words form trees n t stack source deed)
 
 -- it stands behind a text now
 abbrev pub AddsLine : {A : Type 0} → Form → Program → (n t : ℕ) → StackOf A → (old new : List ℕ) → Type 0

@@ -47,7 +47,7 @@ pub(crate) fn push_unit(text: &mut Vec<u8>, unit: u16) -> Result<(), AllocError>
     Ok(text.extend_from_slice(&hex_digits(unit))?)
 }
 
-fn push_escaped(text: &mut Vec<u8>, bytes: &[u8]) -> Result<(), AllocError>
+pub(crate) fn push_escaped(text: &mut Vec<u8>, bytes: &[u8]) -> Result<(), AllocError>
     ensures { OnOk result (text.new.items ≡ text.old.items ++ escaped bytes.now) }
 {
     let mut at = 0;

@@ -12,6 +12,8 @@
 //!   line of the source, nothing else is promised.
 //! - `answer_deed`: a call of a method of String that answered is told as one that made the String of the word on top,
 //!   where there are more objects since, and else as one that pushed that word.
+//! - `builder_deed`: a constructor of StringBuilder is told as run, and another method of it that has no code as one that
+//!   pushed the word on top.
 //! - `push_fold`, memory aside: what it adds are the words of the line of a run of local instructions, whole, by the
 //!   numbers that it is given (`fold_words`).
 //! - `ProgramNames`: `class_name` is the name of the class of a number; `push_method`, memory aside, adds the method of
@@ -30,11 +32,11 @@ mod objects;
 mod parts;
 mod places;
 mod quotations;
+mod said;
 mod sorts;
 mod sources;
 mod threads;
 pub mod traced_events;
-mod values;
 mod words;
 
 pub use fold::{Fold, push_fold};
@@ -43,4 +45,5 @@ pub use line::{Line, push_line};
 pub use names::ProgramNames;
 pub use numbers::{push_number, push_words};
 pub use objects::class_object_of;
+pub use said::Said;
 pub use threads::push_thread;

@@ -8,8 +8,9 @@ use crate::form::Form;
 use crate::names::ProgramNames;
 use crate::parts::{Part, push_did, push_end, push_head, push_part};
 use crate::places::{push_instruction, push_place, push_source};
+use crate::said::Said;
 use crate::sorts::{Sort, sort_of};
-use crate::traced_events::{Before, Deed, Told, told_of};
+use crate::traced_events::{Before, told_of};
 use crate::words::Words;
 use classfile::Reference;
 use machine_state::Shared;
@@ -55,13 +56,13 @@ fn instr_before<'a>(
     Some((method, instr))
 }
 
-/// What an event did, but for a text that it printed.
+/// What an event did.
 fn push_deed(
-    text: &mut Vec<u8>,
+    said: &mut Said,
     names: &ProgramNames<'_>,
     shared: &Shared,
     before: &Before,
-    told: Told,
+    event: Event,
 ) -> Result<(), AllocError> {
     let (field, sort) = match instr_before(names, before) {
         Some((method, instr)) => (field_of(&method, instr), sort_of(method.file(), instr)),
@@ -73,23 +74,16 @@ fn push_deed(
         field,
         sort,
     };
-    words.push(text, before, told)
-}
-
-/// The text that an event printed, if it is to be told behind words.
-fn text_printed<'a>(before: &Before, shared: &'a Shared, deed: Deed) -> Option<&'a [u16]> {
-    match deed {
-        Deed::PrintsText => shared.printed.get(before.printed..),
-        _ => None,
-    }
+    words.push(said, before, told_of(before, shared, names.program, event))
 }
 
 /// Writes the line of an event behind a text, by what was seen before it and the state after it: the event's number
-/// and its thread, where the thread stood, the source, the instruction, and what it did. A spare text is used for it.
+/// and its thread, where the thread stood, the source, the instruction, and what it did. What is said of it is gathered in
+/// `spare` before.
 /// The only error is a want of memory.
 pub fn push_line(
     text: &mut Vec<u8>,
-    spare: &mut Vec<u8>,
+    spare: &mut Said,
     names: &ProgramNames<'_>,
     line: Line,
     before: &Before,
@@ -102,19 +96,13 @@ pub fn push_line(
     push_head(text, line)?;
     push_place(text, names, line.form, before)?;
     spare.clear();
-    push_source(spare, names, before)?;
-    push_part(text, line.form, SOURCE, spare.as_slice())?;
+    push_source(&mut spare.words, names, before)?;
+    push_part(text, line.form, SOURCE, spare.words.as_slice())?;
     spare.clear();
-    push_instruction(spare, names, before)?;
-    push_part(text, line.form, INSTRUCTION, spare.as_slice())?;
+    push_instruction(&mut spare.words, names, before)?;
+    push_part(text, line.form, INSTRUCTION, spare.words.as_slice())?;
     spare.clear();
-    let told = told_of(before, shared, names.program, line.event);
-    push_deed(spare, names, shared, before, told)?;
-    push_did(
-        text,
-        line.form,
-        spare,
-        text_printed(before, shared, told.deed),
-    )?;
+    push_deed(spare, names, shared, before, line.event)?;
+    push_did(text, line.form, spare)?;
     push_end(text, line.form)
 }

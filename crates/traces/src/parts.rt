@@ -1,13 +1,14 @@
 //! The parts of a line.
 
-ghost use Rattle.std.specs.Prelude.{◌≡◌, ◌++◌, OnOk, option_map};
-ghost use Rattle.traces.specs.Lines.{did, end_words, head_words, indent, part};
+ghost use Rattle.std.specs.Prelude.{◌≡◌, ◌++◌, OnOk};
+ghost use Rattle.traces.specs.Pieces.{deed, did};
+ghost use Rattle.traces.specs.Lines.{end_words, head_words, indent, part};
 
 use crate::form::Form;
 use crate::json::{push_number_member, push_text_member};
 use crate::line::Line;
 use crate::numbers::{push_in_seven, push_number, push_spaces, push_words};
-use crate::quotations::push_quotation;
+use crate::said::Said;
 use listings::printed_names::push_printed;
 use std::alloc::AllocError;
 
@@ -71,32 +72,21 @@ pub(crate) fn push_part(
     push_printed(text, words)
 }
 
-const DID: Part = Part {
-    mark: " | ",
-    key: "did",
-};
-
-/// What an event did, if there is more to tell: words, and behind them a text that it printed. A text is written behind
-/// the words, too, where the line is an object.
-pub(crate) fn push_did(
-    text: &mut Vec<u8>,
-    form: Form,
-    words: &mut Vec<u8>,
-    printed: Option<&[u16]>,
-) -> Result<(), AllocError>
+/// What an event did, if there is more to tell.
+pub(crate) fn push_did(text: &mut Vec<u8>, form: Form, said: &mut Said) -> Result<(), AllocError>
     ensures { OnOk result (text.new.items
-        ≡ text.old.items ++ did form words.old.items (option_map (λ units. units.now) printed.entry)) }
+        ≡ text.old.items ++ did form (deed said.old.words.items said.old.units.items said.old.marks.items)) }
 {
-    let Some(units) = printed else {
-        return push_part(text, form, DID, words);
-    };
-    if let Form::Json = form {
-        push_quotation(words, units)?;
-        return push_text_member(text, DID.key, words);
+    if said.is_empty() {
+        return Ok(());
     }
-    push_words(text, DID.mark)?;
-    push_printed(text, words)?;
-    push_quotation(text, units)
+    if let Form::Json = form {
+        push_words(text, ",\"did\":\"")?;
+        said.push(text, form)?;
+        return push_words(text, "\"");
+    }
+    push_words(text, " | ")?;
+    said.push(text, form)
 }
 
 /// The end of a line.

@@ -8,7 +8,7 @@ use crate::numbers::push_words;
 use std::alloc::AllocError;
 
 /// How many units are shown.
-const MOST: usize = 40;
+pub(crate) const MOST: usize = 40;
 
 /// A unit in quotation marks.
 fn push_shown(text: &mut Vec<u8>, unit: u16) -> Result<(), AllocError>

@@ -4,11 +4,11 @@ use Rattle.std.specs.Prelude.{replicate, slice_get}
 use Rattle.std.specs.Option.{option_and_then, option_map_or}
 use Rattle.std.specs.List.{sum_by}
 use Rattle.std.proofs.Math.Nat.{suc-mul}
-use Rattle.std.proofs.lemmas.Nat.{mul-le}
 use Rattle.std.proofs.lemmas.List.Sums.{sum_by-cons, sum_by-take-le}
 use Rattle.model.specs.Tree.{FileTree, MethodTree}
-use Rattle.model.specs.Classes.{Program, Body, classes_of}
+use Rattle.model.specs.Classes.{Program, Body}
 use Rattle.hierarchy.specs.Places.{class_at}
+use Rattle.hierarchy.proofs.Indices.{file_behind}
 use Rattle.types.specs.method_code.View.{shown_in}
 use Rattle.run_laws.specs.typing_search.Weights.{table_weight, marks_weight, places}
 use Rattle.link_conditions.specs.declared.refusal.why.Refusal.{Refusal}
@@ -84,17 +84,19 @@ module _ (costs : Costs) where
   pub methods_within : (files : Program) (class k : ℕ) → methods_steps files class k costs ≤ steps_of_class files class costs
   methods_within files class k = within k (class_at files class)
 
--- ---- classes
+-- ---- classes of files, which stand behind the built-in ones
 
 abbrev pub classes_steps : Program → ℕ → Costs → ℕ
-classes_steps files n costs = sum_by (λ (file : FileTree). class_steps file costs) (take n (classes_of files))
+classes_steps files n costs = sum_by (λ (file : FileTree). class_steps file costs) (take n files)
 
 module _ (files : Program) (costs : Costs) where
-  pub class_more : (k : ℕ) → classes_steps files (k + 1) costs ≡ classes_steps files k costs + steps_of_class files k costs
-  class_more k = sum_next (λ (file : FileTree). class_steps file costs) (classes_of files) k
+  pub class_more : (k : ℕ) → classes_steps files (k + 1) costs ≡ classes_steps files k costs + steps_of_class files (37 + k) costs
+  class_more k =
+      sum_next (λ (file : FileTree). class_steps file costs) files k
+      ∙ ap (λ (o : Option FileTree). classes_steps files k costs + option_map_or (λ (file : FileTree). class_steps file costs) o 0) (sym (file_behind files k))
 
   pub classes_within : (k : ℕ) → classes_steps files k costs ≤ all_steps files costs
-  classes_within k = sum_by-take-le (λ (file : FileTree). class_steps file costs) (classes_of files) k
+  classes_within k = sum_by-take-le (λ (file : FileTree). class_steps file costs) files k
 
 -- ---- refusals of a part, and of the whole
 

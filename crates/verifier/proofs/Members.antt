@@ -1,6 +1,6 @@
 -- Each method with code stands at a place.
-use Rattle.std.proofs.Common.{◌≡◌, ℕ, suc, ◌≤◌, List, [], ◌∷◌, length, find, cond, Bool, true, false, Option, Some, None, refl, sym, ap, ◌∙◌}
-use Rattle.std.specs.Prelude.{slice_get}
+use Rattle.std.proofs.Common.{◌≡◌, ℕ, zero, suc, ◌+◌, ◌-◌, ◌≤◌, List, [], ◌∷◌, ◌++◌, length, find, cond, Bool, true, false, Option, Some, None, refl, sym, ap, subst, ◌∙◌, arith}
+use Rattle.std.specs.Prelude.{slice_get, is_some}
 use Rattle.std.specs.Option.{option_and_then, option_map}
 use Rattle.std.proofs.lemmas.Bool.{and_parts}
 use Rattle.std.proofs.lemmas.Option.{slice_get_past, same_Some}
@@ -9,9 +9,14 @@ use Rattle.model.specs.Tree.{FileTree, MethodTree, CodeTree}
 use Rattle.model.specs.Spelling.{entry_at}
 use Rattle.model.specs.Conditions.{text_at}
 use Rattle.model.specs.Classes.{Program, Body, with_pool, name_of, classes_of, is_named, class_of, is_method, declared_in, code_in, body_in, body_of}
+use Rattle.model.specs.BuiltIn.{built_in_classes}
 use Rattle.model.specs.Typing.{HasTyping, AreTyped}
+use Rattle.run_laws.specs.examples.BuiltInTypings.{built_in_types}
+use Rattle.run_laws.proofs.examples.TableProofs.{built_in_are_typed}
+use Rattle.run_laws.proofs.examples.BuiltInTypingProofs.{each_typed}
 use Rattle.run_laws.proofs.laws.Classes.{names_same}
 use Rattle.hierarchy.specs.Places.{class_at}
+use Rattle.hierarchy.proofs.Indices.{built_in_count}
 use Rattle.types.specs.method_code.View.{member_named, shown_in, shown_at}
 use Rattle.verifier.specs.Places.{IsTypedAt, AreTypedIn}
 use Rattle.run_laws.proofs.laws.Homes.{spelled}
@@ -44,6 +49,9 @@ member_is member class name descriptor p q r =
 pub record StandsAt (files : Program) (member : Member) (body : Body) : Type 0 where
   pub class : ℕ
   pub method : ℕ
+  pub file : FileTree
+  pub at : slice_get (classes_of files) class ≡ Some file
+  pub named : is_named member.class file ≡ true
   pub there : shown_at files class method ≡ Some (member, body)
 
 module _ (files : Program) (member : Member) (body : Body) where
@@ -60,6 +68,9 @@ module _ (files : Program) (member : Member) (body : Body) where
       record {
         class = c.place;
         method = f.place;
+        file = file;
+        at = c.there;
+        named = c.passes;
         there = ap (option_and_then (λ (k : FileTree). option_and_then (shown_in k) (slice_get k.methods f.place))) c.there ∙ (ap (option_and_then (shown_in file)) f.there ∙ (ap (option_map (λ (code : CodeTree). (member_named (name_of file) file.pool m.name m.descriptor, with_pool file.pool code))) q ∙ (ap (λ x. Some (x, with_pool file.pool code)) same ∙ ap (λ b. Some (member, b)) (same_Some (with_pool file.pool code) body e))));
       }
 
@@ -79,10 +90,34 @@ module _ (files : Program) (member : Member) (body : Body) where
   pub stands_at : body_of files member ≡ Some body → StandsAt files member body
   stands_at e = by_class (class_of files member.class) refl e
 
-pub are_typed : (files : Program) → ((class method : ℕ) → IsTypedAt files class method) → AreTyped files
-are_typed files typed member body e =
-    let s = stands_at files member body e in
-    typed s.class s.method member body s.there
+-- what passes a test, and stands in a list behind others none of which passes it
+behind : {A : Type 0} (p : A → Bool) (xs ys : List A) (k : ℕ) (x : A) → slice_get (xs ++ ys) k ≡ Some x → p x ≡ true
+    → is_some (find p (xs ++ [])) ≡ false → length xs ≤ k
+behind p [] ys k x at passes none = omega arith
+behind p (z ∷ zs) ys zero x at passes none =
+    let same = same_Some z x at in
+    false_true (sym none ∙ ap (λ b. is_some (cond b (Some z) (find p (zs ++ [])))) (ap p same ∙ passes))
+  where
+    false_true : {P : Type 0} → false ≡ true → P
+    false_true e = absurd cc
+behind p (z ∷ zs) ys (suc k) x at passes none =
+    let rest = behind p zs ys k x at passes (by (p z) none) in omega (arith, rest)
+  where
+    by : (b : Bool) → is_some (cond b (Some z) (find p (zs ++ []))) ≡ false → is_some (find p (zs ++ [])) ≡ false
+    by true e = absurd cc
+    by false e = e
+
+-- the methods of built-in classes have typings in each program
+pub are_typed : (files : Program) → ((number method : ℕ) → IsTypedAt files (37 + number) method) → AreTyped files
+are_typed files typed member body e = by (is_some (class_of [] member.class)) refl
+  where
+    by : (b : Bool) → is_some (class_of [] member.class) ≡ b → HasTyping files member body
+    by true there = built_in_are_typed files built_in_types built_in_types (each_typed files) member body there e
+    by false none =
+        let s = stands_at files member body e in
+        let more = behind (is_named member.class) built_in_classes files s.class s.file s.at s.named none in
+        let place : 37 + (s.class - 37) ≡ s.class = omega (arith, more, built_in_count) in
+        subst (λ class. IsTypedAt files class s.method) place (typed (s.class - 37) s.method) member body s.there
 
 none_shown : (files : Program) (member : Member) (body : Body) (o : Option (Member × Body)) → o ≡ None → o ≡ Some (member, body)
     → HasTyping files member body

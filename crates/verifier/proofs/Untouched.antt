@@ -31,7 +31,7 @@ use Rattle.model.specs.Calls.{return_of}
 use Rattle.model.specs.Step.{covers}
 use Rattle.model.specs.TypeOrder.{FrameType}
 use Rattle.model.specs.Typing.{is_constructor, may_stand, constructs_this, marked, successors, handler_type, handlers_from, flow_by, flow_at, flow}
-use Rattle.run_laws.proofs.laws.Operations.{Operation, NamedCall, OfRow, GetSystemOut, GetStatic, PutStatic, GetField, PutField, Println, CallVirtual, CallConstructor, CallSpecial, CallStatic, CallInterface, Return, LoadClass, LoadString, New, NewArray, NewReferenceArray, ArrayLength, LoadElement, StoreElement, CheckCast, InstanceOf, Throw, MonitorEnter, MonitorExit, operation, OfMeaning, each_meaning}
+use Rattle.run_laws.proofs.laws.Operations.{Operation, NamedCall, OfRow, GetSystemStream, GetStatic, PutStatic, GetField, PutField, Println, CallVirtual, CallConstructor, CallSpecial, CallStatic, CallInterface, Return, LoadClass, LoadString, New, NewArray, NewReferenceArray, ArrayLength, LoadElement, StoreElement, CheckCast, InstanceOf, Throw, MonitorEnter, MonitorExit, operation, OfMeaning, each_meaning}
 use Rattle.run_laws.proofs.typing_search.Merging.{get_set_other}
 use Rattle.verifier.specs.flow.Untouched.{leaves, leaves_by}
 use Rattle.verifier.specs.Agreeing.{is_among, AgreeBut, AgreeAt, DifferIn, HaveMoved}
@@ -208,7 +208,7 @@ module _ (ks : List ℕ) where
       each_alike (OfRow row e) =
           let n = row_apart site.body.pool (integers_of site.body.pool) site.body.code.code site.offset site.next row site.instr left e in
           (n.reads, λ ops rest. rows_alike row n (row.to ∷ row.others))
-      each_alike (GetSystemOut index i) = (tt, λ ops rest. (kept site.next _, tt))
+      each_alike (GetSystemStream index stream n) = (tt, λ ops rest. (kept site.next _, tt))
       each_alike (GetStatic f) = (tt, λ ops rest. (kept site.next _, tt))
       each_alike (PutStatic f) = (tt, next site.next [])
       each_alike (GetField f) = (tt, λ ops rest. (kept site.next _, tt))

@@ -4,7 +4,7 @@ use Rattle.std.specs.Option.{option_map_or}
 use Rattle.std.specs.List.{sum_by}
 use Rattle.model.specs.Names.{Member}
 use Rattle.model.specs.Tree.{FileTree, MethodTree}
-use Rattle.model.specs.Classes.{Program, Body, classes_of}
+use Rattle.model.specs.Classes.{Program, Body}
 use Rattle.hierarchy.specs.Places.{class_at}
 use Rattle.types.specs.method_code.View.{shown_in, shown_at}
 use Rattle.run_laws.specs.typing_search.Weights.{places}
@@ -38,9 +38,9 @@ shown_steps (Some shown) costs = method_steps shown.0 shown.1 costs
 abbrev pub class_steps : FileTree → Costs → ℕ
 class_steps file costs = sum_by (λ (m : MethodTree). shown_steps (shown_in file m) costs) file.methods
 
--- of all classes, the built-in ones too
+-- of the classes of all files; the built-in ones have typings in each program, and take none
 abbrev pub all_steps : Program → Costs → ℕ
-all_steps files costs = sum_by (λ (file : FileTree). class_steps file costs) (classes_of files)
+all_steps files costs = sum_by (λ (file : FileTree). class_steps file costs) files
 
 -- ---- of those at a place, if there are any
 

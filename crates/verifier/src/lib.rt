@@ -7,8 +7,10 @@
 //!   with code of the linked classes, has a typing; `Unverified` is answered only where the method that the refusal
 //!   names has none. They end. `Verified` keeps that each method has a typing.
 //! - `verify_within`, which is given a number of steps, and `verify`, which gives 2,000,000,000 (`most_steps`):
-//!   `TooLarge` is answered only where the searches over all methods together take more (`IsTooLong`). So no files are
+//!   `TooLarge` is answered only where the searches over all methods of files together take more (`IsTooLong`). So no files are
 //!   refused for steps, however large, whose searches take no more.
+//! - The methods of built-in classes have typings in each program (`built_in_typings` of `run_laws`). So they are not
+//!   searched, and no refusal is of one.
 //! - What a search takes is a definition (`search_steps` of `Worklist`): the worklist as a function from tables to
 //!   tables, with the steps of each turn. A turn takes off the lowest offset that waits, and merges what its
 //!   instruction leads to. An offset waits only once a frame type was found there, or one that is not below it was
@@ -35,8 +37,8 @@
 //!
 //! # Not proved
 //!
-//! - Tested in `verification_tests`: that no steps end in a built-in method, some in the method that takes many,
-//!   which is named, and that many suffice.
+//! - Tested in `verification_tests`: that no steps, and some, end in the method that takes many, which is named, and that
+//!   many suffice.
 //! - Shown by cases alone: the offset that a refusal names. Cases show the rules by pairs of methods, one that just
 //!   passes and one that just fails. Where a JDK's older verifier was asked of such methods it said the same of all but
 //!   three: it refuses an array as the receiver of an interface's method, takes `ifnull` of an object that isn't

@@ -153,13 +153,14 @@ fn verify_class(
     Ok(())
 }
 
-/// Verifies the methods of all classes, in their order.
-fn verify_classes(alloc: Global, hierarchy: &Hierarchy, steps: &mut Steps) -> Result<(), Refusal>
+/// Verifies the methods of the classes of all files, in their order. Those of built-in classes have typings in each
+/// program.
+fn verify_files(alloc: Global, hierarchy: &Hierarchy, steps: &mut Steps) -> Result<(), Refusal>
     requires { IsLinked hierarchy.now }
     ensures typed { OnOk result (AreTyped hierarchy.now) }
     ensures refused { IfErr result (RefusesPart hierarchy.now (all_steps hierarchy.now) steps.old.left) }
 {
-    for class in 0..hierarchy.set().count() {
+    for class in BUILT_IN_CLASSES..hierarchy.set().count() {
         if let Err(refusal) = verify_class(alloc, hierarchy, class, steps) {
             return Err(refusal);
         }
@@ -167,10 +168,11 @@ fn verify_classes(alloc: Global, hierarchy: &Hierarchy, steps: &mut Steps) -> Re
     Ok(())
 }
 
-/// Verifies the methods with code of linked classes, the built-in ones too, in the order of the classes and of their
-/// methods (JVMS 4.10). It takes so many steps at most, all methods together.
+/// Verifies the methods with code of linked classes, in the order of the files and of their methods (JVMS 4.10). It
+/// takes so many steps at most, all methods together. Those of built-in classes have typings in each program, and take
+/// none.
 ///
-/// `Unverified` names the file, if the class is of one, the method, and the offset of the instruction whose rule
+/// `Unverified` names the file, the method, and the offset of the instruction whose rule
 /// fails, or where frame types can't be merged, or from which the code runs off its end; of several offsets that
 /// which a worklist meets that takes the lowest first. `TooLarge` names the method in whose search the steps end,
 /// with its file, and no offset.
@@ -181,7 +183,7 @@ pub fn verify_within(alloc: Global, linked: Linked, most: u64) -> Result<Verifie
     ensures limited { IfErr result (IsLimited linked most) }
 {
     let mut steps = Steps::new(most);
-    match verify_classes(alloc, linked.hierarchy(), &mut steps) {
+    match verify_files(alloc, linked.hierarchy(), &mut steps) {
         Ok(()) => Ok(Verified { linked }),
         Err(refusal) => Err(refusal),
     }

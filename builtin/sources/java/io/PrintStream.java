@@ -17,4 +17,12 @@ public class PrintStream {
     public native void print(int number);
 
     public native void print(String text);
+
+    public void println(boolean value) {
+        println(String.valueOf(value));
+    }
+
+    public void print(boolean value) {
+        print(String.valueOf(value));
+    }
 }

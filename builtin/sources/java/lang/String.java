@@ -26,6 +26,10 @@ public final class String implements Comparable, CharSequence {
 
     public static native String valueOf(char unit);
 
+    public static String valueOf(boolean value) {
+        return value ? "true" : "false";
+    }
+
     public boolean isEmpty() {
         return length() == 0;
     }

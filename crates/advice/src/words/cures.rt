@@ -13,15 +13,9 @@ const LEFT: &str = ": leave it out";
 
 const MARKER: &str = ": it does nothing here; leave it out";
 
-const TEXTS: &str = ": join Strings by concat, and take valueOf of an int or a char";
-
 /// Classes by their whole names.
-static CLASSES: [Cure; 36] = [
-    (
-        "java/lang/StringBuilder",
-        ", of + of strings: join them by concat, and take String.valueOf of an int or a char",
-    ),
-    ("java/lang/StringBuffer", TEXTS),
+static CLASSES: [Cure; 35] = [
+    ("java/lang/StringBuffer", ": take StringBuilder"),
     ("java/lang/Enum", ENUM),
     (
         "java/lang/NoSuchFieldError",

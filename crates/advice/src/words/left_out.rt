@@ -97,9 +97,7 @@ fn dynamic(file: &ClassFile, operands: Operands) -> Option<NameAndDescriptor<'_>
 fn say_dynamic(line: &mut Line, file: &ClassFile, operands: Operands) -> Result<(), AllocError> {
     if let Some(named) = dynamic(file, operands) {
         if named.name.starts_with(b"makeConcat") {
-            return line.say(
-                "+ of strings: join them by concat, and take String.valueOf of an int or a char",
-            );
+            return line.say("+ of strings, of a later version: compile by tools/java-classes");
         }
         line.say("a lambda or a method reference")?;
         if let Some(method) = parse_method(line.alloc(), named.descriptor)? {

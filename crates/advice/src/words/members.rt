@@ -8,6 +8,8 @@ type Cure = (&'static str, &'static str, &'static str);
 
 const STRING: &str = "java/lang/String";
 
+const BUILDER: &str = "java/lang/StringBuilder";
+
 const SYSTEM: &str = "java/lang/System";
 
 const THREAD: &str = "java/lang/Thread";
@@ -33,24 +35,32 @@ const NO_REFLECTION: &str = ": there is no reflection; leave it out";
 
 const CATCH: &str = ": catch the exception in run()";
 
+const APPENDED: &str = ": add a String, an int, a char, a boolean or a CharSequence";
+
 const DECLARE: &str = ": declare it in your class, and call it by the type of that class";
 
 /// The cures of a class stand together, and those of all other members last.
-static MEMBERS: [Cure; 42] = [
-    (STRING, "<init>", ": join Strings by concat"),
-    (STRING, "valueOf", ": take valueOf of an int or a char"),
+static MEMBERS: [Cure; 44] = [
+    (STRING, "<init>", ": take a StringBuilder"),
+    (
+        STRING,
+        "valueOf",
+        ": take valueOf of an int, a char or a boolean",
+    ),
     (STRING, "", ": write it by charAt, substring and concat"),
+    (BUILDER, "append", APPENDED),
+    (BUILDER, "insert", APPENDED),
+    (BUILDER, "", ": write it by charAt, substring and append"),
     (
         "java/io/PrintStream",
         "",
-        ": System.out prints ints, chars and Strings, and nothing else; print these",
+        ": System.out prints ints, chars, booleans and Strings, and nothing else; print these",
     ),
     (
         SYSTEM,
         "in",
         ": nothing is read in a run; write the input into the program",
     ),
-    (SYSTEM, "err", ": print by System.out"),
     (
         SYSTEM,
         "exit",
@@ -62,7 +72,7 @@ static MEMBERS: [Cure; 42] = [
     (
         SYSTEM,
         "",
-        ": System has out, and nothing else; leave it out",
+        ": System has out and err, and nothing else; leave it out",
     ),
     (
         THREAD,

@@ -8,8 +8,9 @@ ghost use Rattle.class_tree.specs.builtin.View.{all_fit, built_in_from, trees_of
 use crate::ClassFile;
 use crate::builtin::form::{BuiltInClass, class_file};
 use crate::builtin::tables::{
-    FROM_ARRAY_STORE_EXCEPTION, FROM_CLASS, FROM_ILLEGAL_THREAD_STATE_EXCEPTION,
-    FROM_INCOMPATIBLE_CLASS_CHANGE_ERROR, FROM_OBJECT, FROM_STRING, FROM_THREAD,
+    FROM_CLASS, FROM_COMPARABLE, FROM_EXCEPTION_IN_INITIALIZER_ERROR,
+    FROM_ILLEGAL_MONITOR_STATE_EXCEPTION, FROM_OBJECT, FROM_PRINT_STREAM, FROM_STRING,
+    FROM_STRING_BUILDER, FROM_THREAD,
 };
 use std::alloc::{AllocError, Global};
 
@@ -49,32 +50,46 @@ fn from_string() -> &'static [BuiltInClass]
     &FROM_STRING
 }
 
-/// The built-in classes 4 to 11.
+/// The built-in classes 4 to 5.
 fn from_class() -> &'static [BuiltInClass]
-    ensures { (all_fit result.now ≡ true) × (trees_of result.now ≡ built_in_from 4 8) }
+    ensures { (all_fit result.now ≡ true) × (trees_of result.now ≡ built_in_from 4 2) }
 {
     &FROM_CLASS
 }
 
-/// The built-in classes 12 to 19.
-fn from_incompatible_class_change_error() -> &'static [BuiltInClass]
-    ensures { (all_fit result.now ≡ true) × (trees_of result.now ≡ built_in_from 12 8) }
+/// The built-in classes 6 to 13.
+fn from_print_stream() -> &'static [BuiltInClass]
+    ensures { (all_fit result.now ≡ true) × (trees_of result.now ≡ built_in_from 6 8) }
 {
-    &FROM_INCOMPATIBLE_CLASS_CHANGE_ERROR
+    &FROM_PRINT_STREAM
 }
 
-/// The built-in classes 20 to 27.
-fn from_array_store_exception() -> &'static [BuiltInClass]
-    ensures { (all_fit result.now ≡ true) × (trees_of result.now ≡ built_in_from 20 8) }
+/// The built-in classes 14 to 21.
+fn from_exception_in_initializer_error() -> &'static [BuiltInClass]
+    ensures { (all_fit result.now ≡ true) × (trees_of result.now ≡ built_in_from 14 8) }
 {
-    &FROM_ARRAY_STORE_EXCEPTION
+    &FROM_EXCEPTION_IN_INITIALIZER_ERROR
 }
 
-/// The built-in classes 28 to 35.
-fn from_illegal_thread_state_exception() -> &'static [BuiltInClass]
-    ensures { (all_fit result.now ≡ true) × (trees_of result.now ≡ built_in_from 28 8) }
+/// The built-in classes 22 to 29.
+fn from_illegal_monitor_state_exception() -> &'static [BuiltInClass]
+    ensures { (all_fit result.now ≡ true) × (trees_of result.now ≡ built_in_from 22 8) }
 {
-    &FROM_ILLEGAL_THREAD_STATE_EXCEPTION
+    &FROM_ILLEGAL_MONITOR_STATE_EXCEPTION
+}
+
+/// The built-in classes 30 to 35.
+fn from_comparable() -> &'static [BuiltInClass]
+    ensures { (all_fit result.now ≡ true) × (trees_of result.now ≡ built_in_from 30 6) }
+{
+    &FROM_COMPARABLE
+}
+
+/// The built-in class 36.
+fn from_string_builder() -> &'static [BuiltInClass]
+    ensures { (all_fit result.now ≡ true) × (trees_of result.now ≡ built_in_from 36 1) }
+{
+    &FROM_STRING_BUILDER
 }
 
 /// The built-in classes, in the order of the definitions.
@@ -86,8 +101,10 @@ pub fn built_in_classes(alloc: Global) -> Result<Vec<ClassFile>, AllocError>
     push_classes(&mut classes, alloc, from_thread())?;
     push_classes(&mut classes, alloc, from_string())?;
     push_classes(&mut classes, alloc, from_class())?;
-    push_classes(&mut classes, alloc, from_incompatible_class_change_error())?;
-    push_classes(&mut classes, alloc, from_array_store_exception())?;
-    push_classes(&mut classes, alloc, from_illegal_thread_state_exception())?;
+    push_classes(&mut classes, alloc, from_print_stream())?;
+    push_classes(&mut classes, alloc, from_exception_in_initializer_error())?;
+    push_classes(&mut classes, alloc, from_illegal_monitor_state_exception())?;
+    push_classes(&mut classes, alloc, from_comparable())?;
+    push_classes(&mut classes, alloc, from_string_builder())?;
     Ok(classes)
 }

@@ -7,6 +7,8 @@ use Rattle.model.specs.declared.instr.ArrayKind.{ArrayKind}
 use Rattle.model.specs.declared.instr.ArrayKind.TheVariants as array_kind
 use Rattle.model.specs.declared.instr.Instr.{Instr}
 use Rattle.model.specs.declared.instr.Instr.TheVariants as instr
+use Rattle.model.specs.declared.builder_method.BuilderMethod.{BuilderMethod}
+use Rattle.model.specs.BuilderMethods.{BuilderAnswer, IsNull, KeepsEmpty, Keeps, Adds, GivesText, builds, builder_does}
 use Rattle.model.specs.Classes.{Program}
 use Rattle.model.specs.Operands.{Slots, values}
 use Rattle.model.specs.Rows.{Row}
@@ -18,7 +20,7 @@ use Rattle.model.specs.Objects.{cast}
 use Rattle.model.specs.Arrays.{is_negative, made_array, in_range, at_index, load_of, may_stand_in, if_storable, store_of}
 use Rattle.model.specs.MonitorMeanings.{left}
 use Rattle.model.specs.Meanings.{local_meaning, meaning_of}
-use Rattle.run_laws.proofs.laws.Operations.{Operation, OfRow, GetSystemOut, GetStatic, PutStatic, GetField, PutField, Println, CallVirtual, CallConstructor, CallSpecial, CallStatic, CallInterface, Return, LoadClass, LoadString, New, NewArray, NewReferenceArray, ArrayLength, LoadElement, StoreElement, CheckCast, InstanceOf, Throw, MonitorEnter, MonitorExit, operation, OfMeaning, each_meaning}
+use Rattle.run_laws.proofs.laws.Operations.{Operation, OfRow, GetSystemStream, GetStatic, PutStatic, GetField, PutField, Println, CallVirtual, CallConstructor, CallSpecial, CallStatic, CallInterface, Return, LoadClass, LoadString, New, NewArray, NewReferenceArray, ArrayLength, LoadElement, StoreElement, CheckCast, InstanceOf, Throw, MonitorEnter, MonitorExit, operation, OfMeaning, each_meaning}
 use Rattle.data_races.specs.EventActions.{access_by}
 
 -- it goes on, or the machine makes an exception
@@ -110,7 +112,7 @@ module _ (files : Program) where
   module _ (site : Site) where
     operation_plain : (o : Operation files site) → PlainAt site.instr (operation values files site o)
     operation_plain (OfRow row e) h = local_plain row
-    operation_plain (GetSystemOut index i) h = λ event world slots ops rest. tt
+    operation_plain (GetSystemStream index stream n) h = λ event world slots ops rest. tt
     operation_plain (GetStatic f) h = λ event world slots ops rest. tt
     operation_plain (PutStatic f) h = λ event world slots ops rest. tt
     operation_plain (GetField f) h = λ event world slots ops rest. null_plain (referent values ops 0) _ (λ r. tt)
@@ -138,3 +140,16 @@ module _ (files : Program) where
 
     pub meaning_plain : OfMeaning (PlainAt site.instr) (meaning_of values files site)
     meaning_plain = each_meaning values files site (PlainAt site.instr) operation_plain
+
+-- ---- methods of StringBuilder without code
+
+module _ (empty next : ℕ) (world : World) (slots : Slots Value) (ops rest : List Value) where
+  answer_plain : (answer : BuilderAnswer) → IsPlain (builds values empty answer next world slots ops rest)
+  answer_plain IsNull = tt
+  answer_plain KeepsEmpty = tt
+  answer_plain Keeps = tt
+  answer_plain (Adds added) = tt
+  answer_plain GivesText = tt
+
+  pub builder_plain : (method : BuilderMethod) → IsPlain (builder_does values empty method next world slots ops rest)
+  builder_plain method = answer_plain _

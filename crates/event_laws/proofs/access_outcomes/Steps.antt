@@ -1,12 +1,14 @@
 -- The step of an instruction, and what is pending after it.
 use Rattle.std.proofs.Common.{◌≡◌, refl, sym, ◌∙◌, ap, subst, ℕ, ◌<◌, ◌-◌, List, [], ◌∷◌, ◌++◌, length, true, false}
 use Rattle.std.specs.Prelude.{Option, Some, None, Bool, not, ◌&&◌, ◌==◌, if◌then◌else◌, is_some, slice_set, replicate}
-use Rattle.std.specs.Option.{option_and_then}
+use Rattle.std.specs.Option.{option_and_then, option_map_or}
 use Rattle.std.proofs.lemmas.List.{get_or-set_same}
 use Rattle.model.specs.declared.event.Event.{Event}
 use Rattle.model.specs.declared.value.Value.{Value}
 use Rattle.model.specs.Names.{Name}
+use Rattle.model.specs.BuiltInMethods.{BuiltInMethod, StringBuilderBuilds}
 use Rattle.model.specs.Classes.{Program}
+use Rattle.model.specs.Opening.{string_reference}
 use Rattle.model.specs.Operands.{Slots, values, under}
 use Rattle.model.specs.State as state
 use Rattle.model.specs.State.{Instance, types_of, Thread, Running, Frame, StackOf, World, State}
@@ -18,9 +20,10 @@ use Rattle.model.specs.Meanings.{meaning_of}
 use Rattle.model.specs.Step.{SteppedOf, WrongKind, Next, PartOf, enabled_if, unpicked, settled, needing_class, needing, done, become, bytecode_by, bytecode_in, going_event, thread_event, with_part, event_of, stepped, ops_of}
 use Rattle.run_laws.proofs.laws.Operations.{OfMeaning}
 use Rattle.data_races.specs.Actions.{Action}
-use Rattle.data_races.specs.EventActions.{Instruction, Does, only_if, is_done, is_ready, goes_on, outcome_at, operands_of, access_by, accesses_of}
+use Rattle.data_races.specs.EventActions.{Instruction, Does, only_if, is_done, is_ready, goes_on, outcome_at, operands_of, access_by, accesses_at, accesses_of, built_in_at, built_in_accesses}
+use Rattle.data_races.proofs.BuilderRuns.{does_build, does_is}
 use Rattle.event_laws.specs.access_outcomes.Accesses.{StandsAt, DoAccessesGoOn}
-use Rattle.event_laws.proofs.access_outcomes.Plain.{IsPlain, names_variable, no_access, PlainAt, meaning_plain}
+use Rattle.event_laws.proofs.access_outcomes.Plain.{IsPlain, names_variable, no_access, PlainAt, meaning_plain, builder_plain}
 use Rattle.event_laws.proofs.event_changes.Worlds.{OutcomeLeaves}
 use Rattle.event_laws.proofs.event_changes.Table.{Leaving, meaning_leaves}
 
@@ -130,30 +133,53 @@ module _ (files : Program) (frames : ℕ) (s : State) (event : Event) (instructi
   outcome_is =
       ap (λ (slots : Slots Value). meaning.does event s.world slots (ops_of values meaning slots) (under meaning.wants slots)) h.slots
 
+  abbrev accesses : List Action
+  accesses = accesses_at files s.world instruction
+
+  -- where it accesses anything, it goes on or the machine makes an exception
+  Claim : Type 0
+  Claim = only_if (goes_on (outcome_at event s.world instruction)) accesses ≡ only_if (not (is_some (thread_at next.world t).pending)) accesses
+
+  by_plain : is_done t s.world instruction ≡ true → stepped values files frames s event ≡ Next cost next → IsPlain outcome → Claim
+  unfolding Claim
+  by_plain r e plain =
+      let leaves = of_some (Leaving values) (meaning_of values files instruction.site) meaning h.means (meaning_leaves values files instruction.site) event s.world h.frame.place.slots
+      (ops_of values meaning h.frame.place.slots) (under meaning.wants h.frame.place.slots) in
+      ap (λ b. only_if b accesses) (ap goes_on outcome_is ∙ by_outcome outcome plain leaves (done_so r e))
+
+  by_nothing : accesses ≡ [] → Claim
+  unfolding Claim
+  by_nothing none = only_nothing (goes_on (outcome_at event s.world instruction)) (not (is_some (thread_at next.world t).pending)) accesses none
+
+  -- by the built-in method that it runs
+  by_method : is_done t s.world instruction ≡ true → stepped values files frames s event ≡ Next cost next
+      → access_by files instruction.site (operands_of instruction) instruction.site.instr ≡ []
+      → (o : Option BuiltInMethod) → built_in_at files s.world instruction ≡ o → Claim
+  by_method r e none None m = by_nothing (ap (λ xs. xs ++ option_map_or (built_in_accesses (operands_of instruction)) (built_in_at files s.world instruction) []) none ∙ ap (λ o. option_map_or (built_in_accesses (operands_of instruction)) o []) m)
+  by_method r e none (Some (StringBuilderBuilds b)) m =
+      let build = does_build files instruction.site meaning h.means s.world (operands_of instruction) b m in
+      let does = does_is files instruction.site meaning build.call event s.world (operands_of instruction) b build.called instruction.slots (under meaning.wants instruction.slots) in
+      let plain : IsPlain (outcome_at event s.world instruction) =
+      subst IsPlain (sym does) (builder_plain (string_reference files []) instruction.site.next s.world instruction.slots (operands_of instruction) (under meaning.wants instruction.slots) b) in
+      by_plain r e (subst IsPlain outcome_is plain)
+  by_method r e none (Some _) m = by_nothing (ap (λ xs. xs ++ option_map_or (built_in_accesses (operands_of instruction)) (built_in_at files s.world instruction) []) none ∙ ap (λ o. option_map_or (built_in_accesses (operands_of instruction)) o []) m)
+
   by_done : (d : Bool) → is_done t s.world instruction ≡ d → stepped values files frames s event ≡ Next cost next
-      → only_if (d && goes_on (outcome_at event s.world instruction)) (access_by files instruction.site (operands_of instruction) instruction.site.instr)
-      ≡ only_if (d && not (is_some (thread_at next.world t).pending)) (access_by files instruction.site (operands_of instruction) instruction.site.instr)
+      → only_if (d && goes_on (outcome_at event s.world instruction)) accesses ≡ only_if (d && not (is_some (thread_at next.world t).pending)) accesses
+  unfolding Claim
   by_done false r e = refl
   by_done true r e = by (names_variable instruction.site.instr) refl
     where
-      by : (b : Bool) → names_variable instruction.site.instr ≡ b
-          → only_if (goes_on (outcome_at event s.world instruction)) (access_by files instruction.site (operands_of instruction) instruction.site.instr)
-          ≡ only_if (not (is_some (thread_at next.world t).pending)) (access_by files instruction.site (operands_of instruction) instruction.site.instr)
+      by : (b : Bool) → names_variable instruction.site.instr ≡ b → Claim
       by true n =
-          let plain = of_some (PlainAt instruction.site.instr) (meaning_of values files instruction.site) meaning h.means (meaning_plain files instruction.site) n event s.world h.frame.place.slots
-          (ops_of values meaning h.frame.place.slots) (under meaning.wants h.frame.place.slots) in
-          let leaves = of_some (Leaving values) (meaning_of values files instruction.site) meaning h.means (meaning_leaves values files instruction.site) event s.world h.frame.place.slots
-          (ops_of values meaning h.frame.place.slots) (under meaning.wants h.frame.place.slots) in
-          ap (λ b. only_if b (access_by files instruction.site (operands_of instruction) instruction.site.instr))
-          (ap goes_on outcome_is ∙ by_outcome outcome plain leaves (done_so r e))
+          by_plain r e
+          (of_some (PlainAt instruction.site.instr) (meaning_of values files instruction.site) meaning h.means (meaning_plain files instruction.site) n event s.world h.frame.place.slots
+          (ops_of values meaning h.frame.place.slots) (under meaning.wants h.frame.place.slots))
       by false n =
-          only_nothing (goes_on (outcome_at event s.world instruction)) (not (is_some (thread_at next.world t).pending))
-          (access_by files instruction.site (operands_of instruction) instruction.site.instr)
-          (no_access files instruction.site (operands_of instruction) instruction.site.instr n)
+          by_method r e (no_access files instruction.site (operands_of instruction) instruction.site.instr n) (built_in_at files s.world instruction) refl
 
   pub instruction_goes_on : stepped values files frames s event ≡ Next cost next
-      → accesses_of files event s.world (Does instruction)
-      ≡ only_if (is_done t s.world instruction && not (is_some (thread_at next.world t).pending)) (access_by files instruction.site (operands_of instruction) instruction.site.instr)
+      → accesses_of files event s.world (Does instruction) ≡ only_if (is_done t s.world instruction && not (is_some (thread_at next.world t).pending)) accesses
   instruction_goes_on e = by_done (is_done t s.world instruction) refl e
 
 pub go_on : DoAccessesGoOn

@@ -21,7 +21,7 @@ use Rattle.model.specs.Objects.{cast}
 use Rattle.model.specs.Arrays.{is_negative, made_array, in_range, at_index, element_at, load_of, stored, kept_by, may_stand_in, if_storable, store_reference_meaning, store_of}
 use Rattle.model.specs.MonitorMeanings.{left, monitor_enter_meaning, monitor_exit_meaning}
 use Rattle.model.specs.Meanings.{local_meaning, meaning_of}
-use Rattle.run_laws.proofs.laws.Operations.{Operation, OfRow, GetSystemOut, GetStatic, PutStatic, GetField, PutField, Println, CallVirtual, CallConstructor, CallSpecial, CallStatic, CallInterface, Return, LoadClass, LoadString, New, NewArray, NewReferenceArray, ArrayLength, LoadElement, StoreElement, CheckCast, InstanceOf, Throw, MonitorEnter, MonitorExit, operation, OfMeaning, each_meaning}
+use Rattle.run_laws.proofs.laws.Operations.{Operation, OfRow, GetSystemStream, GetStatic, PutStatic, GetField, PutField, Println, CallVirtual, CallConstructor, CallSpecial, CallStatic, CallInterface, Return, LoadClass, LoadString, New, NewArray, NewReferenceArray, ArrayLength, LoadElement, StoreElement, CheckCast, InstanceOf, Throw, MonitorEnter, MonitorExit, operation, OfMeaning, each_meaning}
 use Rattle.event_laws.proofs.event_changes.Worlds.{OutcomeLeaves, leaves_it, leaves_same, not_null_leaves, built_in_leaves}
 
 module _ {A : Type 0} (C : Carrier A) where
@@ -78,7 +78,7 @@ module _ {A : Type 0} (C : Carrier A) where
 
       runs_leaves : (site : Site) (event : Event) (object : ℕ) (method : Member) (o : Option Body)
           → leaves (runs C files site event world slots ops rest object method o)
-      runs_leaves site event object method None = built_in_leaves world C (built_in_method method) site.next event slots ops rest
+      runs_leaves site event object method None = built_in_leaves world C files (built_in_method method) site.next event slots ops rest
       runs_leaves site event object method (Some body) = tt
 
       invoked_leaves : (site : Site) (event : Event) (object : ℕ) (chosen : Chosen) → leaves (invoked C files site event world slots ops rest object chosen)
@@ -134,7 +134,7 @@ module _ {A : Type 0} (C : Carrier A) where
     module _ (site : Site) where
       operation_leaving : (o : Operation files site) → Leaving (operation C files site o)
       operation_leaving (OfRow row e) = local_leaving row
-      operation_leaving (GetSystemOut index i) = λ event world slots ops rest. leaves_it world
+      operation_leaving (GetSystemStream index stream n) = λ event world slots ops rest. leaves_it world
       operation_leaving (GetStatic f) = λ event world slots ops rest. leaves_it world
       operation_leaving (PutStatic f) = λ event world slots ops rest. leaves_same world _ refl refl
       operation_leaving (GetField f) = λ event world slots ops rest. not_null_leaves world (referent C ops 0) _ (λ r. leaves_it world)

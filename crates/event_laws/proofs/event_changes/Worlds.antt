@@ -2,6 +2,8 @@
 use Rattle.std.proofs.Common.{◌≡◌, ℕ, List, [], ◌∷◌, Bool, true, false, Option, Some, None, refl}
 use Rattle.std.specs.Prelude.{slice_get, is_some}
 use Rattle.model.specs.declared.event.Event.{Event}
+use Rattle.model.specs.Classes.{Program}
+use Rattle.model.specs.Opening.{string_reference}
 use Rattle.model.specs.Operands.{Slots, Carrier}
 use Rattle.model.specs.State.{WorldOf, Monitor, Waiter, WakeCause, Notified, Interrupted, ThreadStatus, Running, Waiting, Relock, Ended}
 use Rattle.model.specs.Outcomes.{OutcomeOf, Goes, Raises, Throws, Interrupts, Calls, Returns, Waits, not_null}
@@ -9,7 +11,9 @@ use Rattle.model.specs.Monitors as monitors
 use Rattle.model.specs.Worlds.{thread_at, thread_of, is_alive, is_owner, with_monitors, with_interrupted, with_status, woken, all_woken, waiters_of}
 use Rattle.model.specs.Sites.{pushing, int_operand}
 use Rattle.model.specs.StringMethods.{StringAnswer, IsNull, IsOutside, Answers, Same, Composes, string_answer}
-use Rattle.model.specs.BuiltInMethods.{BuiltInMethod, Construct, ConstructWithTarget, ObjectWait, ObjectNotify, ObjectNotifyAll, ThreadStart, ThreadInterrupt, ThreadIsInterrupted, ThreadInterrupted, ThreadYield, ThreadCurrentThread, ThreadJoin, ThreadIsAlive, PrintStreamPrints, StringAnswers, object_of, string_operand, answered, waiting, wait_by, notified_one, notified, notified_all, if_owner, start_by, interrupted_in, interrupted_on, join_by, built_in_does}
+use Rattle.model.specs.BuilderMethods as builder
+use Rattle.model.specs.BuilderMethods.{BuilderAnswer, KeepsEmpty, Adds, GivesText, builds}
+use Rattle.model.specs.BuiltInMethods.{BuiltInMethod, Construct, ConstructWithTarget, ObjectWait, ObjectNotify, ObjectNotifyAll, ThreadStart, ThreadInterrupt, ThreadIsInterrupted, ThreadInterrupted, ThreadYield, ThreadCurrentThread, ThreadJoin, ThreadIsAlive, PrintStreamPrints, StringAnswers, StringBuilderBuilds, object_of, string_operand, answered, waiting, wait_by, notified_one, notified, notified_all, if_owner, start_by, interrupted_in, interrupted_on, join_by, built_in_does}
 use Rattle.event_laws.proofs.event_changes.Changed.{Keeps, Leaves, keeps_same, keeps_then, keeps_thread, keeps_status, leaves_of, leaves_started}
 
 -- what an instruction leaves of a world
@@ -115,28 +119,38 @@ module _ {A : Type 0} where
     answered_leaves C (Same k) next slots ops rest = leaves_it world
     answered_leaves C (Composes text) next slots ops rest = leaves_same world _ refl refl
 
-    pub built_in_leaves : (C : Carrier A) (method : BuiltInMethod) (next : ℕ) (event : Event) (slots : Slots A) (ops rest : List A)
-        → leaves (built_in_does C method next event world slots ops rest)
-    built_in_leaves C Construct next event slots ops rest = leaves_it world
-    built_in_leaves C ConstructWithTarget next event slots ops rest = leaves_same world _ refl refl
-    built_in_leaves C ObjectWait next event slots ops rest =
+    builds_leaves : (C : Carrier A) (empty : ℕ) (answer : BuilderAnswer) (next : ℕ) (slots : Slots A) (ops rest : List A)
+        → leaves (builds C empty answer next world slots ops rest)
+    builds_leaves C empty builder.IsNull next slots ops rest = tt
+    builds_leaves C empty KeepsEmpty next slots ops rest = leaves_same world _ refl refl
+    builds_leaves C empty builder.Keeps next slots ops rest = leaves_same world _ refl refl
+    builds_leaves C empty (Adds added) next slots ops rest = leaves_same world _ refl refl
+    builds_leaves C empty GivesText next slots ops rest = leaves_it world
+
+    pub built_in_leaves : (C : Carrier A) (files : Program) (method : BuiltInMethod) (next : ℕ) (event : Event) (slots : Slots A) (ops rest : List A)
+        → leaves (built_in_does C files method next event world slots ops rest)
+    built_in_leaves C files Construct next event slots ops rest = leaves_it world
+    built_in_leaves C files ConstructWithTarget next event slots ops rest = leaves_same world _ refl refl
+    built_in_leaves C files ObjectWait next event slots ops rest =
         wait_by_leaves (is_owner world event.thread (object_of C ops 0)) (thread_at world event.thread).interrupted event.thread (object_of C ops 0) rest
-    built_in_leaves C ObjectNotify next event slots ops rest =
+    built_in_leaves C files ObjectNotify next event slots ops rest =
         owner_leaves (is_owner world event.thread (object_of C ops 0)) (pushing next [] (notified world event.thread (object_of C ops 0) event.pick) slots rest)
         (leaves_of world _ (notified_keeps world event.thread (object_of C ops 0) event.pick))
-    built_in_leaves C ObjectNotifyAll next event slots ops rest =
+    built_in_leaves C files ObjectNotifyAll next event slots ops rest =
         owner_leaves (is_owner world event.thread (object_of C ops 0)) (pushing next [] (notified_all world event.thread (object_of C ops 0)) slots rest)
         (leaves_of world _ (notified_all_keeps world event.thread (object_of C ops 0)))
-    built_in_leaves C ThreadStart next event slots ops rest =
+    built_in_leaves C files ThreadStart next event slots ops rest =
         start_leaves (is_some (thread_of world (object_of C ops 0))) next (object_of C ops 0) slots rest
-    built_in_leaves C ThreadInterrupt next event slots ops rest =
+    built_in_leaves C files ThreadInterrupt next event slots ops rest =
         leaves_of world _ (interrupted_on_keeps world (thread_of world (object_of C ops 0)))
-    built_in_leaves C ThreadIsInterrupted next event slots ops rest = leaves_it world
-    built_in_leaves C ThreadInterrupted next event slots ops rest = leaves_of world _ (interrupted_keeps world event.thread false)
-    built_in_leaves C ThreadYield next event slots ops rest = leaves_it world
-    built_in_leaves C ThreadCurrentThread next event slots ops rest = leaves_it world
-    built_in_leaves C ThreadJoin next event slots ops rest = join_leaves (is_alive world (object_of C ops 0)) next slots rest
-    built_in_leaves C ThreadIsAlive next event slots ops rest = leaves_it world
-    built_in_leaves C (PrintStreamPrints print) next event slots ops rest = leaves_same world _ refl refl
-    built_in_leaves C (StringAnswers called) next event slots ops rest =
+    built_in_leaves C files ThreadIsInterrupted next event slots ops rest = leaves_it world
+    built_in_leaves C files ThreadInterrupted next event slots ops rest = leaves_of world _ (interrupted_keeps world event.thread false)
+    built_in_leaves C files ThreadYield next event slots ops rest = leaves_it world
+    built_in_leaves C files ThreadCurrentThread next event slots ops rest = leaves_it world
+    built_in_leaves C files ThreadJoin next event slots ops rest = join_leaves (is_alive world (object_of C ops 0)) next slots rest
+    built_in_leaves C files ThreadIsAlive next event slots ops rest = leaves_it world
+    built_in_leaves C files (PrintStreamPrints print) next event slots ops rest = leaves_same world _ refl refl
+    built_in_leaves C files (StringAnswers called) next event slots ops rest =
         answered_leaves C (string_answer called (int_operand C ops) (string_operand C world ops)) next slots ops rest
+    built_in_leaves C files (StringBuilderBuilds called) next event slots ops rest =
+        builds_leaves C (string_reference files []) _ next slots ops rest

@@ -11,7 +11,7 @@ use Rattle.model.specs.Worlds.{thread_at}
 use Rattle.model.specs.Sites.{site_at}
 use Rattle.model.specs.Meanings.{meaning_of}
 use Rattle.model.specs.Step.{Next, stepped}
-use Rattle.data_races.specs.EventActions.{Instruction, Does, only_if, is_done, operands_of, access_by, accesses_of}
+use Rattle.data_races.specs.EventActions.{Instruction, Does, only_if, is_done, accesses_at, accesses_of}
 
 -- a thread that is there runs, with no exception pending, and the frame on top stands at an instruction
 pub record StandsAt (files : Program) (s : State) (t : ℕ) (instruction : Instruction) : Type 0 where
@@ -33,4 +33,4 @@ DoAccessesGoOn =
     → StandsAt files s event.thread instruction → stepped values files frames s event ≡ Next cost next
     → accesses_of files event s.world (Does instruction)
     ≡ only_if (is_done event.thread s.world instruction && not (is_some (thread_at next.world event.thread).pending))
-    (access_by files instruction.site (operands_of instruction) instruction.site.instr)
+    (accesses_at files s.world instruction)

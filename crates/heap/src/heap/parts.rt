@@ -1,7 +1,7 @@
 //! The parts of a heap as they are kept, and a heap that is made of such parts again.
 
 ghost use Rattle.std.specs.Prelude.{◌≡◌, ℕ, ◌+◌, ◌<◌, ◌≤◌, length, IfOk, IfErr, OnOk, OnErr, IsTrue};
-ghost use Rattle.heap.specs.Heap.{made, cells_made, words_at, with_object, IsRefused, IsSameAt};
+ghost use Rattle.heap.specs.Heap.{made, words_at, with_object, IsRefused, IsSameAt};
 
 use crate::heap::{Heap, MOST_OPENING};
 use crate::kind::ObjectKind;
@@ -17,6 +17,21 @@ impl Heap {
         self.opening
     }
 
+    /// How many cells were counted of the objects that were allocated since.
+    pub fn counted(&self) -> u32
+        ensures { result ≡ self.now.counted }
+    {
+        self.counted
+    }
+
+    /// Says how many cells were counted.
+    pub fn set_counted(&mut self, counted: u32)
+        requires { counted ≤ self.old.cell_limit }
+        ensures { self.new ≡ record self.old { counted = counted } }
+    {
+        self.counted = counted;
+    }
+
     /// How many more objects may be allocated, in all.
     pub fn object_limit(&self) -> u32
         ensures { result ≡ self.now.object_limit }
@@ -24,7 +39,7 @@ impl Heap {
         self.object_limit
     }
 
-    /// How many cells these may have, together.
+    /// How many cells may be counted of these, together.
     pub fn cell_limit(&self) -> u32
         ensures { result ≡ self.now.cell_limit }
     {
@@ -101,9 +116,11 @@ impl Heap {
     pub fn add_opening_words(&mut self, kind: ObjectKind, words: &[u32]) -> Result<(), AllocError>
         requires there { length self.old.objects < MOST_OPENING }
         requires words { length words.now < 4294967296 }
-        ensures ok { OnOk result (self.new ≡ record (with_object self.old (record { kind = kind; words = words.now })) {
-          opening = length self.old.objects + 1;
-        }) }
+        ensures ok { OnOk result (self.new
+            ≡ record (with_object self.old (record { kind = kind; words = words.now }) 0) {
+              opening = length self.old.objects + 1;
+              counted = 0;
+            }) }
         ensures err { OnErr result (self.new ≡ self.old) }
     {
         let reference = self.len();
@@ -115,22 +132,30 @@ impl Heap {
             words,
         )?;
         self.opening = reference + 1;
+        self.counted = 0;
         Ok(())
     }
 
-    /// One more object, with these words, where no limit stands. A refusal says which limit stands, or that there was
-    /// no memory; nothing has changed then.
-    pub fn add_words(&mut self, kind: ObjectKind, words: &[u32]) -> Result<(), AllocRefusal>
+    /// One more object, with these words, where no limit stands. So many of the words count as cells. A refusal says
+    /// which limit stands, or that there was no memory; nothing has changed then.
+    pub fn add_words(
+        &mut self,
+        kind: ObjectKind,
+        words: &[u32],
+        counted: u32,
+    ) -> Result<(), AllocRefusal>
         requires { length words.now < 4294967296 }
-        ensures ok { OnOk result (self.new ≡ with_object self.old (record { kind = kind; words = words.now })) }
+        ensures ok { OnOk result (self.new
+            ≡ with_object self.old (record { kind = kind; words = words.now }) counted) }
+        ensures opened { OnOk result (self.old.opening ≤ length self.old.objects) }
         ensures objects { OnOk result (made self.old < self.old.object_limit) }
-        ensures cells { OnOk result (cells_made self.old + length words.now ≤ self.old.cell_limit) }
-        ensures err { IfErr result (λ refusal. IsRefused refusal (length words.now) self.old self.new) }
+        ensures cells { OnOk result (self.old.counted + counted ≤ self.old.cell_limit) }
+        ensures err { IfErr result (λ refusal. IsRefused refusal counted self.old self.new) }
     {
         if self.objects_left() == 0 {
             return Err(AllocRefusal::Objects);
         }
-        if self.cells_left() < words.len() {
+        if self.cells_left() < counted {
             return Err(AllocRefusal::Cells);
         }
         layout::add_words(
@@ -140,6 +165,7 @@ impl Heap {
             kind,
             words,
         )?;
+        self.counted += counted;
         Ok(())
     }
 
@@ -152,6 +178,7 @@ impl Heap {
             mut cells,
             monitors,
             opening: _opening,
+            counted: _counted,
             object_limit: _object_limit,
             cell_limit: _cell_limit,
         } = self;
@@ -164,6 +191,7 @@ impl Heap {
             cells,
             monitors: monitors.copied(&other.monitors)?,
             opening: other.opening,
+            counted: other.counted,
             object_limit: other.object_limit,
             cell_limit: other.cell_limit,
         })

@@ -165,16 +165,16 @@ is_too_many files file =
     let c = name_of file in
     above_cap (fields_within files (length (classes_of files)) c) ∙ ap (nat_lt 65535) (sym (sum_reverse (own_instance_fields files) (lineage files c)))
 
-files_after : (files : Program) → drop 36 (classes_of files) ≡ files
+files_after : (files : Program) → drop 37 (classes_of files) ≡ files
 unfolding built_in_classes
 files_after files = refl
 
 pub too_many_at : (files : Program) → position (λ (row : Climb). nat_lt 65535 row.fields)
-    (drop 36 (climbs files (length (classes_of files)))) ≡ position (too_many_fields files) files
+    (drop 37 (climbs files (length (classes_of files)))) ≡ position (too_many_fields files) files
 unfolding climbs
 too_many_at files =
     let f : FileTree → Climb = λ file. climb files (length (classes_of files)) (name_of file) in
-    let rest : drop 36 (climbs files (length (classes_of files))) ≡ map f files = drop-map f 36 (classes_of files) ∙ ap (map f) (files_after files) in
+    let rest : drop 37 (climbs files (length (classes_of files))) ≡ map f files = drop-map f 37 (classes_of files) ∙ ap (map f) (files_after files) in
     ap (position (λ (row : Climb). nat_lt 65535 row.fields)) rest
     ∙ position-map (λ (row : Climb). nat_lt 65535 row.fields) f files
     ∙ position_same _ _ (λ file. is_too_many files file) files
@@ -193,9 +193,9 @@ one_more files n m first one rows is single made count =
 
 -- ---- the rows of the files
 
-pub built_in_at_least : (files : Program) (n : ℕ) → 36 ≤ length (climbs files n)
+pub built_in_at_least : (files : Program) (n : ℕ) → 37 ≤ length (climbs files n)
 unfolding climbs
 built_in_at_least files n = omega (arith, count_behind files, length-map (classes_of files) (λ (file : FileTree). climb files n (name_of file)))
 
-pub rest_of : (rows : List Climb) → slice_range rows 36 (length rows) ≡ drop 36 rows
-rest_of rows = take_rest rows 36
+pub rest_of : (rows : List Climb) → slice_range rows 37 (length rows) ≡ drop 37 rows
+rest_of rows = take_rest rows 37

@@ -14,18 +14,18 @@ abbrev pub main_in : Option FileTree → Bool
 main_in class = option_map_or is_static_method (option_and_then (λ file. declared_in file (main_of []).name (main_of []).descriptor) class) false
 
 -- behind the built-in classes stands the first file
-at_first : (files : Program) → slice_get (classes_of files) 36 ≡ slice_get files 0
+at_first : (files : Program) → slice_get (classes_of files) 37 ≡ slice_get files 0
 unfolding built_in_classes
 at_first files = refl
 
-pub no_first : (files : Program) → slice_get (classes_of files) 36 ≡ None → true ≡ stands files NoMain
+pub no_first : (files : Program) → slice_get (classes_of files) 37 ≡ None → true ≡ stands files NoMain
 no_first [] e = refl
 no_first (file ∷ files) e = absurd (no (sym (at_first (file ∷ files)) ∙ e))
   where
     no : Some file ≡ None → ⊥
     no h = cc
 
-pub of_first : (files : Program) (first : FileTree) (class : Option FileTree) → slice_get (classes_of files) 36 ≡ Some first
+pub of_first : (files : Program) (first : FileTree) (class : Option FileTree) → slice_get (classes_of files) 37 ≡ Some first
     → class_of files (name_of first) ≡ class → not (main_in class) ≡ stands files NoMain
 of_first [] first class e h = absurd (no (sym (at_first []) ∙ e))
   where

@@ -10,7 +10,7 @@ use Rattle.model.specs.Names.{Name, name_eq}
 use Rattle.model.specs.Tree.{Entry, FileTree}
 use Rattle.model.specs.Pool.{string_of}
 use Rattle.model.specs.Classes.{Program}
-use Rattle.model.specs.StringConstants.{is_other_text, distinct, texts_in, string_texts}
+use Rattle.model.specs.StringConstants.{is_other_text, distinct, texts_in, file_texts}
 use Rattle.model.specs.Linkable.{stands, TooLarge}
 use Rattle.hierarchy.proofs.Names.{name_eq_sym}
 use Rattle.hierarchy.proofs.SetLaws.{same_name}
@@ -84,9 +84,9 @@ distinct-append xs (y ∷ ys) =
     ap distinct (sym (append_assoc xs (y ∷ []) ys)) ∙ distinct-append (xs ++ y ∷ []) ys ∙ ap (λ l. with_texts l ys) (distinct_push xs y)
 
 -- those of one file more
-pub string_texts_more : (done : Program) (file : FileTree)
-    → string_texts (done ++ file ∷ []) ≡ with_texts (string_texts done) (texts_in file)
-string_texts_more done file =
+pub file_texts_more : (done : Program) (file : FileTree)
+    → file_texts (done ++ file ∷ []) ≡ with_texts (file_texts done) (texts_in file)
+file_texts_more done file =
     ap distinct (flat_map-append texts_in done (file ∷ []) ∙ ap (λ (l : List Name). flat_map texts_in done ++ l) (append-nil (texts_in file)))
     ∙ distinct-append (flat_map texts_in done) (texts_in file)
 
@@ -137,5 +137,5 @@ nat_not_lt m n h = grind (arith, nat_tests)
 pub not_too_large : (trees : Program) → length trees ≤ 65000 → length (flat_map texts_in trees) ≤ 200000000 → stands trees TooLarge ≡ false
 not_too_large trees few texts =
     let files : nat_lt 65000 (length trees) ≡ false = nat_not_lt 65000 (length trees) few in
-    let strings : nat_lt 200000000 (length (string_texts trees)) ≡ false = nat_not_lt 200000000 (length (string_texts trees)) (omega (arith, length-distinct-le (flat_map texts_in trees), texts)) in
+    let strings : nat_lt 200000000 (length (file_texts trees)) ≡ false = nat_not_lt 200000000 (length (file_texts trees)) (omega (arith, length-distinct-le (flat_map texts_in trees), texts)) in
     rw (files, strings) refl

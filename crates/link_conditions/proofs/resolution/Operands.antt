@@ -10,14 +10,16 @@ use Rattle.model.specs.declared.instr.FieldAccess.{FieldAccess}
 use Rattle.model.specs.declared.instr.FieldAccess.TheVariants as access
 use Rattle.model.specs.declared.instr.Invocation.{Invocation}
 use Rattle.model.specs.declared.instr.Invocation.TheVariants as invocation
-use Rattle.model.specs.Names.{Name, Member, member_eq, thread_target, system_out}
+use Rattle.model.specs.Names.{Name, Member, member_eq, thread_target, builder_text}
+use Rattle.hierarchy.proofs.Names.{name_eq_sym}
+use Rattle.model.specs.HiddenFields.{is_hidden}
 use Rattle.model.specs.Tree.{FieldTree, MethodTree, FileTree}
 use Rattle.model.specs.Pool.{class_name_at, field_at, method_at, interface_method_at}
 use Rattle.model.specs.AccessFlags.{is_interface_class, is_static_field, is_static_method}
 use Rattle.model.specs.Classes.{Program, class_of, is_interface}
 use Rattle.model.specs.Lookup.{field_of, method_of, find_field, find_interface_method}
 use Rattle.model.specs.DescriptorParts.{classes_in, classes_named}
-use Rattle.model.specs.Resolution.{is_missing, member_classes, is_uninstantiable, differs, found_in_class, unresolved_instruction}
+use Rattle.model.specs.Resolution.{is_missing, member_classes, is_uninstantiable, differs, is_system_stream, found_in_class, unresolved_instruction}
 use Rattle.link_conditions.specs.resolution.Operands.{fails_access}
 
 -- the class of a member is not found, or one of its descriptor
@@ -57,10 +59,16 @@ module _ (files : Program) (file : FileTree) (k : ℕ) where
 
 -- ---- fields
 
-module _ (files : Program) where
-  abbrev is_hidden : Member → Bool
-  is_hidden g = member_eq thread_target g
+member_eq_sym : (a b : Member) → member_eq a b ≡ member_eq b a
+member_eq_sym a b = rw (name_eq_sym a.class b.class, name_eq_sym a.name b.name, name_eq_sym a.descriptor b.descriptor) refl
 
+pub hidden_is : (m : Member) → is_hidden m ≡ (member_eq thread_target m || member_eq builder_text m)
+hidden_is m =
+    ap (λ b. member_eq m thread_target || b) (or-false (member_eq m builder_text))
+    ∙ (ap (λ b. b || member_eq m builder_text) (member_eq_sym m thread_target)
+    ∙ ap (λ b. member_eq thread_target m || b) (member_eq_sym m builder_text))
+
+module _ (files : Program) where
   abbrev is_other_field : Bool → Option Member → Bool
   is_other_field wants found = option_map_or (λ (f : FieldTree). differs wants (is_static_field f)) (option_and_then (field_of files) found) false
 
@@ -94,7 +102,7 @@ module _ (files : Program) where
   pub field_asked : (file : FileTree) (k : ℕ) (how : FieldAccess)
       → unresolved_instruction files file (instrs.Field how k) ≡ option_map_or (field_fails files how) (field_at file.pool k) false
   field_asked file k access.GetStatic = named_so true (λ g. false) (λ f. false) (λ g. refl) refl (field_at file.pool k)
-  field_asked file k access.PutStatic = named_so true (λ g. member_eq system_out g) (λ f. option_map_or (member_eq system_out) f false) (λ g. refl) refl (field_at file.pool k)
+  field_asked file k access.PutStatic = named_so true is_system_stream (λ f. option_map_or is_system_stream f false) (λ g. refl) refl (field_at file.pool k)
   field_asked file k access.GetField = named_so false (λ g. false) (λ f. false) (λ g. refl) refl (field_at file.pool k)
   field_asked file k access.PutField = named_so false (λ g. false) (λ f. false) (λ g. refl) refl (field_at file.pool k)
 

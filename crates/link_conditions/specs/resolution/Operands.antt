@@ -3,12 +3,13 @@ use Rattle.std.specs.Prelude.{Bool, true, false, ◌&&◌, ◌||◌}
 use Rattle.std.specs.Option.{option_map_or}
 use Rattle.model.specs.declared.instr.FieldAccess.{FieldAccess}
 use Rattle.model.specs.declared.instr.FieldAccess.TheVariants as access
-use Rattle.model.specs.Names.{Member, member_eq, system_out, thread_target}
+use Rattle.model.specs.Names.{Member}
+use Rattle.model.specs.HiddenFields.{is_hidden}
 use Rattle.model.specs.Tree.{FieldTree}
 use Rattle.model.specs.AccessFlags.{is_static_field}
 use Rattle.model.specs.Classes.{Program}
 use Rattle.model.specs.Lookup.{field_of}
-use Rattle.model.specs.Resolution.{wants_static_field, differs}
+use Rattle.model.specs.Resolution.{wants_static_field, differs, is_system_stream}
 
 abbrev pub is_put_static : FieldAccess → Bool
 is_put_static access.GetStatic = false
@@ -16,8 +17,8 @@ is_put_static access.PutStatic = true
 is_put_static access.GetField = false
 is_put_static access.PutField = false
 
--- an instruction may not access the field: it is of the other kind, or is System.out and put, or is the hidden one of Thread
+-- an instruction may not access the field: it is of the other kind, or is System.out or System.err and put, or is hidden
 abbrev pub fails_access : Program → FieldAccess → Member → Bool
 fails_access files how m =
     option_map_or (λ (f : FieldTree). differs (wants_static_field how) (is_static_field f)) (field_of files m) false
-    || ((is_put_static how && member_eq system_out m) || member_eq thread_target m)
+    || ((is_put_static how && is_system_stream m) || is_hidden m)

@@ -3,7 +3,7 @@
 ghost use Rattle.std.specs.Prelude.{◌≡◌, ◌≤◌, false, length, map, IfOk};
 ghost use Rattle.std.specs.List.{flat_map};
 ghost use Rattle.classfile.specs.View.{file_of};
-ghost use Rattle.model.specs.StringConstants.{texts_in, string_texts};
+ghost use Rattle.model.specs.StringConstants.{texts_in, file_texts};
 ghost use Rattle.model.specs.Linkable.{stands, TooLarge};
 
 use crate::limits_of_linking::text_set::{TextSet, add_texts};
@@ -29,7 +29,7 @@ fn has_many_entries(files: &[ClassFile]) -> bool
 
 /// How many texts the string constants of files have, each counted once.
 fn text_count(alloc: Global, files: &[ClassFile]) -> Result<usize, AllocError>
-    ensures { IfOk result (λ n. n ≡ length (string_texts (map file_of files.now))) }
+    ensures { IfOk result (λ n. n ≡ length (file_texts (map file_of files.now))) }
 {
     let mut texts = TextSet::new(alloc);
     for file in files {

@@ -1,7 +1,7 @@
 //! Whether the class, the field or the method that an entry of the constant pool names is found as an instruction
 //! wants it (JVMS 6.5).
 
-ghost use Rattle.std.specs.Prelude.{◌≡◌, IsFalse, false};
+ghost use Rattle.std.specs.Prelude.{◌≡◌, ◌&&◌, IsFalse, false};
 ghost use Rattle.std.specs.List.{list_any};
 ghost use Rattle.std.specs.Option.{option_and_then, option_map_or};
 ghost use Rattle.model.specs.declared.instr.Instr.TheVariants as instrs;
@@ -9,13 +9,15 @@ ghost use Rattle.model.specs.Pool.{class_name_at, reference_at, field_at, method
 ghost use Rattle.model.specs.Classes.{class_of};
 ghost use Rattle.model.specs.Linkable.{stands, DuplicateClass};
 ghost use Rattle.model.specs.DescriptorParts.{is_array_class};
-ghost use Rattle.model.specs.Resolution.{is_missing, is_missing_catch, member_classes, is_uninstantiable, wants_static_field, unresolved_instruction};
+ghost use Rattle.model.specs.HiddenFields.{is_hidden};
+ghost use Rattle.model.specs.Resolution.{is_missing, is_missing_catch, member_classes, is_uninstantiable, wants_static_field, is_system_stream, unresolved_instruction};
 ghost use Rattle.constant_pool.specs.View.{reference_of};
 ghost use Rattle.classfile.specs.View.{file_of};
 ghost use Rattle.hierarchy.specs.Places.{member_in, IsFieldAt};
 ghost use Rattle.link_conditions.specs.resolution.Rows.{lacking_texts};
-ghost use Rattle.link_conditions.specs.resolution.Operands.{fails_access};
+ghost use Rattle.link_conditions.specs.resolution.Operands.{is_put_static, fails_access};
 
+use crate::hidden_fields::{BUILDER_TEXT, THREAD_TARGET};
 use crate::resolution::descriptor::{descriptor_lacks_class, text_lacks_class};
 use crate::resolution::found::found_in_class;
 use crate::resolution::member::{is_field, is_field_of_other_kind, is_method_of_other_kind};
@@ -31,11 +33,11 @@ const SYSTEM_OUT: Reference<'static> = Reference {
     descriptor: b"Ljava/io/PrintStream;",
 };
 
-/// The field of a Thread that keeps what it was given to run, which no file may name.
-const THREAD_TARGET: Reference<'static> = Reference {
-    class: b"java/lang/Thread",
-    name: b"target",
-    descriptor: b"Ljava/lang/Runnable;",
+/// System.err, which no file may put.
+const SYSTEM_ERR: Reference<'static> = Reference {
+    class: b"java/lang/System",
+    name: b"err",
+    descriptor: b"Ljava/io/PrintStream;",
 };
 
 fn is_array_class(name: &[u8]) -> bool
@@ -191,8 +193,37 @@ fn wants_static_field(access: FieldAccess) -> bool
     }
 }
 
+/// Whether the field that is found at a place is System.out or System.err.
+fn is_system_stream(set: &ClassSet, field: Reference<'_>, place: MemberPlace) -> bool
+    ensures { result ≡ is_system_stream (member_in set.now (reference_of field.entry) place) }
+{
+    is_field(set, field, place, SYSTEM_OUT) || is_field(set, field, place, SYSTEM_ERR)
+}
+
+/// Whether an instruction puts a stream of System at a place.
+fn puts_stream(
+    set: &ClassSet,
+    access: FieldAccess,
+    field: Reference<'_>,
+    place: MemberPlace,
+) -> bool
+    ensures { result ≡ (is_put_static access && is_system_stream (member_in set.now (reference_of field.entry) place)) }
+{
+    match access {
+        FieldAccess::PutStatic => is_system_stream(set, field, place),
+        FieldAccess::GetStatic | FieldAccess::GetField | FieldAccess::PutField => false,
+    }
+}
+
+/// Whether the field that is found at a place is hidden.
+fn is_hidden(set: &ClassSet, field: Reference<'_>, place: MemberPlace) -> bool
+    ensures { result ≡ is_hidden (member_in set.now (reference_of field.entry) place) }
+{
+    is_field(set, field, place, THREAD_TARGET) || is_field(set, field, place, BUILDER_TEXT)
+}
+
 /// Whether an instruction may not access the field that it finds at a place: it is static where an instance field is
-/// wanted or the reverse, it is put and is System.out, or it is the hidden field of a Thread.
+/// wanted or the reverse, it is put and is System.out or System.err, or it is hidden.
 fn fails_access(
     set: &ClassSet,
     access: FieldAccess,
@@ -203,9 +234,10 @@ fn fails_access(
     requires at { IsFieldAt set.now (reference_of field) place }
     ensures { result ≡ fails_access set.now access (member_in set.now (reference_of field.entry) place) }
 {
-    is_field_of_other_kind(set, field, place, wants_static_field(access))
-        || matches!(access, FieldAccess::PutStatic) && is_field(set, field, place, SYSTEM_OUT)
-        || is_field(set, field, place, THREAD_TARGET)
+    if is_field_of_other_kind(set, field, place, wants_static_field(access)) {
+        return true;
+    }
+    puts_stream(set, access, field, place) || is_hidden(set, field, place)
 }
 
 /// Whether the field of an index is not found, or not as an instruction wants it that accesses it.

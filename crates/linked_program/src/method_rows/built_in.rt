@@ -9,7 +9,7 @@ ghost use Rattle.linked_program.specs.method_rows.BuiltIns.{declared_member, ent
 
 use classfile::Reference;
 use linked_code::BuiltInMethod;
-use model::{PrintMethod, StringMethod};
+use model::{BuilderMethod, PrintMethod, StringMethod};
 
 /// A method of a built-in class that has no code.
 #[derive(Clone, Copy)]
@@ -21,7 +21,7 @@ struct Declared {
 }
 
 /// All but the constructors that only take their operands.
-const DECLARED: [Declared; 30] = [
+const DECLARED: [Declared; 37] = [
     Declared {
         class: b"java/lang/Object",
         name: b"wait",
@@ -201,6 +201,48 @@ const DECLARED: [Declared; 30] = [
         name: b"valueOf",
         descriptor: b"(C)Ljava/lang/String;",
         method: BuiltInMethod::StringAnswers(StringMethod::ValueOfChar),
+    },
+    Declared {
+        class: b"java/lang/StringBuilder",
+        name: b"<init>",
+        descriptor: b"()V",
+        method: BuiltInMethod::StringBuilderBuilds(BuilderMethod::ConstructEmpty),
+    },
+    Declared {
+        class: b"java/lang/StringBuilder",
+        name: b"<init>",
+        descriptor: b"(Ljava/lang/String;)V",
+        method: BuiltInMethod::StringBuilderBuilds(BuilderMethod::ConstructOfString),
+    },
+    Declared {
+        class: b"java/lang/StringBuilder",
+        name: b"append",
+        descriptor: b"(Ljava/lang/String;)Ljava/lang/StringBuilder;",
+        method: BuiltInMethod::StringBuilderBuilds(BuilderMethod::AppendString),
+    },
+    Declared {
+        class: b"java/lang/StringBuilder",
+        name: b"append",
+        descriptor: b"(I)Ljava/lang/StringBuilder;",
+        method: BuiltInMethod::StringBuilderBuilds(BuilderMethod::AppendInt),
+    },
+    Declared {
+        class: b"java/lang/StringBuilder",
+        name: b"append",
+        descriptor: b"(C)Ljava/lang/StringBuilder;",
+        method: BuiltInMethod::StringBuilderBuilds(BuilderMethod::AppendChar),
+    },
+    Declared {
+        class: b"java/lang/StringBuilder",
+        name: b"append",
+        descriptor: b"(Ljava/lang/StringBuilder;)Ljava/lang/StringBuilder;",
+        method: BuiltInMethod::StringBuilderBuilds(BuilderMethod::AppendBuilder),
+    },
+    Declared {
+        class: b"java/lang/StringBuilder",
+        name: b"toString",
+        descriptor: b"()Ljava/lang/String;",
+        method: BuiltInMethod::StringBuilderBuilds(BuilderMethod::ToString),
     },
 ];
 

@@ -16,6 +16,9 @@ use Rattle.linker.specs.field_links.Numbers.{text_number, string_number}
 same_at_end : (m n : ℕ) → m ≤ n → nat_lt m n ≡ false → n ≡ m
 same_at_end m n le h = grind (arith, nat_tests)
 
+pub position_fits : {A : Type 0} (p : A → Bool) (xs : List A) → position_or_len p xs ≤ length xs
+position_fits p xs = prefix_len-le-length (λ x. not (p x)) xs
+
 pub position_or : {A : Type 0} (p : A → Bool) (xs : List A)
     → option_map_or (λ (n : ℕ). n) (position p xs) (length xs) ≡ position_or_len p xs
 position_or p xs = by (nat_lt (position_or_len p xs) (length xs)) refl

@@ -46,7 +46,7 @@ module _ (files : Program) (linked : IsLinked files) (class : ℕ) (file : FileT
   named = field_member (name_of file) file.pool f
 
   -- the class of a field that has a constant is one of a file, and the field is static
-  built_in_none : class < 36 → constant_in f.parts ≡ None
+  built_in_none : class < 37 → constant_in f.parts ≡ None
   built_in_none less =
       let there : slice_get built_in_classes class ≡ Some file = sym (get_front built_in_classes files class (omega (arith, less, built_in_count))) ∙ at in
       none (constant_in f.parts) (every_at (λ (f : FieldTree). is_some (constant_in f.parts) ≡ false) file.fields i f (every_at HasNoConstants built_in_classes class file no_built_in_constants there) here)
@@ -55,7 +55,7 @@ module _ (files : Program) (linked : IsLinked files) (class : ℕ) (file : FileT
       none None e = refl
       none (Some n) e = absurd (true≢false e)
 
-  slot_of_file : (number : ℕ) → class ≡ 36 + number → (index : ℕ) → constant_in f.parts ≡ Some index
+  slot_of_file : (number : ℕ) → class ≡ 37 + number → (index : ℕ) → constant_in f.parts ≡ Some index
       → slot_in (static_fields files) named ≡ Some (slots_before files class + length (filter is_static_field (take i file.fields)))
   slot_of_file number is index has =
       let there : slice_get files number ≡ Some file = sym (file_behind files number) ∙ ap (slice_get (classes_of files)) (sym is) ∙ at in
@@ -63,7 +63,7 @@ module _ (files : Program) (linked : IsLinked files) (class : ℕ) (file : FileT
       let whole : IsWhole file = every_at IsWhole files number file (unrefused files linked).whole there in
       let static : is_static_field f ≡ true = ⊎_elim (λ yes. yes) (λ no. absurd (let none : None ≡ Some index = sym (quiet no) ∙ has in cc)) (cases_Bool (is_static_field f)) in
       let own = place_in_class (name_of file) file.pool file.fields i f (and_parts _ _ whole.members).0 here static in
-      let same : class - 36 ≡ number = omega (arith, is) in
+      let same : class - 37 ≡ number = omega (arith, is) in
       place_among files number file named (length (filter is_static_field (take i file.fields))) (files_differ files linked) there refl own
       ∙ ap (λ n. Some (length (static_fields (take n files)) + length (filter is_static_field (take i file.fields)))) (sym same)
 
@@ -71,8 +71,8 @@ module _ (files : Program) (linked : IsLinked files) (class : ℕ) (file : FileT
       → slot_in (static_fields files) named ≡ Some (slots_before files class + length (filter is_static_field (take i file.fields)))
   slot_is index has = ⊎_elim
       (λ less. absurd (let none : None ≡ Some index = sym (built_in_none less) ∙ has in cc))
-      (λ more. slot_of_file (class - 36) (omega (arith, more)) index has)
-      (cases_lt class 36)
+      (λ more. slot_of_file (class - 37) (omega (arith, more)) index has)
+      (cases_lt class 37)
 
   index_of : (o : Option ℕ) (value : ℕ) → option_and_then (λ (index : ℕ). constant_of words files file.pool (entry_at file.pool index)) o
       ≡ Some value → (index : ℕ) × (o ≡ Some index)

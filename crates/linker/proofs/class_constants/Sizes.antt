@@ -11,13 +11,14 @@ use Rattle.model.specs.BuiltIn.{built_in_classes}
 use Rattle.model.specs.Classes.{Program, name_of, classes_of}
 use Rattle.model.specs.Lookup.{field_member}
 use Rattle.model.specs.Opening.{static_fields_in, static_fields}
-use Rattle.model.specs.StringConstants.{string_texts}
+use Rattle.model.specs.StringConstants.{file_texts, string_texts}
 use Rattle.model.specs.Linkable.{AreSpelled}
 use Rattle.run_laws.proofs.laws.Lists.{every_append, every_weaken, every_at}
 use Rattle.run_laws.proofs.laws.Found.{every_all}
 use Rattle.linker.specs.Linking.{IsLinked}
 use Rattle.hierarchy.proofs.Indices.{count_behind}
 use Rattle.linker.proofs.field_links.OwnNames.{unrefused}
+use Rattle.linker.proofs.field_links.TextNumbers.{few_texts_more}
 use Rattle.linker.specs.class_constants.Constants.{slots_before}
 
 not_over : (m n : ℕ) → nat_lt m n ≡ false → n ≤ m
@@ -61,11 +62,11 @@ module _ (files : Program) (linked : IsLinked files) where
   pub few_files : length files ≤ 65000
   few_files = not_over 65000 (length files) (unrefused files linked).files_fit
 
-  pub few_classes : length (classes_of files) ≤ 65036
+  pub few_classes : length (classes_of files) ≤ 65037
   few_classes = omega (arith, few_files, count_behind files)
 
-  pub few_texts : length (string_texts files) ≤ 200000000
-  few_texts = not_over 200000000 (length (string_texts files)) (unrefused files linked).strings_fit
+  pub few_texts : length (string_texts files) ≤ 200001000
+  few_texts = omega (arith, not_over 200000000 (length (file_texts files)) (unrefused files linked).strings_fit, few_texts_more files)
 
   fields_of_class : (class : ℕ) (file : FileTree) → slice_get (classes_of files) class ≡ Some file → length file.fields ≤ 65535
   fields_of_class class file at =
@@ -78,7 +79,7 @@ module _ (files : Program) (linked : IsLinked files) where
   pub slots_fit : (class : ℕ) (file : FileTree) → slice_get (classes_of files) class ≡ Some file
       → (slots_before files class + length file.fields) + 1 < 2 ^ 32
   slots_fit class file at =
-      let before = statics_before files (class - 36) (few_fields linked.0 files linked.1.spelled) in
+      let before = statics_before files (class - 37) (few_fields linked.0 files linked.1.spelled) in
       omega (arith, before, few_files, count_behind files, slice_get_within (classes_of files) class file at, fields_of_class class file at)
 
 pub filter_take_le : {A : Type 0} (p : A → Bool) (xs : List A) (i : ℕ) → length (filter p (take i xs)) ≤ length xs

@@ -22,7 +22,7 @@ not_over m n h = grind (arith, nat_tests)
 within : (m n : ℕ) → nat_le n m ≡ true → n ≤ m
 within m n h = grind (arith, nat_tests)
 
-length-filter-le : {A : Type 0} (p : A → Bool) (xs : List A) → length (filter p xs) ≤ length xs
+pub length-filter-le : {A : Type 0} (p : A → Bool) (xs : List A) → length (filter p xs) ≤ length xs
 length-filter-le p [] = omega arith
 length-filter-le p (x ∷ xs) = by (p x) (length-filter-le p xs)
   where

@@ -50,14 +50,14 @@ module _ (files : Program) (linked : IsLinked files) (ends : Ends) (are : AreEnd
 
   -- ---- a static field
 
-  static_behind : (i : ℕ) → k ≡ 36 + i → is_static_field f ≡ true
+  static_behind : (i : ℕ) → k ≡ 37 + i → is_static_field f ≡ true
       → static_slot ends k (drop j file.fields) ≡ slot_in (static_fields files) named
   static_behind i is h =
       let a = among is_static_field h in
       let there : slice_get files i ≡ Some file = sym (file_behind files i) ∙ ap (slice_get (classes_of files)) (sym is) ∙ at in
       let s = statics.static_slot 0 files i file named a.0 (files_differ files linked) there refl a.1 in
       let is_so : s.1 - behind is_static_field ≡ s.0 = omega (arith, s.4, a.2, length-map (filter is_static_field file.fields) (field_member (name_of file) file.pool)) in
-      ap (λ b. cond b None (option_map (λ (end : ℕ). end - behind is_static_field) (slice_get ends.statics.items (k - 36)))) (higher k 36 (omega (arith, is)))
+      ap (λ b. cond b None (option_map (λ (end : ℕ). end - behind is_static_field) (slice_get ends.statics.items (k - 37)))) (higher k 37 (omega (arith, is)))
       ∙ ap (λ n. option_map (λ (end : ℕ). end - behind is_static_field) (slice_get ends.statics.items n)) (omega (arith, is))
       ∙ ap (λ l. option_map (λ (end : ℕ). end - behind is_static_field) (slice_get l i)) are.statics
       ∙ ap (option_map (λ (end : ℕ). end - behind is_static_field)) s.3
@@ -66,10 +66,10 @@ module _ (files : Program) (linked : IsLinked files) (ends : Ends) (are : AreEnd
 
   static_is : is_static_field f ≡ true → static_slot ends k (drop j file.fields) ≡ slot_in (static_fields files) named
   static_is h = ⊎_elim
-      (λ lt. ap (λ b. cond b None (option_map (λ (end : ℕ). end - behind is_static_field) (slice_get ends.statics.items (k - 36)))) (lower k 36 lt)
+      (λ lt. ap (λ b. cond b None (option_map (λ (end : ℕ). end - behind is_static_field) (slice_get ends.statics.items (k - 37)))) (lower k 37 lt)
       ∙ sym (statics.no_static_slot files k file named (no_built_in_name files linked) (sym (get_front built_in_classes files k (omega (arith, lt, built_in_count))) ∙ at) refl))
-      (λ ge. static_behind (k - 36) (omega (arith, ge)) h)
-      (cases_lt k 36)
+      (λ ge. static_behind (k - 37) (omega (arith, ge)) h)
+      (cases_lt k 37)
 
   -- ---- an instance field
 

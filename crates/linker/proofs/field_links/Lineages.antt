@@ -107,7 +107,7 @@ module _ (files : Program) where
 
     some_classes : (m : ℕ) × (length (classes_of files) ≡ suc m)
     unfolding built_in_classes
-    some_classes = (35 + length files, omega arith)
+    some_classes = (36 + length files, omega arith)
 
     -- the fields of a class are those of its superclass and its own
     pub fields_below : (c s : Name) → superclass_of files c ≡ Some s → instance_fields files c ≡ instance_fields files s ++ own c

@@ -6,16 +6,20 @@ use Rattle.std.proofs.lemmas.List.{length-map}
 use Rattle.model.specs.Tree.{FileTree}
 use Rattle.model.specs.AccessFlags.{is_static_field}
 use Rattle.model.specs.Classes.{Program, name_of, classes_of}
+use Rattle.model.specs.HiddenFields.{is_cell}
 use Rattle.model.specs.Lookup.{instance_fields, field_member}
+use Rattle.model.specs.Names.{Member}
 use Rattle.model.specs.Opening.{static_fields_in}
 use Rattle.hierarchy.proofs.SetLaws.{class_at_place, no_class}
+use Rattle.linker.specs.declared.field_links.chain.Counted.{Counted}
+use Rattle.linker.specs.declared.field_links.chain.Counted.TheVariants as counted
 use Rattle.linker.specs.declared.field_links.chain.Shape.{Shape}
 use Rattle.linker.specs.Linking.{IsLinked}
-use Rattle.linker.specs.field_links.Chains.{shape_of, shapes, chain_sum}
+use Rattle.linker.specs.field_links.Chains.{count_in, shape_of, shapes, chain_sum}
 use Rattle.linker.specs.field_links.Slots.{static_ends}
 use Rattle.linker.proofs.field_links.Sums.{sum_of}
 use Rattle.linker.proofs.field_links.OwnNames.{class_is}
-use Rattle.linker.proofs.field_links.Bounds.{instances_fit}
+use Rattle.linker.proofs.field_links.Bounds.{instances_fit, length-filter-le}
 use Rattle.hierarchy.proofs.RowLaws.{drop_at}
 
 -- there is an item below the length
@@ -45,33 +49,37 @@ module _ (files : Program) (i : ℕ) (file : FileTree) (at : slice_get files i �
   end_within end all e =
       omega (arith, e, ap (λ (l : List FileTree). length (flat_map static_fields_in l)) (drop_at files i file at), length-append (static_fields_in file) (flat_map static_fields_in (drop (i + 1) files)), static_length file)
 
--- ---- how many slots an object has
+-- ---- how many slots an object has, and how many of these count
 
-shapes_length : (files : Program) → length (shapes files) ≡ length (classes_of files)
+shapes_length : (what : Counted) (files : Program) → length (shapes what files) ≡ length (classes_of files)
 unfolding shapes
-shapes_length files = length-map (classes_of files) (shape_of files)
+shapes_length what files = length-map (classes_of files) (shape_of what files)
 
-pub size_is : (files : Program) (linked : IsLinked files) (rows : List Shape) (k : ℕ) (file : FileTree) → rows ≡ shapes files
-    → slice_get (classes_of files) k ≡ Some file
-    → chain_sum rows (length rows) k ≡ length (instance_fields files (name_of file))
-size_is files linked rows k file is at =
-    ap (λ (l : List Shape). chain_sum l (length l) k) is
-    ∙ ap (λ n. chain_sum (shapes files) n k) (shapes_length files)
-    ∙ sum_of files (class_is files linked) (class_at_place files) (no_class files) (length (classes_of files)) k (Some file) at
+count_fits : (what : Counted) (fields : List Member) → length fields ≤ 65535 → count_in what fields ≤ 65535
+count_fits counted.Fields fields h = h
+count_fits counted.Cells fields h = omega (arith, h, length-filter-le is_cell fields)
 
-pub size_fits : (files : Program) (linked : IsLinked files) (rows : List Shape) (k : ℕ) (file : FileTree) → rows ≡ shapes files
-    → slice_get (classes_of files) k ≡ Some file → chain_sum rows (length rows) k < 2 ^ 64
-size_fits files linked rows k file is at = omega (arith, size_is files linked rows k file is at, instances_fit files linked k file at)
+module _ (files : Program) (what : Counted) (rows : List Shape) (k : ℕ) (is : rows ≡ shapes what files) where
+  pub size_is : IsLinked files → (file : FileTree) → slice_get (classes_of files) k ≡ Some file
+      → chain_sum rows (length rows) k ≡ count_in what (instance_fields files (name_of file))
+  size_is linked file at =
+      ap (λ (l : List Shape). chain_sum l (length l) k) is
+      ∙ ap (λ n. chain_sum (shapes what files) n k) (shapes_length what files)
+      ∙ sum_of files what (class_is files linked) (class_at_place files) (no_class files) (length (classes_of files)) k (Some file) at
 
-pub class_below : (files : Program) (rows : List Shape) (k : ℕ) → rows ≡ shapes files → k < length rows
-    → (file : FileTree) × (slice_get (classes_of files) k ≡ Some file)
-class_below files rows k is lt = item_at (classes_of files) k (omega (arith, lt, ap length is, shapes_length files))
+  pub size_fits : IsLinked files → (file : FileTree) → slice_get (classes_of files) k ≡ Some file → chain_sum rows (length rows) k < 2 ^ 64
+  size_fits linked file at =
+      let few = count_fits what (instance_fields files (name_of file)) (instances_fit files linked k file at) in
+      omega (arith, size_is linked file at, few)
 
-pub all_classes : (files : Program) (rows : List Shape) (k : ℕ) → rows ≡ shapes files → length rows ≤ k → drop k (classes_of files) ≡ []
-all_classes files rows k is le = none (classes_of files) k (omega (arith, le, ap length is, shapes_length files))
-  where
-    none : (xs : List FileTree) (k : ℕ) → length xs ≤ k → drop k xs ≡ []
-    none [] zero le = refl
-    none [] (suc k) le = refl
-    none (x ∷ xs) zero le = absurd (omega arith)
-    none (x ∷ xs) (suc k) le = none xs k (omega arith)
+  pub class_below : k < length rows → (file : FileTree) × (slice_get (classes_of files) k ≡ Some file)
+  class_below lt = item_at (classes_of files) k (omega (arith, lt, ap length is, shapes_length what files))
+
+  pub all_classes : length rows ≤ k → drop k (classes_of files) ≡ []
+  all_classes le = none (classes_of files) k (omega (arith, le, ap length is, shapes_length what files))
+    where
+      none : (xs : List FileTree) (k : ℕ) → length xs ≤ k → drop k xs ≡ []
+      none [] zero le = refl
+      none [] (suc k) le = refl
+      none (x ∷ xs) zero le = absurd (omega arith)
+      none (x ∷ xs) (suc k) le = none xs k (omega arith)

@@ -9,9 +9,11 @@ use Rattle.model.specs.Tree.{FileTree}
 use Rattle.model.specs.Pool.{field_at}
 use Rattle.model.specs.Classes.{Program, name_of, classes_of}
 use Rattle.model.specs.Lookup.{instance_fields}
+use Rattle.linker.specs.declared.field_links.chain.Counted.{Counted}
 use Rattle.linker.specs.declared.field_links.link.FieldLink.{FieldLink}
 use Rattle.linker.specs.Linking.{IsLinked}
-use Rattle.linker.specs.field_links.Links.{named_link, slot_count, KeepsSlots}
+use Rattle.linker.specs.field_links.Chains.{count_in}
+use Rattle.linker.specs.field_links.Links.{named_link, KeepsSlots}
 use Rattle.linker.specs.field_links.Slots.{sizes}
 use Rattle.linker.specs.field_links.Tables.{in_row, in_rows, IsRow, AreRows}
 use Rattle.linker.proofs.field_links.Lineages.{kept}
@@ -30,15 +32,16 @@ rows_say files rows h class index fits = by (slice_get (classes_of files) class)
         let row = pair_at (IsRow files) (classes_of files) rows class file h at in
         ap (λ (o : Option (List (Option FieldLink))). option_and_then (λ row. in_row row index) o) row.1 ∙ row.2 index fits
 
-pub sizes_say : (files : Program) (rows : List ℕ) → rows ≡ sizes files → (class : ℕ) → slice_get rows class ≡ slot_count files class
+pub sizes_say : (files : Program) (what : Counted) (rows : List ℕ) → rows ≡ sizes what files → (class : ℕ)
+    → slice_get rows class ≡ option_map (λ (file : FileTree). count_in what (instance_fields files (name_of file))) (slice_get (classes_of files) class)
 unfolding sizes
-sizes_say files rows is class = ap (λ l. slice_get l class) is ∙ by (slice_get (classes_of files) class) refl
+sizes_say files what rows is class = ap (λ l. slice_get l class) is ∙ by (slice_get (classes_of files) class) refl
   where
     by : (o : Option FileTree) → slice_get (classes_of files) class ≡ o
-        → slice_get (map (λ (file : FileTree). length (instance_fields files (name_of file))) (classes_of files)) class
-        ≡ option_map (λ (file : FileTree). length (instance_fields files (name_of file))) o
-    by None at = get_no_map (λ (file : FileTree). length (instance_fields files (name_of file))) (classes_of files) class at
-    by (Some file) at = get_map (λ (file : FileTree). length (instance_fields files (name_of file))) (classes_of files) class file at
+        → slice_get (map (λ (file : FileTree). count_in what (instance_fields files (name_of file))) (classes_of files)) class
+        ≡ option_map (λ (file : FileTree). count_in what (instance_fields files (name_of file))) o
+    by None at = get_no_map (λ (file : FileTree). count_in what (instance_fields files (name_of file))) (classes_of files) class at
+    by (Some file) at = get_map (λ (file : FileTree). count_in what (instance_fields files (name_of file))) (classes_of files) class file at
 
 pub slots_kept : (files : Program) → IsLinked files → KeepsSlots files
 slots_kept files linked class field slot below e = kept files (unrefused files linked) (λ (f : Member). member_eq f field) class field.class slot below e

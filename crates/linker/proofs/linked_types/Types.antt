@@ -26,7 +26,7 @@ use Rattle.linker.specs.linked_types.Types.{IsNumbered}
 not_over : (m n : ℕ) → nat_lt m n ≡ false → n ≤ m
 not_over m n h = grind (arith, nat_tests)
 
-pub few_classes : (files : Program) → IsLinked files → length (classes_of files) ≤ 65036
+pub few_classes : (files : Program) → IsLinked files → length (classes_of files) ≤ 65037
 few_classes files linked =
     let few : length files ≤ 65000 = not_over 65000 (length files) (unrefused_of linked.0 files linked.1.spelled linked.1.no_refusal).files_fit in
     omega (arith, few, count_behind files)

@@ -1,8 +1,10 @@
 -- Where the fields are that constant pools name (JVMS 5.4.3.2).
 use Rattle.std.specs.Prelude.{◌≡◌, ℕ, List, Option, Some, length, option_map, position, true, if◌then◌else◌}
 use Rattle.std.specs.Option.{option_and_then}
-use Rattle.model.specs.Names.{Name, Member, member_eq, system_out}
+use Rattle.std.specs.List.{filter}
+use Rattle.model.specs.Names.{Name, Member, member_eq, system_out, system_err}
 use Rattle.model.specs.Tree.{FieldTree, FileTree}
+use Rattle.model.specs.HiddenFields.{is_cell}
 use Rattle.model.specs.Pool.{field_at}
 use Rattle.model.specs.Classes.{Program, name_of, is_subclass}
 use Rattle.model.specs.Lookup.{is_static_field, field_of, find_field, instance_fields}
@@ -20,6 +22,11 @@ slot_in fields field = position (λ (f : Member). member_eq f field) fields
 -- how many slots the objects of the class at a place have
 abbrev pub slot_count : Program → ℕ → Option ℕ
 slot_count files class = option_map (λ (file : FileTree). length (instance_fields files (name_of file))) (class_at files class)
+
+-- how many of them count for the limit on cells
+abbrev pub cell_count : Program → ℕ → Option ℕ
+cell_count files class =
+    option_map (λ (file : FileTree). length (filter is_cell (instance_fields files (name_of file)))) (class_at files class)
 
 -- a field has one slot in the objects of the class that declares it and in those of all subclasses
 abbrev pub KeepsSlots : Program → Type 0
@@ -43,9 +50,12 @@ link_in files field class = option_and_then (λ (f : FieldTree). link_by files f
 abbrev pub link_of : Program → Member → Option FieldLink
 link_of files field = option_and_then (λ (class : ℕ). link_in files field class) (place_of files field.class)
 
--- the field that a symbolic reference names; System.out is the machine's
+-- the field that a symbolic reference names; System.out and System.err are the machine's
 abbrev pub named_link : Program → Member → Option FieldLink
-named_link files named = if member_eq named system_out then Some links.SystemOut else option_and_then (link_of files) (find_field files named)
+named_link files named =
+    if member_eq named system_out then Some links.SystemOut
+    else if member_eq named system_err then Some links.SystemErr
+    else option_and_then (link_of files) (find_field files named)
 
 -- the field that the Fieldref of an index names, in the constant pool of the class at a place
 abbrev pub field_link : Program → ℕ → ℕ → Option FieldLink

@@ -1,6 +1,7 @@
 -- The numbers of the classes and texts that constant pools name.
-use Rattle.std.specs.Prelude.{◌≡◌, ℕ, ◌<◌, ◌^◌, List, Option, None, map, position, slice_get, slice_index_or}
+use Rattle.std.specs.Prelude.{◌≡◌, ℕ, ◌<◌, ◌^◌, List, [], Option, None, map, position, slice_get, slice_index_or}
 use Rattle.std.specs.Option.{option_and_then}
+use Rattle.std.specs.List.{position_or_len}
 use Rattle.model.specs.Tree.{FileTree}
 use Rattle.model.specs.Names.{Name, name_eq}
 use Rattle.model.specs.Pool.{class_name_at, string_at}
@@ -52,7 +53,10 @@ pub record StringTables : Type 0 where
   pub rows : List (List (Option ℕ))
   -- in UTF-16 code units, by their numbers
   pub texts : List Text
+  -- the number of the empty one
+  pub empty : ℕ
 
 pub record AreStringNumbers (files : Program) (tables : StringTables) : Type 0 where
   pub rows : SayNumbers files tables.rows
   pub texts : tables.texts ≡ map decoded (string_texts files)
+  pub empty : tables.empty ≡ position_or_len (name_eq []) (string_texts files)

@@ -6,13 +6,15 @@ use Rattle.model.specs.Pool.{field_at}
 use Rattle.model.specs.Classes.{Program}
 use Rattle.model.specs.Opening.{static_fields}
 use Rattle.linker.specs.declared.field_links.link.FieldLink.{FieldLink}
-use Rattle.linker.specs.field_links.Links.{named_link, field_link, slot_count, KeepsSlots}
+use Rattle.linker.specs.field_links.Links.{named_link, field_link, slot_count, cell_count, KeepsSlots}
 
 pub record FieldTables : Type 0 where
   -- for each class, by the indices of its constant pool
   pub rows : List (List (Option FieldLink))
   -- for each class
   pub sizes : List ℕ
+  -- for each class
+  pub cells : List ℕ
   pub statics : ℕ
 
 -- what a row says of an index
@@ -34,6 +36,7 @@ AreRows files rows = (class index : ℕ) → index < 2 ^ 16 → in_rows rows cla
 pub record AreFieldLinks (files : Program) (tables : FieldTables) : Type 0 where
   pub rows : AreRows files tables.rows
   pub sizes : (class : ℕ) → slice_get tables.sizes class ≡ slot_count files class
+  pub cells : (class : ℕ) → slice_get tables.cells class ≡ cell_count files class
   pub statics : tables.statics ≡ length (static_fields files)
   -- a slot of a class is one of its subclasses
   pub kept : KeepsSlots files

@@ -2,12 +2,21 @@
 
 ghost use Rattle.std.specs.Prelude.{◌≡◌, ◌<◌, ◌^◌, length, slice_get, IfOk};
 ghost use Rattle.classfile.specs.View.{file_of};
-ghost use Rattle.linker.specs.field_links.Chains.{shape_of, shapes, chain_sum};
+ghost use Rattle.linker.specs.field_links.Chains.{own_count, shape_of, shapes, chain_sum};
 
 use crate::field_links::count::instance_count;
 use classfile::ClassFile;
 use hierarchy::ClassSet;
+use link_conditions::limits_of_linking::own_cells;
 use std::alloc::{AllocError, Global};
+
+/// Which instance fields are counted.
+#[derive(Clone, Copy)]
+pub(crate) enum Counted {
+    Fields,
+    /// Those that count for the limit on cells.
+    Cells,
+}
 
 /// The superclass of a class by its place, and how many instance fields the class itself declares.
 #[derive(Clone, Copy)]
@@ -16,10 +25,19 @@ pub(crate) struct Shape {
     pub fields: usize,
 }
 
-fn shape_of(set: &ClassSet, file: &ClassFile) -> Shape
-    ensures { result ≡ shape_of set.now (file_of file.now) }
+fn own_count(file: &ClassFile, counted: Counted) -> usize
+    ensures { result ≡ own_count counted (file_of file.now) }
 {
-    let fields = instance_count(&file.fields);
+    match counted {
+        Counted::Fields => instance_count(&file.fields),
+        Counted::Cells => own_cells(file),
+    }
+}
+
+fn shape_of(set: &ClassSet, file: &ClassFile, counted: Counted) -> Shape
+    ensures { result ≡ shape_of counted set.now (file_of file.now) }
+{
+    let fields = own_count(file, counted);
     let superclass = match file.class_name(file.super_class) {
         Some(name) => set.place_of(name),
         None => None,
@@ -28,15 +46,19 @@ fn shape_of(set: &ClassSet, file: &ClassFile) -> Shape
 }
 
 /// The shape of each class.
-pub(crate) fn shapes(alloc: Global, set: &ClassSet) -> Result<Vec<Shape>, AllocError>
-    ensures { IfOk result (λ rows. rows.items ≡ shapes set.now) }
+pub(crate) fn shapes(
+    alloc: Global,
+    set: &ClassSet,
+    counted: Counted,
+) -> Result<Vec<Shape>, AllocError>
+    ensures { IfOk result (λ rows. rows.items ≡ shapes counted set.now) }
 {
     let mut rows = Vec::new(alloc);
     for place in 0..set.count() {
         let Some(class) = set.class_at(place) else {
             return Ok(rows);
         };
-        rows.push(shape_of(set, class))?;
+        rows.push(shape_of(set, class, counted))?;
     }
     Ok(rows)
 }

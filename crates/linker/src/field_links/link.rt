@@ -6,6 +6,8 @@
 pub enum FieldLink {
     /// System.out, which has no slot.
     SystemOut,
+    /// System.err, which has no slot.
+    SystemErr,
     /// A static field: the class that declares it, and its slot among the static fields of all files.
     Static { class: usize, slot: usize },
     /// An instance field: the class that declares it, and its slot in each object of this class and of its subclasses.

@@ -4,10 +4,11 @@ ghost use Rattle.std.specs.Prelude.{◌≡◌, length, IfOk};
 ghost use Rattle.model.specs.Classes.{Program};
 ghost use Rattle.model.specs.Opening.{static_fields};
 ghost use Rattle.linker.specs.Linking.{IsLinked};
-ghost use Rattle.linker.specs.field_links.Links.{field_link, slot_count};
+ghost use Rattle.linker.specs.field_links.Links.{field_link, slot_count, cell_count};
 ghost use Rattle.linker.specs.field_links.Tables.{in_row, AreFieldLinks};
 
 use crate::Linked;
+use crate::field_links::chain::Counted;
 use crate::field_links::link::FieldLink;
 use crate::field_links::row::link_rows;
 use crate::field_links::sizes::sizes;
@@ -24,6 +25,8 @@ pub struct FieldLinks {
     rows: Vec<Vec<Option<FieldLink>>>,
     /// For each class how many slots its objects have.
     sizes: Vec<usize>,
+    /// For each class how many of these count for the limit on cells.
+    cells: Vec<usize>,
     statics: usize,
 }
 
@@ -33,7 +36,12 @@ impl Model for FieldLinks {
 
     ghost Value = { FieldTables };
 
-    ghost view = { λ s. record { rows = map (λ row. row.items) s.rows.items; sizes = s.sizes.items; statics = s.statics } };
+    ghost view = { λ s. record {
+      rows = map (λ row. row.items) s.rows.items;
+      sizes = s.sizes.items;
+      cells = s.cells.items;
+      statics = s.statics;
+    } };
 }
 
 /// What a row says of an index.
@@ -49,13 +57,15 @@ fn links_of(alloc: Global, hierarchy: &Hierarchy) -> Result<FieldLinks, AllocErr
     ensures { IfOk result (λ links. AreFieldLinks hierarchy.now links) }
 {
     let set = hierarchy.set();
-    let instances = sizes(alloc, set)?;
+    let instances = sizes(alloc, set, Counted::Fields)?;
+    let cells = sizes(alloc, set, Counted::Cells)?;
     let (statics, count) = static_ends(alloc, set)?;
     let ends = Ends { instances, statics };
     let rows = link_rows(alloc, hierarchy, &ends)?;
     Ok(FieldLinks {
         rows,
         sizes: ends.instances,
+        cells,
         statics: count,
     })
 }
@@ -84,6 +94,13 @@ impl FieldLinks {
         ensures { (files : Program) → AreFieldLinks files self.now → result ≡ slot_count files class }
     {
         self.sizes.get(class).copied()
+    }
+
+    /// How many of these slots count for the limit on cells.
+    pub fn cell_count(&self, class: usize) -> Option<usize>
+        ensures { (files : Program) → AreFieldLinks files self.now → result ≡ cell_count files class }
+    {
+        self.cells.get(class).copied()
     }
 
     /// How many static fields the files declare.

@@ -2,7 +2,7 @@
 
 ghost use Rattle.std.specs.Prelude.{◌≡◌};
 ghost use Rattle.std.specs.Option.{option_and_then};
-ghost use Rattle.model.specs.Names.{member_eq, system_out};
+ghost use Rattle.model.specs.Names.{member_eq, system_out, system_err};
 ghost use Rattle.model.specs.Pool.{field_at};
 ghost use Rattle.constant_pool.specs.View.{reference_of};
 ghost use Rattle.linker.specs.Linking.{IsLinked};
@@ -22,6 +22,14 @@ fn is_system_out(named: Reference<'_>) -> bool
         && named.descriptor == b"Ljava/io/PrintStream;".as_slice()
 }
 
+fn is_system_err(named: Reference<'_>) -> bool
+    ensures { result ≡ member_eq (reference_of named.entry) system_err }
+{
+    named.class == b"java/lang/System".as_slice()
+        && named.name == b"err".as_slice()
+        && named.descriptor == b"Ljava/io/PrintStream;".as_slice()
+}
+
 /// Where the field is that a symbolic reference names.
 fn named_link(hierarchy: &Hierarchy, ends: &Ends, named: Reference<'_>) -> Option<FieldLink>
     requires linked { IsLinked hierarchy.now }
@@ -30,6 +38,9 @@ fn named_link(hierarchy: &Hierarchy, ends: &Ends, named: Reference<'_>) -> Optio
 {
     if is_system_out(named) {
         return Some(FieldLink::SystemOut);
+    }
+    if is_system_err(named) {
+        return Some(FieldLink::SystemErr);
     }
     match hierarchy.find_field(named) {
         Some(place) => link_at(hierarchy.set(), ends, place),

@@ -1,29 +1,37 @@
 //! The texts of string constants, by their numbers.
 
-ghost use Rattle.std.specs.Prelude.{◌≡◌, length, map, IfOk};
+ghost use Rattle.std.specs.Prelude.{◌≡◌, [], length, map, IfOk, OnOk};
+ghost use Rattle.std.specs.List.{flat_map, position_or_len};
 ghost use Rattle.std.specs.Option.{option_and_then};
+ghost use Rattle.model.specs.BuiltIn.{built_in_classes};
 ghost use Rattle.model.specs.Classes.{Program};
+ghost use Rattle.model.specs.Names.{name_eq};
 ghost use Rattle.model.specs.Pool.{string_at};
-ghost use Rattle.model.specs.StringConstants.{string_texts};
+ghost use Rattle.model.specs.StringConstants.{texts_in, file_texts, machine_texts, string_texts};
 ghost use Rattle.model.specs.Texts.{decoded};
 ghost use Rattle.classfile.specs.View.{file_of};
+ghost use Rattle.link_conditions.specs.limits_of_linking.Texts.{with_texts};
 ghost use Rattle.linker.specs.field_links.Numbers.{number_in, text_number, string_number, IsStringRow, SayNumbers, AreStringNumbers};
 
 use classfile::ClassFile;
 use constant_pool::modified_utf8::decode;
 use hierarchy::ClassSet;
 use link_conditions::limits_of_linking::{TextSet, add_texts};
+use model::BUILT_IN_CLASSES;
 use std::alloc::{AllocError, Global};
 use std::marker::Model;
 
-/// For each String of the constant pools of a program's classes the number of its text, and the texts. Equal texts of
-/// all files have one number; they count from 0 in the order of the files.
+/// For each String of the constant pools of a program's classes the number of its text, and the texts. Equal texts have
+/// one number, whichever classes name them; they count from 0: those of the files in their order, then those of the
+/// built-in classes, then `main` and `/ by zero`.
 #[derive(Drop)]
 pub struct StringNumbers {
     /// For each class those that its constant pool has, by their index.
     rows: Vec<Vec<Option<usize>>>,
     /// Each in UTF-16 code units.
     texts: Vec<Vec<u16>>,
+    /// The number of the empty text.
+    empty: usize,
 }
 
 impl Model for StringNumbers {
@@ -35,12 +43,13 @@ impl Model for StringNumbers {
     ghost view = { λ s. record {
       rows = map (λ row. row.items) s.rows.items;
       texts = map (λ text. text.items) s.texts.items;
+      empty = s.empty;
     } };
 }
 
 /// The texts of the string constants of files.
-fn all_texts(alloc: Global, set: &ClassSet) -> Result<TextSet, AllocError>
-    ensures { IfOk result (λ texts. texts ≡ string_texts set.now) }
+fn texts_of_files(alloc: Global, set: &ClassSet) -> Result<TextSet, AllocError>
+    ensures { IfOk result (λ texts. texts ≡ file_texts set.now) }
 {
     let mut texts = TextSet::new(alloc);
     for number in 0..set.file_count() {
@@ -49,6 +58,38 @@ fn all_texts(alloc: Global, set: &ClassSet) -> Result<TextSet, AllocError>
         };
         add_texts(alloc, &mut texts, file)?;
     }
+    Ok(texts)
+}
+
+/// Adds the texts of the string constants of the built-in classes.
+fn add_built_in_texts(alloc: Global, set: &ClassSet, texts: &mut TextSet) -> Result<(), AllocError>
+    ensures { OnOk result (texts.new ≡ with_texts texts.old (flat_map texts_in built_in_classes)) }
+{
+    for place in 0..BUILT_IN_CLASSES {
+        let Some(class) = set.class_at(place) else {
+            return Ok(());
+        };
+        add_texts(alloc, texts, class)?;
+    }
+    Ok(())
+}
+
+/// Adds the texts that the machine itself names: the name of the main thread, and what is told of a division by zero.
+fn add_machine_texts(alloc: Global, texts: &mut TextSet) -> Result<(), AllocError>
+    ensures { OnOk result (texts.new ≡ with_texts texts.old machine_texts) }
+{
+    texts.add(alloc, b"main")?;
+    texts.add(alloc, b"/ by zero")
+}
+
+/// The texts of all string constants: those of files, then of the built-in classes, then those that the machine itself
+/// names.
+fn all_texts(alloc: Global, set: &ClassSet) -> Result<TextSet, AllocError>
+    ensures { IfOk result (λ texts. texts ≡ string_texts set.now) }
+{
+    let mut texts = texts_of_files(alloc, set)?;
+    add_built_in_texts(alloc, set, &mut texts)?;
+    add_machine_texts(alloc, &mut texts)?;
     Ok(texts)
 }
 
@@ -64,6 +105,16 @@ fn decoded_texts(alloc: Global, texts: &TextSet) -> Result<Vec<Vec<u16>>, AllocE
         all.push(decode(alloc, bytes)?)?;
     }
     Ok(all)
+}
+
+/// The number of the empty text, or how many texts there are.
+fn number_of_empty(texts: &TextSet) -> usize
+    ensures { result ≡ position_or_len (name_eq []) texts.now }
+{
+    match texts.number_of(b"") {
+        Some(number) => number,
+        None => texts.count(),
+    }
 }
 
 /// The number of the text of the String of an index.
@@ -127,6 +178,7 @@ impl StringNumbers {
         Ok(StringNumbers {
             rows: number_rows(alloc, set, &texts)?,
             texts: decoded_texts(alloc, &texts)?,
+            empty: number_of_empty(&texts),
         })
     }
 
@@ -146,6 +198,14 @@ impl StringNumbers {
         ensures { (files : Program) → AreStringNumbers files self.now → result ≡ length (string_texts files) }
     {
         self.texts.len()
+    }
+
+    /// The number of the empty text.
+    pub fn empty_text(&self) -> usize
+        ensures { (files : Program) → AreStringNumbers files self.now
+            → result ≡ position_or_len (name_eq []) (string_texts files) }
+    {
+        self.empty
     }
 
     /// The texts in their order, in UTF-16 code units.

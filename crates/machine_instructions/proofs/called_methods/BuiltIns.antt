@@ -5,6 +5,7 @@ use Rattle.std.specs.List.{list_all}
 use Rattle.std.proofs.lemmas.Bool.{and_parts, not-true}
 use Rattle.model.specs.declared.print_method.PrintMethod.{PrintMethod}
 use Rattle.model.specs.declared.print_method.PrintMethod.TheVariants.{Println}
+use Rattle.model.specs.declared.builder_method.BuilderMethod.{BuilderMethod}
 use Rattle.model.specs.declared.string_method.StringMethod.{StringMethod}
 use Rattle.model.specs.Names.{Member, member_eq, constructor_name}
 use Rattle.model.specs.AccessFlags.{is_private_method}
@@ -13,10 +14,10 @@ use Rattle.model.specs.DescriptorScan.{element_at, field_at, field_type, paramet
 use Rattle.model.specs.Classes.{Program}
 use Rattle.model.specs.Calls.{is_one, parameter_count}
 use Rattle.model.specs.Lookup.{is_static_method}
-use Rattle.model.specs.BuiltInMethods.{BuiltInMethod, Construct, ConstructWithTarget, ObjectWait, ObjectNotify, ObjectNotifyAll, ThreadStart, ThreadInterrupt, ThreadIsInterrupted, ThreadInterrupted, ThreadYield, ThreadCurrentThread, ThreadJoin, ThreadIsAlive, PrintStreamPrints, StringAnswers, of_thread, built_in_methods, built_in_method}
+use Rattle.model.specs.BuiltInMethods.{BuiltInMethod, Construct, ConstructWithTarget, ObjectWait, ObjectNotify, ObjectNotifyAll, ThreadStart, ThreadInterrupt, ThreadIsInterrupted, ThreadInterrupted, ThreadYield, ThreadCurrentThread, ThreadJoin, ThreadIsAlive, PrintStreamPrints, StringAnswers, StringBuilderBuilds, of_thread, built_in_methods, built_in_method}
 use Rattle.run_laws.proofs.laws.Classes.{members_same}
 use Rattle.run_laws.proofs.word_runs.WordBuiltIns.{passes, passed}
-use Rattle.machine_instructions.specs.thread_methods.Called.{string_operands}
+use Rattle.machine_instructions.specs.thread_methods.Called.{string_operands, builder_operands}
 
 -- Thread.<init>(Runnable)
 abbrev pub target_constructor : Member
@@ -59,6 +60,7 @@ receiver_place ThreadJoin = Some 0
 receiver_place ThreadIsAlive = Some 0
 receiver_place (PrintStreamPrints print) = Some (print_place print)
 receiver_place (StringAnswers string) = None
+receiver_place (StringBuilderBuilds builds) = None
 
 -- it is under the parameters, and the method is not static
 abbrev is_placed : Program → Member → ℕ → Bool
@@ -98,3 +100,21 @@ pub string_counted : (files : Program) (method : Member) (string : StringMethod)
     → string_operands string ≡ operands_of files method
 string_counted files method string e =
     eqb-true (string_operands string) (operands_of files method) (passed string_of refl (is_counted files) (all_counted files) method string e)
+
+-- ---- of a method of StringBuilder
+
+abbrev pub builder_of : BuiltInMethod → Option BuilderMethod
+builder_of (StringBuilderBuilds builds) = Some builds
+builder_of _ = None
+
+abbrev is_builder_counted : Program → Member → BuilderMethod → Bool
+is_builder_counted files method builds = builder_operands builds == operands_of files method
+
+all_builders_counted : (files : Program) → list_all (passes builder_of refl (is_builder_counted files)) built_in_methods ≡ true
+unfolding built_in_classes method_type parameters_at field_at field_type element_at
+all_builders_counted files = refl
+
+pub builder_counted : (files : Program) (method : Member) (builds : BuilderMethod) → builder_of (built_in_method method) ≡ Some builds
+    → builder_operands builds ≡ operands_of files method
+builder_counted files method builds e =
+    eqb-true (builder_operands builds) (operands_of files method) (passed builder_of refl (is_builder_counted files) (all_builders_counted files) method builds e)

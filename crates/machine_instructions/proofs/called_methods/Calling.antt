@@ -42,7 +42,7 @@ use Rattle.machine_state.proofs.linked_frames.Frames.{top_shown, finds, meaning_
 use Rattle.machine_instructions.specs.thread_methods.Called.{RefersTo, AreArguments}
 use Rattle.machine_instructions.specs.called_methods.Frames.{object_under, raised_by}
 use Rattle.machine_instructions.specs.called_methods.Invoked.{IsInvoking, invoked_event}
-use Rattle.machine_instructions.proofs.called_methods.BuiltIns.{target_constructor, member_for, known, receiver_place, placed, string_of, string_counted}
+use Rattle.machine_instructions.proofs.called_methods.BuiltIns.{target_constructor, member_for, known, receiver_place, placed, string_of, string_counted, builder_of, builder_counted}
 use Rattle.machine_instructions.proofs.called_methods.RunMethods.{raises}
 
 -- ---- lists and words
@@ -130,6 +130,11 @@ module _ (trees : Program) (heap : List (ObjectOf ℕ)) (stack : List ℕ) (n r 
       let within = slice_get_within (take (n + 1) stack) n (suc r) word in
       let most = at_most_one (is_one is_static_method trees m) in
       let count = string_counted trees m string (ap string_of (sym e)) in
+      omega (arith, within, most, count, same_count)
+  arguments_of (method.StringBuilderBuilds builds) e =
+      let within = slice_get_within (take (n + 1) stack) n (suc r) word in
+      let most = at_most_one (is_one is_static_method trees m) in
+      let count = builder_counted trees m builds (ap builder_of (sym e)) in
       omega (arith, within, most, count, same_count)
 
 -- ---- an instruction where a thread runs

@@ -47,38 +47,38 @@ built_in_differ : two_of_one_name built_in_classes ≡ false
 unfolding built_in_classes
 built_in_differ = refl
 
-built_in_count : length built_in_classes ≡ 36
+built_in_count : length built_in_classes ≡ 37
 unfolding built_in_classes
 built_in_count = refl
 
 module _ (trees : Program) (linkable : some_stands trees ≡ false) where
   one_number : (k j : ℕ) (f g : FileTree) → slice_get (classes_of trees) k ≡ Some f → slice_get (classes_of trees) j ≡ Some g
       → name_of f ≡ name_of g → j ≡ k
-  one_number k j f g at there same = by (nat_lt k 36) (nat_lt j 36) refl refl
+  one_number k j f g at there same = by (nat_lt k 37) (nat_lt j 37) refl refl
     where
       apart : {P : Type 0} → is_built_in (name_of f) ≡ true → is_built_in (name_of g) ≡ false → P
       apart b n = absurd (true≢false (sym b ∙ ap is_built_in same ∙ n))
 
-      within : (n : ℕ) → n < 36 → n < length built_in_classes
+      within : (n : ℕ) → n < 37 → n < length built_in_classes
       within n h = subst (λ m. n < m) (sym built_in_count) h
 
-      behind : (n : ℕ) → 36 ≤ n → n ≡ 36 + (n - 36)
+      behind : (n : ℕ) → 37 ≤ n → n ≡ 37 + (n - 37)
       behind n h = omega (arith, h)
 
-      at_behind : (n : ℕ) (file : FileTree) → 36 ≤ n → slice_get (classes_of trees) n ≡ Some file
-          → slice_get (classes_of trees) (36 + (n - 36)) ≡ Some file
+      at_behind : (n : ℕ) (file : FileTree) → 37 ≤ n → slice_get (classes_of trees) n ≡ Some file
+          → slice_get (classes_of trees) (37 + (n - 37)) ≡ Some file
       at_behind n file h e = subst (λ m. slice_get (classes_of trees) m ≡ Some file) (behind n h) e
 
-      by : (b c : Bool) → nat_lt k 36 ≡ b → nat_lt j 36 ≡ c → j ≡ k
+      by : (b c : Bool) → nat_lt k 37 ≡ b → nat_lt j 37 ≡ c → j ≡ k
       by true true p q =
           one_place built_in_classes built_in_differ j k g f
-          (sym (front built_in_classes trees j (within j (ltb-true j 36 q))) ∙ there) (sym (front built_in_classes trees k (within k (ltb-true k 36 p))) ∙ at) (sym same)
-      by true false p q = apart (is_so trees linkable k (ltb-true k 36 p) f at) (is_not trees linkable (j - 36) g (at_behind j g (ltb-false j 36 q) there))
+          (sym (front built_in_classes trees j (within j (ltb-true j 37 q))) ∙ there) (sym (front built_in_classes trees k (within k (ltb-true k 37 p))) ∙ at) (sym same)
+      by true false p q = apart (is_so trees linkable k (ltb-true k 37 p) f at) (is_not trees linkable (j - 37) g (at_behind j g (ltb-false j 37 q) there))
       by false true p q =
-          absurd (true≢false (sym (is_so trees linkable j (ltb-true j 36 q) g there) ∙ ap is_built_in (sym same) ∙ is_not trees linkable (k - 36) f (at_behind k f (ltb-false k 36 p) at)))
+          absurd (true≢false (sym (is_so trees linkable j (ltb-true j 37 q) g there) ∙ ap is_built_in (sym same) ∙ is_not trees linkable (k - 37) f (at_behind k f (ltb-false k 37 p) at)))
       by false false p q =
-          let one = one_place trees (files_differ trees linkable) (j - 36) (k - 36) g f (file_at trees linkable (j - 36) g (at_behind j g (ltb-false j 36 q) there)) (file_at trees linkable (k - 36) f (at_behind k f (ltb-false k 36 p) at)) (sym same) in
-          behind j (ltb-false j 36 q) ∙ ap (λ (n : ℕ). 36 + n) one ∙ sym (behind k (ltb-false k 36 p))
+          let one = one_place trees (files_differ trees linkable) (j - 37) (k - 37) g f (file_at trees linkable (j - 37) g (at_behind j g (ltb-false j 37 q) there)) (file_at trees linkable (k - 37) f (at_behind k f (ltb-false k 37 p) at)) (sym same) in
+          behind j (ltb-false j 37 q) ∙ ap (λ (n : ℕ). 37 + n) one ∙ sym (behind k (ltb-false k 37 p))
 
   pub reference_is : (number : ℕ) (class : Name) → IsClassAt trees number class → 3 + number ≡ class_reference trees class
   reference_is number class at =

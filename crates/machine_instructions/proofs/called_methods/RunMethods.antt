@@ -129,7 +129,7 @@ module _ (run : AreMethodsRun) (trees : Program) (p : LinkedProgram) (bounds : B
           let event : Event = record { thread = t; pick = pick } in
           let ops = take call.operands frame.place.slots.stack in
           let under = drop call.operands frame.place.slots.stack in
-          ap (λ (x : built_in.BuiltInMethod). enabled_if (built_in_may words x event state.world ops) (become trees frames t state.world frame rest (built_in_does words x site.next event state.world frame.place.slots ops under))) h.2
+          ap (λ (x : built_in.BuiltInMethod). enabled_if (built_in_may words x event state.world ops) (become trees frames t state.world frame rest (built_in_does words trees x site.next event state.world frame.place.slots ops under))) h.2
           ∙ ap (λ (o : Option Body). enabled_if (may_run words event state.world ops found.method o) (become trees frames t state.world frame rest (runs words trees site event state.world frame.place.slots ops under call.object found.method o))) (sym h.1)
           ∙ ap (event_of frames pick) (sym h.0)
 

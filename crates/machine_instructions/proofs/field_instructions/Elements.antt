@@ -262,7 +262,7 @@ module _ (trees : Program) (p : LinkedProgram) (bounds : Bounds) (inflated : Lis
           let new : Shared = record old { heap = record old.heap { objects = put_element old.heap.objects r i v } } in
           let shown : IsShownAfter trees p bounds inflated t old stack state frame rest code site meaning instruction is after new =
           record {
-            represents = with_objects trees p bounds old state.world is.lent.represents (put_element old.heap.objects r i v) (slice_set state.world.heap r array) (h.elements.written i v);
+            represents = with_objects trees p bounds old state.world is.lent.represents (put_element old.heap.objects r i v) (slice_set state.world.heap r array) (h.elements.written i v) (h.elements.counted i v);
             fat = refl;
             stacks = refl;
             threads = refl;

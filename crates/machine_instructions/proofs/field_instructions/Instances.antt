@@ -180,7 +180,7 @@ module _ (trees : Program) (p : LinkedProgram) (bounds : Bounds) (inflated : Lis
         let after = with_object state.world r object in
         let shown : IsShownAfter trees p bounds inflated t old stack state frame rest code site meaning (puts.put_field_instruction of slot) is after (record old { heap = record old.heap { objects = put_field old.heap.objects r slot word } }) =
         record {
-          represents = with_objects trees p bounds old state.world is.lent.represents (put_field old.heap.objects r slot word) (slice_set state.world.heap r object) (h.field_is.written word);
+          represents = with_objects trees p bounds old state.world is.lent.represents (put_field old.heap.objects r slot word) (slice_set state.world.heap r object) (h.field_is.written word) (h.field_is.counted word);
           fat = refl;
           stacks = refl;
           threads = refl;

@@ -1,16 +1,17 @@
 -- The object that a word refers to, and a machine that has changed one of its objects, or a static field.
-use Rattle.std.proofs.Common.{◌≡◌, ℕ, zero, suc, ◌-◌, ◌<◌, ◌≤◌, List, [], ◌∷◌, Bool, true, false, Option, Some, None, refl, subst, arith, Vec, Global}
-use Rattle.std.specs.Prelude.{slice_get, slice_index_or, option_map}
+use Rattle.std.proofs.Common.{◌≡◌, ℕ, zero, suc, ◌-◌, ◌<◌, ◌≤◌, List, [], ◌∷◌, Bool, true, false, Option, Some, None, refl, sym, subst, arith, ◌∙◌, Vec, Global}
+use Rattle.std.specs.Prelude.{drop, sum_by, slice_get, slice_index_or, option_map}
 use Rattle.std.specs.Option.{option_map_or}
 use Rattle.std.proofs.lemmas.Bool.{false≢true, and_parts}
 use Rattle.std.proofs.lemmas.Option.{slice_get-map}
 use Rattle.model.specs.Names.{Member}
 use Rattle.model.specs.Classes.{Program}
-use Rattle.model.specs.LimitStands.{Bounds}
+use Rattle.model.specs.LimitStands.{Bounds, opening_count}
 use Rattle.model.specs.ReferenceTypes.{ReferenceType}
 use Rattle.model.specs.Types.{Want}
 use Rattle.model.specs.Operands.{pops_meet}
 use Rattle.model.specs.State.{ObjectOf, type_of, types_of, WorldOf}
+use Rattle.model.specs.Worlds.{cells_of}
 use Rattle.heap.specs.Heap.{Object}
 use Rattle.linked_code.specs.declared.program.LinkedProgram.{LinkedProgram}
 use Rattle.run_laws.specs.word_operands.Operands.{is_word_with}
@@ -73,11 +74,13 @@ module _ (trees : Program) (p : LinkedProgram) (bounds : Bounds) (old : Shared) 
     (r : Represents trees p bounds old world) where
   -- of objects
   pub with_objects : (objects : List Object) (heap : List (ObjectOf ℕ)) → ShowsObjects trees p.components.items objects heap
+      → ((n : ℕ) → sum_by cells_of (drop n heap) ≡ sum_by cells_of (drop n world.heap))
       → Represents trees p bounds (record old { heap = record old.heap { objects = objects } }) (record world { heap = heap })
-  with_objects objects heap shows =
+  with_objects objects heap shows counted =
       record {
         world_is = record {
           objects = shows;
+          counted = r.world_is.counted ∙ sym (counted (opening_count trees));
           monitors = r.world_is.monitors;
           statics = r.world_is.statics;
           statuses = r.world_is.statuses;
@@ -101,6 +104,7 @@ module _ (trees : Program) (p : LinkedProgram) (bounds : Bounds) (old : Shared) 
       record {
         world_is = record {
           objects = r.world_is.objects;
+          counted = r.world_is.counted;
           monitors = r.world_is.monitors;
           statics = shows;
           statuses = r.world_is.statuses;

@@ -9,7 +9,7 @@ use Rattle.model.specs.State as model
 use Rattle.model.specs.State.{FrameOf, StackOf, StateOf}
 use Rattle.model.specs.Worlds.{value_in, with_static, kept}
 use Rattle.model.specs.Sites.{MeaningOf, Site}
-use Rattle.model.specs.Meanings.{system_out_meaning, get_static_of, put_static_of}
+use Rattle.model.specs.Meanings.{system_stream_meaning, get_static_of, put_static_of}
 use Rattle.linked_code.specs.declared.instruction.LinkedInstruction.TheVariants as linked
 use Rattle.model.specs.declared.primitive.Primitive.{Primitive}
 use Rattle.model.specs.declared.primitive.Primitive.TheVariants as primitive
@@ -34,16 +34,19 @@ use Rattle.machine_instructions.proofs.field_instructions.Referred.{with_slots}
 
 module _ (trees : Program) (p : LinkedProgram) (bounds : Bounds) (inflated : List ℕ) (t : ℕ) (old : Shared) (stack : List ShownEntry)
     (state : StateOf ℕ) (frame : FrameOf ℕ) (rest : StackOf ℕ) (code : LinkedCode) (site : Site) (meaning : MeaningOf ℕ) where
-  -- ---- System.out
+  -- ---- System.out and System.err
 
-  module _ (is : IsRunning trees p bounds inflated t old stack state frame rest code site meaning linked.GetSystemOut) (found : ShownFrame) (lent : IsTopFrame stack (Some found)) (frames : ℕ) where
-    pub get_system_out_done : (left : ShownFrame) (result : Result Effect EventRefusal) → Leaves result 0 (1 ∷ []) found left
+  module _ (word : ℕ) (is : IsRunning trees p bounds inflated t old stack state frame rest code site meaning (linked.GetSystemStream word)) (found : ShownFrame) (lent : IsTopFrame stack (Some found)) (frames : ℕ) where
+    pub get_system_stream_done : (left : ShownFrame) (result : Result Effect EventRefusal) → Leaves result 0 (word ∷ []) found left
         → Does trees p bounds inflated t state.world (model.Invocation frame
         ∷ rest) (instruction_event trees frames (event_of t) state.world frame rest meaning) result old old stack (with_top left stack)
-    get_system_out_done left result leaves =
+    get_system_stream_done left result leaves =
+        let l = is.stands.linked in
+        let next = offset_in code.starts.items (is.shown.place + 1) in
         subst (λ s. Does trees p bounds inflated t state.world (model.Invocation frame ∷ rest) s result old old stack (with_top left stack))
-        (sym (event_is trees p bounds inflated t old stack state frame rest code site meaning linked.GetSystemOut is frames (event_of t) (system_out_meaning words (offset_in code.starts.items (is.shown.place + 1))) is.stands.linked))
-        (done_or_refused trees p bounds inflated t old stack state frame rest code site meaning linked.GetSystemOut is 0 (1 ∷ []) found lent left result leaves)
+        (sym (event_is trees p bounds inflated t old stack state frame rest code site meaning (linked.GetSystemStream word) is frames (event_of t) (system_stream_meaning words next l.stream) l.is
+        ∙ ap (λ w. goes_on trees p bounds inflated t old stack state frame rest code site meaning (linked.GetSystemStream word) is state.world 0 (w ∷ [])) (sym l.refers)))
+        (done_or_refused trees p bounds inflated t old stack state frame rest code site meaning (linked.GetSystemStream word) is 0 (word ∷ []) found lent left result leaves)
 
   -- ---- getstatic
 

@@ -84,11 +84,11 @@ module _ (files : List (List ℕ)) (trees : Program) (linkable : IsLinkable file
   units (o ∷ os) (m ∷ ms) h (suc r) = units os ms h.1 r
 
   module _ (objects : List Object) (world : WorldOf ℕ) (shows : ShowsObjects trees components objects world.heap) where
-    by_word : (word : ℕ) → text_by objects word ≡ option_and_then (λ r. string_text (object_at world r)) (word_reference word)
+    pub by_word : (word : ℕ) → text_by objects word ≡ option_and_then (λ r. string_text (object_at world r)) (word_reference word)
     by_word zero = refl
     by_word (suc r) = texts objects world.heap shows r
 
-    units_by_word : (word : ℕ) → AreUnitsOf (option_and_then (λ r. string_text (object_at world r)) (word_reference word))
+    pub units_by_word : (word : ℕ) → AreUnitsOf (option_and_then (λ r. string_text (object_at world r)) (word_reference word))
     units_by_word zero = tt
     units_by_word (suc r) = units objects world.heap shows r
 

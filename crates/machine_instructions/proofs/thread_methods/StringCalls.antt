@@ -18,7 +18,7 @@ use Rattle.model.specs.Texts.{Text}
 use Rattle.model.specs.Worlds.{allocated}
 use Rattle.heap.specs.declared.kind.ObjectKind.TheVariants as kind
 use Rattle.heap.specs.declared.refusal.AllocRefusal.{AllocRefusal}
-use Rattle.heap.specs.Heap.{Heap, Object, made, cells_made, with_object, IsRefused as IsHeapRefused}
+use Rattle.heap.specs.Heap.{Heap, Object, made, with_object, IsRefused as IsHeapRefused}
 use Rattle.linked_code.specs.declared.method.BuiltInMethod.TheVariants as method
 use Rattle.linked_code.specs.declared.program.LinkedProgram.{LinkedProgram}
 use Rattle.string_methods.specs.Answers.{IsAnswer}
@@ -46,14 +46,14 @@ use Rattle.machine_instructions.proofs.thread_methods.ShownTexts.{text_is, units
 -- ---- operands
 
 -- one that is taken is read where it is
-taken : (count : ℕ) (ops : List ℕ) (k : ℕ) → k < length (take count ops) → slice_index_or (take count ops) k 0 ≡ slice_index_or ops k 0
+pub taken : (count : ℕ) (ops : List ℕ) (k : ℕ) → k < length (take count ops) → slice_index_or (take count ops) k 0 ≡ slice_index_or ops k 0
 taken zero ops k h = absurd (omega (arith, h))
 taken (suc count) [] k h = refl
 taken (suc count) (x ∷ ops) zero h = refl
 taken (suc count) (x ∷ ops) (suc k) h = taken count ops k (omega (arith, h))
 
 -- a stack of which some are taken doesn't grow by one
-no_growth : (count : ℕ) (ops : List ℕ) → 0 < length (take count ops) → length ops < suc (length (drop count ops)) → ⊥
+pub no_growth : (count : ℕ) (ops : List ℕ) → 0 < length (take count ops) → length ops < suc (length (drop count ops)) → ⊥
 no_growth zero ops h more = absurd (omega (arith, h))
 no_growth (suc count) [] h more = absurd (omega (arith, h))
 no_growth (suc count) (x ∷ ops) h more =
@@ -145,15 +145,15 @@ module _ (trees : Program) (p : LinkedProgram) (bounds : Bounds) (inflated : Lis
     units : IsRight (string_operands m) (Composes text)
     units = subst (IsRight (string_operands m)) (sym e) is_right
 
-    module _ (is_heap : heap ≡ with_object old.heap (string_of text)) (objects : made old.heap < old.heap.object_limit)
-        (cells : cells_made old.heap + length text ≤ old.heap.cell_limit)
+    module _ (is_heap : heap ≡ with_object old.heap (string_of text) (length text)) (opened : old.heap.opening ≤ length old.heap.objects) (objects : made old.heap < old.heap.object_limit)
+        (cells : old.heap.counted + length text ≤ old.heap.cell_limit)
         (word : ℕ) (is_word : word ≡ length heap.objects) (fits : word < 2 ^ 32) where
       counted : word ≡ length old.heap.objects + 1
       counted = is_word ∙ ap (λ (h : Heap). length h.objects) is_heap ∙ length-append old.heap.objects (string_of text ∷ [])
 
       is_made : IsMade trees p bounds inflated world (Characters text) (length old.heap.objects) (length text) old new
       is_made =
-          texts_made trees p bounds inflated world old new is.lent.represents text units (omega (arith, counted, fits)) objects cells
+          texts_made trees p bounds inflated world old new is.lent.represents text units (omega (arith, counted, fits)) opened objects cells
           (ap (λ h. record old { heap = h }) is_heap)
 
       word_is : word ≡ suc (length world.heap)
@@ -197,7 +197,7 @@ module _ (trees : Program) (p : LinkedProgram) (bounds : Bounds) (inflated : Lis
         → IsErrAnd result (λ told. told ≡ of_heap why) → DoesBy wanted result new from
     unmade why told result h =
         let both : MayBeRefused trees bounds inflated world (Makes (length text)) true (of_heap why) × (heap ≡ old.heap) =
-        heap_refused trees p bounds inflated world old new is.lent.represents (kind.Instance 3) (length text) why told
+        heap_refused trees p bounds inflated world old new is.lent.represents (length text) why told
         in
         refused trees p bounds inflated t old from state frame rest (method.StringAnswers m) count next offset is new (event wanted) (Makes (length text)) (after text own_made)
         (ap event (sym e)) (of_heap why) both.0 (ap (λ h. record old { heap = h }) both.1) result h

@@ -130,7 +130,7 @@ decimal_units : (n : ℕ) → AreUnits (digits 10 false n)
 unfolding digits
 decimal_units n = onto_units 64 n [] (All-nil (λ u. u < 2 ^ 16))
 
-signed_units : (z : ℤ) → AreUnits (signed_decimal z)
+pub signed_units : (z : ℤ) → AreUnits (signed_decimal z)
 signed_units (pos n) = decimal_units n
 signed_units (negsuc n) = All-cons (λ u. u < 2 ^ 16) 45 (digits 10 false (suc n)) (omega arith) (decimal_units (suc n))
 

@@ -2,6 +2,7 @@
 use Rattle.std.proofs.Common.{◌≡◌, ◌+◌, ◌<◌, ◌≤◌, ◌^◌, ℕ, suc, List, [], ◌∷◌, Some, Result, Ok, Err, Bool, true, false, length, drop, replicate, refl, sym, ap, subst, arith, ◌∙◌, inl}
 use Rattle.std.specs.Prelude.{slice_index_or}
 use Rattle.std.proofs.lemmas.Bool.{lt-leb, le-leb}
+use Rattle.std.proofs.lemmas.List.{length-replicate}
 use Rattle.model.specs.Classes.{Program}
 use Rattle.model.specs.LimitStands.{Bounds}
 use Rattle.model.specs.ReferenceTypes.{ReferenceType}
@@ -14,12 +15,12 @@ use Rattle.model.specs.Sites.{MeaningOf, Site}
 use Rattle.model.specs.Meanings.{meaning_of}
 use Rattle.model.specs.State.{ObjectOf, Primitives, FrameOf, StackOf, StateOf}
 use Rattle.model.specs.Step.{Next, part, become}
-use Rattle.model.specs.Worlds.{allocated, fields_of}
+use Rattle.model.specs.Worlds.{allocated, cells_of}
 use Rattle.heap.specs.declared.kind.ObjectKind.{ObjectKind}
 use Rattle.heap.specs.declared.kind.ObjectKind.TheVariants as kind
 use Rattle.heap.specs.declared.refusal.AllocRefusal.{AllocRefusal}
 use Rattle.heap.specs.declared.refusal.AllocRefusal.TheVariants as heap
-use Rattle.heap.specs.Heap.{Heap, Allocates, fresh}
+use Rattle.heap.specs.Heap.{Heap, IsRefused, fresh}
 use Rattle.linked_code.specs.declared.instruction.LinkedInstruction.{LinkedInstruction}
 use Rattle.linked_code.specs.declared.method.LinkedCode.{LinkedCode}
 use Rattle.linked_code.specs.declared.program.LinkedProgram.{LinkedProgram}
@@ -29,7 +30,7 @@ use Rattle.model.specs.declared.primitive.Primitive.{Primitive}
 use Rattle.model.specs.declared.primitive.Primitive.TheVariants as primitive
 use Rattle.linked_code.specs.Objects.{IsNew}
 use Rattle.machine_state.specs.shown_objects.Shown.{ShowsObject}
-use Rattle.machine_state.proofs.shown_objects.New.{new_fields, new_shown}
+use Rattle.machine_state.proofs.shown_objects.New.{new_cells, new_shown}
 use Rattle.thread_stacks.specs.Stacks.{ShownFrame, ShownEntry, with_top}
 use Rattle.machine_state.specs.declared.answers.Effect.{Effect}
 use Rattle.machine_state.specs.declared.answers.Effect.TheVariants as effect
@@ -56,23 +57,24 @@ module _ {trees : Program} {p : LinkedProgram} {bounds : Bounds} {inflated : Lis
 
   -- ---- by how it leaves its frame
 
-  module _ (frames : ℕ) (of : ObjectKind) (cells count : ℕ) (object : ObjectOf ℕ) (shows : ShowsObject trees p.components.items (fresh of cells) object)
+  module _ (frames : ℕ) (of : ObjectKind) (size cells count : ℕ) (object : ObjectOf ℕ) (shows : ShowsObject trees p.components.items (fresh of size) object)
+      (counted : cells ≡ cells_of object)
       (event : IsEvent is frames (Next (Makes cells) (part (allocated state.world object) (own_after is count (suc (length state.world.heap) ∷ [])))))
       (after : Heap) (from to : ShownFrame) (top : from ≡ is.shown) where
-    not_made : (told : EventRefusal) (why : AllocRefusal) → told ≡ of_heap why → Allocates (Err why) of cells shared.heap after → to ≡ from
+    not_made : (told : EventRefusal) (why : AllocRefusal) → told ≡ of_heap why → IsRefused why cells shared.heap after → to ≡ from
         → DoesSo is frames (Err told) (with_heap after) (with_top to stack)
     not_made told why is_told told_so same =
-        let both : MayBeRefused trees bounds inflated state.world (Makes cells) true (of_heap why) × (after ≡ shared.heap) = refused trees p bounds inflated state.world shared (with_heap after) is.lent.represents of cells why told_so in (
+        let both : MayBeRefused trees bounds inflated state.world (Makes cells) true (of_heap why) × (after ≡ shared.heap) = refused trees p bounds inflated state.world shared (with_heap after) is.lent.represents cells why told_so in (
           record { cost = Makes cells; next = _; is = event; may = subst (MayBeRefused trees bounds inflated state.world (Makes cells) true) (sym is_told) both.0 },
           record { shared = ap with_heap both.1; stack = unchanged is to (same ∙ top) },
         )
 
-    pub makes : (result : Result Effect EventRefusal) → LeavesNew result of cells count shared.heap after from to
+    pub makes : (result : Result Effect EventRefusal) → LeavesNew result of size cells count shared.heap after from to
         → count ≤ length is.shown.operands → DoesSo is frames result (with_heap after) (with_top to stack)
     makes (Ok effect.Done) left there =
         let reference = left.0 in
         let m : IsMade trees p bounds inflated state.world object reference cells shared (with_heap after) =
-        made trees p bounds inflated state.world shared (with_heap after) is.lent.represents of reference cells left.1 refl object shows
+        made trees p bounds inflated state.world shared (with_heap after) is.lent.represents of reference size cells left.1 refl object shows counted
         in
         let small : from.place < 2 ^ 63 = subst (λ (f : ShownFrame). f.place < 2 ^ 63) (sym top) (place_small is) in
         let has : count ≤ length from.operands = subst (λ (f : ShownFrame). count ≤ length f.operands) (sym top) there in
@@ -103,21 +105,21 @@ module _ {trees : Program} {p : LinkedProgram} {bounds : Bounds} {inflated : Lis
 
   -- ---- new
 
-  pub makes_object : (class fields : ℕ) → IsNew trees site (offset_in code.starts.items (is.shown.place + 1)) class fields
+  pub makes_object : (class fields cells : ℕ) → IsNew trees site (offset_in code.starts.items (is.shown.place + 1)) class fields cells
       → (frames : ℕ) (after : Heap) (from to : ShownFrame) → from ≡ is.shown
-      → (result : Result Effect EventRefusal) → LeavesNew result (kind.Instance class) fields 0 shared.heap after from to
+      → (result : Result Effect EventRefusal) → LeavesNew result (kind.Instance class) fields cells 0 shared.heap after from to
       → DoesSo is frames result (with_heap after) (with_top to stack)
-  makes_object class fields new frames after from to top result left =
+  makes_object class fields cells new frames after from to top result left =
       let object = new_instance words trees new.named in
-      let count : length (fields_of object) ≡ fields = new_fields trees new.named ∙ sym new.counted in
+      let count : cells_of object ≡ cells = new_cells trees new.named ∙ sym new.costs in
       let shows : ShowsObject trees p.components.items (fresh (kind.Instance class) fields) object =
       new_shown trees new.named p.components.items class fields new.numbered new.counted
       in
       let results = suc (length state.world.heap) ∷ [] in
-      makes frames (kind.Instance class) fields 0 object shows
-      (event_by is frames (new_meaning words trees site new.named) new.is refl (Goes (Makes fields) (allocated state.world object) (slots_after is 0 results) site.next)
+      makes frames (kind.Instance class) fields cells 0 object shows (sym count)
+      (event_by is frames (new_meaning words trees site new.named) new.is refl (Goes (Makes cells) (allocated state.world object) (slots_after is 0 results) site.next)
       (ap (λ n. Goes (Makes n) (allocated state.world object) (slots_after is 0 results) site.next) count)
-      ∙ goes_on is frames (Makes fields) (allocated state.world object) 0 results new.to)
+      ∙ goes_on is frames (Makes cells) (allocated state.world object) 0 results new.to)
       after from to top result left (omega arith)
 
   -- ---- newarray, anewarray
@@ -138,10 +140,10 @@ module _ {trees : Program} {p : LinkedProgram} {bounds : Bounds} {inflated : Lis
 
     pub makes_array : w < 2 ^ 31 → site.next ≡ offset_in code.starts.items (is.shown.place + 1) → (of : ObjectKind)
         → AreArrays trees p of array
-        → (after : Heap) (to : ShownFrame) (result : Result Effect EventRefusal) → LeavesNew result of w 1 shared.heap after from to
+        → (after : Heap) (to : ShownFrame) (result : Result Effect EventRefusal) → LeavesNew result of w w 1 shared.heap after from to
         → DoesSo is frames result (with_heap after) (with_top to stack)
     makes_array lt next of shows after to result left =
-        makes frames of w 1 (array (replicate w 0)) (shows w)
+        makes frames of w w 1 (array (replicate w 0)) (shows w).0 (shows w).1
         (array_event false (lt-leb (2 ^ 31) w lt) ∙ goes_on is frames (Makes w) (allocated state.world (array (replicate w 0))) 1 (suc (length state.world.heap) ∷ []) next)
         after from to top result left (operands_there is (array_meaning words trees site type array 0) means)
 
@@ -149,8 +151,8 @@ module _ {trees : Program} {p : LinkedProgram} {bounds : Bounds} {inflated : Lis
 
 pub primitive_arrays : (trees : Program) (p : LinkedProgram) (of : Primitive)
     → AreArrays trees p (kind_of_array of) (λ elements. Primitives (primitive_of of) elements)
-primitive_arrays trees p primitive.Boolean count = record { kind = refl; words = refl }
-primitive_arrays trees p primitive.Char count = record { kind = refl; words = refl }
-primitive_arrays trees p primitive.Byte count = record { kind = refl; words = refl }
-primitive_arrays trees p primitive.Short count = record { kind = refl; words = refl }
-primitive_arrays trees p primitive.Int count = record { kind = refl; words = refl }
+primitive_arrays trees p primitive.Boolean count = (record { kind = refl; words = refl }, sym (length-replicate count 0))
+primitive_arrays trees p primitive.Char count = (record { kind = refl; words = refl }, sym (length-replicate count 0))
+primitive_arrays trees p primitive.Byte count = (record { kind = refl; words = refl }, sym (length-replicate count 0))
+primitive_arrays trees p primitive.Short count = (record { kind = refl; words = refl }, sym (length-replicate count 0))
+primitive_arrays trees p primitive.Int count = (record { kind = refl; words = refl }, sym (length-replicate count 0))

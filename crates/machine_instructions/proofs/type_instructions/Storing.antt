@@ -1,11 +1,11 @@
 -- References that are stored in arrays.
 use Rattle.std.proofs.Common.{◌≡◌, ◌+◌, ◌<◌, ◌≤◌, ℕ, zero, suc, List, [], ◌∷◌, Option, Some, None, Ok, Bool, true, false, length, drop, refl, sym, ap, subst, arith, ◌∙◌}
-use Rattle.std.specs.Prelude.{slice_get, slice_set, slice_index_or, nat_lt, IsTrue}
+use Rattle.std.specs.Prelude.{sum_by, slice_get, slice_set, slice_index_or, nat_lt, IsTrue}
 use Rattle.std.specs.Option.{option_and_then}
 use Rattle.std.proofs.lemmas.Bool.{and_parts, false≢true, lt-ltb, le-ltb}
 use Rattle.std.proofs.lemmas.Option.{get_or_from_slice_get}
 use Rattle.model.specs.Classes.{Program}
-use Rattle.model.specs.LimitStands.{Bounds}
+use Rattle.model.specs.LimitStands.{Bounds, opening_count}
 use Rattle.model.specs.ReferenceTypes.{ReferenceArray, is_assignable}
 use Rattle.model.specs.Types.{Want, AReference, AnInt}
 use Rattle.model.specs.Operands.{words, word_reference, over_words, pops_meet, is_ready}
@@ -16,7 +16,7 @@ use Rattle.model.specs.Sites.{MeaningOf, Site}
 use Rattle.model.specs.Meanings.{meaning_of}
 use Rattle.model.specs.State.{ObjectOf, Instance, Primitives, References, Characters, types_of, FrameOf, StackOf, StateOf, WorldOf}
 use Rattle.model.specs.Step.{become}
-use Rattle.model.specs.Worlds.{no_object, object_at, with_object, elements_of, with_element}
+use Rattle.model.specs.Worlds.{cells_of, no_object, object_at, with_object, elements_of, with_element}
 use Rattle.heap.specs.declared.kind.ObjectKind.{ObjectKind}
 use Rattle.heap.specs.declared.kind.ObjectKind.TheVariants as kind
 use Rattle.heap.specs.Heap.{Object, Heap, words_at, put_element}
@@ -194,6 +194,11 @@ module _ {trees : Program} {p : LinkedProgram} {bounds : Bounds} {inflated : Lis
                 subst (λ m. ShowsObjects trees p.components.items (put_element shared.heap.objects r index word) (slice_set state.world.heap r m))
                 (ap (λ v. with_element index v array.array) (array.keeps word) ∙ ap (with_element index word) (sym object_is))
                 (elements.written index word);
+            counted =
+                is.lent.represents.world_is.counted
+                ∙ sym (ap (λ m. sum_by cells_of (drop (opening_count trees) (slice_set state.world.heap r m)))
+                (ap (with_element index word) object_is ∙ sym (ap (λ v. with_element index v array.array) (array.keeps word)))
+                ∙ elements.counted index word (opening_count trees));
             monitors = is.lent.represents.world_is.monitors;
             statics = is.lent.represents.world_is.statics;
             statuses = is.lent.represents.world_is.statuses;

@@ -3,6 +3,8 @@ use Rattle.std.specs.Prelude.{◌≡◌, ◌<◌, ◌≤◌, ℕ, suc, List, ◌
 use Rattle.model.specs.declared.event.Event.{Event}
 use Rattle.model.specs.declared.string_method.StringMethod.{StringMethod}
 use Rattle.model.specs.declared.string_method.StringMethod.TheVariants.{Length, CharAt, Equals, HashCode, CompareTo, Concat, Substring, IndexOf, RegionMatches, ValueOfInt, ValueOfChar}
+use Rattle.model.specs.declared.builder_method.BuilderMethod.{BuilderMethod}
+use Rattle.model.specs.declared.builder_method.BuilderMethod.TheVariants.{ConstructEmpty, ConstructOfString, AppendString, AppendInt, AppendChar, AppendBuilder, ToString}
 use Rattle.model.specs.Names.{java_lang_thread}
 use Rattle.model.specs.Classes.{Program}
 use Rattle.model.specs.Operands.{words}
@@ -48,8 +50,18 @@ string_operands RegionMatches = 5
 string_operands ValueOfInt = 1
 string_operands ValueOfChar = 1
 
+-- the same of one of StringBuilder
+abbrev pub builder_operands : BuilderMethod → ℕ
+builder_operands ConstructEmpty = 1
+builder_operands ConstructOfString = 2
+builder_operands AppendString = 2
+builder_operands AppendInt = 2
+builder_operands AppendChar = 2
+builder_operands AppendBuilder = 2
+builder_operands ToString = 1
+
 -- The operands of a call, the top first: a receiver is not null, and where a field of a Thread is written it is one. What a method of
--- String reads is there.
+-- String or StringBuilder reads is there.
 abbrev pub AreArguments : Program → List (ObjectOf ℕ) → List ℕ → BuiltInMethod → Type 0
 AreArguments trees heap operands method.Construct = Unit {0}
 AreArguments trees heap operands method.ConstructWithTarget = RefersTo heap operands 1 (has_class_below trees java_lang_thread)
@@ -66,6 +78,7 @@ AreArguments trees heap operands method.ThreadJoin = RefersTo heap operands 0 is
 AreArguments trees heap operands method.ThreadIsAlive = RefersTo heap operands 0 is_any
 AreArguments trees heap operands (method.PrintStreamPrints print) = 0 < length operands
 AreArguments trees heap operands (method.StringAnswers string) = string_operands string ≤ length operands
+AreArguments trees heap operands (method.StringBuilderBuilds builds) = builder_operands builds ≤ length operands
 
 -- The frame on top of a thread, whose stack is lent, calls a method that takes so many words. The place behind the call has this
 -- offset.
@@ -99,19 +112,20 @@ abbrev pub call_event : Program → ℕ → Event → WorldOf ℕ → FrameOf �
 call_event trees frames event world frame rest called count offset =
     enabled_if (built_in_may words (built_in_of called) event world (take count frame.place.slots.stack))
     (become trees frames event.thread world frame rest
-    (built_in_does words (built_in_of called) offset event world frame.place.slots (take count frame.place.slots.stack) (drop count frame.place.slots.stack)))
+    (built_in_does words trees (built_in_of called) offset event world frame.place.slots (take count frame.place.slots.stack) (drop count frame.place.slots.stack)))
 
--- In whatever state a thread calls the method, the result says what becomes of the event by it.
-abbrev pub DoesCall : BuiltInMethod → (count next : ℕ) → Event → Result Effect EventRefusal → (old new : Shared) (from to : List ShownEntry)
-    → Type 0
-DoesCall called count next event result old new from to =
-    (trees : Program) (p : LinkedProgram) (bounds : Bounds) (inflated : List ℕ) (state : StateOf ℕ) (frame : FrameOf ℕ) (rest : StackOf ℕ) (offset : ℕ)
+-- In whatever state a thread of a program calls the method, the result says what becomes of the event by it.
+abbrev pub DoesCall : LinkedProgram → BuiltInMethod → (count next : ℕ) → Event → Result Effect EventRefusal → (old new : Shared)
+    (from to : List ShownEntry) → Type 0
+DoesCall p called count next event result old new from to =
+    (trees : Program) (bounds : Bounds) (inflated : List ℕ) (state : StateOf ℕ) (frame : FrameOf ℕ) (rest : StackOf ℕ) (offset : ℕ)
     → IsCalling trees p bounds inflated event.thread old from state frame rest called count next offset
     → (frames : ℕ)
     → Does trees p bounds inflated event.thread state.world (model.Invocation frame
     ∷ rest) (call_event trees frames event state.world frame rest called count offset) result old new from to
 
--- by an event of a thread that picks nothing
+-- of whichever program, by an event of a thread that picks nothing
 abbrev pub DoesUnpicked : BuiltInMethod → (count next : ℕ) → (t : ℕ) → Result Effect EventRefusal → (old new : Shared)
     (from to : List ShownEntry) → Type 0
-DoesUnpicked called count next t = DoesCall called count next (record { thread = t; pick = 0 })
+DoesUnpicked called count next t result old new from to =
+    (p : LinkedProgram) → DoesCall p called count next (record { thread = t; pick = 0 }) result old new from to

@@ -9,6 +9,7 @@ use Rattle.model.specs.Sites.{MeaningOf, Site}
 use Rattle.model.specs.Meanings.{meaning_of}
 use Rattle.model.specs.State as model
 use Rattle.model.specs.State.{ObjectOf, FrameOf, StackOf, StateOf}
+use Rattle.model.specs.Worlds.{cells_of}
 use Rattle.heap.specs.declared.kind.NarrowKind.TheVariants as narrow
 use Rattle.heap.specs.declared.kind.ObjectKind.{ObjectKind}
 use Rattle.heap.specs.declared.kind.ObjectKind.TheVariants as kind
@@ -35,9 +36,10 @@ kind_of_array linked.Byte = kind.Narrow narrow.Byte
 kind_of_array linked.Short = kind.Narrow narrow.Short
 kind_of_array linked.Int = kind.Ints
 
--- what is shown is the array of zeros that is made, of however many
+-- what is shown is the array of zeros that is made, of however many, each of which is a cell
 abbrev pub AreArrays : Program → LinkedProgram → ObjectKind → (List ℕ → ObjectOf ℕ) → Type 0
-AreArrays trees p kind array = (count : ℕ) → ShowsObject trees p.components.items (fresh kind count) (array (replicate count 0))
+AreArrays trees p kind array =
+    (count : ℕ) → ShowsObject trees p.components.items (fresh kind count) (array (replicate count 0)) × (count ≡ cells_of (array (replicate count 0)))
 
 -- in whatever state a thread runs at an instruction that makes such an array, the result says what becomes of the event by it
 abbrev pub MakesArray : LinkedProgram → ObjectKind → (t : ℕ) → Result Effect EventRefusal → (old new : Shared) (from to : List ShownEntry)

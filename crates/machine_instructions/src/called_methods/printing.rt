@@ -3,14 +3,13 @@
 ghost use Rattle.std.specs.Prelude.{◌<◌, ℕ};
 ghost use Rattle.model.specs.BuiltInNumbers.{most_threads};
 ghost use Rattle.linked_code.specs.declared.instruction.LinkedInstruction.TheVariants as linked;
-ghost use Rattle.linked_code.specs.declared.program.LinkedProgram.{LinkedProgram};
 ghost use Rattle.machine_state.specs.linked_frames.Frames.{CanRun, DoesInstruction};
 
 use crate::called_methods::frames::{place_behind, raised, receiver};
 use crate::thread_methods::run_built_in;
-use linked_code::BuiltInMethod;
+use linked_code::{BuiltInMethod, LinkedProgram};
 use machine_state::{Effect, EventRefusal, MachineException, Shared};
-use model::PrintMethod;
+use model::{Event, PrintMethod};
 use thread_stacks::ThreadStack;
 
 /// `invokevirtual` of PrintStream.println(int): the number on top is printed, and a line feed; null under it is a
@@ -22,13 +21,13 @@ use thread_stacks::ThreadStack;
 pub fn println(
     shared: &mut Shared,
     stack: &mut ThreadStack,
+    program: &LinkedProgram,
     thread: u16,
     pick: u16,
 ) -> Result<Effect, EventRefusal>
-    requires running { (p : LinkedProgram) × CanRun p thread shared.old stack.old linked.Println }
+    requires running { CanRun program.now thread shared.old stack.old linked.Println }
     requires numbered { thread < most_threads }
-    ensures { (p : LinkedProgram) (frames : ℕ)
-        → DoesInstruction p linked.Println frames
+    ensures { (frames : ℕ) → DoesInstruction program.now linked.Println frames
         (record { thread = thread; pick = pick }) result shared.old shared.new stack.old
         stack.new }
 {
@@ -39,8 +38,8 @@ pub fn println(
     run_built_in(
         shared,
         stack,
-        thread,
-        pick,
+        program,
+        Event { thread, pick },
         BuiltInMethod::PrintStreamPrints(PrintMethod::PrintlnInt),
         2,
         next,

@@ -10,6 +10,7 @@ use linked_code::{LinkedProgram, MethodBody};
 use machine_state::invocations::call as call_method;
 use machine_state::method_selection::{method_at, methods_are_run};
 use machine_state::{Effect, EventRefusal, MachineException, Shared};
+use model::Event;
 use thread_stacks::{Callee, ThreadStack};
 
 /// A call: the method that it runs, by its number, the object whose monitor that enters where it is synchronized, and
@@ -58,7 +59,8 @@ pub(crate) fn run_method(
         MethodBody::Abstract => Ok(raised(pick, MachineException::AbstractMethod)),
         MethodBody::BuiltIn(method) => {
             let next = place_behind(stack);
-            run_built_in(shared, stack, thread, pick, *method, call.operands, next)
+            let event = Event { thread, pick };
+            run_built_in(shared, stack, program, event, *method, call.operands, next)
         }
         MethodBody::Code(code) => {
             if pick != 0 {

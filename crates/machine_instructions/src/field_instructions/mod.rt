@@ -8,7 +8,7 @@
 //! # Proved
 //!
 //! - In each state in which a thread runs at the instruction: `get_field`, `put_field`, `get_static`, `put_static`,
-//!   `get_system_out`, `load_element`, `store_int`, `store_narrow` and `array_length` do what becomes of the event by
+//!   `get_system_stream`, `load_element`, `store_int`, `store_narrow` and `array_length` do what becomes of the event by
 //!   its instruction (`DoesOwn`), memory aside where there are more operands after it. Null is a NullPointerException,
 //!   and then an index outside an ArrayIndexOutOfBoundsException; where one is raised, or memory is missing, nothing
 //!   has changed. Fields and arrays of narrow types keep what the definitions keep. What leaves no word, or puts one in
@@ -25,4 +25,4 @@ mod statics;
 
 pub use arrays::{array_length, load_element, store_int, store_narrow};
 pub use fields::{get_field, put_field};
-pub use statics::{get_static, get_system_out, put_static};
+pub use statics::{get_static, get_system_stream, put_static};

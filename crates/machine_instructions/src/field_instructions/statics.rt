@@ -11,11 +11,7 @@ use crate::field_instructions::narrowing::kept;
 use crate::leaving::{leave, leave_nothing};
 use machine_state::{Effect, EventRefusal, Shared};
 use model::Primitive;
-use model::built_in::SYSTEM_OUT;
 use thread_stacks::ThreadStack;
-
-/// The word of the reference to the PrintStream of System.out.
-const PRINT_STREAM: u32 = SYSTEM_OUT + 1;
 
 /// The static field in a slot, or 0 where there is none.
 #[inline]
@@ -45,18 +41,18 @@ pub fn get_static(
     }
 }
 
-/// `getstatic` of System.out: its PrintStream goes onto the stack.
+/// `getstatic` of System.out or System.err: its PrintStream, to which this word refers, goes onto the stack.
 ///
 /// # Errors
 ///
 /// Where there is no memory for the word on the stack; nothing has changed then.
 #[inline]
-pub fn get_system_out(stack: &mut ThreadStack) -> Result<Effect, EventRefusal>
+pub fn get_system_stream(stack: &mut ThreadStack, word: u32) -> Result<Effect, EventRefusal>
     ensures { (p : LinkedProgram) (t : ℕ) (shared : Shared)
-        → DoesOwn p linked.GetSystemOut t result shared shared stack.old stack.new }
+        → DoesOwn p (linked.GetSystemStream word) t result shared shared stack.old stack.new }
 {
     match stack.frame() {
-        Some(_frame) => leave(stack, 0, PRINT_STREAM),
+        Some(_frame) => leave(stack, 0, word),
         None => Ok(Effect::NotEnabled),
     }
 }

@@ -1,23 +1,26 @@
 //! Which method is called.
 
-ghost use Rattle.machine_instructions.specs.thread_methods.Called.{CanCall, DoesCall, DoesUnpicked};
+ghost use Rattle.machine_instructions.specs.thread_methods.Called.{CanCall, DoesCall};
 
-use crate::thread_methods::{lives, printing, strings, targets, waiting};
-use linked_code::BuiltInMethod;
+use crate::thread_methods::{builders, lives, printing, strings, targets, waiting};
+use linked_code::{BuiltInMethod, LinkedProgram};
 use machine_state::{Effect, EventRefusal, Shared};
+use model::Event;
 use thread_stacks::ThreadStack;
 
 /// By an event that picks nothing.
 fn run_unpicked(
     shared: &mut Shared,
     stack: &mut ThreadStack,
+    program: &LinkedProgram,
     thread: u16,
     method: BuiltInMethod,
     operands: usize,
     next: usize,
 ) -> Result<Effect, EventRefusal>
     requires { CanCall thread shared.old stack.old method operands next }
-    ensures { DoesUnpicked method operands next thread result shared.old shared.new stack.old stack.new }
+    ensures { DoesCall program.now method operands next
+        (record { thread = thread; pick = 0 }) result shared.old shared.new stack.old stack.new }
 {
     match method {
         BuiltInMethod::Construct | BuiltInMethod::ThreadYield => {
@@ -48,6 +51,9 @@ fn run_unpicked(
         BuiltInMethod::StringAnswers(method) => {
             strings::answer_call(shared, stack, method, operands, next)
         }
+        BuiltInMethod::StringBuilderBuilds(method) => {
+            builders::build(shared, stack, program, method, operands, next)
+        }
     }
 }
 
@@ -63,18 +69,18 @@ fn run_unpicked(
 pub fn run_built_in(
     shared: &mut Shared,
     stack: &mut ThreadStack,
-    thread: u16,
-    pick: u16,
+    program: &LinkedProgram,
+    event: Event,
     method: BuiltInMethod,
     operands: usize,
     next: usize,
 ) -> Result<Effect, EventRefusal>
-    requires { CanCall thread shared.old stack.old method operands next }
-    ensures { DoesCall method operands next
-        (record { thread = thread; pick = pick }) result shared.old shared.new stack.old stack.new }
+    requires { CanCall event.thread shared.old stack.old method operands next }
+    ensures { DoesCall program.now method operands next event result shared.old shared.new stack.old stack.new }
 {
+    let Event { thread, pick } = event;
     if pick == 0 {
-        return run_unpicked(shared, stack, thread, method, operands, next);
+        return run_unpicked(shared, stack, program, thread, method, operands, next);
     }
     match method {
         BuiltInMethod::ObjectNotify => {

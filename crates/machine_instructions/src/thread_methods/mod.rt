@@ -1,5 +1,5 @@
-//! What calls of built-in methods do, which have no code: waiting and notifying, threads, printing, and what Strings
-//! answer.
+//! What calls of built-in methods do, which have no code: waiting and notifying, threads, printing, what Strings
+//! answer, and what StringBuilders do.
 //!
 //! # Proved
 //!
@@ -12,6 +12,8 @@
 //!   of a String, and `null` (`printed_is`).
 //! - A method of String answers what `string_answer` says of the texts and the ints among its operands: an int, an
 //!   operand, or an exception. A String that is made is a new object, whose words are the units of its text.
+//! - A method of StringBuilder does what `builder_does` says. `append` makes a String of the receiver's text and what
+//!   is added; it becomes the text, and the receiver is answered. `toString` answers the text, and makes nothing.
 //!
 //! # Not proved
 //!
@@ -21,10 +23,12 @@
 //!
 //! - `thread_methods-prints-twice`: each digit and letter is printed twice; refused by the clause of `push_bytes`.
 
+mod builders;
 mod called;
 mod growth;
 mod lives;
 mod moves;
+mod new_strings;
 mod printing;
 mod strings;
 mod targets;

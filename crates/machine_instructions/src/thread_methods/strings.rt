@@ -1,20 +1,18 @@
 //! What the methods of String do that have no code.
 
-ghost use Rattle.std.specs.Prelude.{◌≡◌, ◌+◌, ◌<◌, ◌≤◌, ℕ, length, OnOk, IfErr};
+ghost use Rattle.std.specs.Prelude.{ℕ};
 ghost use Rattle.linked_code.specs.declared.method.BuiltInMethod.TheVariants as method;
 ghost use Rattle.model.specs.StringMethods.{Answers};
-ghost use Rattle.heap.specs.Heap.{made, cells_made, with_object, IsRefused};
 ghost use Rattle.string_methods.specs.Answers.{IsAnswerIfAny};
-ghost use Rattle.machine_state.specs.allocations.Allocated.{string_of};
 ghost use Rattle.machine_instructions.specs.thread_methods.Called.{DoesUnpicked};
 ghost use Rattle.machine_instructions.specs.thread_methods.Texts.{answer_by};
 
 use crate::thread_methods::moves::{answer, operand};
+use crate::thread_methods::new_strings::add_string;
 use crate::thread_methods::texts::text;
-use heap::{AllocRefusal, Heap, ObjectKind};
+use heap::Heap;
 use machine_state::{Effect, EventRefusal, MachineException, Shared};
 use model::StringMethod;
-use model::built_in::STRING;
 use std::alloc::{AllocError, Global};
 use string_methods::{self, StringAnswer};
 use thread_stacks::ThreadStack;
@@ -77,36 +75,6 @@ fn answer_of(
         }
         StringMethod::ValueOfChar => Some(string_methods::text_of_char(alloc, operand(stack, 0))),
     }
-}
-
-/// The limit that stands where more cells are wanted than a heap may have.
-fn full(heap: &Heap) -> AllocRefusal
-    ensures { (count : ℕ) → heap.now.cell_limit < count → IsRefused result count heap.now heap.now }
-{
-    if heap.len().saturating_sub(heap.opening()) < heap.object_limit() {
-        AllocRefusal::Cells
-    } else {
-        AllocRefusal::Objects
-    }
-}
-
-/// A new String with these units, where no limit stands. A refusal says which limit stands, or that there was no
-/// memory; nothing has changed then.
-fn add_string(heap: &mut Heap, units: &[u32]) -> Result<(), AllocRefusal>
-    ensures ok { OnOk result (heap.new ≡ with_object heap.old (string_of units.now)) }
-    ensures objects { OnOk result (made heap.old < heap.old.object_limit) }
-    ensures cells { OnOk result (cells_made heap.old + length units.now ≤ heap.old.cell_limit) }
-    ensures err { IfErr result (λ refusal. IsRefused refusal (length units.now) heap.old heap.new) }
-{
-    if units.len() > heap.cell_limit() as usize {
-        return Err(full(heap));
-    }
-    heap.add_words(
-        ObjectKind::Instance {
-            class: STRING as u32,
-        },
-        units,
-    )
 }
 
 /// A method of String answers of the operands on top: an int, a String that is among them, or a new one.

@@ -25,13 +25,19 @@ pub(crate) fn units(heap: &Heap, object: u32) -> Option<&[u32]>
     }
 }
 
-/// The units of the String to which the operand under so many others refers; nothing of null, and of another object.
-pub(crate) fn text<'a>(heap: &'a Heap, stack: &ThreadStack, under: usize) -> Option<&'a [u32]>
-    ensures { option_map (λ u. u.now) result ≡ text_by heap.now.objects (operand_of under stack.now) }
+/// The units of the String to which a word refers; nothing of null, and of another object.
+pub(crate) fn text_by(heap: &Heap, word: u32) -> Option<&[u32]>
+    ensures { option_map (λ u. u.now) result ≡ text_by heap.now.objects word }
 {
-    let word = operand(stack, under);
     if word == 0 {
         return None;
     }
     units(heap, word - 1)
+}
+
+/// The units of the String to which the operand under so many others refers; nothing of null, and of another object.
+pub(crate) fn text<'a>(heap: &'a Heap, stack: &ThreadStack, under: usize) -> Option<&'a [u32]>
+    ensures { option_map (λ u. u.now) result ≡ text_by heap.now.objects (operand_of under stack.now) }
+{
+    text_by(heap, operand(stack, under))
 }

@@ -4,6 +4,7 @@ ghost use Rattle.std.specs.Prelude.{◌≡◌, ◌<◌, ◌-◌, ℕ, length};
 ghost use Rattle.model.specs.State.{WorldOf};
 ghost use Rattle.heap.specs.monitor_events.Tables.{over};
 ghost use Rattle.linked_code.specs.declared.method.BuiltInMethod.TheVariants as method;
+ghost use Rattle.linked_code.specs.declared.program.LinkedProgram.{LinkedProgram};
 ghost use Rattle.machine_instructions.specs.thread_methods.Moves.{operand_of, may_pick as may_pick_in};
 ghost use Rattle.machine_instructions.specs.thread_methods.Called.{DoesCall, DoesUnpicked};
 
@@ -65,7 +66,7 @@ pub(crate) fn notify(
     next: usize,
 ) -> Result<Effect, EventRefusal>
     requires { operand_of 0 stack.old - 1 < length shared.old.heap.locks.monitors }
-    ensures { DoesCall method.ObjectNotify operands next
+    ensures { (p : LinkedProgram) → DoesCall p method.ObjectNotify operands next
         (record { thread = thread; pick = pick }) result shared.old shared.new stack.old
         stack.new }
 {

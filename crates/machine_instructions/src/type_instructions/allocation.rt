@@ -1,6 +1,7 @@
 //! New objects, and the words of their references.
 
 ghost use Rattle.std.specs.Prelude.{◌≡◌};
+ghost use Rattle.heap.specs.declared.kind.ObjectKind.{ObjectKind};
 ghost use Rattle.heap.specs.Heap.{Allocates};
 ghost use Rattle.thread_stacks.specs.Stacks.{shown_frame};
 ghost use Rattle.machine_instructions.specs.type_instructions.Leaving.{LeavesNewTop};
@@ -10,20 +11,21 @@ use heap::{AllocRefusal, Heap, ObjectKind};
 use machine_state::{Effect, EventRefusal};
 use thread_stacks::ThreadStack;
 
-/// One more object of a kind, with so many words, which are 0.
+/// One more object of a kind, with so many words, which are 0 and count as cells.
 #[inline]
 fn allocate(heap: &mut Heap, kind: ObjectKind, cells: u32) -> Result<u32, AllocRefusal>
-    ensures { Allocates result kind cells heap.old heap.new }
+    ensures { Allocates result kind cells cells heap.old heap.new }
 {
     match kind {
-        ObjectKind::Instance { class } => heap.alloc_object(class, cells),
+        ObjectKind::Instance { class } => heap.alloc_object(class, cells, cells),
         ObjectKind::Ints => heap.alloc_ints(cells),
         ObjectKind::References { of } => heap.alloc_refs(of, cells),
         ObjectKind::Narrow(narrow) => heap.alloc_narrow(narrow, cells),
     }
 }
 
-/// A new object: its word goes onto the stack, and the frame goes on at the next place.
+/// A new object of a class, with so many fields, of which so many count as cells: its word goes onto the stack, and the
+/// frame goes on at the next place.
 ///
 /// # Errors
 ///
@@ -32,14 +34,15 @@ fn allocate(heap: &mut Heap, kind: ObjectKind, cells: u32) -> Result<u32, AllocR
 pub(crate) fn leave_new(
     heap: &mut Heap,
     stack: &mut ThreadStack,
-    kind: ObjectKind,
+    class: u32,
+    fields: u32,
     cells: u32,
 ) -> Result<Effect, EventRefusal>
-    ensures { LeavesNewTop result kind cells 0 heap.old heap.new stack.old stack.new }
+    ensures { LeavesNewTop result (ObjectKind.Instance class) fields cells 0 heap.old heap.new stack.old stack.new }
 {
     let next = next_place(stack);
     stack.replace(0, 0)?;
-    match allocate(heap, kind, cells) {
+    match heap.alloc_object(class, fields, cells) {
         Ok(reference) => {
             stack.set_top(reference + 1);
             stack.go_on(next);
@@ -52,7 +55,8 @@ pub(crate) fn leave_new(
     }
 }
 
-/// Leaves a new object as `leave_new` does, where its word takes the place of the operand on top.
+/// Leaves a new object of a kind as `leave_new` does, all of whose words count as cells, where its word takes the place
+/// of the operand on top.
 ///
 /// # Errors
 ///
@@ -64,7 +68,7 @@ pub(crate) fn leave_new_on_top(
     kind: ObjectKind,
     cells: u32,
 ) -> Result<Effect, EventRefusal>
-    ensures { LeavesNewTop result kind cells 1 heap.old heap.new stack.old stack.new }
+    ensures { LeavesNewTop result kind cells cells 1 heap.old heap.new stack.old stack.new }
 {
     let next = next_place(stack);
     let reference = allocate(heap, kind, cells)?;

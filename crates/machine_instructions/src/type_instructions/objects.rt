@@ -8,7 +8,6 @@ ghost use Rattle.machine_state.specs.linked_frames.Frames.{DoesOwn};
 
 use crate::leaving::leave;
 use crate::type_instructions::allocation::leave_new;
-use heap::ObjectKind;
 use machine_state::{Effect, EventRefusal, MachineException, Shared};
 use thread_stacks::ThreadStack;
 
@@ -28,7 +27,8 @@ pub fn load_object(stack: &mut ThreadStack, word: u32) -> Result<Effect, EventRe
     }
 }
 
-/// `new`: an object of a class, whose fields are 0 or null. That the class is initialised is asked before.
+/// `new`: an object of a class, whose fields are 0 or null; so many of them count as cells. That the class is
+/// initialised is asked before.
 ///
 /// # Errors
 ///
@@ -40,17 +40,21 @@ pub fn new_object(
     stack: &mut ThreadStack,
     class: u16,
     fields: u16,
+    cells: u16,
 ) -> Result<Effect, EventRefusal>
     ensures { (p : LinkedProgram) (t : ℕ)
-        → DoesOwn p (linked.New class fields) t result shared.old shared.new stack.old stack.new }
+        → DoesOwn p (linked.New class fields cells) t result shared.old shared.new stack.old stack.new }
 {
     let Some(_frame) = stack.frame() else {
         return Ok(Effect::NotEnabled);
     };
-    let kind = ObjectKind::Instance {
-        class: u32::from(class),
-    };
-    leave_new(&mut shared.heap, stack, kind, u32::from(fields))
+    leave_new(
+        &mut shared.heap,
+        stack,
+        u32::from(class),
+        u32::from(fields),
+        u32::from(cells),
+    )
 }
 
 /// `athrow`: the object of the operand on top is thrown, or a NullPointerException where that is null. The stack

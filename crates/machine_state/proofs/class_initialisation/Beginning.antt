@@ -127,6 +127,7 @@ module _ (read : AreClassesRead) (trees : Program) (p : LinkedProgram) (bounds :
         (record {
           world_is = record {
             objects = r.world_is.objects;
+            counted = r.world_is.counted;
             monitors = r.world_is.monitors;
             statics = subst (λ l. ShowsStatics trees l set.statics) (sym are) set.shown;
             statuses = r.world_is.statuses;

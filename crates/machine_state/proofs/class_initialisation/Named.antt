@@ -61,7 +61,7 @@ one_place (c ∷ cs) differ (suc k) zero f g at there same =
     absurd (true≢false (sym (name_self (name_of f)) ∙ ap (λ n. name_eq (name_of f) n) (same ∙ sym (ap name_of is)) ∙ none))
 one_place (c ∷ cs) differ (suc k) (suc j) f g at there same = ap suc (one_place cs (or_parts (list_any (is_named (name_of c)) cs) _ differ).1 k j f g at there same)
 
-built_in_count : length built_in_classes ≡ 36
+built_in_count : length built_in_classes ≡ 37
 unfolding built_in_classes
 built_in_count = refl
 
@@ -82,8 +82,8 @@ module _ (trees : Program) (linkable : some_stands trees ≡ false) where
   pub none_built_in : list_any has_built_in_name trees ≡ false
   none_built_in = (or_parts (two_of_one_name trees) _ (names_differ trees linkable)).1
 
-  -- below 36 stands a built-in class
-  module _ (number : ℕ) (below : number < 36) (file : FileTree) (at : slice_get (classes_of trees) number ≡ Some file) where
+  -- below 37 stands a built-in class
+  module _ (number : ℕ) (below : number < 37) (file : FileTree) (at : slice_get (classes_of trees) number ≡ Some file) where
     found_built_in : find (is_named (name_of file)) built_in_classes ≡ Some file
     found_built_in =
         let within : number < length built_in_classes = subst (λ n. number < n) (sym built_in_count) below in
@@ -96,7 +96,7 @@ module _ (trees : Program) (linkable : some_stands trees ≡ false) where
     class_below = find-append (is_named (name_of file)) built_in_classes trees ∙ ap (λ o. option_or o (find (is_named (name_of file)) trees)) found_built_in
 
   -- and behind those the classes of the files
-  module _ (place : ℕ) (file : FileTree) (at : slice_get (classes_of trees) (36 + place) ≡ Some file) where
+  module _ (place : ℕ) (file : FileTree) (at : slice_get (classes_of trees) (37 + place) ≡ Some file) where
     pub file_at : slice_get trees place ≡ Some file
     file_at = sym (behind built_in_classes trees place) ∙ ap (λ n. slice_get (classes_of trees) (n + place)) built_in_count ∙ at
 

@@ -49,15 +49,15 @@ by_kind : (b c : Bool) (status : model.ClassStatus) → b ≡ c
 by_kind b c status e = ap (λ x. if x then model.Initialised else status) e
 
 module _ (trees : Program) (linkable : some_stands trees ≡ false) where
-  pub built_in_is : (number : ℕ) → number < 36 → (class : Name) → IsClassAt trees number class → is_built_in class ≡ true
+  pub built_in_is : (number : ℕ) → number < 37 → (class : Name) → IsClassAt trees number class → is_built_in class ≡ true
   built_in_is number below class at = subst (λ (n : Name). is_built_in n ≡ true) at.2 (is_so trees linkable number below at.0 at.1)
 
   -- the file of a class behind the built-in ones
-  at_place : (number place : ℕ) → number ≡ 36 + place → (class : Name) → (at : IsClassAt trees number class)
-      → slice_get (classes_of trees) (36 + place) ≡ Some at.0
+  at_place : (number place : ℕ) → number ≡ 37 + place → (class : Name) → (at : IsClassAt trees number class)
+      → slice_get (classes_of trees) (37 + place) ≡ Some at.0
   at_place number place is class at = subst (λ n. slice_get (classes_of trees) n ≡ Some at.0) is at.1
 
-  pub not_built_in : (number place : ℕ) → number ≡ 36 + place → (class : Name) → IsClassAt trees number class → is_built_in class ≡ false
+  pub not_built_in : (number place : ℕ) → number ≡ 37 + place → (class : Name) → IsClassAt trees number class → is_built_in class ≡ false
   not_built_in number place is class at = subst (λ (n : Name). is_built_in n ≡ false) at.2 (is_not trees linkable place at.0 (at_place number place is class at))
 
   pub its_class : (number : ℕ) (found : Option ℕ) → IsFileOf number found → (file : FileTree)
@@ -66,15 +66,15 @@ module _ (trees : Program) (linkable : some_stands trees ≡ false) where
   its_class number (Some place) is file at = class_behind trees linkable place file (subst (λ n. slice_get (classes_of trees) n ≡ Some file) is at)
 
   module _ (world : WorldOf ℕ) where
-    pub initialised : (number : ℕ) → number < 36 → (class : Name) → IsClassAt trees number class → status_of world class ≡ model.Initialised
+    pub initialised : (number : ℕ) → number < 37 → (class : Name) → IsClassAt trees number class → status_of world class ≡ model.Initialised
     initialised number below class at = by_kind (is_built_in class) true (status_in class world.classes) (built_in_is number below class at)
 
-    of_file : (number place : ℕ) → number ≡ 36 + place → (class : Name) → IsClassAt trees number class
+    of_file : (number place : ℕ) → number ≡ 37 + place → (class : Name) → IsClassAt trees number class
         → status_of world class ≡ status_in class world.classes
     of_file number place is class at = by_kind (is_built_in class) false (status_in class world.classes) (not_built_in number place is class at)
 
     -- classes of two numbers have two names
-    pub one_number : (number place : ℕ) → number ≡ 36 + place → (class : Name) → IsClassAt trees number class → (other : ℕ)
+    pub one_number : (number place : ℕ) → number ≡ 37 + place → (class : Name) → IsClassAt trees number class → (other : ℕ)
         (found : Option ℕ) → IsFileOf other found → IsClassAt trees other class → number ≡ other
     one_number number place is class at other None below there =
         absurd (true≢false (sym (built_in_is other below class there) ∙ not_built_in number place is class at))
@@ -83,21 +83,21 @@ module _ (trees : Program) (linkable : some_stands trees ≡ false) where
         one_place trees (files_differ trees linkable) place j at.0 there.0
         (file_at trees linkable place at.0 (at_place number place is class at))
         (file_at trees linkable j there.0 (at_place other j is_other class there)) (at.2 ∙ sym there.2) in
-        is ∙ ap (λ n. 36 + n) same ∙ sym is_other
+        is ∙ ap (λ n. 37 + n) same ∙ sym is_other
 
 pub kind_of : (number : ℕ) → (found : Option ℕ) × IsFileOf number found
-kind_of number = by (ltb number 36) refl
+kind_of number = by (ltb number 37) refl
   where
-    by : (b : Bool) → ltb number 36 ≡ b → (found : Option ℕ) × IsFileOf number found
-    by true h = (None, ltb-true number 36 h)
-    by false h = let above : 36 ≤ number = ltb-false number 36 h in (Some (number - 36), omega arith)
+    by : (b : Bool) → ltb number 37 ≡ b → (found : Option ℕ) × IsFileOf number found
+    by true h = (None, ltb-true number 37 h)
+    by false h = let above : 37 ≤ number = ltb-false number 37 h in (Some (number - 37), omega arith)
 
 module _ (trees : Program) (p : LinkedProgram) (bounds : Bounds) (world : WorldOf ℕ) (program : IsProgram trees p) (shared : Shared)
     (r : Represents trees p bounds shared world) where
   linkable : some_stands trees ≡ false
   linkable = program.linkable.no_refusal
 
-  pub file_status : (number place : ℕ) → number ≡ 36 + place → (class : Name) → IsClassAt trees number class
+  pub file_status : (number place : ℕ) → number ≡ 37 + place → (class : Name) → IsClassAt trees number class
       → option_map shown_status (slice_get shared.statuses.items place) ≡ Some (status_of world class)
   file_status number place is class at =
       sym (slice_get-map shown_status shared.statuses.items place)
@@ -113,12 +113,12 @@ module _ (trees : Program) (p : LinkedProgram) (bounds : Bounds) (world : WorldO
     after = with_class_status world class (shown_status status)
 
     -- of a built-in class nothing changes
-    pub nothing_set : (number : ℕ) → number < 36 → IsClassAt trees number class → Represents trees p bounds shared after
+    pub nothing_set : (number : ℕ) → number < 37 → IsClassAt trees number class → Represents trees p bounds shared after
     nothing_set number below at =
         subst (λ (cs : List (Name × model.ClassStatus)). Represents trees p bounds shared (record world { classes = cs }))
         (sym (set_none trees world.classes r.world_is.statuses.names (none_built_in trees linkable) class (built_in_is trees linkable number below class at) (shown_status status))) r
 
-    module _ (number place : ℕ) (is : number ≡ 36 + place) (at : IsClassAt trees number class) where
+    module _ (number place : ℕ) (is : number ≡ 37 + place) (at : IsClassAt trees number class) where
       its_file : slice_get trees place ≡ Some at.0
       its_file = file_at trees linkable place at.0 (at_place trees linkable number place is class at)
 
@@ -181,6 +181,7 @@ module _ (trees : Program) (p : LinkedProgram) (bounds : Bounds) (world : WorldO
           (record {
             world_is = record {
               objects = r.world_is.objects;
+              counted = r.world_is.counted;
               monitors = r.world_is.monitors;
               statics = r.world_is.statics;
               statuses = record { names = names_kept; are = statuses_are ∙ ap (map shown_status) (sym statuses_now) };

@@ -34,6 +34,7 @@ module _ (trees : Program) (p : LinkedProgram) (bounds : Bounds) (world : WorldO
       record {
         world_is = record {
           objects = r.world_is.objects;
+          counted = r.world_is.counted;
           monitors = refl;
           statics = r.world_is.statics;
           statuses = r.world_is.statuses;

@@ -10,19 +10,21 @@ use Rattle.model.specs.declared.end.RunCause.TheVariants as cause
 use Rattle.model.specs.declared.value.Value.{Value}
 use Rattle.model.specs.Classes.{Program}
 use Rattle.model.specs.Operands.{words, values, word_of}
-use Rattle.model.specs.State.{ObjectOf, Instance, Primitives, References, Characters, World, StateOf, State}
+use Rattle.model.specs.State.{ObjectOf, World, StateOf, State}
 use Rattle.model.specs.Opening.{opening_heap}
 use Rattle.model.specs.Outcomes.{Cost, Free, Makes, Starts, Enters, Joins}
 use Rattle.model.specs.Step.{SteppedOf, NotEnabled, WrongKind, Next, stepped}
 use Rattle.model.specs.Run.{run}
-use Rattle.model.specs.LimitStands.{Bounds, opening_count, objects_made, cells_of, cells_made, is_crowded, inflated, limit_of, limit_at}
-use Rattle.model.specs.Words.{map_field, map_object, map_world, words_of}
+use Rattle.model.specs.LimitStands.{Bounds, opening_count, objects_made, cells_made, is_crowded, inflated, limit_of, limit_at}
+use Rattle.model.specs.Worlds.{cells_of}
+use Rattle.model.specs.Words.{map_object, map_world, words_of}
 use Rattle.run_laws.proofs.laws.LinkedOf.{linked_of}
 use Rattle.run_laws.specs.word_runs.Words.{map_stepped}
 use Rattle.run_laws.proofs.word_runs.Carried.{carried}
 use Rattle.run_laws.proofs.word_runs.OpenedWords.{opened_words}
 use Rattle.run_laws.specs.monitor_counts.Counts.{IsLonger}
 use Rattle.run_laws.proofs.monitor_counts.Runs.{runs_longer}
+use Rattle.machine_state.proofs.shown_objects.Cells.{object_cells}
 use Rattle.machine_state.specs.limits_at_words.Limits.{limit_in, limit_by, AreLimitsSame, AreLimitsCarried, AreLimitsStanding, GoesOn, AreRunsLongerAtWords}
 
 -- ---- objects and cells
@@ -30,16 +32,10 @@ use Rattle.machine_state.specs.limits_at_words.Limits.{limit_in, limit_by, AreLi
 object_words : ObjectOf Value → ObjectOf ℕ
 object_words = map_object word_of
 
-cells_same : (o : ObjectOf Value) → cells_of (map_object word_of o) ≡ cells_of o
-cells_same (Instance class fields) = length-map fields (map_field word_of)
-cells_same (Primitives of elements) = length-map elements word_of
-cells_same (References of elements) = length-map elements word_of
-cells_same (Characters text) = refl
-
 all_cells_same : (os : List (ObjectOf Value)) → sum_by cells_of (map (map_object word_of) os) ≡ sum_by cells_of os
 all_cells_same os =
     fold-map (λ (n : ℕ) (o : ObjectOf ℕ). n + cells_of o) (map_object word_of) 0 os
-    ∙ (λ i. fold (λ (n : ℕ) (o : ObjectOf Value). n + cells_same o i) 0 os)
+    ∙ (λ i. fold (λ (n : ℕ) (o : ObjectOf Value). n + object_cells word_of o i) 0 os)
 
 objects_made_same : (files : Program) (world : World) → objects_made files (map_world word_of world) ≡ objects_made files world
 objects_made_same files world = ap (λ n. n - opening_count files) (length-map world.heap (map_object word_of))

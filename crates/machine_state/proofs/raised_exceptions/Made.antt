@@ -9,7 +9,6 @@ use Rattle.model.specs.Outcomes.{Makes, exception_class}
 use Rattle.model.specs.LimitStands.{Bounds}
 use Rattle.model.specs.Worlds.{allocated, with_pending}
 use Rattle.model.specs.Step.{PartOf, part, Next}
-use Rattle.heap.specs.declared.kind.ObjectKind.{ObjectKind}
 use Rattle.heap.specs.declared.kind.ObjectKind.TheVariants as kind
 use Rattle.heap.specs.declared.refusal.AllocRefusal.{AllocRefusal}
 use Rattle.heap.specs.Heap as heap
@@ -38,12 +37,12 @@ module _ (trees : Program) (p : LinkedProgram) (bounds : Bounds) (inflated : Lis
     (shown : List ShownEntry) (own : StackOf ℕ) (s : ShowsStack trees p shown own) where
   -- ---- refused
 
-  pub told_as : (next : PartOf ℕ) (object : ObjectKind) (why : AllocRefusal) (after : Heap) → heap.IsRefused why 0 old.heap after
+  pub told_as : (next : PartOf ℕ) (why : AllocRefusal) (after : Heap) → heap.IsRefused why 0 old.heap after
       → (result : Result Answer EventRefusal) → IsErrAnd result (λ told. told ≡ of_heap why)
       → Becomes trees p bounds inflated world (Next (Makes 0) next) result old (record old { heap = after }) shown shown
-  told_as next object why after is (Ok u) e = absurd e
-  told_as next object why after is (Err told) e =
-      let both : MayBeRefused trees bounds inflated world (Makes 0) true (of_heap why) × (after ≡ old.heap) = refused trees p bounds inflated world old (record old { heap = after }) r object 0 why is in (
+  told_as next why after is (Ok u) e = absurd e
+  told_as next why after is (Err told) e =
+      let both : MayBeRefused trees bounds inflated world (Makes 0) true (of_heap why) × (after ≡ old.heap) = refused trees p bounds inflated world old (record old { heap = after }) r 0 why is in (
         record { cost = Makes 0; next = next; is = refl; may = subst (MayBeRefused trees bounds inflated world (Makes 0) true) (sym e) both.0 },
         record { shared = ap (λ (h : Heap). record old { heap = h }) both.1; stack = refl },
       )
@@ -63,7 +62,7 @@ module _ (trees : Program) (p : LinkedProgram) (bounds : Bounds) (inflated : Lis
 
     pub is_pending : (change : List Thread → List Thread) → ((threads : List Thread) → length (change threads) ≡ length threads)
         → (t reference : ℕ) (after : Heap) (table : ThreadTable)
-        → Allocates (Ok reference) (kind.Instance number) 0 old.heap after
+        → Allocates (Ok reference) (kind.Instance number) 0 0 old.heap after
         → table.threads ≡ pending_in change t old.threads.threads reference → table.limit ≡ old.threads.limit
         → IsDone trees p bounds inflated world
         (Next (Makes 0) (part (with_pending (allocated (record world { threads = change world.threads }) (Instance class [])) t (length world.heap)) own))
@@ -79,6 +78,7 @@ module _ (trees : Program) (p : LinkedProgram) (bounds : Bounds) (inflated : Lis
             represents = record {
               world_is = record {
                 objects = m.represents.world_is.objects;
+                counted = m.represents.world_is.counted;
                 monitors = m.represents.world_is.monitors;
                 statics = m.represents.world_is.statics;
                 statuses = m.represents.world_is.statuses;
@@ -101,4 +101,4 @@ module _ (trees : Program) (p : LinkedProgram) (bounds : Bounds) (inflated : Lis
         }
       where
         m : IsMade trees p bounds inflated world (Instance class []) reference 0 old (record old { heap = after })
-        m = made trees p bounds inflated world old (record old { heap = after }) r (kind.Instance number) reference 0 allocates refl (Instance class []) shows
+        m = made trees p bounds inflated world old (record old { heap = after }) r (kind.Instance number) reference 0 0 allocates refl (Instance class []) shows refl

@@ -7,7 +7,7 @@ use Rattle.model.specs.Classes.{Program}
 use Rattle.model.specs.Lookup.{instance_fields}
 use Rattle.model.specs.Opening.{static_fields}
 use Rattle.model.specs.State.{ObjectOf, Instance, Primitives, References, Characters}
-use Rattle.model.specs.Worlds.{value_in, with_value, elements_of, with_element, kept}
+use Rattle.model.specs.Worlds.{value_in, with_value, with_field, elements_of, with_element, kept}
 use Rattle.heap.specs.declared.kind.NarrowKind.TheVariants as narrow
 use Rattle.heap.specs.declared.kind.ObjectKind.{ObjectKind}
 use Rattle.heap.specs.declared.kind.ObjectKind.TheVariants as kind
@@ -17,6 +17,7 @@ use Rattle.linked_code.specs.declared.types.LinkedType.{LinkedType}
 use Rattle.linked_code.specs.Numbers.{slot_in}
 use Rattle.machine_state.specs.shown_objects.Shown.{names_of, words_in, cells_of, IsKindOf, ShowsObject, ShowsObjects, ShowsStatics}
 use Rattle.machine_state.specs.shown_objects.Laws.{IsField, is_array, kept_in, HasElements, IsStatic}
+use Rattle.machine_state.proofs.shown_objects.Cells.{field_cells, element_cells, counts_same}
 use Rattle.machine_state.proofs.shown_objects.Slots.{value_slot, with_slot, with_names, slot_within}
 
 pub counted : (files : Program) (components : List LinkedType) (os : List Object) (ms : List (ObjectOf ℕ))
@@ -143,6 +144,7 @@ module _ (files : Program) (components : List LinkedType) where
               kind = instance.again (with_value field word fields) (with_names field word fields);
               words = set_slot field word fields o.words (instance_fields files class) slot found.2.words instance.names is_slot;
             });
+        counted = λ word. counts_same ms r (Instance class fields) (with_field field word (Instance class fields)) e (field_cells class fields field word);
       }
 
   pub are_elements : (os : List Object) (ms : List (ObjectOf ℕ)) → ShowsObjects files components os ms → (r : ℕ) (m : ObjectOf ℕ)
@@ -160,6 +162,7 @@ module _ (files : Program) (components : List LinkedType) where
                   ∙ ap (λ l. slice_set l index (kept_in m word)) found.2.words
                   ∙ sym (set_cells m index (kept_in m word) array);
             });
+        counted = λ index word. counts_same ms r m (with_element index (kept_in m word) m) e (element_cells m index (kept_in m word));
       }
 
 pub are_statics : (files : Program) (slots : List ℕ) (statics : List (Member × ℕ)) → ShowsStatics files slots statics → (field : Member)

@@ -16,6 +16,7 @@ same_stacks trees p bounds inflated old new state h items =
       represents = record {
         world_is = record {
           objects = r.world_is.objects;
+          counted = r.world_is.counted;
           monitors = r.world_is.monitors;
           statics = r.world_is.statics;
           statuses = r.world_is.statuses;

@@ -1,11 +1,11 @@
 -- What fields and elements are by their slots and words (JVMS 6.5 getfield, putfield, getstatic, putstatic, and arrays).
-use Rattle.std.specs.Prelude.{◌≡◌, ◌<◌, ℕ, List, [], ◌∷◌, ◌++◌, Some, Bool, true, false, length, slice_get, slice_index, slice_set}
+use Rattle.std.specs.Prelude.{◌≡◌, ◌<◌, ℕ, List, [], ◌∷◌, ◌++◌, Some, Bool, true, false, drop, length, sum_by, slice_get, slice_index, slice_set}
 use Rattle.model.specs.Names.{Name, Member}
 use Rattle.model.specs.Classes.{Program}
 use Rattle.model.specs.Lookup.{instance_fields}
 use Rattle.model.specs.Opening.{static_fields}
 use Rattle.model.specs.State.{ObjectOf, Instance, Primitives, References, Characters}
-use Rattle.model.specs.Worlds.{value_in, with_value, with_field, elements_of, with_element, kept}
+use Rattle.model.specs.Worlds.{cells_of, value_in, with_value, with_field, elements_of, with_element, kept}
 use Rattle.heap.specs.Heap.{Object, words_at, word_at, put_field, put_element}
 use Rattle.linked_code.specs.declared.types.LinkedType.{LinkedType}
 use Rattle.linked_code.specs.Numbers.{slot_in}
@@ -24,6 +24,10 @@ AreAdded =
     → ShowsObjects files components shown objects → ShowsObject files components one object
     → ShowsObjects files components (shown ++ one ∷ []) (objects ++ object ∷ [])
 
+-- another object in a place has as many cells, and so have all behind any place
+abbrev pub CountsSame : List (ObjectOf ℕ) → ℕ → ObjectOf ℕ → Type 0
+CountsSame objects r object = (n : ℕ) → sum_by cells_of (drop n (slice_set objects r object)) ≡ sum_by cells_of (drop n objects)
+
 -- ---- fields of objects
 
 -- the field is the word in the slot, read and written
@@ -33,6 +37,7 @@ pub record IsField (files : Program) (components : List LinkedType) (shown : Lis
   pub read : (first : ℕ) → value_in first field fields ≡ word_at shown r slot
   pub written : (word : ℕ) → ShowsObjects files
       components (put_field shown r slot word) (slice_set objects r (with_field field word (Instance class fields)))
+  pub counted : (word : ℕ) → CountsSame objects r (with_field field word (Instance class fields))
 
 abbrev pub AreFields : Type 0
 AreFields =
@@ -62,6 +67,7 @@ pub record HasElements (files : Program) (components : List LinkedType) (shown :
   pub are : elements_of array ≡ words_at shown r
   pub written : (index word : ℕ) → ShowsObjects files
       components (put_element shown r index word) (slice_set objects r (with_element index (kept_in array word) array))
+  pub counted : (index word : ℕ) → CountsSame objects r (with_element index (kept_in array word) array)
 
 abbrev pub AreElements : Type 0
 AreElements =

@@ -45,7 +45,7 @@ pub fn raise(
 ) -> Result<Answer, EventRefusal>
     ensures { IsRaised result fault thread shared.old shared.new }
 {
-    let exception = shared.heap.alloc_object(class_of(fault), 0)?;
+    let exception = shared.heap.alloc_object(class_of(fault), 0, 0)?;
     shared.threads.set_pending(thread, Some(exception));
     Ok(Answer::Done)
 }
@@ -61,7 +61,7 @@ pub fn raise_interrupt(shared: &mut Shared, thread: u16) -> Result<Answer, Event
 {
     let exception = shared
         .heap
-        .alloc_object(class_of(MachineException::InterruptedWait), 0)?;
+        .alloc_object(class_of(MachineException::InterruptedWait), 0, 0)?;
     shared.threads.set_interrupted(thread, false);
     shared.threads.set_pending(thread, Some(exception));
     Ok(Answer::Done)

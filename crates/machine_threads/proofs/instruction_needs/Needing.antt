@@ -12,7 +12,7 @@ use Rattle.model.specs.Classes.{Program, is_built_in}
 use Rattle.model.specs.Arrays.{load_of, store_of}
 use Rattle.model.specs.Calls.{return_of}
 use Rattle.model.specs.ClassInitialisation.{IsReady, look_at, look_by, status_in}
-use Rattle.model.specs.Meanings.{local_or, system_out_meaning, meaning_of}
+use Rattle.model.specs.Meanings.{local_or, system_stream_meaning, meaning_of}
 use Rattle.model.specs.Operands.{words}
 use Rattle.model.specs.Sites.{MeaningOf, Site}
 use Rattle.model.specs.State.{Initialised, WorldOf}
@@ -72,9 +72,10 @@ module _ (trees : Program) (p : LinkedProgram) (at : ℕ → ℕ) (code : List L
   direct parameters method (CallsSpecial named callee is counted other found numbered) = none _ is refl
   direct parameters method (CallsOnly named callee is counted numbered) = none _ is refl
 
-  system : meaning_of words trees site ≡ Some (system_out_meaning words (at (k + 1))) → IsNeeded trees meaning.looks None
-  system is =
-      let same : meaning ≡ system_out_meaning words (at (k + 1)) = same_Some meaning _ (sym means ∙ is) in
+  system : (stream : ℕ) → meaning_of words trees site ≡ Some (system_stream_meaning words (at (k + 1)) stream)
+      → IsNeeded trees meaning.looks None
+  system stream is =
+      let same : meaning ≡ system_stream_meaning words (at (k + 1)) stream = same_Some meaning _ (sym means ∙ is) in
       λ t world. ap (λ (x : MeaningOf ℕ). look_at t world x.looks) same ∙ system_ready t world
 
 -- ---- each instruction, in a line
@@ -92,14 +93,14 @@ needs (linked.PutBooleanStatic class slot) trees p at code site k meaning l mean
 needs (linked.PutByteStatic class slot) trees p at code site k meaning l means = some trees p at code site k meaning means _ _ class l.is refl l.declared
 needs (linked.PutCharStatic class slot) trees p at code site k meaning l means = some trees p at code site k meaning means _ _ class l.is refl l.declared
 needs (linked.PutShortStatic class slot) trees p at code site k meaning l means = some trees p at code site k meaning means _ _ class l.is refl l.declared
-needs linked.GetSystemOut trees p at code site k meaning l means = system trees p at code site k meaning means l
+needs (linked.GetSystemStream word) trees p at code site k meaning l means = system trees p at code site k meaning means l.stream l.is
 needs linked.LoadElement trees p at code site k meaning l means = none trees p at code site k meaning means _ l.is (load_looks trees site l.kind)
 needs linked.StoreInt trees p at code site k meaning l means = none trees p at code site k meaning means _ l.is (store_looks trees site array_kind.Int)
 needs linked.StoreNarrow trees p at code site k meaning l means = none trees p at code site k meaning means _ l.stores.is (store_looks trees site l.kind)
 needs linked.StoreReference trees p at code site k meaning l means = none trees p at code site k meaning means _ l.is (store_looks trees site array_kind.Reference)
 needs linked.ArrayLength trees p at code site k meaning l means = none trees p at code site k meaning means _ l.is refl
 needs (linked.LoadObject word) trees p at code site k meaning l means = none trees p at code site k meaning means _ l.is refl
-needs (linked.New class fields) trees p at code site k meaning l means = some trees p at code site k meaning means _ _ class l.is refl l.numbered
+needs (linked.New class fields cells) trees p at code site k meaning l means = some trees p at code site k meaning means _ _ class l.is refl l.numbered
 needs (linked.NewArray of) trees p at code site k meaning l means = none trees p at code site k meaning means _ l.is refl
 needs (linked.NewReferenceArray number) trees p at code site k meaning l means = none trees p at code site k meaning means _ l.is refl
 needs (linked.CheckCast type) trees p at code site k meaning l means = none trees p at code site k meaning means _ l.0.is refl

@@ -48,53 +48,53 @@ copy_at (suc n) zero x h = refl
 copy_at (suc n) (suc k) x h = copy_at n k x (omega arith)
 
 module _ (trees : Program) (p : LinkedProgram) (program : IsProgram trees p) where
-  behind : length p.classes.items ≡ 36 + length trees
+  behind : length p.classes.items ≡ 37 + length trees
   behind = class_count trees (classes_of trees) p.classes.items program.linked.classes ∙ count_behind trees
 
-  pub enough : 36 ≤ length p.classes.items
+  pub enough : 37 ≤ length p.classes.items
   enough = omega (arith, behind)
 
-  of_files : length p.classes.items - 36 ≡ length trees
+  of_files : length p.classes.items - 37 ≡ length trees
   of_files = omega (arith, behind)
 
-  pub none_initialised : ShowsStatuses trees (replicate (length p.classes.items - 36) status.NotInitialised)
+  pub none_initialised : ShowsStatuses trees (replicate (length p.classes.items - 37) status.NotInitialised)
       (opening words trees).world.classes
   none_initialised = record { names = names_are trees; are = statuses_are trees ∙ ap (λ n. map shown_status (replicate n status.NotInitialised)) (sym of_files) }
 
   module _ (number : ℕ) (class : Name) (file : FileTree) (at : slice_get (classes_of trees) number ≡ Some file) (named : name_of file ≡ class) where
     abbrev pub flags : List Bool
-    flags = replicate 36 true ++ replicate (length p.classes.items - 36) false
+    flags = replicate 37 true ++ replicate (length p.classes.items - 37) false
 
     abbrev pub status_by : Bool → ClassStatus
     status_by b = if b then Initialised else status_in class (with_none trees)
 
-    built_in_ready : number < 36 → slice_get flags number ≡ Some (is_initialised (status_of (opening words trees).world class))
+    built_in_ready : number < 37 → slice_get flags number ≡ Some (is_initialised (status_of (opening words trees).world class))
     built_in_ready below =
         let built_in : is_built_in class ≡ true = ap is_built_in (sym named) ∙ is_so trees program.linkable.no_refusal number below file at in
-        get_front (replicate 36 true) (replicate (length p.classes.items - 36) false) number below
-        ∙ copy_at 36 number true below
+        get_front (replicate 37 true) (replicate (length p.classes.items - 37) false) number below
+        ∙ copy_at 37 number true below
         ∙ ap (λ b. Some (is_initialised (status_by b))) (sym built_in)
 
-    file_not_ready : (k : ℕ) → number ≡ 36 + k
+    file_not_ready : (k : ℕ) → number ≡ 37 + k
         → slice_get flags number ≡ Some (is_initialised (status_of (opening words trees).world class))
     file_not_ready k is =
-        let there : slice_get (classes_of trees) (36 + k) ≡ Some file = ap (slice_get (classes_of trees)) (sym is) ∙ at in
+        let there : slice_get (classes_of trees) (37 + k) ≡ Some file = ap (slice_get (classes_of trees)) (sym is) ∙ at in
         let other : is_built_in class ≡ false = ap is_built_in (sym named) ∙ is_not trees program.linkable.no_refusal k file there in
         let within : k < length trees = slice_get_within trees k file (file_at trees program.linkable.no_refusal k file there) in
-        let room : k < length p.classes.items - 36 = omega (arith, within, behind) in
+        let room : k < length p.classes.items - 37 = omega (arith, within, behind) in
         ap (slice_get flags) is
-        ∙ get_behind (replicate 36 true) (replicate (length p.classes.items - 36) false) k
-        ∙ copy_at (length p.classes.items - 36) k false room
+        ∙ get_behind (replicate 37 true) (replicate (length p.classes.items - 37) false) k
+        ∙ copy_at (length p.classes.items - 37) k false room
         ∙ ap (λ s. Some (is_initialised s)) (sym (none_in class trees))
         ∙ ap (λ b. Some (is_initialised (status_by b))) (sym other)
 
-    ready_by : (b : Bool) → ltb number 36 ≡ b → slice_get flags number ≡ Some (is_initialised (status_of (opening words trees).world class))
-    ready_by true e = built_in_ready (ltb-true number 36 e)
-    ready_by false e = let above = ltb-false number 36 e in file_not_ready (number - 36) (omega (arith, above))
+    ready_by : (b : Bool) → ltb number 37 ≡ b → slice_get flags number ≡ Some (is_initialised (status_of (opening words trees).world class))
+    ready_by true e = built_in_ready (ltb-true number 37 e)
+    ready_by false e = let above = ltb-false number 37 e in file_not_ready (number - 37) (omega (arith, above))
 
     pub is_ready : slice_get flags number ≡ Some (is_initialised (status_of (opening words trees).world class))
-    is_ready = ready_by (ltb number 36) refl
+    is_ready = ready_by (ltb number 37) refl
 
-  pub built_in_are_ready : AreInitialised trees (replicate 36 true
-      ++ replicate (length p.classes.items - 36) false) (opening words trees).world
+  pub built_in_are_ready : AreInitialised trees (replicate 37 true
+      ++ replicate (length p.classes.items - 37) false) (opening words trees).world
   built_in_are_ready number class at = is_ready number class at.0 at.1 at.2

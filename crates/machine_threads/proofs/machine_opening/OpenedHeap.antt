@@ -112,8 +112,10 @@ class_count trees (f ∷ fs) (l ∷ ls) h = ap suc (class_count trees fs ls h.1)
 
 module _ (trees : Program) (p : LinkedProgram) (linked : IsLinkedProgram trees p) where
   rest_shown : ShowsObjects trees p.components.items
-      (replicate (length p.classes.items) (fresh (kind.Instance class_number) 0) ++ map (λ text. string_object text.items) p.texts.items)
-      (map (λ file. Instance java_lang_class []) (classes_of trees) ++ map (λ bytes. Characters (decoded bytes)) (string_texts trees))
+      (replicate (length p.classes.items) (fresh (kind.Instance class_number) 0)
+      ++ (map (λ text. string_object text.items) p.texts.items ++ fresh (kind.Instance print_stream_number) 0 ∷ []))
+      (map (λ file. Instance java_lang_class []) (classes_of trees)
+      ++ (map (λ bytes. Characters (decoded bytes)) (string_texts trees) ++ Instance java_io_print_stream [] ∷ []))
   rest_shown =
       let c = p.components.items in
       let classes =
@@ -121,7 +123,7 @@ module _ (trees : Program) (p : LinkedProgram) (linked : IsLinkedProgram trees p
       (sym (class_count trees (classes_of trees) p.classes.items linked.classes))
       (copies trees c (fresh (kind.Instance class_number) 0) (Instance java_lang_class []) (shows_class trees c) (classes_of trees)) in
       let strings = texts_shown trees c (λ (text : Vec ℕ Global). text.items) p.texts.items (string_texts trees) linked.texts in
-      both trees c _ _ _ _ classes strings
+      both trees c _ _ _ _ classes (both trees c _ _ _ _ strings (shows_print_stream trees c, tt))
 
   pub objects_shown : ShowsObjects trees p.components.items (opening_objects p) (opening_heap words trees)
   unfolding opening_heap

@@ -1,13 +1,16 @@
 -- All that there is before any event is shown.
 use Rattle.std.proofs.Common.{◌≡◌, ℕ, ◌-◌, List, [], ◌∷◌, ◌++◌, map, length, replicate, true, false, refl, sym, ap, subst, ◌∙◌}
+use Rattle.std.specs.Prelude.{drop, sum_by}
+use Rattle.std.proofs.Math.Seq.{drop-length}
 use Rattle.std.proofs.lemmas.List.{length-replicate}
 use Rattle.model.specs.declared.limits.Limits.{Limits}
 use Rattle.model.specs.Classes.{Program}
-use Rattle.model.specs.LimitStands.{bounds_of}
+use Rattle.model.specs.LimitStands.{bounds_of, cells_made}
 use Rattle.model.specs.Monitors.{unlocked}
 use Rattle.model.specs.Operands.{words, values}
 use Rattle.model.specs.State.{ObjectOf, Monitor, new_thread}
 use Rattle.model.specs.Opening.{static_fields, main_thread_reference, opening_heap, opening}
+use Rattle.model.specs.Worlds.{cells_of}
 use Rattle.heap.specs.Heap.{Heap}
 use Rattle.heap.specs.java_threads.Table.{ThreadTable}
 use Rattle.linked_code.specs.declared.program.LinkedProgram.{LinkedProgram}
@@ -37,13 +40,19 @@ monitors_of (object ∷ objects) = ap (λ (l : List Monitor). unlocked ∷ l) (m
 module _ (trees : Program) (p : LinkedProgram) (program : IsProgram trees p) (limits : Limits) (shared : Shared)
     (heap_is : shared.heap ≡ opened limits (opening_objects p))
     (statics_are : shared.statics.items ≡ replicate p.static_fields 0)
-    (statuses_are : shared.statuses.items ≡ replicate (length p.classes.items - 36) status.NotInitialised)
-    (ready_are : shared.ready.items ≡ replicate 36 true ++ replicate (length p.classes.items - 36) false)
+    (statuses_are : shared.statuses.items ≡ replicate (length p.classes.items - 37) status.NotInitialised)
+    (ready_are : shared.ready.items ≡ replicate 37 true ++ replicate (length p.classes.items - 37) false)
     (threads_are : shared.threads ≡ record { threads = new_thread main_thread_reference ∷ []; limit = limits.threads })
     (printed_are : shared.printed.items ≡ [])
     (stacks_are : shared.stacks.items ≡ [] ∷ []) where
   count : length (opening_objects p) ≡ length (opening_heap words trees)
   count = object_count trees p program.linked
+
+  -- no cell was made
+  none_made : 0 ≡ cells_made trees (opening words trees).world
+  none_made =
+      ap (sum_by cells_of) (sym (drop-length (opening_heap words trees)))
+      ∙ ap (λ n. sum_by cells_of (drop n (opening_heap words trees))) (limits_same.opened trees)
 
   pub is_shown : IsShown trees p (bounds_of limits) [] shared (opening words trees)
   is_shown =
@@ -51,6 +60,7 @@ module _ (trees : Program) (p : LinkedProgram) (program : IsProgram trees p) (li
         represents = record {
           world_is = record {
             objects = subst (λ (heap : Heap). ShowsObjects trees p.components.items heap.objects (opening_heap words trees)) (sym heap_is) (objects_shown trees p program.linked);
+            counted = ap (λ (heap : Heap). heap.counted) heap_is ∙ none_made;
             monitors = ap (λ (heap : Heap). heap.locks.monitors) heap_is ∙ ap (λ n. replicate n unlocked) count ∙ monitors_of (opening_heap words trees);
             statics = record {
               words = statics_are ∙ ap (λ n. replicate n 0) program.linked.static_fields ∙ first_words (static_fields trees);

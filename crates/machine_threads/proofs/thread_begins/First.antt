@@ -77,6 +77,7 @@ begun_shown trees p bounds t new world r =
     record {
       world_is = record {
         objects = r.world_is.objects;
+        counted = r.world_is.counted;
         monitors = r.world_is.monitors;
         statics = r.world_is.statics;
         statuses = r.world_is.statuses;

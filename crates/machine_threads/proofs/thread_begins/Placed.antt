@@ -47,7 +47,7 @@ none_some : {A : Type 0} (o : Option A) → is_some o ≡ false → o ≡ None
 none_some None h = refl
 none_some (Some x) h = absurd (true≢false h)
 
-built_in_count : length built_in_classes ≡ 36
+built_in_count : length built_in_classes ≡ 37
 unfolding built_in_classes
 built_in_count = refl
 
@@ -60,24 +60,24 @@ module _ (file : FileTree) (files : Program) (linkable : some_stands (file ∷ f
   new_name : is_built_in (name_of file) ≡ false
   new_name = any_at has_built_in_name trees 0 file refl (none_built_in trees linkable)
 
-  place : position_or_len (is_named (name_of file)) (classes_of trees) ≡ 36
+  place : position_or_len (is_named (name_of file)) (classes_of trees) ≡ 37
   place =
       let here : position_or_len (is_named (name_of file)) trees ≡ 0 = rw (name_self (name_of file)) refl in
       behind (is_named (name_of file)) built_in_classes trees (none_some (find (is_named (name_of file)) built_in_classes) new_name)
       ∙ ap (λ n. n + position_or_len (is_named (name_of file)) trees) built_in_count
-      ∙ ap (λ n. 36 + n) here
+      ∙ ap (λ n. 37 + n) here
 
-  number : (n : ℕ) → IsClassAt trees n (name_of file) → n ≡ 36
-  number n at = by (nat_lt n 36) refl
+  number : (n : ℕ) → IsClassAt trees n (name_of file) → n ≡ 37
+  number n at = by (nat_lt n 37) refl
     where
-      by : (b : Bool) → nat_lt n 36 ≡ b → n ≡ 36
+      by : (b : Bool) → nat_lt n 37 ≡ b → n ≡ 37
       by true e =
-          absurd (true≢false (sym (is_so trees linkable n (ltb-true n 36 e) at.0 at.1) ∙ ap is_built_in at.2 ∙ new_name))
+          absurd (true≢false (sym (is_so trees linkable n (ltb-true n 37 e) at.0 at.1) ∙ ap is_built_in at.2 ∙ new_name))
       by false e =
-          let past = ltb-false n 36 e in
-          let split : n ≡ 36 + (n - 36) = omega arith in
-          let there = file_at trees linkable (n - 36) at.0 (subst (λ k. slice_get (classes_of trees) k ≡ Some at.0) split at.1) in
-          split ∙ ap (λ k. 36 + k) (one_place trees (files_differ trees linkable) (n - 36) 0 at.0 file there refl at.2)
+          let past = ltb-false n 37 e in
+          let split : n ≡ 37 + (n - 37) = omega arith in
+          let there = file_at trees linkable (n - 37) at.0 (subst (λ k. slice_get (classes_of trees) k ≡ Some at.0) split at.1) in
+          split ∙ ap (λ k. 37 + k) (one_place trees (files_differ trees linkable) (n - 37) 0 at.0 file there refl at.2)
 
 -- the row of main has its number
 pub class_at : AreMethodsRead → (trees : Program) (p : LinkedProgram) → IsProgram trees p → (row : LinkedMethod)

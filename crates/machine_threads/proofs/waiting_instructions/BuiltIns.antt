@@ -1,15 +1,18 @@
 -- The built-in methods: none but join waits, and join waits for the end of a thread that is alive.
-use Rattle.std.proofs.Common.{◌≡◌, ℕ, List, Option, Some, None, Bool, true, false, not, ◌&&◌, ◌||◌, if◌then◌else◌, length, refl, sym, ◌∙◌}
-use Rattle.std.specs.Prelude.{nat_lt, is_some}
+use Rattle.std.proofs.Common.{◌≡◌, ℕ, List, [], Option, Some, None, Bool, true, false, not, ◌&&◌, ◌||◌, if◌then◌else◌, length, refl, sym, ◌∙◌}
+use Rattle.std.specs.Prelude.{nat_lt, is_none, is_some}
 use Rattle.std.proofs.lemmas.Bool.{true≢false}
 use Rattle.model.specs.Names.{Member}
 use Rattle.model.specs.Classes.{Program, Body, body_of}
 use Rattle.model.specs.Operands.{Slots, words}
 use Rattle.model.specs.Outcomes.{OutcomeOf, Interrupts}
 use Rattle.model.specs.StringMethods.{StringAnswer, IsNull, IsOutside, Answers, Same, Composes, string_answer}
-use Rattle.model.specs.Sites.{Site, int_operand}
+use Rattle.model.specs.BuilderMethods as builder
+use Rattle.model.specs.BuilderMethods.{BuilderAnswer, builder_answer, builder_shown, builds}
+use Rattle.model.specs.Sites.{Site, referent, int_operand}
+use Rattle.model.specs.Opening.{string_reference}
 use Rattle.model.specs.State.{WorldOf}
-use Rattle.model.specs.Worlds.{is_owner, is_alive, thread_at, thread_of, waiters_of}
+use Rattle.model.specs.Worlds.{is_owner, is_alive, thread_at, thread_of, waiters_of, string_shown}
 use Rattle.model.specs.BuiltInMethods as built_in
 use Rattle.model.specs.BuiltInMethods.{BuiltInMethod, built_in_method, built_in_may, built_in_does, object_of, wait_by, if_owner, start_by, join_by, string_operand, answered}
 use Rattle.model.specs.Calls.{Chosen, Fails, Runs, may_run, runs, may_invoke, invoked}
@@ -45,25 +48,37 @@ answer_stays (Answers bits) next world slots ops rest = tt
 answer_stays (Same k) next world slots ops rest = tt
 answer_stays (Composes text) next world slots ops rest = tt
 
+build_stays : (answer : BuilderAnswer) (empty next : ℕ) (world : WorldOf ℕ) (slots : Slots ℕ) (ops rest : List ℕ)
+    → Stays (builds words empty answer next world slots ops rest)
+build_stays builder.IsNull empty next world slots ops rest = tt
+build_stays builder.KeepsEmpty empty next world slots ops rest = tt
+build_stays builder.Keeps empty next world slots ops rest = tt
+build_stays (builder.Adds added) empty next world slots ops rest = tt
+build_stays builder.GivesText empty next world slots ops rest = tt
+
 -- a built-in method calls nothing
-pub built_in_stays : (of : BuiltInMethod) (next t : ℕ) (world : WorldOf ℕ) (slots : Slots ℕ) (ops rest : List ℕ)
-    → Stays (built_in_does words of next (event_of t) world slots ops rest)
-built_in_stays built_in.Construct next t world slots ops rest = tt
-built_in_stays built_in.ConstructWithTarget next t world slots ops rest = tt
-built_in_stays built_in.ObjectWait next t world slots ops rest = wait_stays (is_owner world t (object_of words ops 0)) (thread_at world t).interrupted t _ world rest
-built_in_stays built_in.ObjectNotify next t world slots ops rest = owner_stays (is_owner world t (object_of words ops 0)) _ tt
-built_in_stays built_in.ObjectNotifyAll next t world slots ops rest = owner_stays (is_owner world t (object_of words ops 0)) _ tt
-built_in_stays built_in.ThreadStart next t world slots ops rest = start_stays (is_some (thread_of world (object_of words ops 0))) next _ world slots rest
-built_in_stays built_in.ThreadInterrupt next t world slots ops rest = tt
-built_in_stays built_in.ThreadIsInterrupted next t world slots ops rest = tt
-built_in_stays built_in.ThreadInterrupted next t world slots ops rest = tt
-built_in_stays built_in.ThreadYield next t world slots ops rest = tt
-built_in_stays built_in.ThreadCurrentThread next t world slots ops rest = tt
-built_in_stays built_in.ThreadJoin next t world slots ops rest = join_stays (is_alive world (object_of words ops 0)) next world slots rest
-built_in_stays built_in.ThreadIsAlive next t world slots ops rest = tt
-built_in_stays (built_in.PrintStreamPrints print) next t world slots ops rest = tt
-built_in_stays (built_in.StringAnswers method) next t world slots ops rest =
+pub built_in_stays : (files : Program) (of : BuiltInMethod) (next t : ℕ) (world : WorldOf ℕ) (slots : Slots ℕ) (ops rest : List ℕ)
+    → Stays (built_in_does words files of next (event_of t) world slots ops rest)
+built_in_stays files built_in.Construct next t world slots ops rest = tt
+built_in_stays files built_in.ConstructWithTarget next t world slots ops rest = tt
+built_in_stays files built_in.ObjectWait next t world slots ops rest = wait_stays (is_owner world t (object_of words ops 0)) (thread_at world t).interrupted t _ world rest
+built_in_stays files built_in.ObjectNotify next t world slots ops rest = owner_stays (is_owner world t (object_of words ops 0)) _ tt
+built_in_stays files built_in.ObjectNotifyAll next t world slots ops rest = owner_stays (is_owner world t (object_of words ops 0)) _ tt
+built_in_stays files built_in.ThreadStart next t world slots ops rest = start_stays (is_some (thread_of world (object_of words ops 0))) next _ world slots rest
+built_in_stays files built_in.ThreadInterrupt next t world slots ops rest = tt
+built_in_stays files built_in.ThreadIsInterrupted next t world slots ops rest = tt
+built_in_stays files built_in.ThreadInterrupted next t world slots ops rest = tt
+built_in_stays files built_in.ThreadYield next t world slots ops rest = tt
+built_in_stays files built_in.ThreadCurrentThread next t world slots ops rest = tt
+built_in_stays files built_in.ThreadJoin next t world slots ops rest = join_stays (is_alive world (object_of words ops 0)) next world slots rest
+built_in_stays files built_in.ThreadIsAlive next t world slots ops rest = tt
+built_in_stays files (built_in.PrintStreamPrints print) next t world slots ops rest = tt
+built_in_stays files (built_in.StringAnswers method) next t world slots ops rest =
     answer_stays (string_answer method (int_operand words ops) (string_operand words world ops)) next world slots ops rest
+built_in_stays files (built_in.StringBuilderBuilds method) next t world slots ops rest =
+    build_stays
+    (builder_answer method (int_operand words ops 0) (is_none (referent words ops 0)) (string_shown world (referent words ops 0)) (builder_shown words world (referent words ops 0)))
+    (string_reference files []) next world slots ops rest
 
 -- where a member waits, the first may be picked; else nothing is
 notify_may : (owner : Bool) (n : ℕ) → (if owner && nat_lt 0 n then nat_lt 0 n else true) ≡ true
@@ -92,6 +107,7 @@ built_in_allowed method.ThreadJoin n t world ops = absurd (n refl)
 built_in_allowed method.ThreadIsAlive n t world ops = refl
 built_in_allowed (method.PrintStreamPrints print) n t world ops = refl
 built_in_allowed (method.StringAnswers of) n t world ops = refl
+built_in_allowed (method.StringBuilderBuilds of) n t world ops = refl
 
 -- a join that may not be done is one of a thread that is alive
 join_held : (alive interrupted : Bool) (next : ℕ) (world : WorldOf ℕ) (slots : Slots ℕ) (rest : List ℕ)
@@ -100,28 +116,29 @@ join_held true interrupted next world slots rest h = refl
 join_held false interrupted next world slots rest h = absurd (true≢false h)
 
 -- so a built-in method that may not be done is a join, and would be interrupted
-held_by : (of : BuiltInMethod) (next t : ℕ) (world : WorldOf ℕ) (slots : Slots ℕ) (ops rest : List ℕ)
-    → built_in_may words of (event_of t) world ops ≡ false → built_in_does words of next (event_of t) world slots ops rest ≡ Interrupts
-held_by built_in.ThreadJoin next t world slots ops rest h = join_held (is_alive world (object_of words ops 0)) (thread_at world t).interrupted next world slots rest h
-held_by built_in.Construct next t world slots ops rest h = absurd (true≢false h)
-held_by built_in.ConstructWithTarget next t world slots ops rest h = absurd (true≢false h)
-held_by built_in.ObjectWait next t world slots ops rest h = absurd (true≢false h)
-held_by built_in.ObjectNotify next t world slots ops rest h = absurd (true≢false (sym (notify_may (is_owner world t (object_of words ops 0)) (length (waiters_of world (object_of words ops 0)))) ∙ h))
-held_by built_in.ObjectNotifyAll next t world slots ops rest h = absurd (true≢false h)
-held_by built_in.ThreadStart next t world slots ops rest h = absurd (true≢false h)
-held_by built_in.ThreadInterrupt next t world slots ops rest h = absurd (true≢false h)
-held_by built_in.ThreadIsInterrupted next t world slots ops rest h = absurd (true≢false h)
-held_by built_in.ThreadInterrupted next t world slots ops rest h = absurd (true≢false h)
-held_by built_in.ThreadYield next t world slots ops rest h = absurd (true≢false h)
-held_by built_in.ThreadCurrentThread next t world slots ops rest h = absurd (true≢false h)
-held_by built_in.ThreadIsAlive next t world slots ops rest h = absurd (true≢false h)
-held_by (built_in.PrintStreamPrints print) next t world slots ops rest h = absurd (true≢false h)
-held_by (built_in.StringAnswers method) next t world slots ops rest h = absurd (true≢false h)
+held_by : (files : Program) (of : BuiltInMethod) (next t : ℕ) (world : WorldOf ℕ) (slots : Slots ℕ) (ops rest : List ℕ)
+    → built_in_may words of (event_of t) world ops ≡ false → built_in_does words files of next (event_of t) world slots ops rest ≡ Interrupts
+held_by files built_in.ThreadJoin next t world slots ops rest h = join_held (is_alive world (object_of words ops 0)) (thread_at world t).interrupted next world slots rest h
+held_by files built_in.Construct next t world slots ops rest h = absurd (true≢false h)
+held_by files built_in.ConstructWithTarget next t world slots ops rest h = absurd (true≢false h)
+held_by files built_in.ObjectWait next t world slots ops rest h = absurd (true≢false h)
+held_by files built_in.ObjectNotify next t world slots ops rest h = absurd (true≢false (sym (notify_may (is_owner world t (object_of words ops 0)) (length (waiters_of world (object_of words ops 0)))) ∙ h))
+held_by files built_in.ObjectNotifyAll next t world slots ops rest h = absurd (true≢false h)
+held_by files built_in.ThreadStart next t world slots ops rest h = absurd (true≢false h)
+held_by files built_in.ThreadInterrupt next t world slots ops rest h = absurd (true≢false h)
+held_by files built_in.ThreadIsInterrupted next t world slots ops rest h = absurd (true≢false h)
+held_by files built_in.ThreadInterrupted next t world slots ops rest h = absurd (true≢false h)
+held_by files built_in.ThreadYield next t world slots ops rest h = absurd (true≢false h)
+held_by files built_in.ThreadCurrentThread next t world slots ops rest h = absurd (true≢false h)
+held_by files built_in.ThreadIsAlive next t world slots ops rest h = absurd (true≢false h)
+held_by files (built_in.PrintStreamPrints print) next t world slots ops rest h = absurd (true≢false h)
+held_by files (built_in.StringAnswers method) next t world slots ops rest h = absurd (true≢false h)
+held_by files (built_in.StringBuilderBuilds method) next t world slots ops rest h = absurd (true≢false h)
 
 module _ (trees : Program) (site : Site) (t : ℕ) (world : WorldOf ℕ) (slots : Slots ℕ) (ops rest : List ℕ) (object : ℕ) where
   run_held : (m : Member) (body : Option Body) → may_run words (event_of t) world ops m body ≡ false
       → runs words trees site (event_of t) world slots ops rest object m body ≡ Interrupts
-  run_held m None h = held_by (built_in_method m) site.next t world slots ops rest h
+  run_held m None h = held_by trees (built_in_method m) site.next t world slots ops rest h
   run_held m (Some body) h = absurd (true≢false h)
 
   -- a call that may not be done would be interrupted

@@ -25,7 +25,7 @@ use Rattle.machine_threads.specs.declared.waiting_instructions.kinds.Standing.{S
 use Rattle.machine_threads.specs.declared.waiting_instructions.kinds.Standing.TheVariants as standing
 use Rattle.machine_threads.specs.waiting_instructions.Waits.{IsEnd}
 use Rattle.machine_threads.specs.waiting_instructions.Held.{StandsBy, ready_end}
-use Rattle.machine_threads.proofs.waiting_instructions.Quick.{IsQuick, stays_enabled, quick_row, quick_system_out, quick_get_static, quick_put_static, quick_get_field, quick_put_field, quick_println, quick_return, quick_object, quick_new, quick_primitives, quick_references, quick_length, quick_load, quick_store, quick_cast, quick_instance, quick_throw, quick_exit}
+use Rattle.machine_threads.proofs.waiting_instructions.Quick.{IsQuick, stays_enabled, quick_row, quick_system_stream, quick_get_static, quick_put_static, quick_get_field, quick_put_field, quick_println, quick_return, quick_object, quick_new, quick_primitives, quick_references, quick_length, quick_load, quick_store, quick_cast, quick_instance, quick_throw, quick_exit}
 use Rattle.machine_threads.proofs.waiting_instructions.Meant.{IsCall, calls_static, calls_virtual, calls_interface, calls_special, calls_constructor, joins, enters}
 use Rattle.machine_threads.proofs.waiting_instructions.Enabled.{may_by}
 use Rattle.std.proofs.lemmas.Option.{same_Some}
@@ -59,14 +59,14 @@ module _ (trees : Program) (p : LinkedProgram) (at : ℕ → ℕ) (code : List L
   quick_of (linked.PutByteStatic class slot) l n0 n1 n2 n3 n4 = quick _ l.is (quick_put_static trees site _ _)
   quick_of (linked.PutCharStatic class slot) l n0 n1 n2 n3 n4 = quick _ l.is (quick_put_static trees site _ _)
   quick_of (linked.PutShortStatic class slot) l n0 n1 n2 n3 n4 = quick _ l.is (quick_put_static trees site _ _)
-  quick_of linked.GetSystemOut l n0 n1 n2 n3 n4 = quick _ l (quick_system_out trees site _)
+  quick_of (linked.GetSystemStream word) l n0 n1 n2 n3 n4 = quick _ l.is (quick_system_stream trees site _ _)
   quick_of linked.LoadElement l n0 n1 n2 n3 n4 = quick _ l.is (quick_load trees site 0 l.kind)
   quick_of linked.StoreInt l n0 n1 n2 n3 n4 = quick _ l.is (quick_store trees site 0 array_kind.Int)
   quick_of linked.StoreNarrow l n0 n1 n2 n3 n4 = quick _ l.stores.is (quick_store trees site 0 l.kind)
   quick_of linked.StoreReference l n0 n1 n2 n3 n4 = quick _ l.is (quick_store trees site 0 array_kind.Reference)
   quick_of linked.ArrayLength l n0 n1 n2 n3 n4 = quick _ l.is (quick_length trees site 0)
   quick_of (linked.LoadObject word) l n0 n1 n2 n3 n4 = quick _ l.is (quick_object trees site 0 _ _)
-  quick_of (linked.New class fields) l n0 n1 n2 n3 n4 = quick _ l.is (quick_new trees site 0 _)
+  quick_of (linked.New class fields cells) l n0 n1 n2 n3 n4 = quick _ l.is (quick_new trees site 0 _)
   quick_of (linked.NewArray type) l n0 n1 n2 n3 n4 = quick _ l.is (quick_primitives trees site 0 (primitive_of type))
   quick_of (linked.NewReferenceArray number) l n0 n1 n2 n3 n4 = quick _ l.is (quick_references trees site 0 l.of)
   quick_of (linked.CheckCast type) l n0 n1 n2 n3 n4 = quick _ l.0.is (quick_cast trees site 0 _)

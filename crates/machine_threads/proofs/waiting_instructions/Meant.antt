@@ -25,9 +25,9 @@ use Rattle.model.specs.DescribedTypes.{type_named}
 use Rattle.model.specs.Types.{Want, AReceiver}
 use Rattle.run_laws.proofs.laws.Found.{every_all}
 use Rattle.run_laws.proofs.laws.Classes.{names_same}
-use Rattle.run_laws.proofs.laws.Operations.{Operation, OfRow, GetSystemOut, GetStatic, PutStatic, GetField, PutField, Println, CallVirtual, CallConstructor, CallSpecial, CallStatic, CallInterface, Return, LoadClass, LoadString, New, NewArray, NewReferenceArray, ArrayLength, LoadElement, StoreElement, CheckCast, InstanceOf, Throw, MonitorEnter, MonitorExit, operation, OfMeaning, each_meaning}
+use Rattle.run_laws.proofs.laws.Operations.{Operation, OfRow, GetSystemStream, GetStatic, PutStatic, GetField, PutField, Println, CallVirtual, CallConstructor, CallSpecial, CallStatic, CallInterface, Return, LoadClass, LoadString, New, NewArray, NewReferenceArray, ArrayLength, LoadElement, StoreElement, CheckCast, InstanceOf, Throw, MonitorEnter, MonitorExit, operation, OfMeaning, each_meaning}
 use Rattle.machine_state.specs.linked_frames.Frames.{event_of}
-use Rattle.machine_threads.proofs.waiting_instructions.Quick.{IsQuick, quick_row, quick_system_out, quick_get_static, quick_put_static, quick_get_field, quick_put_field, quick_println, quick_return, quick_object, quick_new, quick_primitives, quick_references, quick_length, quick_load, quick_store, quick_cast, quick_instance, quick_throw, quick_exit}
+use Rattle.machine_threads.proofs.waiting_instructions.Quick.{IsQuick, quick_row, quick_system_stream, quick_get_static, quick_put_static, quick_get_field, quick_put_field, quick_println, quick_return, quick_object, quick_new, quick_primitives, quick_references, quick_length, quick_load, quick_store, quick_cast, quick_instance, quick_throw, quick_exit}
 use Rattle.machine_threads.proofs.waiting_instructions.BuiltIns.{invocation_held}
 
 -- ---- a static method of a class of a file: it is none of the built-in ones
@@ -128,7 +128,7 @@ pub data Kind (trees : Program) (site : Site) (m : MeaningOf ℕ) : Type 0 where
 module _ (trees : Program) (site : Site) where
   each : (o : Operation trees site) → Kind trees site (operation words trees site o)
   each (OfRow row e) = Quick (quick_row trees site 0 row)
-  each (GetSystemOut index i) = Quick (quick_system_out trees site site.next)
+  each (GetSystemStream index stream n) = Quick (quick_system_stream trees site site.next stream)
   each (GetStatic f) = Quick (quick_get_static trees site site.next f.field)
   each (PutStatic f) = Quick (quick_put_static trees site site.next f.field)
   each (GetField f) = Quick (quick_get_field trees site site.next f.named.class f.field)

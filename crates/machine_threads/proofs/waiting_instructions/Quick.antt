@@ -9,7 +9,7 @@ use Rattle.model.specs.Arrays.{made_array, array_meaning, primitive_array_meanin
 use Rattle.model.specs.Calls.{return_of}
 use Rattle.model.specs.Classes.{Program}
 use Rattle.model.specs.MonitorMeanings.{left, monitor_exit_meaning}
-use Rattle.model.specs.Meanings.{local_meaning, system_out_meaning, get_static_of, put_static_of, get_field_of, put_field_of, println_meaning}
+use Rattle.model.specs.Meanings.{local_meaning, system_stream_meaning, get_static_of, put_static_of, get_field_of, put_field_of, println_meaning}
 use Rattle.model.specs.Objects.{cast, new_meaning, check_cast_meaning, instance_of_meaning, object_meaning}
 use Rattle.model.specs.Operands.{Slots, words}
 use Rattle.model.specs.Outcomes.{OutcomeOf, Goes, Raises, Throws, Interrupts, Calls, Returns, Waits, Arithmetic, IllegalMonitorState, not_null}
@@ -83,8 +83,8 @@ module _ (trees : Program) (site : Site) (next : ℕ) where
   pub quick_row : (row : Row) → IsQuick (local_meaning words row)
   quick_row row = record { may = λ t world ops. refl; stays = λ t world slots ops rest. either_stays (row.fails (words.words ops)) (Raises Arithmetic) (Goes _ world _ _) tt tt }
 
-  pub quick_system_out : IsQuick (system_out_meaning words next)
-  quick_system_out = record { may = λ t world ops. refl; stays = λ t world slots ops rest. tt }
+  pub quick_system_stream : (stream : ℕ) → IsQuick (system_stream_meaning words next stream)
+  quick_system_stream stream = record { may = λ t world ops. refl; stays = λ t world slots ops rest. tt }
 
   pub quick_get_static : (field : Member) → IsQuick (get_static_of words trees next field)
   quick_get_static field = record { may = λ t world ops. refl; stays = λ t world slots ops rest. tt }

@@ -17,6 +17,7 @@ opened limits objects =
       objects = objects;
       locks = record { monitors = replicate (length objects) unlocked; fat = replicate (length objects) false; limit = limits.monitors };
       opening = length objects;
+      counted = 0;
       object_limit = limits.objects;
       cell_limit = limits.cells;
     }
@@ -40,8 +41,9 @@ first_objects string_component =
 abbrev pub string_object : Text → Object
 string_object text = record { kind = kind.Instance string_number; words = text }
 
--- then a Class for each class, and a String for each text
+-- then a Class for each class, a String for each text, and the PrintStream of System.err
 abbrev pub opening_objects : LinkedProgram → List Object
 opening_objects p =
     first_objects p.string_component
-    ++ (replicate (length p.classes.items) (fresh (kind.Instance class_number) 0) ++ map (λ text. string_object text.items) p.texts.items)
+    ++ (replicate (length p.classes.items) (fresh (kind.Instance class_number) 0)
+    ++ (map (λ text. string_object text.items) p.texts.items ++ fresh (kind.Instance print_stream_number) 0 ∷ []))

@@ -48,7 +48,7 @@ pub(crate) fn any_instruction(
         } => invoke_interface(
             shared, stack, program, thread, pick, parameters, selector, frames,
         ),
-        LinkedInstruction::Println => println(shared, stack, thread, pick),
+        LinkedInstruction::Println => println(shared, stack, program, thread, pick),
         _ => {
             if pick == 0 {
                 own_instruction(shared, stack, program, thread, instruction)

@@ -7,7 +7,7 @@ ghost use Rattle.machine_threads.specs.instruction_events.Families.{is_call};
 use crate::instruction_events::fields::field_instruction;
 use linked_code::{LinkedInstruction, LinkedProgram};
 use machine_instructions::field_instructions::{
-    array_length, get_system_out, load_element, store_int, store_narrow,
+    array_length, get_system_stream, load_element, store_int, store_narrow,
 };
 use machine_instructions::monitor_instructions::{monitor_enter, monitor_exit};
 use machine_instructions::returns::return_from;
@@ -35,14 +35,18 @@ pub(crate) fn own_instruction(
     ensures { DoesOwn program.now instruction thread result shared.old shared.new stack.old stack.new }
 {
     match instruction {
-        LinkedInstruction::GetSystemOut => get_system_out(stack),
+        LinkedInstruction::GetSystemStream(word) => get_system_stream(stack, word),
         LinkedInstruction::LoadElement => load_element(shared, stack),
         LinkedInstruction::StoreInt => Ok(store_int(shared, stack)),
         LinkedInstruction::StoreNarrow => Ok(store_narrow(shared, stack)),
         LinkedInstruction::StoreReference => Ok(store_reference(shared, stack, program)),
         LinkedInstruction::ArrayLength => array_length(shared, stack),
         LinkedInstruction::LoadObject(word) => load_object(stack, word),
-        LinkedInstruction::New { class, fields } => new_object(shared, stack, class, fields),
+        LinkedInstruction::New {
+            class,
+            fields,
+            cells,
+        } => new_object(shared, stack, class, fields, cells),
         LinkedInstruction::NewArray(of) => new_array(shared, stack, of),
         LinkedInstruction::NewReferenceArray(component) => {
             new_reference_array(shared, stack, component)

@@ -94,8 +94,8 @@ fn add_first(heap: &mut Heap, string_component: u32) -> Result<(), AllocError>
     )
 }
 
-/// The objects of the opening state: behind the first ones a Class for each class, and a String for each text of a
-/// constant.
+/// The objects of the opening state: behind the first ones a Class for each class, a String for each text of a
+/// constant, and the PrintStream of System.err.
 pub(crate) fn opening_heap(
     alloc: Global,
     program: &LinkedProgram,
@@ -108,5 +108,6 @@ pub(crate) fn opening_heap(
     add_first(&mut heap, program.string_component)?;
     add_instances(&mut heap, CLASS as u32, program.classes.len() as u32)?;
     add_strings(alloc, &mut heap, &program.texts)?;
+    add_instances(&mut heap, PRINT_STREAM as u32, 1)?;
     Ok(heap)
 }

@@ -24,7 +24,7 @@ use Rattle.model.specs.Objects.{cast}
 use Rattle.model.specs.Arrays.{is_negative, made_array, in_range, at_index, element_at, load_of, stored, kept_by, may_stand_in, if_storable, store_reference_meaning, store_of}
 use Rattle.model.specs.MonitorMeanings.{left, monitor_enter_meaning, monitor_exit_meaning}
 use Rattle.model.specs.Meanings.{local_meaning, meaning_of}
-use Rattle.run_laws.proofs.laws.Operations.{Operation, OfRow, GetSystemOut, GetStatic, PutStatic, GetField, PutField, Println, CallVirtual, CallConstructor, CallSpecial, CallStatic, CallInterface, Return, LoadClass, LoadString, New, NewArray, NewReferenceArray, ArrayLength, LoadElement, StoreElement, CheckCast, InstanceOf, Throw, MonitorEnter, MonitorExit, operation, OfMeaning, each_meaning}
+use Rattle.run_laws.proofs.laws.Operations.{Operation, OfRow, GetSystemStream, GetStatic, PutStatic, GetField, PutField, Println, CallVirtual, CallConstructor, CallSpecial, CallStatic, CallInterface, Return, LoadClass, LoadString, New, NewArray, NewReferenceArray, ArrayLength, LoadElement, StoreElement, CheckCast, InstanceOf, Throw, MonitorEnter, MonitorExit, operation, OfMeaning, each_meaning}
 use Rattle.monitor_laws.specs.owners.Owners.{KeepsOwners, monitor_operand}
 use Rattle.monitor_laws.proofs.owners.Monitors.{any_keeps, more_keeps, call_changes}
 use Rattle.monitor_laws.proofs.owners.Worlds.{OutcomeKept, same_kept, not_null_kept, built_in_kept}
@@ -89,7 +89,7 @@ module _ {A : Type 0} (C : Carrier A) where
   module _ (files : Program) (world : WorldOf A) (p : Option ℕ) (slots : Slots A) (ops rest : List A) where
     runs_kept : (site : Site) (event : Event) (object : ℕ) (method : Member) (o : Option Body)
         → OutcomeKept p (object_of C ops 0) world.monitors (runs C files site event world slots ops rest object method o)
-    runs_kept site event object method None = built_in_kept world p C (built_in_method method) site.next event slots ops rest
+    runs_kept site event object method None = built_in_kept world p C files (built_in_method method) site.next event slots ops rest
     runs_kept site event object method (Some body) = tt
 
     invoked_kept : (site : Site) (event : Event) (object : ℕ) (chosen : Chosen)
@@ -158,7 +158,7 @@ module _ {A : Type 0} (C : Carrier A) where
 
       operation_keeps : (o : Operation files site) → Keeps site.instr (operation C files site o)
       operation_keeps (OfRow row e) = local_keeps site.instr row
-      operation_keeps (GetSystemOut index i) = λ event world slots ops rest. goes_same event world ops
+      operation_keeps (GetSystemStream index stream n) = λ event world slots ops rest. goes_same event world ops
       operation_keeps (GetStatic f) = λ event world slots ops rest. goes_same event world ops
       operation_keeps (PutStatic f) = λ event world slots ops rest. goes_same event world ops
       operation_keeps (GetField f) = λ event world slots ops rest. not_null_kept (monitor_operand C ops site.instr) (object_of C ops 0) world.monitors (referent C ops 0) _ (λ r e. goes_same event world ops)

@@ -2,6 +2,8 @@
 use Rattle.std.proofs.Common.{◌≡◌, ℕ, List, [], ◌∷◌, Bool, true, false, Option, Some, None, refl, ap, ◌∙◌}
 use Rattle.std.specs.Prelude.{slice_get, is_some}
 use Rattle.model.specs.declared.event.Event.{Event}
+use Rattle.model.specs.Classes.{Program}
+use Rattle.model.specs.Opening.{string_reference}
 use Rattle.model.specs.Operands.{Slots, Carrier}
 use Rattle.model.specs.State.{Monitor, WorldOf, Waiter, WakeCause, Notified, ThreadStatus, Running, Waiting, Relock, Ended}
 use Rattle.model.specs.Outcomes.{OutcomeOf, Goes, Raises, Throws, Interrupts, Calls, Returns, Waits, not_null}
@@ -9,7 +11,9 @@ use Rattle.model.specs.Monitors as monitors
 use Rattle.model.specs.Worlds.{thread_at, thread_of, is_alive, is_owner, with_monitors, woken, all_woken, waiters_of}
 use Rattle.model.specs.Sites.{pushing, int_operand}
 use Rattle.model.specs.StringMethods.{StringAnswer, IsNull, IsOutside, Answers, Same, Composes, string_answer}
-use Rattle.model.specs.BuiltInMethods.{BuiltInMethod, Construct, ConstructWithTarget, ObjectWait, ObjectNotify, ObjectNotifyAll, ThreadStart, ThreadInterrupt, ThreadIsInterrupted, ThreadInterrupted, ThreadYield, ThreadCurrentThread, ThreadJoin, ThreadIsAlive, PrintStreamPrints, StringAnswers, object_of, string_operand, answered, wait_by, notified_one, notified, notified_all, if_owner, start_by, interrupted_in, interrupted_on, join_by, built_in_does}
+use Rattle.model.specs.BuilderMethods as builder
+use Rattle.model.specs.BuilderMethods.{BuilderAnswer, KeepsEmpty, Keeps, Adds, GivesText, builds}
+use Rattle.model.specs.BuiltInMethods.{BuiltInMethod, Construct, ConstructWithTarget, ObjectWait, ObjectNotify, ObjectNotifyAll, ThreadStart, ThreadInterrupt, ThreadIsInterrupted, ThreadInterrupted, ThreadYield, ThreadCurrentThread, ThreadJoin, ThreadIsAlive, PrintStreamPrints, StringAnswers, StringBuilderBuilds, object_of, string_operand, answered, wait_by, notified_one, notified, notified_all, if_owner, start_by, interrupted_in, interrupted_on, join_by, built_in_does}
 use Rattle.monitor_laws.specs.owners.Owners.{KeepsOwners}
 use Rattle.monitor_laws.proofs.owners.Monitors.{any_keeps, more_keeps, call_changes, call_keeps, as_owner_keeps}
 
@@ -109,30 +113,41 @@ module _ {A : Type 0} where
       answered_kept C (Same k) next slots ops rest = same_kept p world.monitors
       answered_kept C (Composes text) next slots ops rest = any_keeps p world.monitors _ (more_keeps world.monitors)
 
-    pub built_in_kept : (p : Option ℕ) (C : Carrier A) (method : BuiltInMethod) (next : ℕ) (event : Event) (slots : Slots A) (ops rest : List A)
-        → OutcomeKept p (object_of C ops 0) world.monitors (built_in_does C method next event world slots ops rest)
-    built_in_kept p C Construct next event slots ops rest = same_kept p world.monitors
-    built_in_kept p C ConstructWithTarget next event slots ops rest = same_kept p world.monitors
-    built_in_kept p C ObjectWait next event slots ops rest =
+      -- so is that of the text of a StringBuilder
+      builds_kept : (C : Carrier A) (empty : ℕ) (answer : BuilderAnswer) (next : ℕ) (slots : Slots A) (ops rest : List A)
+          → kept (builds C empty answer next world slots ops rest)
+      builds_kept C empty builder.IsNull next slots ops rest = tt
+      builds_kept C empty KeepsEmpty next slots ops rest = same_kept p world.monitors
+      builds_kept C empty Keeps next slots ops rest = same_kept p world.monitors
+      builds_kept C empty (Adds added) next slots ops rest = any_keeps p world.monitors _ (more_keeps world.monitors)
+      builds_kept C empty GivesText next slots ops rest = same_kept p world.monitors
+
+    pub built_in_kept : (p : Option ℕ) (C : Carrier A) (files : Program) (method : BuiltInMethod) (next : ℕ) (event : Event) (slots : Slots A) (ops rest : List A)
+        → OutcomeKept p (object_of C ops 0) world.monitors (built_in_does C files method next event world slots ops rest)
+    built_in_kept p C files Construct next event slots ops rest = same_kept p world.monitors
+    built_in_kept p C files ConstructWithTarget next event slots ops rest = same_kept p world.monitors
+    built_in_kept p C files ObjectWait next event slots ops rest =
         wait_by_kept p (object_of C ops 0) (is_owner world event.thread (object_of C ops 0)) (thread_at world event.thread).interrupted event.thread rest
-    built_in_kept p C ObjectNotify next event slots ops rest =
+    built_in_kept p C files ObjectNotify next event slots ops rest =
         owner_kept p (object_of C ops 0) (is_owner world event.thread (object_of C ops 0))
         (pushing next [] (notified world event.thread (object_of C ops 0) event.pick) slots rest)
         (any_keeps p world.monitors (notified world event.thread (object_of C ops 0) event.pick).monitors (notified_keeps event.thread (object_of C ops 0) event.pick))
-    built_in_kept p C ObjectNotifyAll next event slots ops rest =
+    built_in_kept p C files ObjectNotifyAll next event slots ops rest =
         owner_kept p (object_of C ops 0) (is_owner world event.thread (object_of C ops 0))
         (pushing next [] (notified_all world event.thread (object_of C ops 0)) slots rest)
         (any_keeps p world.monitors (notified_all world event.thread (object_of C ops 0)).monitors (notified_all_keeps event.thread (object_of C ops 0)))
-    built_in_kept p C ThreadStart next event slots ops rest =
+    built_in_kept p C files ThreadStart next event slots ops rest =
         start_kept p (object_of C ops 0) (is_some (thread_of world (object_of C ops 0))) next (object_of C ops 0) slots rest
-    built_in_kept p C ThreadInterrupt next event slots ops rest =
+    built_in_kept p C files ThreadInterrupt next event slots ops rest =
         any_keeps p world.monitors (interrupted_on world (thread_of world (object_of C ops 0))).monitors (interrupted_on_keeps (thread_of world (object_of C ops 0)))
-    built_in_kept p C ThreadIsInterrupted next event slots ops rest = same_kept p world.monitors
-    built_in_kept p C ThreadInterrupted next event slots ops rest = same_kept p world.monitors
-    built_in_kept p C ThreadYield next event slots ops rest = same_kept p world.monitors
-    built_in_kept p C ThreadCurrentThread next event slots ops rest = same_kept p world.monitors
-    built_in_kept p C ThreadJoin next event slots ops rest = join_kept p (object_of C ops 0) (is_alive world (object_of C ops 0)) next slots rest
-    built_in_kept p C ThreadIsAlive next event slots ops rest = same_kept p world.monitors
-    built_in_kept p C (PrintStreamPrints print) next event slots ops rest = same_kept p world.monitors
-    built_in_kept p C (StringAnswers called) next event slots ops rest =
+    built_in_kept p C files ThreadIsInterrupted next event slots ops rest = same_kept p world.monitors
+    built_in_kept p C files ThreadInterrupted next event slots ops rest = same_kept p world.monitors
+    built_in_kept p C files ThreadYield next event slots ops rest = same_kept p world.monitors
+    built_in_kept p C files ThreadCurrentThread next event slots ops rest = same_kept p world.monitors
+    built_in_kept p C files ThreadJoin next event slots ops rest = join_kept p (object_of C ops 0) (is_alive world (object_of C ops 0)) next slots rest
+    built_in_kept p C files ThreadIsAlive next event slots ops rest = same_kept p world.monitors
+    built_in_kept p C files (PrintStreamPrints print) next event slots ops rest = same_kept p world.monitors
+    built_in_kept p C files (StringAnswers called) next event slots ops rest =
         answered_kept p (object_of C ops 0) C (string_answer called (int_operand C ops) (string_operand C world ops)) next slots ops rest
+    built_in_kept p C files (StringBuilderBuilds called) next event slots ops rest =
+        builds_kept p (object_of C ops 0) C (string_reference files []) _ next slots ops rest

@@ -1,20 +1,26 @@
 -- What is told of a thread is what its next event reads or writes.
-use Rattle.std.proofs.Common.{◌≡◌, refl, sym, ap, subst, ◌∙◌, ℕ, zero, suc, List, [], ◌∷◌, map, Bool, true, false, if◌then◌else◌, Option, Some, None}
-use Rattle.std.specs.Prelude.{IsFalse, ◌&&◌, ◌⊎◌, slice_get}
+use Rattle.std.proofs.Common.{◌≡◌, refl, sym, ap, subst, ◌∙◌, ℕ, zero, suc, List, [], ◌∷◌, ◌++◌, map, Bool, true, false, if◌then◌else◌, Option, Some, None}
+use Rattle.std.specs.Prelude.{IsFalse, not, ◌&&◌, ◌⊎◌, slice_get}
 use Rattle.std.specs.Option.{option_map, option_map_or, option_and_then, option_to_list}
 use Rattle.std.proofs.Common.{inl, inr}
-use Rattle.std.proofs.lemmas.Option.{same_Some}
+use Rattle.std.proofs.lemmas.List.{append-nil}
+use Rattle.std.proofs.lemmas.Option.{same_Some, none-some}
+use Rattle.model.specs.declared.event.Event.{Event}
+use Rattle.model.specs.declared.builder_method.BuilderMethod.{BuilderMethod}
 use Rattle.model.specs.declared.value.Value.{Value}
 use Rattle.model.specs.declared.instr.FieldAccess.{FieldAccess}
 use Rattle.model.specs.declared.instr.Instr.{Instr}
 use Rattle.model.specs.declared.instr.Instr.TheVariants as instr
+use Rattle.model.specs.BuiltInMethods.{BuiltInMethod, StringBuilderBuilds}
+use Rattle.model.specs.ClassInitialisation.{look_at}
 use Rattle.model.specs.Names.{Member}
+use Rattle.model.specs.Opening.{string_reference}
 use Rattle.model.specs.Pool.{field_at}
 use Rattle.model.specs.Instruction.{Sized, sized_at, instr_at}
 use Rattle.model.specs.Classes.{Program, Body, body_of}
 use Rattle.model.specs.Lookup.{find_field}
 use Rattle.model.specs.LimitStands.{Bounds}
-use Rattle.model.specs.Operands.{Slots, values, word_of}
+use Rattle.model.specs.Operands.{Slots, values, under, word_of}
 use Rattle.model.specs.State as state
 use Rattle.model.specs.State.{types_of, StackOf, World, State}
 use Rattle.model.specs.Worlds.{thread_at}
@@ -37,7 +43,8 @@ use Rattle.machine_state.specs.state_events.Whole.{ShowsStacks}
 use Rattle.race_places.specs.declared.run_actions.Action.{Action}
 use Rattle.race_places.specs.named_actions.Names.{named_action}
 use Rattle.data_races.specs.Actions as named
-use Rattle.data_races.specs.EventActions.{Instruction, Rule, Does, Begins, Initialises, Relocks, Other, only_if, is_done, goes_on, outcome_at, operands_of, access_by, rule_by, rule_of, accesses_of}
+use Rattle.data_races.specs.EventActions.{Instruction, Rule, Does, Begins, Initialises, Relocks, Other, only_if, is_ready, is_done, goes_on, outcome_at, operands_of, without_code, method_run, built_in_at, built_in_accesses, builder_accesses, access_by, accesses_at, rule_by, rule_of, accesses_of}
+use Rattle.data_races.proofs.BuilderRuns.{DoesBuild, does_build, does_is, may_is}
 use Rattle.thread_rules.specs.declared.next_rules.NextRule.{NextRule}
 use Rattle.thread_rules.specs.declared.next_rules.NextRule.TheVariants as rule
 use Rattle.thread_rules.specs.next_rules.Rules.{IsRule}
@@ -45,11 +52,16 @@ use Rattle.thread_rules.specs.next_rules.Meant.{IsAtInstruction, MeansRule, AreR
 use Rattle.field_names.specs.declared.named_fields.NamedField.{NamedField}
 use Rattle.field_names.specs.named_fields.Fields.{IsFieldIf, NamesField, field_named, field_referred, reference_in, names_of}
 use Rattle.next_accesses.specs.read_operands.Reads.{ReadsAt, AreOperandsRead}
+use Rattle.next_accesses.specs.declared.builder_texts.EventAccesses.{EventAccesses}
+use Rattle.next_accesses.specs.builder_calls.Called.{as_builder, TellsBuilder}
+use Rattle.next_accesses.specs.builder_texts.Texts.{one_access, texts_accessed, throws_on, texts_on}
 use Rattle.next_accesses.specs.accesses.Accesses.{IsFieldOf, IsRightIf, IsAccess, TellsAccess}
 use Rattle.next_accesses.specs.access_tables.Tables.{IsInstructionAt, IsFieldNamed}
 use Rattle.next_accesses.specs.access_conditions.Conditions.{GoesOn}
 use Rattle.next_accesses.specs.next_access.Next.{IsReached, accesses_next, AreAccesses, TellsNext, TellsStack, TellsFrame}
 use Rattle.next_accesses.proofs.next_access.Stepping.{found, accesses_seen, none_named, none_of_rule}
+use Rattle.next_accesses.proofs.builder_texts.Accessed.{ReadsAll, one_list, texts_named, texts_right, goes_unless}
+use Rattle.next_accesses.proofs.builder_texts.Operands.{operands_named}
 use Rattle.next_accesses.proofs.next_access.Passing.{Passes, PassesIf, Given, passes_at}
 
 -- ---- at an instruction
@@ -72,10 +84,10 @@ module _ (wrong : IsNoEventWrong) (receives : AreReceived) (reads : AreOperandsR
   shows : ShowsFrame trees p at.runs.shown (map_frame word_of at.stands.frame)
   shows = (tops trees p bounds r.inflated t shared stack (words_of state) (map_frame word_of at.stands.frame) at.rest at.code site at.meaning at.linked at.runs).top
 
-  operands_are : map word_of instruction.slots.stack ≡ frame.operands
+  pub operands_are : map word_of instruction.slots.stack ≡ frame.operands
   operands_are = ap (λ (s : Slots Value). map word_of s.stack) at.stands.slots ∙ shows.operands ∙ ap (λ (f : ShownFrame). f.operands) top
 
-  numbered : IsMethodAt trees frame.method at.stands.frame.method
+  pub numbered : IsMethodAt trees frame.method at.stands.frame.method
   numbered = subst (λ (f : ShownFrame). IsMethodAt trees f.method at.stands.frame.method) top shows.method
 
   offset_is : offset ≡ offset_at p frame.method frame.place
@@ -98,7 +110,7 @@ module _ (wrong : IsNoEventWrong) (receives : AreReceived) (reads : AreOperandsR
       subst (λ (o : Option Member). IsFieldIf trees (option_and_then (find_field trees) o) told) (ap (option_and_then (reference_in body)) (e ∙ ap (λ (x : Instr). Some x) is))
       (h at.stands.frame.method body numbered at.stands.has_body)
 
-  body_is : site.body ≡ body
+  pub body_is : site.body ≡ body
   body_is = by (sized_at body.code.code offset) at.stands.at
     where
       by : (o : Option Sized) → option_map (site_with at.stands.frame.method body offset) o ≡ Some site → site.body ≡ body
@@ -115,7 +127,7 @@ module _ (wrong : IsNoEventWrong) (receives : AreReceived) (reads : AreOperandsR
   right : IsFalse (is_wrong (stepped values trees bounds.frames state (record { thread = t; pick = 0 })))
   right = wrong r.files trees r.accepted bounds.frames r.events state (record { thread = t; pick = 0 }) r.reached
 
-  finds : values.finds trees (types_of state.world.heap) instruction.meaning.wants body.code.max_stack instruction.slots ≡ true
+  pub finds : values.finds trees (types_of state.world.heap) instruction.meaning.wants body.code.max_stack instruction.slots ≡ true
   finds =
       subst (λ (s : Slots Value). values.finds trees (types_of state.world.heap) instruction.meaning.wants body.code.max_stack s ≡ true) (sym at.stands.slots)
       (found trees bounds.frames state t instruction at.stands right)
@@ -123,20 +135,33 @@ module _ (wrong : IsNoEventWrong) (receives : AreReceived) (reads : AreOperandsR
   found_there : values.finds trees (types_of state.world.heap) instruction.meaning.wants body.code.max_stack at.stands.frame.place.slots ≡ true
   found_there = found trees bounds.frames state t instruction at.stands right
 
+  pub received : (of : Receiver) → receiver_of trees site site.instr ≡ Some of → IsReceived (map_world word_of state.world).heap (map word_of instruction.slots.stack) of
+  received of e =
+      subst (λ (s : Slots Value). IsReceived (map_world word_of state.world).heap (map word_of s.stack) of) (sym at.stands.slots)
+      (receives r.program.files trees r.program.linkable (words_of state) r.shown.typed t (map_frame word_of at.stands.frame) at.runs.top body site of at.stands.has_body at.stands.at e)
+
   abbrev accesses : List named.Action
   accesses = access_by trees site (operands_of instruction) site.instr
 
   abbrev does_so : Bool
   does_so = is_done t state.world instruction && goes_on (outcome_at (record { thread = t; pick = 0 }) state.world instruction)
 
-  module _ (field : Option NamedField) (told : Bool) (goes : GoesOn p shared t frame.operands site.instr field told) (of_field : IsFieldOf trees site site.instr field) where
+  -- where it runs no method of StringBuilder without code
+  abbrev IsPlain : Type 0
+  IsPlain = None ≡ option_and_then as_builder (built_in_at trees state.world instruction)
+
+  no_text : (o : Option BuiltInMethod) → None ≡ option_and_then as_builder o → option_map_or (built_in_accesses (operands_of instruction)) o [] ≡ []
+  no_text None e = refl
+  no_text (Some (StringBuilderBuilds b)) e = absurd (none-some b e)
+  no_text (Some _) e = refl
+
+  plain_accesses : IsPlain → accesses_at trees state.world instruction ≡ accesses
+  plain_accesses plain = ap (λ l. accesses ++ l) (no_text (built_in_at trees state.world instruction) plain) ∙ append-nil accesses
+
+  module _ (plain : IsPlain) (field : Option NamedField) (told : Bool) (goes : GoesOn p shared t frame.operands site.instr field told)
+      (of_field : IsFieldOf trees site site.instr field) where
     read : ReadsAt (operands_of instruction) (map word_of instruction.slots.stack) site.instr
     read = reads trees at.stands.frame.method body offset site at.stands.at instruction.meaning at.stands.means state.world body.code.max_stack instruction.slots finds
-
-    received : (of : Receiver) → receiver_of trees site site.instr ≡ Some of → IsReceived (map_world word_of state.world).heap (map word_of instruction.slots.stack) of
-    received of e =
-        subst (λ (s : Slots Value). IsReceived (map_world word_of state.world).heap (map word_of s.stack) of) (sym at.stands.slots)
-        (receives r.program.files trees r.program.linkable (words_of state) r.shown.typed t (map_frame word_of at.stands.frame) at.runs.top body site of at.stands.has_body at.stands.at e)
 
     passes : PassesIf trees p bounds shared state.world r.program r.shown.represents t body.code.max_stack instruction.slots field site instruction.meaning told
     passes =
@@ -160,8 +185,10 @@ module _ (wrong : IsNoEventWrong) (receives : AreReceived) (reads : AreOperandsR
     seen (inl h) =
         accesses_seen trees bounds.frames state t instruction at.stands at.is_rule found_there
         (subst (λ (s : Slots Value). instruction.meaning.may (record { thread = t; pick = 0 }) state.world (ops_of values instruction.meaning s) ≡ true) at.stands.slots h.may)
-        ∙ sym h.is
-    seen (inr e) = none_named trees bounds.frames state t instruction at.stands at.is_rule e ∙ nothing does_so e ∙ sym (nothing told e)
+        ∙ (ap (only_if does_so) (plain_accesses plain) ∙ sym h.is)
+    seen (inr e) =
+        none_named trees bounds.frames state t instruction at.stands at.is_rule (plain_accesses plain ∙ e)
+        ∙ (ap (only_if does_so) (plain_accesses plain) ∙ nothing does_so e ∙ sym (nothing told e))
 
     abbrev told_if : Bool → Option Action → Option Action
     told_if b access = if b then access else None
@@ -175,57 +202,135 @@ module _ (wrong : IsNoEventWrong) (receives : AreReceived) (reads : AreOperandsR
     right_so true access h = h
     right_so false access h = tt
 
-    pub tells : (access : Option Action) → TellsAccess frame.operands site.instr field access → AreAccesses trees bounds.frames state t (told_if told access)
+    pub tells : (access : Option Action) → TellsAccess frame.operands site.instr field access → AreAccesses trees bounds.frames state t (one_access (told_if told access))
     tells access h =
         let is = h trees site (operands_of instruction) of_field (subst (λ (ns : List ℕ). ReadsAt (operands_of instruction) ns site.instr) operands_are read) in
-        record { are = told_so told access is.are ∙ sym (seen passes); right = right_so told access is.right }
+        record {
+          are = ap (map (named_action (names_of trees))) (one_list (told_if told access)) ∙ (told_so told access is.are ∙ sym (seen passes));
+          right = record { first = right_so told access is.right; second = tt; third = tt };
+        }
 
-    pub silent : told ≡ false → AreAccesses trees bounds.frames state t None
-    silent e = record { are = sym (seen passes ∙ ap (λ b. only_if b accesses) e); right = tt }
+    pub silent : told ≡ false → AreAccesses trees bounds.frames state t (one_access None)
+    silent e = record { are = sym (seen passes ∙ ap (λ b. only_if b accesses) e); right = record { first = tt; second = tt; third = tt } }
 
   -- by the instruction that was looked up
-  pub frame_told : (place : ℕ) → place ≡ offset_at p frame.method frame.place → (i : Instr) → site.instr ≡ i → (field : Option NamedField)
+  pub frame_told : IsPlain → (place : ℕ) → place ≡ offset_at p frame.method frame.place → (i : Instr) → site.instr ≡ i → (field : Option NamedField)
       → IsFieldNamed trees frame.method place i field → (told : Bool) → GoesOn p shared t frame.operands i field told → (access : Option Action)
-      → TellsAccess frame.operands i field access → AreAccesses trees bounds.frames state t (if told then access else None)
-  frame_told place e i is field names told goes access h =
+      → TellsAccess frame.operands i field access → AreAccesses trees bounds.frames state t (one_access (if told then access else None))
+  frame_told plain place e i is field names told goes access h =
       let of_field : IsFieldOf trees site i field = named_so field i is (subst (λ (n : ℕ). IsFieldNamed trees frame.method n i field) (e ∙ sym offset_is) names) in
-      tells field told (subst (λ (x : Instr). GoesOn p shared t frame.operands x field told) (sym is) goes) (subst (λ (x : Instr). IsFieldOf trees site x field) (sym is) of_field)
+      tells plain field told (subst (λ (x : Instr). GoesOn p shared t frame.operands x field told) (sym is) goes) (subst (λ (x : Instr). IsFieldOf trees site x field) (sym is) of_field)
       access (subst (λ (x : Instr). TellsAccess frame.operands x field access) (sym is) h)
 
-  pub frame_silent : (place : ℕ) → place ≡ offset_at p frame.method frame.place → (i : Instr) → site.instr ≡ i → (field : Option NamedField)
+  pub frame_silent : IsPlain → (place : ℕ) → place ≡ offset_at p frame.method frame.place → (i : Instr) → site.instr ≡ i → (field : Option NamedField)
       → IsFieldNamed trees frame.method place i field → (told : Bool) → GoesOn p shared t frame.operands i field told → told ≡ false
-      → AreAccesses trees bounds.frames state t None
-  frame_silent place e i is field names told goes not_so =
+      → AreAccesses trees bounds.frames state t (one_access None)
+  frame_silent plain place e i is field names told goes not_so =
       let of_field : IsFieldOf trees site i field = named_so field i is (subst (λ (n : ℕ). IsFieldNamed trees frame.method n i field) (e ∙ sym offset_is) names) in
-      silent field told (subst (λ (x : Instr). GoesOn p shared t frame.operands x field told) (sym is) goes) (subst (λ (x : Instr). IsFieldOf trees site x field) (sym is) of_field) not_so
+      silent plain field told (subst (λ (x : Instr). GoesOn p shared t frame.operands x field told) (sym is) goes) (subst (λ (x : Instr). IsFieldOf trees site x field) (sym is) of_field) not_so
+
+  -- ---- a method of StringBuilder
+
+  module _ (b : BuilderMethod) (runs : Some b ≡ option_and_then as_builder (built_in_at trees state.world instruction)) where
+    abbrev ops : List Value
+    ops = operands_of instruction
+
+    is_builder : (o : Option BuiltInMethod) → Some b ≡ option_and_then as_builder o → o ≡ Some (StringBuilderBuilds b)
+    is_builder None e = absurd (none-some b (sym e))
+    is_builder (Some (StringBuilderBuilds c)) e = ap (λ x. Some (StringBuilderBuilds x)) (sym (same_Some b c e))
+    is_builder (Some _) e = absurd (none-some b (sym e))
+
+    builds : built_in_at trees state.world instruction ≡ Some (StringBuilderBuilds b)
+    builds = is_builder (built_in_at trees state.world instruction) runs
+
+    build : DoesBuild trees site instruction.meaning at.stands.means state.world ops b
+    build = does_build trees site instruction.meaning at.stands.means state.world ops b builds
+
+    -- its instruction accesses no field and no element
+    no_access : (i : Instr) → option_and_then (λ (m : Member). without_code m (body_of trees m)) (method_run trees site state.world ops i) ≡ Some (StringBuilderBuilds b)
+        → access_by trees site ops i ≡ []
+    no_access (instr.Field how index) e = absurd (none-some _ e)
+    no_access (instr.LoadElement kind) e = absurd (none-some _ e)
+    no_access (instr.StoreElement kind) e = absurd (none-some _ e)
+    no_access _ e = refl
+
+    text_accesses : accesses_at trees state.world instruction ≡ builder_accesses ops b
+    text_accesses =
+        ap (λ l. l ++ option_map_or (built_in_accesses ops) (built_in_at trees state.world instruction) []) (no_access site.instr builds)
+        ∙ ap (λ o. option_map_or (built_in_accesses ops) o []) builds
+
+    reads_all : ReadsAll frame.operands ops b
+    reads_all = subst (λ ns. ReadsAll ns ops b) operands_are (operands_named trees site state.world body.code.max_stack instruction.slots instruction.meaning at.stands.means finds b builds)
+
+    abbrev event : Event
+    event = record { thread = t; pick = 0 }
+
+    goes_is : goes_on (outcome_at event state.world instruction) ≡ not (throws_on frame.operands b)
+    goes_is =
+        ap goes_on (does_is trees site instruction.meaning build.call event state.world ops b build.called instruction.slots (under instruction.meaning.wants instruction.slots))
+        ∙ goes_unless (string_reference trees []) site.next state.world instruction.slots frame.operands ops (under instruction.meaning.wants instruction.slots) b reads_all
+
+    done_is : is_done t state.world instruction ≡ true
+    done_is = ap (λ (m : MeaningOf Value). is_ready (look_at t state.world m.looks)) build.call.is
+
+    may_is_so : instruction.meaning.may event state.world (ops_of values instruction.meaning at.stands.frame.place.slots) ≡ true
+    may_is_so =
+        subst (λ (s : Slots Value). instruction.meaning.may event state.world (ops_of values instruction.meaning s) ≡ true) at.stands.slots
+        (may_is trees site instruction.meaning build.call event state.world ops b build.called)
+
+    all_seen : accesses_next trees bounds.frames state t ≡ only_if (not (throws_on frame.operands b)) (builder_accesses ops b)
+    all_seen =
+        accesses_seen trees bounds.frames state t instruction at.stands at.is_rule found_there may_is_so
+        ∙ (ap (λ x. only_if (x && goes_on (outcome_at event state.world instruction)) (accesses_at trees state.world instruction)) done_is
+        ∙ (ap (λ x. only_if x (accesses_at trees state.world instruction)) goes_is ∙ ap (only_if (not (throws_on frame.operands b))) text_accesses))
+
+    pub texts_told : AreAccesses trees bounds.frames state t (texts_on frame.operands b)
+    texts_told = by (throws_on frame.operands b) all_seen
+      where
+        by : (x : Bool) → accesses_next trees bounds.frames state t ≡ only_if (not x) (builder_accesses ops b)
+            → AreAccesses trees bounds.frames state t (if x then one_access None else texts_accessed frame.operands b)
+        by true e = record { are = sym e; right = record { first = tt; second = tt; third = tt } }
+        by false e = record { are = texts_named trees frame.operands ops b reads_all ∙ sym e; right = texts_right trees frame.operands b }
 
 -- ---- what a function tells of a frame
 
 module _ (wrong : IsNoEventWrong) (receives : AreReceived) (reads : AreOperandsRead) (tops : AreTopsShown) (trees : Program) (p : LinkedProgram)
     (shared : Shared) (t : ℕ) (frame : ShownFrame) (place : ℕ) (place_is : place ≡ offset_at p frame.method frame.place) where
-  no_instruction : IsInstructionAt trees frame.method place None → TellsFrame trees p shared t frame None
+  no_instruction : IsInstructionAt trees frame.method place None → TellsFrame trees p shared t frame (one_access None)
   no_instruction h bounds state r stack at top = absurd (differs _ (instr_is wrong receives reads tops trees p shared t frame bounds state r stack at top None place place_is h))
     where
       differs : (i : Instr) → None ≡ Some i → ⊥
       differs i e = cc
 
-  pub no_instruction_told : IsInstructionAt trees frame.method place None → (told : Option Action) → told ≡ None → TellsFrame trees p shared t frame told
+  pub no_instruction_told : IsInstructionAt trees frame.method place None → (told : EventAccesses) → told ≡ one_access None → TellsFrame trees p shared t frame told
   no_instruction_told h told e = subst (TellsFrame trees p shared t frame) (sym e) (no_instruction h)
 
-  module _ (i : Instr) (looked : IsInstructionAt trees frame.method place (Some i)) (field : Option NamedField) (names : IsFieldNamed trees frame.method place i field)
-      (told : Bool) (goes : GoesOn p shared t frame.operands i field told) where
-    told_with : (access : Option Action) → TellsAccess frame.operands i field access → TellsFrame trees p shared t frame (if told then access else None)
+  -- of a method of StringBuilder that it runs
+  pub builder_told : (i : Instr) → IsInstructionAt trees frame.method place (Some i) → (b : BuilderMethod) → TellsBuilder trees p shared t frame i (Some b)
+      → (told : EventAccesses) → told ≡ texts_on frame.operands b → TellsFrame trees p shared t frame told
+  builder_told i looked b runs told e bounds state r stack at top =
+      let is = same_Some _ _ (sym (instr_is wrong receives reads tops trees p shared t frame bounds state r stack at top (Some i) place place_is looked)) in
+      subst (AreAccesses trees bounds.frames state t) (sym e) (texts_told wrong receives reads tops trees p shared t frame bounds state r stack at top b (runs bounds state r stack at top is))
+
+  module _ (i : Instr) (looked : IsInstructionAt trees frame.method place (Some i)) (plain : TellsBuilder trees p shared t frame i None) (field : Option NamedField)
+      (names : IsFieldNamed trees frame.method place i field) (told : Bool) (goes : GoesOn p shared t frame.operands i field told) where
+    told_with : (access : Option Action) → TellsAccess frame.operands i field access → TellsFrame trees p shared t frame (one_access (if told then access else None))
     told_with access h bounds state r stack at top =
         let is = same_Some _ _ (sym (instr_is wrong receives reads tops trees p shared t frame bounds state r stack at top (Some i) place place_is looked)) in
-        frame_told wrong receives reads tops trees p shared t frame bounds state r stack at top place place_is i is field names told goes access h
+        frame_told wrong receives reads tops trees p shared t frame bounds state r stack at top (plain bounds state r stack at top is) place place_is i is field names told goes access h
 
-    pub goes_told : (access : Option Action) → TellsAccess frame.operands i field access → told ≡ true → TellsFrame trees p shared t frame access
-    goes_told access h e = subst (λ b. TellsFrame trees p shared t frame (if b then access else None)) e (told_with access h)
+    pub goes_told : (access : Option Action) → TellsAccess frame.operands i field access → told ≡ true → (accesses : EventAccesses) → accesses ≡ one_access access
+        → TellsFrame trees p shared t frame accesses
+    goes_told access h e told_all same =
+        subst (TellsFrame trees p shared t frame) (sym same) (subst (λ b. TellsFrame trees p shared t frame (one_access (if b then access else None))) e (told_with access h))
 
-    pub stays_told : told ≡ false → TellsFrame trees p shared t frame None
-    stays_told e bounds state r stack at top =
+    stays : told ≡ false → TellsFrame trees p shared t frame (one_access None)
+    stays e bounds state r stack at top =
         let is = same_Some _ _ (sym (instr_is wrong receives reads tops trees p shared t frame bounds state r stack at top (Some i) place place_is looked)) in
-        frame_silent wrong receives reads tops trees p shared t frame bounds state r stack at top place place_is i is field names told goes e
+        frame_silent wrong receives reads tops trees p shared t frame bounds state r stack at top (plain bounds state r stack at top is) place place_is i is field names told goes e
+
+    pub stays_told : told ≡ false → (accesses : EventAccesses) → accesses ≡ one_access None → TellsFrame trees p shared t frame accesses
+    stays_told e told_all same = subst (TellsFrame trees p shared t frame) (sym same) (stays e)
 
 -- ---- by the rule of a thread
 
@@ -241,13 +346,13 @@ module _ (meant : AreRulesMeant) (trees : Program) (p : LinkedProgram) (shared :
   means e bounds state r = meant trees p bounds r.inflated shared state r.program r.shown t stack e told is
 
   -- at an instruction, in the frame on top
-  pub top_told : told ≡ rule.Bytecode → (frame : ShownFrame) → IsTopFrame stack (Some frame) → (access : Option Action)
+  pub top_told : told ≡ rule.Bytecode → (frame : ShownFrame) → IsTopFrame stack (Some frame) → (access : EventAccesses)
       → TellsFrame trees p shared t frame access → TellsStack trees p shared t stack access
   top_told by frame top access h e bounds state r =
       let at : IsAtInstruction trees p bounds r.inflated t shared stack state = subst (MeansRule trees p bounds r.inflated t shared stack state) by (means e bounds state r) in
       h bounds state r stack at (sym (same_Some frame at.runs.shown (top_is stack at.runs.shown at.runs.others at.runs.is_stack (Some frame) top)))
 
-  pub no_top : told ≡ rule.Bytecode → IsTopFrame stack None → TellsStack trees p shared t stack None
+  pub no_top : told ≡ rule.Bytecode → IsTopFrame stack None → TellsStack trees p shared t stack (one_access None)
   no_top by top e bounds state r =
       let at : IsAtInstruction trees p bounds r.inflated t shared stack state = subst (MeansRule trees p bounds r.inflated t shared stack state) by (means e bounds state r) in
       absurd (differs at.runs.shown (top_is stack at.runs.shown at.runs.others at.runs.is_stack None top))
@@ -256,12 +361,12 @@ module _ (meant : AreRulesMeant) (trees : Program) (p : LinkedProgram) (shared :
       differs frame e = cc
 
   none_at : (bounds : Bounds) (state : State) (m : Rule) → rule_of trees state t ≡ m → ((world : World) → accesses_of trees (record { thread = t; pick = 0 }) world m ≡ [])
-      → AreAccesses trees bounds.frames state t None
-  none_at bounds state m e none = record { are = sym (none_of_rule trees bounds.frames state t m e none); right = tt }
+      → AreAccesses trees bounds.frames state t (one_access None)
+  none_at bounds state m e none = record { are = sym (none_of_rule trees bounds.frames state t m e none); right = record { first = tt; second = tt; third = tt } }
 
   -- and else there is none
   by_rule : (other : NextRule) → (other ≡ rule.Bytecode → ⊥) → (bounds : Bounds) (state : State) → (r : IsReached trees p bounds shared state)
-      → MeansRule trees p bounds r.inflated t shared stack state other → AreAccesses trees bounds.frames state t None
+      → MeansRule trees p bounds r.inflated t shared stack state other → AreAccesses trees bounds.frames state t (one_access None)
   by_rule rule.NoEvent n bounds state r m = none_at bounds state Other m (λ world. refl)
   by_rule (rule.Pending exception) n bounds state r m = none_at bounds state Other m (λ world. refl)
   by_rule (rule.Relock object count why) n bounds state r m = none_at bounds state _ m (λ world. refl)
@@ -269,7 +374,7 @@ module _ (meant : AreRulesMeant) (trees : Program) (p : LinkedProgram) (shared :
   by_rule (rule.Initialisation number phase) n bounds state r m = none_at bounds state _ m.2 (λ world. refl)
   by_rule rule.Bytecode n bounds state r m = absurd (n refl)
 
-  pub other_told : (told ≡ rule.Bytecode → ⊥) → TellsStack trees p shared t stack None
+  pub other_told : (told ≡ rule.Bytecode → ⊥) → TellsStack trees p shared t stack (one_access None)
   other_told n e bounds state r = by_rule told n bounds state r (means e bounds state r)
 
 -- ---- a thread that has no stack
@@ -287,7 +392,7 @@ none_mapped f [] k e = refl
 none_mapped f (x ∷ xs) zero e = absurd cc
 none_mapped f (x ∷ xs) (suc k) e = none_mapped f xs k e
 
-pub no_stack : (trees : Program) (p : LinkedProgram) (shared : Shared) (t : ℕ) → slice_get shared.stacks.items t ≡ None → TellsNext trees p shared t None
+pub no_stack : (trees : Program) (p : LinkedProgram) (shared : Shared) (t : ℕ) → slice_get shared.stacks.items t ≡ None → TellsNext trees p shared t (one_access None)
 no_stack trees p shared t e bounds state r =
     let none : slice_get state.stacks t ≡ None =
     none_mapped (map_stack word_of) state.stacks t (none_shown trees p shared.stacks.items (words_of state).stacks r.shown.stacks t e)
@@ -295,5 +400,5 @@ no_stack trees p shared t e bounds state r =
     record {
       are = sym (none_of_rule trees bounds.frames state t Other
           (ap (λ o. option_map_or (λ (stack : StackOf Value). rule_by trees (thread_at state.world t) stack (thread_at state.world t).status) o Other) none) (λ world. refl));
-      right = tt;
+      right = record { first = tt; second = tt; third = tt };
     }

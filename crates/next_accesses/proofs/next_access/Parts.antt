@@ -5,13 +5,15 @@ use Rattle.std.specs.Option.{option_map_or, option_and_then}
 use Rattle.std.specs.List.{filter}
 use Rattle.std.proofs.lemmas.List.{append-nil}
 use Rattle.std.proofs.lemmas.List.Elements.{filter-append}
+use Rattle.model.specs.declared.builder_method.BuilderMethod.{BuilderMethod}
+use Rattle.model.specs.declared.builder_method.BuilderMethod.TheVariants.{ConstructEmpty, ConstructOfString, AppendString, AppendInt, AppendChar, AppendBuilder, ToString}
 use Rattle.model.specs.declared.event.Event.{Event}
 use Rattle.model.specs.declared.value.Value.{Value}
 use Rattle.model.specs.declared.instr.FieldAccess.{FieldAccess}
 use Rattle.model.specs.declared.instr.FieldAccess.TheVariants as access
 use Rattle.model.specs.declared.instr.Instr.{Instr}
 use Rattle.model.specs.declared.instr.Instr.TheVariants as instr
-use Rattle.model.specs.Names.{Name, Member}
+use Rattle.model.specs.Names.{Name, Member, builder_text}
 use Rattle.model.specs.Pool.{field_at}
 use Rattle.model.specs.Classes.{Program}
 use Rattle.model.specs.Lookup.{find_field}
@@ -19,10 +21,10 @@ use Rattle.model.specs.Operands.{values}
 use Rattle.model.specs.State.{World, Notified, Interrupted}
 use Rattle.model.specs.Worlds.{thread_at, thread_of, is_owner}
 use Rattle.model.specs.Sites.{Site, referent, int_operand}
-use Rattle.model.specs.BuiltInMethods.{BuiltInMethod, ObjectWait, ThreadStart, ThreadInterrupt, ThreadIsInterrupted, ThreadInterrupted, ThreadJoin, ThreadIsAlive}
-use Rattle.data_races.specs.Variables.{InstanceField, StaticField, Element}
+use Rattle.model.specs.BuiltInMethods.{BuiltInMethod, ObjectWait, ThreadStart, ThreadInterrupt, ThreadIsInterrupted, ThreadInterrupted, ThreadJoin, ThreadIsAlive, StringBuilderBuilds}
+use Rattle.data_races.specs.Variables.{Variable, InstanceField, StaticField, Element}
 use Rattle.data_races.specs.Actions.{Action, Read, Write, Lock, Unlock, Finish, Start, Interrupt, ClearInterrupt, Wake, FinishInitialisation, FindStarted, FindFinished, FindInterrupted, FindNotInterrupted, FindInitialised}
-use Rattle.data_races.specs.EventActions.{Rule, Begins, Does, Initialises, Relocks, Other, needed_class, only_if, is_finished, found_class, of_thread, is_over, found_alive, found_status, found_own, found_by_join, found_on, interrupts_on, at_reference, field_access, access_by, built_in_at, receiver_of, is_done, goes_on, outcome_at, operands_of, finds_of, accesses_of, interrupts_of, owned, waiting, besides, finished_classes, started, end_actions, clear_actions, actions_to}
+use Rattle.data_races.specs.EventActions.{Rule, Begins, Does, Initialises, Relocks, Other, needed_class, only_if, is_finished, found_class, of_thread, is_over, found_alive, found_status, found_own, found_by_join, found_on, interrupts_on, at_reference, field_access, access_by, text_access, builder_accesses, built_in_accesses, accesses_at, built_in_at, receiver_of, is_done, goes_on, outcome_at, operands_of, finds_of, accesses_of, interrupts_of, owned, waiting, besides, finished_classes, started, end_actions, clear_actions, actions_to}
 use Rattle.model.specs.ClassInitialisation.{status_of}
 use Rattle.next_accesses.specs.next_access.Next.{is_access}
 
@@ -142,10 +144,36 @@ all_if : (b : Bool) (xs : List Action) → reads_of xs ≡ xs → reads_of (only
 all_if true xs e = e
 all_if false xs e = refl
 
+all_both : (xs ys : List Action) → reads_of xs ≡ xs → reads_of ys ≡ ys → reads_of (xs ++ ys) ≡ xs ++ ys
+all_both xs ys e g = filter-append is_access xs ys ∙ ap (λ l. l ++ reads_of ys) e ∙ ap (λ l. xs ++ l) g
+
+all_text : (ops : List Value) (k : ℕ) (f : Variable → Action) → ((v : Variable) → is_access (f v) ≡ true) → reads_of (text_access ops k f) ≡ text_access ops k f
+all_text ops k f h = all_at ops k (λ r. f (InstanceField r builder_text)) (λ r. h (InstanceField r builder_text))
+
+all_appended : (ops : List Value) → reads_of (text_access ops 1 Read ++ text_access ops 1 Write) ≡ text_access ops 1 Read ++ text_access ops 1 Write
+all_appended ops = all_both (text_access ops 1 Read) (text_access ops 1 Write) (all_text ops 1 Read (λ v. refl)) (all_text ops 1 Write (λ v. refl))
+
+all_builder : (ops : List Value) (b : BuilderMethod) → reads_of (builder_accesses ops b) ≡ builder_accesses ops b
+all_builder ops ConstructEmpty = all_text ops 0 Write (λ v. refl)
+all_builder ops ConstructOfString = all_text ops 1 Write (λ v. refl)
+all_builder ops AppendString = all_appended ops
+all_builder ops AppendInt = all_appended ops
+all_builder ops AppendChar = all_appended ops
+all_builder ops AppendBuilder =
+    all_both (text_access ops 1 Read ++ text_access ops 0 Read) (text_access ops 1 Write)
+    (all_both (text_access ops 1 Read) (text_access ops 0 Read) (all_text ops 1 Read (λ v. refl)) (all_text ops 0 Read (λ v. refl))) (all_text ops 1 Write (λ v. refl))
+all_builder ops ToString = all_text ops 0 Read (λ v. refl)
+
+all_method : (ops : List Value) (o : Option BuiltInMethod) → reads_of (option_map_or (built_in_accesses ops) o []) ≡ option_map_or (built_in_accesses ops) o []
+all_method ops None = refl
+all_method ops (Some (StringBuilderBuilds b)) = all_builder ops b
+all_method ops (Some _) = refl
+
 all_of : (files : Program) (event : Event) (world : World) (r : Rule) → reads_of (accesses_of files event world r) ≡ accesses_of files event world r
 all_of files event world (Does instruction) =
-    all_if (is_done event.thread world instruction && goes_on (outcome_at event world instruction)) (access_by files instruction.site (operands_of instruction) instruction.site.instr)
-    (all_accesses files instruction.site (operands_of instruction) instruction.site.instr)
+    all_if (is_done event.thread world instruction && goes_on (outcome_at event world instruction)) (accesses_at files world instruction)
+    (all_both (access_by files instruction.site (operands_of instruction) instruction.site.instr) (option_map_or (built_in_accesses (operands_of instruction)) (built_in_at files world instruction) [])
+    (all_accesses files instruction.site (operands_of instruction) instruction.site.instr) (all_method (operands_of instruction) (built_in_at files world instruction)))
 all_of files event world _ = refl
 
 -- ---- all of them

@@ -13,7 +13,8 @@ use Rattle.model.specs.declared.instr.FieldAccess.{FieldAccess}
 use Rattle.model.specs.declared.instr.FieldAccess.TheVariants as access
 use Rattle.model.specs.declared.instr.Instr.{Instr}
 use Rattle.model.specs.declared.instr.Instr.TheVariants as instr
-use Rattle.model.specs.Names.{Name, Member, member_eq, java_lang_system, system_out}
+use Rattle.model.specs.Names.{Name, Member, member_eq, java_lang_system, system_out, system_err}
+use Rattle.model.specs.Opening.{print_stream_reference, error_stream_reference}
 use Rattle.model.specs.Tree.{FieldTree, FileTree}
 use Rattle.model.specs.Pool.{field_at}
 use Rattle.model.specs.Instruction.{Sized}
@@ -31,7 +32,7 @@ use Rattle.model.specs.Worlds.{object_at, elements_of, no_object}
 use Rattle.model.specs.Sites.{MeaningOf, Site, site_with, operand, referent, int_operand}
 use Rattle.model.specs.Objects.{any_object}
 use Rattle.model.specs.Arrays.{in_range, at_index, load_meaning, load_of, may_stand_in, if_storable, store_int_meaning, store_reference_meaning, store_of}
-use Rattle.model.specs.Meanings.{system_out_meaning, get_static_of, put_static_of, get_field_of, put_field_of, if_field, field_meaning, meaning_of}
+use Rattle.model.specs.Meanings.{stream_of, get_static_by, system_stream_meaning, get_static_of, put_static_of, get_field_of, put_field_of, if_field, field_meaning, meaning_of}
 use Rattle.model.specs.Step.{ops_of}
 use Rattle.model.specs.Words.{map_world}
 use Rattle.run_laws.specs.word_operands.Receivers.{Receiver, receiver, receiver_of, IsReceived, is_array_of, is_null_or}
@@ -103,10 +104,26 @@ storable_goes true true cost after slots to = refl
 storable_goes true false cost after slots to = refl
 storable_goes false b cost after slots to = refl
 
--- System.out is found
+-- System.out and System.err are found
 out_found : (files : Program) → find_field files system_out ≡ Some system_out
 unfolding built_in_classes
 out_found files = refl
+
+err_found : (files : Program) → find_field files system_err ≡ Some system_err
+unfolding built_in_classes
+err_found files = refl
+
+stream_class : (files : Program) (named : Member) (stream : ℕ) (member : Member) → stream_of files named ≡ Some stream → find_field files named ≡ Some member
+    → java_lang_system ≡ member.class
+stream_class files named stream member q f = by (member_eq named system_out) (member_eq named system_err) refl refl q
+  where
+    by : (b c : Bool) → member_eq named system_out ≡ b → member_eq named system_err ≡ c
+        → (if b then Some print_stream_reference else if c then Some (error_stream_reference files) else None) ≡ Some stream → java_lang_system ≡ member.class
+    by true c e g h =
+        ap (λ (o : Member). o.class) (same_Some system_out member (sym (out_found files) ∙ ap (find_field files) (sym (members_same named system_out e)) ∙ f))
+    by false true e g h =
+        ap (λ (o : Member). o.class) (same_Some system_err member (sym (err_found files) ∙ ap (find_field files) (sym (members_same named system_err g)) ∙ f))
+    by false false e g h = absurd cc
 
 class_of_field : (files : Program) (class field : ℕ) (member : Member) → member_at files class field ≡ Some member → IsClassAt files class member.class
 class_of_field files class field member e =
@@ -272,19 +289,17 @@ module _ (files : Program) (p : LinkedProgram) (bounds : Bounds) (shared : Share
     get_static : (index : ℕ) (m : MeaningOf Value) → meaning_of values files (site_of (instr.Field access.GetStatic index)) ≡ Some m → Claim (site_of (instr.Field access.GetStatic index)) m
     get_static index m means =
         let named = some_from (field_meaning values files (site_of (instr.Field access.GetStatic index)).next access.GetStatic) (field_at code.pool index) m means in
-        by named.0 named.1 (member_eq named.0 system_out) refl named.2
+        by named.0 named.1 (stream_of files named.0) refl named.2
       where
-        by : (named : Member) → field_at code.pool index ≡ Some named → (b : Bool) → member_eq named system_out ≡ b
-            → (if b then Some (system_out_meaning values (offset + size)) else option_and_then (if_field is_static_field files (get_static_of values files (offset + size))) (find_field files named)) ≡ Some m
-            → Claim (site_of (instr.Field access.GetStatic index)) m
-        by named names true out e =
-            let x = system_out_meaning values (offset + size) in
-            let is_out : named ≡ system_out = members_same named system_out out in
+        by : (named : Member) → field_at code.pool index ≡ Some named → (o : Option ℕ) → stream_of files named ≡ o
+            → get_static_by values files (offset + size) named o ≡ Some m → Claim (site_of (instr.Field access.GetStatic index)) m
+        by named names (Some stream) q e =
+            let x = system_stream_meaning values (offset + size) stream in
             as_meant (instr.Field access.GetStatic index) x m (same_Some x m e)
             (λ told given. static_told access.GetStatic index named names x refl refl
-            (λ member found. ap (λ (o : Member). Some o.class) (same_Some system_out member (sym (out_found files) ∙ ap (find_field files) (sym is_out) ∙ found)))
+            (λ member found. ap (λ (c : Name). Some c) (stream_class files named stream member q found))
             given.of_field told (ready_for told field given.goes))
-        by named names false other e =
+        by named names None other e =
             let found = some_from (if_field is_static_field files (get_static_of values files (offset + size))) (find_field files named) m e in
             let x = get_static_of values files (offset + size) found.0 in
             let is = of_if (option_map_or is_static_field (field_of files found.0) false) x m found.2 in

@@ -19,7 +19,7 @@ use Rattle.model.specs.Meanings.{meaning_of}
 use Rattle.model.specs.Step.{SteppedOf, NotEnabled, WrongKind, Next, PartOf, enabled_if, unpicked, settled, needing_class, needing, done, become, bytecode_by, bytecode_in, going_event, thread_event, with_part, event_of, stepped, ops_of, next_by}
 use Rattle.run_laws.specs.laws.Steps.{is_wrong}
 use Rattle.data_races.specs.Actions.{Action}
-use Rattle.data_races.specs.EventActions.{Instruction, Rule, Does, only_if, is_done, is_ready, goes_on, outcome_at, operands_of, access_by, accesses_of, actions_of, actions_to, rule_of}
+use Rattle.data_races.specs.EventActions.{Instruction, Rule, Does, only_if, is_done, is_ready, goes_on, outcome_at, accesses_at, accesses_of, actions_of, actions_to, rule_of}
 use Rattle.event_laws.specs.access_outcomes.Accesses.{StandsAt}
 use Rattle.next_accesses.specs.next_access.Next.{is_access, accesses_next}
 use Rattle.next_accesses.proofs.next_access.Parts.{accesses_alone}
@@ -112,7 +112,7 @@ module _ (files : Program) (frames : ℕ) (s : State) (t : ℕ) (instruction : I
 
   module _ (rule : rule_of files s t ≡ Does instruction) where
     abbrev accesses : List Action
-    accesses = access_by files instruction.site (operands_of instruction) instruction.site.instr
+    accesses = accesses_at files s.world instruction
 
     abbrev does_so : Bool
     does_so = is_done t s.world instruction && goes_on (outcome_at event s.world instruction)

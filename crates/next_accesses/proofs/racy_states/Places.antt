@@ -1,7 +1,6 @@
 -- What stands in lists: tests of lists, filters, and numbers from 0 on.
 use Rattle.std.proofs.Common.{◌≡◌, ℕ, zero, suc, ◌+◌, ◌<◌, List, [], ◌∷◌, Bool, true, false, Option, Some, None, map, if◌then◌else◌, refl, sym, ap, subst, ◌∙◌, arith}
 use Rattle.std.specs.Prelude.{◌||◌, slice_get}
-use Rattle.std.specs.Option.{option_to_list}
 use Rattle.std.specs.List.{filter, list_any}
 use Rattle.std.proofs.lemmas.Bool.{or_left, or_right, false≢true}
 use Rattle.std.proofs.lemmas.Option.{same_Some}
@@ -36,7 +35,7 @@ passing p (x ∷ xs) e = by (passing p xs) (p x) refl e
 
 -- ---- maps
 
-mapped_at : {A B : Type 0} (f : A → B) (xs : List A) (x : A) (k : ℕ) → slice_get xs k ≡ Some x → slice_get (map f xs) k ≡ Some (f x)
+pub mapped_at : {A B : Type 0} (f : A → B) (xs : List A) (x : A) (k : ℕ) → slice_get xs k ≡ Some x → slice_get (map f xs) k ≡ Some (f x)
 mapped_at f [] x k e = absurd cc
 mapped_at f (y ∷ ys) x zero e = ap (λ z. Some (f z)) (same_Some y x e)
 mapped_at f (y ∷ ys) x (suc k) e = mapped_at f ys x k e
@@ -76,16 +75,6 @@ kept_from p (y ∷ xs) x k e = by (kept_from p xs x) (p y) k e
     by rest true zero e = record { place = 0; at = e }
     by rest true (suc k) e = behind y xs x (rest k e)
     by rest false k e = behind y xs x (rest k e)
-
--- ---- an optional item
-
-pub record OnlyOne {A : Type 0} (o : Option A) (x : A) : Type 0 where
-  pub is : o ≡ Some x
-
-pub only_one : {A : Type 0} (o : Option A) (x : A) (k : ℕ) → slice_get (option_to_list o) k ≡ Some x → OnlyOne o x
-only_one None x k e = absurd cc
-only_one (Some y) x zero e = record { is = e }
-only_one (Some y) x (suc k) e = absurd cc
 
 -- ---- numbers from one on
 

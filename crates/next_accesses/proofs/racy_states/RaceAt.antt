@@ -1,5 +1,5 @@
 -- A race among the next accesses is one of the state.
-use Rattle.std.proofs.Common.{◌≡◌, ℕ, ◌<◌, List, [], ◌∷◌, Bool, true, false, Option, Some, None, map, length, refl, sym, ap, subst, ◌∙◌}
+use Rattle.std.proofs.Common.{◌≡◌, ℕ, zero, suc, ◌<◌, List, [], ◌∷◌, ◌++◌, Bool, true, false, Option, Some, None, map, length, refl, sym, ap, subst, ◌∙◌}
 use Rattle.std.specs.Prelude.{IsTrue, IsFalse, not, ◌&&◌, ◌||◌, ◌==◌, slice_get, is_some}
 use Rattle.std.specs.Option.{option_to_list}
 use Rattle.std.specs.List.{list_any, filter}
@@ -20,17 +20,20 @@ use Rattle.machine.specs.Machines.{MachineOf}
 use Rattle.machine.specs.schedule_runs.Done.{HasDone}
 use Rattle.race_places.specs.declared.run_actions.Action.{Action}
 use Rattle.race_places.specs.declared.run_actions.RunAction.{RunAction}
-use Rattle.race_places.specs.named_actions.Names.{AreApart, named_action}
+use Rattle.race_places.specs.named_actions.Names.{AreApart, IsRight, named_action}
 use Rattle.data_races.specs.Actions as named
 use Rattle.data_races.specs.Actions.{Read, Write}
 use Rattle.data_races.specs.EventActions.{actions_of}
 use Rattle.data_races.specs.Races.{ActionOfRun, in_event, next_actions, have_conflict, is_racy, IsRacy, memory_order}
 use Rattle.field_names.specs.named_fields.Fields.{names_of}
 use Rattle.next_accesses.specs.declared.racy_states.Race.{Race}
+use Rattle.next_accesses.specs.declared.builder_texts.EventAccesses.{EventAccesses}
+use Rattle.next_accesses.specs.accesses.Accesses.{IsRightIf}
+use Rattle.next_accesses.specs.builder_texts.Texts.{accesses_in}
 use Rattle.next_accesses.specs.next_access.Next.{IsReached, is_access, accesses_next, AreAccesses}
-use Rattle.next_accesses.specs.racy_states.Racy.{conflict, do_conflict, IsRaceIn, IsRaceOf, next_of, IsAmong, IsFound, AreNext, TellsState, IsRaceAt, IsRaceIf, TellsRace}
+use Rattle.next_accesses.specs.racy_states.Racy.{conflict, do_conflict, IsRaceIn, IsRaceOf, next_of, IsNext, IsFound, AreNext, TellsState, DoesAccess, IsRaceAt, IsRaceIf, TellsRace}
 use Rattle.next_accesses.proofs.racy_states.Alike.{conflicts_alike}
-use Rattle.next_accesses.proofs.racy_states.Places.{IsIn, any_of, Passing, passing, mapped, MappedFrom, mapped_from, kept, kept_from, only_one, counted_at, counted_within}
+use Rattle.next_accesses.proofs.racy_states.Places.{IsIn, any_of, Passing, passing, mapped, mapped_at, MappedFrom, mapped_from, kept, kept_from, counted_at, counted_within}
 
 true_of : (b : Bool) → IsTrue b → b ≡ true
 true_of b h = h
@@ -66,18 +69,33 @@ module _ (trees : Program) (apart : AreApart (names_of trees)) (frames : ℕ) (s
   its_name a = named_action (names_of trees) a
 
   -- what is told of a thread is among its next actions
-  told_in : (t : ℕ) (a : Action) → AreAccesses trees frames state t (Some a) → IsIn (next_actions trees frames state t) (in_event t 0 (its_name a))
+  told_in : (t : ℕ) (a : Action) → DoesAccess trees frames state t a → IsIn (next_actions trees frames state t) (in_event t 0 (its_name a))
   told_in t a h =
       mapped (in_event t 0) (actions_of trees frames state (record { thread = t; pick = 0 })) (its_name a)
-      (kept_from is_access (actions_of trees frames state (record { thread = t; pick = 0 })) (its_name a) 0 (ap (λ xs. slice_get xs 0) (sym h.are)))
+      (kept_from is_access (actions_of trees frames state (record { thread = t; pick = 0 })) (its_name a) h.place
+      (ap (λ xs. slice_get xs h.place) (sym h.are.are) ∙ mapped_at its_name (accesses_in h.told) a h.place h.at))
 
-  alike : (a b : RunAction) → AreAccesses trees frames state a.thread (Some a.action) → AreAccesses trees frames state b.thread (Some b.action)
+  right_by : (o p q : Option Action) → IsRightIf trees o → IsRightIf trees p → IsRightIf trees q → (a : Action) (k : ℕ)
+      → slice_get (option_to_list o ++ option_to_list p ++ option_to_list q) k ≡ Some a → IsRight (names_of trees) trees a
+  right_by (Some x) p q r s t a zero e = subst (IsRight (names_of trees) trees) (same_Some x a e) r
+  right_by (Some x) p q r s t a (suc k) e = right_by None p q tt s t a k e
+  right_by None (Some x) q r s t a zero e = subst (IsRight (names_of trees) trees) (same_Some x a e) s
+  right_by None (Some x) q r s t a (suc k) e = right_by None None q tt tt t a k e
+  right_by None None (Some x) r s t a zero e = subst (IsRight (names_of trees) trees) (same_Some x a e) t
+  right_by None None (Some x) r s t a (suc k) e = absurd cc
+  right_by None None None r s t a k e = absurd cc
+
+  -- and right
+  is_right : (t : ℕ) (a : Action) → DoesAccess trees frames state t a → IsRight (names_of trees) trees a
+  is_right t a h = right_by h.told.first h.told.second h.told.third h.are.right.first h.are.right.second h.are.right.third a h.place h.at
+
+  alike : (a b : RunAction) → DoesAccess trees frames state a.thread a.action → DoesAccess trees frames state b.thread b.action
       → (memory_order trees).conflict (in_event a.thread 0 (its_name a.action)) (in_event b.thread 0 (its_name b.action)) ≡ do_conflict a b
-  alike a b g h = ap (λ t. not (a.thread == b.thread) && t) (conflicts_alike (names_of trees) trees apart a.action b.action g.right h.right)
+  alike a b g h = ap (λ t. not (a.thread == b.thread) && t) (conflicts_alike (names_of trees) trees apart a.action b.action (is_right a.thread a.action g) (is_right b.thread b.action h))
 
   -- two that conflict make the state racy
-  pub racy_by : (a b : RunAction) → a.thread < count → b.thread < count → AreAccesses trees frames state a.thread (Some a.action)
-      → AreAccesses trees frames state b.thread (Some b.action) → do_conflict a b ≡ true → IsRacy trees frames state
+  pub racy_by : (a b : RunAction) → a.thread < count → b.thread < count → DoesAccess trees frames state a.thread a.action
+      → DoesAccess trees frames state b.thread b.action → do_conflict a b ≡ true → IsRacy trees frames state
   racy_by a b below other_below g h e =
       let first = told_in a.thread a.action g in
       let second = told_in b.thread b.action h in
@@ -94,23 +112,27 @@ module _ (trees : Program) (apart : AreApart (names_of trees)) (frames : ℕ) (s
       a.thread a.thread (counted_at count a.thread below)
       (any_of (λ u. have_conflict trees these (next_actions trees frames state u)) (counting 0 count) b.thread b.thread (counted_at count b.thread other_below) meets))
 
-  -- an access of a thread is what is told of it
-  record Told (t : ℕ) (x : named.Action) (told : Option Action) : Type 0 where
+  -- an access of a thread is among those that are told of it
+  record Told (t : ℕ) (x : named.Action) (told : EventAccesses) : Type 0 where
     access : Action
-    is_told : told ≡ Some access
+    place : ℕ
+    at : slice_get (accesses_in told) place ≡ Some access
     named_so : its_name access ≡ x
 
   told_from : (t : ℕ) (x : named.Action) (k : ℕ) → slice_get (actions_of trees frames state (record { thread = t; pick = 0 })) k ≡ Some x → is_access x ≡ true
-      → (told : Option Action) → AreAccesses trees frames state t told → Told t x told
+      → (told : EventAccesses) → AreAccesses trees frames state t told → Told t x told
   told_from t x k e access told h =
       let held = kept is_access (actions_of trees frames state (record { thread = t; pick = 0 })) x k e access in
-      let from = mapped_from its_name (option_to_list told) x held.place (ap (λ xs. slice_get xs held.place) h.are ∙ held.at) in
-      record { access = from.item; is_told = (only_one told from.item from.is_in.place from.is_in.at).is; named_so = from.is }
+      let from = mapped_from its_name (accesses_in told) x held.place (ap (λ xs. slice_get xs held.place) h.are ∙ held.at) in
+      record { access = from.item; place = from.is_in.place; at = from.is_in.at; named_so = from.is }
 
   module _ (p : LinkedProgram) (shared : Shared) (bounds : Bounds) (frames_are : bounds.frames ≡ frames) (reached : IsReached trees p bounds shared state)
       (found : List RunAction) (threads : ℕ) (threads_are : threads ≡ count) (next : AreNext trees p shared threads found) where
-    its : (t : ℕ) (told : Option Action) → AreAccesses trees bounds.frames state t told → AreAccesses trees frames state t told
+    its : (t : ℕ) (told : EventAccesses) → AreAccesses trees bounds.frames state t told → AreAccesses trees frames state t told
     its t told h = subst (λ n. AreAccesses trees n state t told) frames_are h
+
+    does : (t : ℕ) (a : Action) → IsNext trees p shared t a → DoesAccess trees frames state t a
+    does t a n = record { told = n.told; are = its t n.told (n.tells bounds state reached); place = n.place; at = n.at }
 
     -- ---- a race that is told
 
@@ -118,8 +140,8 @@ module _ (trees : Program) (apart : AreApart (names_of trees)) (frames : ℕ) (s
     race_at race h =
         let first = next.each h.place h.first h.at in
         let second = next.each h.other_place h.second h.other_at in
-        let these = its h.first.thread (Some h.first.action) (first.1 bounds state reached) in
-        let others = its h.second.thread (Some h.second.action) (second.1 bounds state reached) in
+        let these = does h.first.thread h.first.action first.1 in
+        let others = does h.second.thread h.second.action second.1 in
         subst (IsRaceAt trees frames state) (sym h.is)
         (record {
           racy = racy_by h.first h.second (subst (λ n. h.first.thread < n) threads_are first.0) (subst (λ n. h.second.thread < n) threads_are second.0) these others h.do_so;
@@ -134,7 +156,7 @@ module _ (trees : Program) (apart : AreApart (names_of trees)) (frames : ℕ) (s
       place : ℕ
       at : slice_get found place ≡ Some (next_of t access)
       named_so : its_name access ≡ x
-      tells : AreAccesses trees frames state t (Some access)
+      tells : DoesAccess trees frames state t access
 
     in_found : (t : ℕ) → t < count → (x : named.Action) (k : ℕ) → slice_get (actions_of trees frames state (record { thread = t; pick = 0 })) k ≡ Some x
         → is_access x ≡ true → InFound t x
@@ -142,13 +164,13 @@ module _ (trees : Program) (apart : AreApart (names_of trees)) (frames : ℕ) (s
         let f = next.all t (subst (λ n. t < n) (sym threads_are) below) in
         let tells = its t f.told (f.tells bounds state reached) in
         let told = told_from t x k e access f.told tells in
-        let among = subst (IsAmong found t) told.is_told f.among in
+        let among = f.among told.place told.access told.at in
         record {
           access = told.access;
           place = among.0;
           at = among.1;
           named_so = told.named_so;
-          tells = subst (AreAccesses trees frames state t) told.is_told tells;
+          tells = record { told = f.told; are = tells; place = told.place; at = told.at };
         }
 
     pub none_racy : list_any (λ a. list_any (do_conflict a) found) found ≡ false → IsRacy trees frames state → ⊥

@@ -65,7 +65,7 @@ module _ (files : Program) (world : World) (max_stack : ℕ) (slots : Slots Valu
     ops_are : ops_of values m slots ≡ take (length m.wants.pops) slots.stack
     ops_are = ap (λ rs. map (λ r. slice_index_or slots.locals r.0 value.Unset) rs ++ take (length m.wants.pops) slots.stack) none
 
-    word_is : slice_index_or stack_words k 0 ≡ word_of (operand values (ops_of values m slots) k)
+    pub word_is : slice_index_or stack_words k 0 ≡ word_of (operand values (ops_of values m slots) k)
     word_is =
         map_index word_of slots.stack k value.Unset
         ∙ ap word_of (sym (ap (λ (l : List Value). slice_index_or l k value.Unset) ops_are ∙ taken_at (length m.wants.pops) slots.stack k value.Unset (below_length m.wants.pops k w at)))
@@ -73,7 +73,7 @@ module _ (files : Program) (world : World) (max_stack : ℕ) (slots : Slots Valu
     int_is : IsInt (ops_of values m slots) stack_words k
     int_is = sym word_is
 
-    reference_is : Finds m → is_object_want w ≡ true → IsReference (ops_of values m slots) stack_words k
+    pub reference_is : Finds m → is_object_want w ≡ true → IsReference (ops_of values m slots) stack_words k
     reference_is finds object =
         let ops = ops_of values m slots in
         let pairs : Pairwise (value_meets files (types_of world.heap)) m.wants.pops ops =

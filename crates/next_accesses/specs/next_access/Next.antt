@@ -1,6 +1,5 @@
--- What the next event of a thread reads or writes (JLS 17.4.2), by the words of a machine.
-use Rattle.std.specs.Prelude.{◌≡◌, ℕ, List, Option, Some, Bool, true, false, map, slice_get}
-use Rattle.std.specs.Option.{option_to_list}
+-- What the next event of a thread reads and writes (JLS 17.4.2), by the words of a machine.
+use Rattle.std.specs.Prelude.{◌≡◌, ℕ, List, Some, Bool, true, false, map, slice_get}
 use Rattle.std.specs.List.{filter}
 use Rattle.model.specs.declared.event.Event.{Event}
 use Rattle.model.specs.Accepted.{IsAccepted}
@@ -14,13 +13,13 @@ use Rattle.thread_stacks.specs.Stacks.{ShownFrame, ShownEntry}
 use Rattle.machine_state.specs.declared.state.Shared.{Shared}
 use Rattle.machine_state.specs.Shown.{IsProgram}
 use Rattle.machine_state.specs.state_events.Whole.{IsShown}
-use Rattle.race_places.specs.declared.run_actions.Action.{Action}
 use Rattle.race_places.specs.named_actions.Names.{named_action}
 use Rattle.data_races.specs.Actions as named
 use Rattle.data_races.specs.EventActions.{actions_of}
 use Rattle.thread_rules.specs.next_rules.Meant.{IsAtInstruction}
 use Rattle.field_names.specs.named_fields.Fields.{names_of}
-use Rattle.next_accesses.specs.accesses.Accesses.{IsRightIf}
+use Rattle.next_accesses.specs.declared.builder_texts.EventAccesses.{EventAccesses}
+use Rattle.next_accesses.specs.builder_texts.Texts.{accesses_in, AreRight}
 
 -- a state to which a run of accepted files led, and whose words are shown
 pub record IsReached (trees : Program) (p : LinkedProgram) (bounds : Bounds) (shared : Shared) (state : State) : Type 0 where
@@ -41,22 +40,22 @@ is_access _ = false
 abbrev pub accesses_next : Program → ℕ → State → ℕ → List named.Action
 accesses_next files frames state t = filter is_access (actions_of files frames state (record { thread = t; pick = 0 }))
 
--- this one alone, or none, by the names of the class files
-pub record AreAccesses (trees : Program) (frames : ℕ) (state : State) (t : ℕ) (told : Option Action) : Type 0 where
-  pub are : map (named_action (names_of trees)) (option_to_list told) ≡ accesses_next trees frames state t
-  pub right : IsRightIf trees told
+-- these alone, in their order, by the names of the class files
+pub record AreAccesses (trees : Program) (frames : ℕ) (state : State) (t : ℕ) (told : EventAccesses) : Type 0 where
+  pub are : map (named_action (names_of trees)) (accesses_in told) ≡ accesses_next trees frames state t
+  pub right : AreRight trees told
 
 -- in whatever state that was reached
-abbrev pub TellsNext : Program → LinkedProgram → Shared → (t : ℕ) → Option Action → Type 0
+abbrev pub TellsNext : Program → LinkedProgram → Shared → (t : ℕ) → EventAccesses → Type 0
 TellsNext trees p shared t told =
     (bounds : Bounds) (state : State) → IsReached trees p bounds shared state → AreAccesses trees bounds.frames state t told
 
 -- of a thread that has this stack
-abbrev pub TellsStack : Program → LinkedProgram → Shared → (t : ℕ) → List ShownEntry → Option Action → Type 0
+abbrev pub TellsStack : Program → LinkedProgram → Shared → (t : ℕ) → List ShownEntry → EventAccesses → Type 0
 TellsStack trees p shared t stack told = slice_get shared.stacks.items t ≡ Some stack → TellsNext trees p shared t told
 
 -- of a thread that stands at an instruction in this frame
-abbrev pub TellsFrame : Program → LinkedProgram → Shared → (t : ℕ) → ShownFrame → Option Action → Type 0
+abbrev pub TellsFrame : Program → LinkedProgram → Shared → (t : ℕ) → ShownFrame → EventAccesses → Type 0
 TellsFrame trees p shared t frame told =
     (bounds : Bounds) (state : State) → (reached : IsReached trees p bounds shared state)
     → (stack : List ShownEntry) (at : IsAtInstruction trees p bounds reached.inflated t shared stack state) → at.runs.shown ≡ frame

@@ -59,43 +59,48 @@ const P: Class = Class {
     ..R
 };
 
-/// P declares x, and Q below it one of its own; R is below Q. The files stand in another order, with the numbers 36
-/// to 39.
+/// P declares x, and Q below it one of its own; R is below Q. The files stand in another order, with the numbers 37
+/// to 40.
 static CLASSES: [Class; 4] = [A, R, Q, P];
 
 /// The fields x of P and of Q.
-const X_OF_P: Option<FieldLink> = Some(FieldLink::Instance { class: 39, slot: 0 });
+const X_OF_P: Option<FieldLink> = Some(FieldLink::Instance { class: 40, slot: 0 });
 
-const X_OF_Q: Option<FieldLink> = Some(FieldLink::Instance { class: 38, slot: 3 });
+const X_OF_Q: Option<FieldLink> = Some(FieldLink::Instance { class: 39, slot: 3 });
 
-static FIELDS: [Row<Option<FieldLink>>; 15] = [
-    (36, Entry::Field(b"P", b"x", b"I"), X_OF_P),
-    (36, Entry::Field(b"Q", b"x", b"I"), X_OF_Q),
-    (36, Entry::Field(b"R", b"x", b"I"), X_OF_Q),
+static FIELDS: [Row<Option<FieldLink>>; 17] = [
+    (37, Entry::Field(b"P", b"x", b"I"), X_OF_P),
+    (37, Entry::Field(b"Q", b"x", b"I"), X_OF_Q),
+    (37, Entry::Field(b"R", b"x", b"I"), X_OF_Q),
     (
-        36,
+        37,
         Entry::Field(b"R", b"y", b"I"),
-        Some(FieldLink::Instance { class: 38, slot: 2 }),
+        Some(FieldLink::Instance { class: 39, slot: 2 }),
     ),
     (
-        36,
+        37,
         Entry::Field(b"R", b"p", b"I"),
-        Some(FieldLink::Instance { class: 39, slot: 1 }),
+        Some(FieldLink::Instance { class: 40, slot: 1 }),
     ),
     (
-        36,
+        37,
         Entry::Field(b"R", b"s", b"I"),
-        Some(FieldLink::Static { class: 39, slot: 2 }),
+        Some(FieldLink::Static { class: 40, slot: 2 }),
     ),
     (
-        36,
+        37,
         Entry::Field(b"Q", b"t", b"I"),
-        Some(FieldLink::Static { class: 38, slot: 0 }),
+        Some(FieldLink::Static { class: 39, slot: 0 }),
     ),
     (
-        36,
+        37,
         Entry::Field(b"java/lang/System", b"out", b"Ljava/io/PrintStream;"),
         Some(FieldLink::SystemOut),
+    ),
+    (
+        37,
+        Entry::Field(b"java/lang/System", b"err", b"Ljava/io/PrintStream;"),
+        Some(FieldLink::SystemErr),
     ),
     // in Thread, the target that run reads
     (
@@ -103,25 +108,32 @@ static FIELDS: [Row<Option<FieldLink>>; 15] = [
         Entry::At(10),
         Some(FieldLink::Instance { class: 2, slot: 0 }),
     ),
+    // in StringBuilder, the text that length reads
+    (
+        36,
+        Entry::At(52),
+        Some(FieldLink::Instance { class: 36, slot: 0 }),
+    ),
     // no field y is found in P, and these are no Fieldrefs
-    (36, Entry::Field(b"P", b"y", b"I"), None),
-    (36, Entry::Class(b"A"), None),
-    (36, Entry::At(0), None),
-    (36, Entry::At(0xffff), None),
-    // there is no class 40
-    (40, Entry::At(2), None),
-    (40, Entry::At(10), None),
+    (37, Entry::Field(b"P", b"y", b"I"), None),
+    (37, Entry::Class(b"A"), None),
+    (37, Entry::At(0), None),
+    (37, Entry::At(0xffff), None),
+    // there is no class 41
+    (41, Entry::At(2), None),
+    (41, Entry::At(10), None),
 ];
 
 /// Classes by their numbers, and how many slots their objects have.
-const SLOT_COUNTS: [(usize, Option<usize>); 7] = [
+const SLOT_COUNTS: [(usize, Option<usize>); 8] = [
     (0, Some(0)),
     (2, Some(1)),
-    (36, Some(0)),
-    (37, Some(5)),
-    (38, Some(4)),
-    (39, Some(2)),
-    (40, None),
+    (36, Some(1)),
+    (37, Some(0)),
+    (38, Some(5)),
+    (39, Some(4)),
+    (40, Some(2)),
+    (41, None),
 ];
 
 /// The place of the first row of `FIELDS` that isn't so.
@@ -172,15 +184,15 @@ fn fields_have_slots(rt: HostRuntime) -> Result<(), Fail> {
 }
 
 static NUMBERS: [Row<Option<usize>>; 9] = [
-    (36, Entry::Class(b"A"), Some(36)),
-    (36, Entry::Class(OBJECT), Some(0)),
-    (36, Entry::Class(b"P"), Some(39)),
-    (36, Entry::Class(b"Q"), Some(38)),
-    (37, Entry::Class(b"Q"), Some(38)),
-    (37, Entry::Text(b"Q"), None),
-    (37, Entry::At(0), None),
-    (37, Entry::At(0xffff), None),
-    (40, Entry::At(2), None),
+    (37, Entry::Class(b"A"), Some(37)),
+    (37, Entry::Class(OBJECT), Some(0)),
+    (37, Entry::Class(b"P"), Some(40)),
+    (37, Entry::Class(b"Q"), Some(39)),
+    (38, Entry::Class(b"Q"), Some(39)),
+    (38, Entry::Text(b"Q"), None),
+    (38, Entry::At(0), None),
+    (38, Entry::At(0xffff), None),
+    (41, Entry::At(2), None),
 ];
 
 /// The place of the first row of `NUMBERS` that isn't so.
@@ -214,14 +226,19 @@ fn classes_have_numbers(rt: HostRuntime) -> Result<(), Fail> {
     Ok(())
 }
 
-static STRINGS: [Row<Option<usize>>; 7] = [
-    (36, Entry::String(b"one"), Some(0)),
-    (37, Entry::String(b"two"), Some(1)),
-    (38, Entry::String(b"one"), Some(0)),
-    (39, Entry::String(b""), Some(2)),
-    (36, Entry::Text(b"one"), None),
+/// Those of the files come first, then those of String and of StringBuilder.
+static STRINGS: [Row<Option<usize>>; 11] = [
+    (37, Entry::String(b"one"), Some(0)),
+    (38, Entry::String(b"two"), Some(1)),
+    (39, Entry::String(b"one"), Some(0)),
+    (40, Entry::String(b""), Some(2)),
+    (37, Entry::Text(b"one"), None),
+    (3, Entry::At(10), Some(3)),
+    (3, Entry::At(12), Some(4)),
+    (36, Entry::At(8), Some(5)),
+    (36, Entry::At(10), Some(2)),
     (0, Entry::At(6), None),
-    (40, Entry::At(6), None),
+    (41, Entry::At(6), None),
 ];
 
 /// The place of the first row of `STRINGS` that isn't so, and how many texts have numbers.
@@ -254,7 +271,7 @@ impl Answers for StringAnswers {
 fn texts_have_numbers(rt: HostRuntime) -> Result<(), Fail> {
     let found: StringAnswers = asked(rt.alloc(), &CLASSES, &STRINGS)?;
     assert_eq!(rt; found.wrong, None);
-    // equal texts have one number
-    assert_eq!(rt; found.count, 3);
+    // equal texts have one number; the last two are those of the machine
+    assert_eq!(rt; found.count, 8);
     Ok(())
 }

@@ -163,73 +163,75 @@ const J: Class = Class {
     ..I
 };
 
-/// The classes with the numbers from 36 on, behind the built-in ones. Their methods have the numbers from 119 on: A's
-/// 119, R's 120, Q's 121 to 124, P's 125 to 129, I's 130 and J's 131.
+/// The classes with the numbers from 37 on, behind the built-in ones. Their methods have the numbers from 158 on: A's
+/// 158, R's 159, Q's 160 to 163, P's 164 to 168, I's 169 and J's 170.
 pub(crate) static CLASSES: [Class; 6] = [A, R, Q, P, I, J];
 
 static NAMED: [Row<Option<usize>>; 21] = [
     // R.s, which P declares; R.m, which Q declares nearest; Q.n, which P declares; and J.i, which I declares
     (
-        36,
+        37,
         Entry::Method(b"R", b"s", b"(ILjava/lang/Object;[I)V"),
-        Some(128),
+        Some(167),
     ),
-    (36, Entry::Method(b"R", b"m", b"()V"), Some(121)),
-    (36, Entry::Method(b"Q", b"n", b"(I)I"), Some(126)),
-    (36, Entry::InterfaceMethod(b"J", b"i", b"()V"), Some(130)),
+    (37, Entry::Method(b"R", b"m", b"()V"), Some(160)),
+    (37, Entry::Method(b"Q", b"n", b"(I)I"), Some(165)),
+    (37, Entry::InterfaceMethod(b"J", b"i", b"()V"), Some(169)),
     // R.m with a parameter; R.n and R.i, which R and Q declare again; P.i, which only I declares
-    (36, Entry::Method(b"R", b"m", b"(I)V"), Some(124)),
-    (36, Entry::Method(b"R", b"n", b"(I)I"), Some(120)),
-    (36, Entry::Method(b"R", b"i", b"()V"), Some(123)),
-    (36, Entry::Method(b"P", b"i", b"()V"), Some(130)),
+    (37, Entry::Method(b"R", b"m", b"(I)V"), Some(163)),
+    (37, Entry::Method(b"R", b"n", b"(I)I"), Some(159)),
+    (37, Entry::Method(b"R", b"i", b"()V"), Some(162)),
+    (37, Entry::Method(b"P", b"i", b"()V"), Some(169)),
     // J.notify, which Object declares
-    (36, Entry::InterfaceMethod(b"J", b"notify", b"()V"), Some(3)),
+    (37, Entry::InterfaceMethod(b"J", b"notify", b"()V"), Some(3)),
     // Thread.run's invokeinterface Runnable.run
     (2, Entry::At(14), Some(5)),
     // R.z is declared nowhere, and there is no class X; R.m by an InterfaceMethodref is no method of an interface
-    (36, Entry::Method(b"R", b"z", b"()V"), None),
-    (36, Entry::Method(b"X", b"m", b"()V"), None),
-    (36, Entry::InterfaceMethod(b"R", b"m", b"()V"), None),
+    (37, Entry::Method(b"R", b"z", b"()V"), None),
+    (37, Entry::Method(b"X", b"m", b"()V"), None),
+    (37, Entry::InterfaceMethod(b"R", b"m", b"()V"), None),
     // other entries, and none; in Thread a Fieldref
-    (36, Entry::Class(b"A"), None),
-    (36, Entry::NameAndType(b"m", b"()V"), None),
-    (36, Entry::At(0), None),
-    (36, Entry::At(0xffff), None),
+    (37, Entry::Class(b"A"), None),
+    (37, Entry::NameAndType(b"m", b"()V"), None),
+    (37, Entry::At(0), None),
+    (37, Entry::At(0xffff), None),
     (2, Entry::At(10), None),
     // a class without such an entry, and no class
-    (37, Entry::At(200), None),
-    (42, Entry::At(2), None),
-    (42, Entry::At(14), None),
+    (38, Entry::At(200), None),
+    (43, Entry::At(2), None),
+    (43, Entry::At(14), None),
 ];
 
 pub(crate) const NO_ROWS: [Row<()>; 0] = [];
 
 /// Numbers of methods, each with the class and the place among its methods. Object declares five methods, Runnable one,
-/// Thread eleven, String 29, Class one, System none, PrintStream seven, Comparable one, CharSequence four and Cloneable
-/// none; and the 26 classes of what is thrown 60. Then come the files, in their order.
-const PLACES: [(usize, usize, usize); 22] = [
+/// Thread eleven, String 30, Class one, System none, PrintStream nine, Comparable one, CharSequence four, Cloneable
+/// none and StringBuilder 36; and the 26 classes of what is thrown 60. Then come the files, in their order.
+const PLACES: [(usize, usize, usize); 24] = [
     (0, 0, 0),
     (4, 0, 4),
     (5, 1, 0),
     (6, 2, 0),
     (16, 2, 10),
     (17, 3, 0),
-    (45, 3, 28),
-    (46, 4, 0),
-    (47, 6, 0),
-    (53, 6, 6),
-    (54, 7, 0),
-    (56, 7, 2),
-    (118, 35, 1),
-    (119, 36, 0),
-    (121, 38, 0),
-    (124, 38, 3),
-    (125, 39, 0),
-    (129, 39, 4),
-    (130, 40, 0),
-    (131, 41, 0),
-    (120, 37, 0),
-    (115, 34, 0),
+    (46, 3, 29),
+    (47, 4, 0),
+    (48, 6, 0),
+    (56, 6, 8),
+    (57, 7, 0),
+    (59, 7, 2),
+    (121, 35, 1),
+    (122, 36, 0),
+    (157, 36, 35),
+    (158, 37, 0),
+    (160, 39, 0),
+    (163, 39, 3),
+    (164, 40, 0),
+    (168, 40, 4),
+    (169, 41, 0),
+    (170, 42, 0),
+    (159, 38, 0),
+    (118, 34, 0),
 ];
 
 /// Places at which no method stands: behind the last of Thread, in System, behind the last of all, and in one more
@@ -237,8 +239,8 @@ const PLACES: [(usize, usize, usize); 22] = [
 const NO_PLACES: [(usize, usize); 5] = [
     (2, 11),
     (5, 0),
-    (41, 1),
-    (42, 0),
+    (42, 1),
+    (43, 0),
     (usize::MAX, usize::MAX),
 ];
 
@@ -285,7 +287,7 @@ impl Answers for PlaceAnswers {
             wrong_place: wrong_place(&numbers),
             wrong_no_place: wrong_no_place(&numbers),
             count: numbers.count(),
-            behind_the_last: numbers.place(132),
+            behind_the_last: numbers.place(171),
         })
     }
 }
@@ -295,7 +297,7 @@ fn methods_have_numbers(rt: HostRuntime) -> Result<(), Fail> {
     let found: PlaceAnswers = asked(rt.alloc(), &CLASSES, &NO_ROWS)?;
     assert_eq!(rt; found.wrong_place, None);
     assert_eq!(rt; found.wrong_no_place, None);
-    assert!(rt; found.count == 132 && found.behind_the_last.is_none());
+    assert!(rt; found.count == 171 && found.behind_the_last.is_none());
     Ok(())
 }
 
@@ -338,38 +340,38 @@ fn entries_name_what_is_found(rt: HostRuntime) -> Result<(), Fail> {
 /// A class, a method, and the method that receivers of the class have in its place.
 const SELECTED: [(usize, usize, Option<usize>); 24] = [
     // P.m is overridden in Q, from which A and R have it
-    (39, 125, Some(125)),
-    (38, 125, Some(121)),
-    (37, 125, Some(121)),
-    (36, 125, Some(121)),
+    (40, 164, Some(164)),
+    (39, 164, Some(160)),
+    (38, 164, Some(160)),
+    (37, 164, Some(160)),
     // a class above the one that declares the method has one of its own, too
-    (39, 121, Some(125)),
+    (40, 160, Some(164)),
     // the m with a parameter is another one
-    (36, 124, Some(124)),
-    (39, 124, None),
+    (37, 163, Some(163)),
+    (40, 163, None),
     // P.n is inherited by Q, and so is Object's notify
-    (38, 126, Some(126)),
-    (36, 126, Some(126)),
-    (38, 3, Some(3)),
+    (39, 165, Some(165)),
+    (37, 165, Some(165)),
+    (39, 3, Some(3)),
     // Thread declares Runnable's run
     (2, 5, Some(6)),
     // p is private in P, and public in Q
-    (39, 127, None),
-    (39, 122, None),
-    (38, 127, Some(122)),
-    (36, 127, Some(122)),
+    (40, 166, None),
+    (40, 161, None),
+    (39, 166, Some(161)),
+    (37, 166, Some(161)),
     // P.s and main are static
-    (39, 128, None),
-    (38, 128, None),
-    (36, 119, None),
+    (40, 167, None),
+    (39, 167, None),
+    (37, 158, None),
     // R declares P.n again as an abstract one, and nothing below P declares a
-    (37, 126, Some(120)),
-    (39, 129, Some(129)),
-    (36, 129, Some(129)),
+    (38, 165, Some(159)),
+    (40, 168, Some(168)),
+    (37, 168, Some(168)),
     // I.i is declared by Q, and by no class above it; methods of interfaces aren't selected
-    (36, 130, Some(123)),
-    (39, 130, None),
-    (36, 131, None),
+    (37, 169, Some(162)),
+    (40, 169, None),
+    (37, 170, None),
 ];
 
 /// The place of the first row of `SELECTED` that isn't so.

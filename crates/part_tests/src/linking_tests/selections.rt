@@ -14,13 +14,13 @@ use std::test::Fail;
 /// Of A.m, which Q declares; of P's m, i, which only I declares, and private p; of I.i and J.i; of P.m again; and of
 /// Object.wait.
 static CALLS: [(CallKind, usize, usize); 8] = [
-    (CallKind::Virtual, 36, 121),
-    (CallKind::Virtual, 39, 125),
-    (CallKind::Virtual, 39, 130),
-    (CallKind::Virtual, 39, 127),
-    (CallKind::Interface, 40, 130),
-    (CallKind::Interface, 41, 130),
-    (CallKind::Virtual, 39, 125),
+    (CallKind::Virtual, 37, 160),
+    (CallKind::Virtual, 40, 164),
+    (CallKind::Virtual, 40, 169),
+    (CallKind::Virtual, 40, 166),
+    (CallKind::Interface, 41, 169),
+    (CallKind::Interface, 42, 169),
+    (CallKind::Virtual, 40, 164),
     (CallKind::Virtual, 0, 2),
 ];
 
@@ -28,7 +28,7 @@ static TARGETS: [CallTarget; 8] = [
     CallTarget::Place(3),
     CallTarget::Place(1),
     CallTarget::Place(2),
-    CallTarget::Method(127),
+    CallTarget::Method(166),
     CallTarget::Selector(0),
     CallTarget::Selector(1),
     CallTarget::Place(1),
@@ -41,19 +41,19 @@ static ROWS: [(usize, &[u32]); 8] = [
     (0, &[2]),
     (2, &[2, 6]),
     (3, &[2]),
-    (36, &[2, 121, 123, 121]),
-    (37, &[2, 121, 123, 121]),
-    (38, &[2, 121, 123, 121]),
-    (39, &[2, 125, 5]),
-    (40, &[2]),
+    (37, &[2, 160, 162, 160]),
+    (38, &[2, 160, 162, 160]),
+    (39, &[2, 160, 162, 160]),
+    (40, &[2, 164, 5]),
+    (41, &[2]),
 ];
 
 /// How many selectors the rows of Object, Q, I and J have, and the method of the first.
 static INTERFACE_ROWS: [(usize, usize, u32); 4] = [
     (0, 0, 0),
-    (38, 1, 123),
-    (40, 1, 130),
-    (41, 2, 5),
+    (39, 1, 162),
+    (41, 1, 169),
+    (42, 2, 5),
 ];
 
 fn calls_of(alloc: Global) -> Result<Vec<NamedCall>, AllocError> {

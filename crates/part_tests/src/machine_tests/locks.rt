@@ -104,7 +104,7 @@ fn calls_are_handed_on(rt: HostRuntime) -> Result<(), Fail> {
     let limits = Limits::new(4, 0, 4, 1, 1).ok_or("limits")?;
     let mut heap = Heap::new(rt.alloc(), limits);
     for object in 0..4 {
-        assert_eq!(rt; heap.alloc_object(0, 0), Ok(object));
+        assert_eq!(rt; heap.alloc_object(0, 0, 0), Ok(object));
     }
     for call in [
         notify(0, 0, 0),

@@ -11,6 +11,8 @@ enum Make {
     /// An object that the limits don't count.
     Opening(u32, u32),
     Object(u32, u32),
+    /// An object of which fewer words count as cells, this many.
+    Hiding(u32, u32, u32),
     Ints(u32),
     References(u32, u32),
     Narrow(NarrowKind, u32),
@@ -42,7 +44,8 @@ fn allocate(heap: &mut Heap, what: Make) -> Result<u32, AllocRefusal> {
             }
             Ok(heap.add_opening(ObjectKind::Instance { class }, count)?)
         }
-        Make::Object(class, count) => heap.alloc_object(class, count),
+        Make::Object(class, count) => heap.alloc_object(class, count, count),
+        Make::Hiding(class, count, counted) => heap.alloc_object(class, count, counted),
         Make::Ints(count) => heap.alloc_ints(count),
         Make::References(of, count) => heap.alloc_refs(of, count),
         Make::Narrow(kind, count) => heap.alloc_narrow(kind, count),
@@ -192,6 +195,27 @@ const FULL: Case = Case {
     ],
 };
 
+/// Words that don't count are there, and leave room for cells.
+const HIDDEN: Case = Case {
+    objects: 9,
+    cells: 2,
+    made: &[
+        (Make::Hiding(4, 3, 0), Ok(0)),
+        (Make::Hiding(5, 2, 1), Ok(1)),
+        (Make::Hiding(5, 2, 2), Err(AllocRefusal::Cells)),
+        (Make::Ints(1), Ok(2)),
+        (Make::Hiding(4, 1, 0), Ok(3)),
+        (Make::Object(6, 1), Err(AllocRefusal::Cells)),
+    ],
+    put: &[Put::Field(0, 2, 9), Put::Field(1, 1, 10)],
+    shown: &[
+        (ObjectKind::Instance { class: 4 }, &[0, 0, 9]),
+        (ObjectKind::Instance { class: 5 }, &[0, 10]),
+        (ObjectKind::Ints, &[0]),
+        (ObjectKind::Instance { class: 4 }, &[0]),
+    ],
+};
+
 /// Only objects of the opening.
 const NONE: Case = Case {
     objects: 0,
@@ -206,7 +230,7 @@ const NONE: Case = Case {
 
 #[test]
 fn objects_have_words_within_limits(rt: HostRuntime) -> Result<(), Fail> {
-    for case in [KEPT, NOT_THERE, NARROW, LIMITED, FULL, NONE] {
+    for case in [KEPT, NOT_THERE, NARROW, LIMITED, FULL, HIDDEN, NONE] {
         run(&rt, case)?;
     }
     Ok(())

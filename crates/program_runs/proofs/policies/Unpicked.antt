@@ -63,6 +63,7 @@ others_may built_in.ThreadJoin n t k world ops = and_false (suc k == 0) _ (past_
 others_may built_in.ThreadIsAlive n t k world ops = past_zero k
 others_may (built_in.PrintStreamPrints print) n t k world ops = past_zero k
 others_may (built_in.StringAnswers method) n t k world ops = past_zero k
+others_may (built_in.StringBuilderBuilds method) n t k world ops = past_zero k
 
 -- a notify picks one of the members, by the owner
 pub notify_may : (owner : Bool) (n k : ℕ) → (if owner && nat_lt 0 n then nat_lt (suc k) n else (suc k == 0)) ≡ nat_lt (suc k) (if owner then n else 0)
@@ -144,14 +145,14 @@ module _ (trees : Program) (p : LinkedProgram) (at : ℕ → ℕ) (code : List L
   picks_none (linked.PutByteStatic class slot) l n0 n1 n2 = plain _ l.is (λ t k world ops. refl)
   picks_none (linked.PutCharStatic class slot) l n0 n1 n2 = plain _ l.is (λ t k world ops. refl)
   picks_none (linked.PutShortStatic class slot) l n0 n1 n2 = plain _ l.is (λ t k world ops. refl)
-  picks_none linked.GetSystemOut l n0 n1 n2 = plain _ l (λ t k world ops. refl)
+  picks_none (linked.GetSystemStream word) l n0 n1 n2 = plain _ l.is (λ t k world ops. refl)
   picks_none linked.LoadElement l n0 n1 n2 = of _ l.is (load_none trees site l.kind)
   picks_none linked.StoreInt l n0 n1 n2 = of _ l.is (store_none trees site array_kind.Int)
   picks_none linked.StoreNarrow l n0 n1 n2 = of _ l.stores.is (store_none trees site l.kind)
   picks_none linked.StoreReference l n0 n1 n2 = of _ l.is (store_none trees site array_kind.Reference)
   picks_none linked.ArrayLength l n0 n1 n2 = plain _ l.is (λ t k world ops. refl)
   picks_none (linked.LoadObject word) l n0 n1 n2 = plain _ l.is (λ t k world ops. refl)
-  picks_none (linked.New class fields) l n0 n1 n2 = plain _ l.is (λ t k world ops. refl)
+  picks_none (linked.New class fields cells) l n0 n1 n2 = plain _ l.is (λ t k world ops. refl)
   picks_none (linked.NewArray type) l n0 n1 n2 = plain _ l.is (λ t k world ops. refl)
   picks_none (linked.NewReferenceArray number) l n0 n1 n2 = plain _ l.is (λ t k world ops. refl)
   picks_none (linked.CheckCast type) l n0 n1 n2 = plain _ l.0.is (λ t k world ops. refl)

@@ -7,6 +7,7 @@ ghost use Rattle.program_runs.specs.traced_runs.Telling.{Gathers};
 
 use model::{DeviceFault, Sink};
 use std::alloc::Global;
+use traces::Said;
 
 /// How many bytes are gathered before they are written.
 const GATHERED: usize = 32_768;
@@ -16,7 +17,7 @@ const GATHERED: usize = 32_768;
 pub(crate) struct Lines {
     pub(crate) text: Vec<u8>,
     /// Parts of a line on their way to the text.
-    pub(crate) spare: Vec<u8>,
+    pub(crate) spare: Said,
 }
 
 impl Lines {
@@ -25,7 +26,7 @@ impl Lines {
     {
         Lines {
             text: Vec::new(alloc),
-            spare: Vec::new(alloc),
+            spare: Said::new(alloc),
         }
     }
 

@@ -12,7 +12,7 @@ use Rattle.model.specs.Names.{Name}
 use Rattle.model.specs.Classes.{Program}
 use Rattle.model.specs.Operands.{Slots, values, under}
 use Rattle.model.specs.Rows.{counting}
-use Rattle.model.specs.State.{ClassStatus, Thread, StackOf, World, State}
+use Rattle.model.specs.State.{ClassStatus, Thread, types_of, StackOf, World, State}
 use Rattle.model.specs.Opening.{opening}
 use Rattle.model.specs.Outcomes.{Cost, OutcomeOf, Goes}
 use Rattle.model.specs.Worlds.{thread_at}
@@ -20,16 +20,17 @@ use Rattle.model.specs.ClassInitialisation.{look_at}
 use Rattle.model.specs.Step.{ops_of, step}
 use Rattle.model.specs.Run.{run, run_from}
 use Rattle.data_races.specs.Variables.{Variable, is_volatile}
+use Rattle.run_laws.proofs.word_runs.WordMeanings.{Kinded}
 use Rattle.data_races.specs.Actions.{Action, Read, Write, conflicts, synchronizes, is_read, is_write}
-use Rattle.data_races.specs.EventActions.{only_if, Instruction, Rule, Begins, Does, Initialises, Relocks, Other, access_by, operands_of, is_done, is_ready, goes_on, outcome_at, accesses_of, actions_to, actions_of, rule_of}
+use Rattle.data_races.specs.EventActions.{only_if, Instruction, Rule, Begins, Does, Initialises, Relocks, Other, accesses_at, operands_of, is_done, is_ready, goes_on, outcome_at, accesses_of, actions_to, actions_of, rule_of}
 use Rattle.data_races.specs.HappensBefore.{HappensBefore, IsRace}
 use Rattle.data_races.specs.Races.{ActionOfRun, in_event, actions_from, actions_of_run, memory_order, HasRace, next_actions, IsRacy}
 use Rattle.data_races.proofs.Order.{get_left}
 use Rattle.data_races.proofs.Decided.{In, in_map, from_map}
 use Rattle.race_laws.proofs.racy_states.Unordered.{stays_within}
-use Rattle.race_laws.proofs.racy_states.Shapes.{IsSameShape}
-use Rattle.race_laws.proofs.racy_states.Accessing.{IsAccessing}
-use Rattle.race_laws.proofs.racy_states.Instructions.{accessing}
+use Rattle.race_laws.proofs.racy_states.Shapes.{IsGrown, extends}
+use Rattle.race_laws.proofs.racy_states.Later.{grown_keeps, finds_later}
+use Rattle.race_laws.proofs.racy_states.Accesses.{Access, access_is, accesses_from, grows, later_is, picks, again, kinded}
 use Rattle.race_laws.proofs.racy_states.Stepping.{event_of_thread, IsAt, is_at, rule_is, steps_by, after, goes}
 use Rattle.race_laws.proofs.racy_states.Parts.{is_access, access_part}
 use Rattle.race_laws.proofs.racy_states.Silent.{IsSilent, in_only_if, both, all_silent, accesses_among, silent_of}
@@ -82,7 +83,7 @@ record DoesAccess (files : Program) (frames : ℕ) (s : State) (t : ℕ) (a : Ac
   steps : step files frames s (event_of_thread t) ≡ Some next
   instruction : Instruction
   at : IsAt files s t instruction
-  accesses : In a (access_by files instruction.site (operands_of instruction) instruction.site.instr)
+  accesses : Access files instruction a s.world
   done : IsTrue (is_done t s.world instruction)
   goes_on : IsTrue (goes_on (outcome_at (event_of_thread t) s.world instruction))
 
@@ -91,9 +92,9 @@ module _ (files : Program) (frames : ℕ) (s : State) (t : ℕ) (a : Action) whe
       → In a (accesses_of files (event_of_thread t) s.world rule) → DoesAccess files frames s t a
   by_rule next Begins e r h = absurd h
   by_rule next (Does instruction) e r h =
-      let p = in_only_if a (is_done t s.world instruction && goes_on (outcome_at (event_of_thread t) s.world instruction)) _ h in
+      let p = in_only_if a (is_done t s.world instruction && goes_on (outcome_at (event_of_thread t) s.world instruction)) (accesses_at files s.world instruction) h in
       let q = both (is_done t s.world instruction) (goes_on (outcome_at (event_of_thread t) s.world instruction)) p.0 in
-      record { next = next; steps = e; instruction = instruction; at = is_at files s t instruction r; accesses = p.1; done = q.0; goes_on = q.1 }
+      record { next = next; steps = e; instruction = instruction; at = is_at files s t instruction r; accesses = access_is files instruction a s.world p.1; done = q.0; goes_on = q.1 }
   by_rule next (Initialises class phase) e r h = absurd h
   by_rule next (Relocks cause) e r h = absurd h
   by_rule next Other e r h = absurd h
@@ -128,23 +129,20 @@ module _ (files : Program) (frames : ℕ) (s : State) (t : ℕ) (a : Action) (d 
   abbrev it : Instruction
   it = d.instruction
 
-  is_accessing : IsAccessing it.meaning
-  is_accessing = accessing files it.site it.meaning a (operands_of it) d.accesses d.at.means
-
   at_frame : (world : World) (o : OutcomeOf Value) → outcome_at e world it ≡ o
       → it.meaning.does e world d.at.frame.place.slots (ops_of values it.meaning d.at.frame.place.slots) (under it.meaning.wants d.at.frame.place.slots) ≡ o
   at_frame world o h =
       subst (λ (x : Slots Value). it.meaning.does e world x (ops_of values it.meaning x) (under it.meaning.wants x) ≡ o) d.at.slots h
 
-  -- what follows has the same shape
-  shape_next : IsSameShape s.world d.next.world
-  shape_next =
+  -- what follows differs in variables and in new objects alone
+  grows_next : IsGrown s.world d.next.world
+  grows_next =
       let o = outcome_goes (outcome_at e s.world it) d.goes_on in
       let p = steps_by files frames s t it d.at d.next d.steps in
       let g = goes files frames s t it d.at o.0 o.1 o.2 o.3 p.0 p.1 d.done (at_frame s.world (Goes o.0 o.1 o.2 o.3) o.4) in
       let same : after files frames s t it d.at o.1 o.2 o.3 ≡ d.next = let q : Some (after files frames s t it d.at o.1 o.2 o.3) ≡ Some d.next = sym g ∙ d.steps in cc in
-      subst (λ (n : State). IsSameShape s.world n.world) same
-      (is_accessing.shape e s.world it.slots (operands_of it) (under it.meaning.wants it.slots) o.0 o.1 o.2 o.3 o.4)
+      subst (λ (n : State). IsGrown s.world n.world) same
+      (grows files it a d.at.means e s.world d.accesses it.slots (under it.meaning.wants it.slots) o.0 o.1 o.2 o.3 o.4)
 
   -- the stacks of other threads stay
   stack_stays : (u : ℕ) (x : StackOf Value) → (u ≡ t → ⊥) → slice_get s.stacks u ≡ Some x → slice_get d.next.stacks u ≡ Some x
@@ -155,10 +153,10 @@ module _ (files : Program) (frames : ℕ) (s : State) (t : ℕ) (a : Action) (d 
       let same : after files frames s t it d.at o.1 o.2 o.3 ≡ d.next = let q : Some (after files frames s t it d.at o.1 o.2 o.3) ≡ Some d.next = sym g ∙ d.steps in cc in
       subst (λ (n : State). slice_get n.stacks u ≡ Some x) same (get_other s.stacks _ t u x _ ne h)
 
-  -- in another state of the same shape it is done again
-  again : (other : State) → IsSameShape s.world other.world → ((x : StackOf Value) → slice_get s.stacks t ≡ Some x → slice_get other.stacks t ≡ Some x)
+  -- in a state that differs so it is done again
+  done_again : (other : State) → IsGrown s.world other.world → ((x : StackOf Value) → slice_get s.stacks t ≡ Some x → slice_get other.stacks t ≡ Some x)
       → DoesAccess files frames other t a
-  again other same keeps =
+  done_again other same keeps =
       let same_thread : thread_at other.world t ≡ thread_at s.world t = ap (λ (ts : List Thread). thread_at (record s.world { threads = ts }) t) same.threads in
       let there : IsAt files other t it =
       record {
@@ -174,18 +172,22 @@ module _ (files : Program) (frames : ℕ) (s : State) (t : ℕ) (a : Action) (d 
         slots = d.at.slots;
       } in
       let p = steps_by files frames s t it d.at d.next d.steps in
-      let finds = subst (λ ts. IsTrue (values.finds files ts it.meaning.wants d.at.body.code.max_stack d.at.frame.place.slots)) (sym same.types) p.0 in
-      let may = is_accessing.picks e other.world (ops_of values it.meaning d.at.frame.place.slots) in
+      let more = extends s.world.heap other.world.heap same.objects in
+      let finds = finds_later files (types_of s.world.heap) (types_of other.world.heap) more it.meaning.wants d.at.body.code.max_stack d.at.frame.place.slots p.0 in
+      let kinds = subst (λ (x : Slots Value). Kinded files (types_of s.world.heap) it.meaning.wants (ops_of values it.meaning x)) (sym d.at.slots)
+      (kinded files (types_of s.world.heap) it.meaning.wants d.at.body.code.max_stack d.at.frame.place.slots p.0) in
+      let accesses = later_is files it a d.at.means s.world other.world more kinds d.accesses in
+      let may = subst (λ (x : Slots Value). IsTrue (it.meaning.may e other.world (ops_of values it.meaning x))) d.at.slots (picks files it a d.at.means e other.world accesses) in
       let ready : IsTrue (is_done t other.world it) =
       subst (λ (cs : List (Name × ClassStatus)). IsTrue (is_ready (look_at t (record s.world { classes = cs }) it.meaning.looks))) (sym same.classes) d.done in
-      let on = is_accessing.again e s.world other.world it.slots (operands_of it) (under it.meaning.wants it.slots) same d.goes_on in
+      let on = again files it a d.at.means e s.world other.world (grown_keeps files s.world other.world same) more kinds d.accesses it.slots (under it.meaning.wants it.slots) d.goes_on in
       let o = outcome_goes (outcome_at e other.world it) on in
       record {
         next = after files frames other t it there o.1 o.2 o.3;
         steps = goes files frames other t it there o.0 o.1 o.2 o.3 finds may ready (at_frame other.world (Goes o.0 o.1 o.2 o.3) o.4);
         instruction = it;
         at = there;
-        accesses = d.accesses;
+        accesses = accesses;
         done = ready;
         goes_on = on;
       }
@@ -203,10 +205,11 @@ module _ (files : Program) (frames : ℕ) (s : State) (t : ℕ) (a : Action) (d 
   among : In a (actions_of files frames s e)
   among =
       to_actions a (accesses_among files e s.world d.next.world (Does it) a
-      (in_if a (is_done t s.world it && goes_on (outcome_at e s.world it)) _ (and_true (is_done t s.world it) (goes_on (outcome_at e s.world it)) d.done d.goes_on) d.accesses))
+      (in_if a (is_done t s.world it && goes_on (outcome_at e s.world it)) _ (and_true (is_done t s.world it) (goes_on (outcome_at e s.world it)) d.done d.goes_on)
+      (accesses_from files it a s.world d.accesses)))
 
   silent : IsSilent files a → (c : Action) → In c (actions_of files frames s e) → IsSilent files c
-  silent quiet c h = all_silent files t s.world d.next.world it a shape_next d.accesses quiet d.at.running c (from_actions c h)
+  silent quiet c h = all_silent files t s.world d.next.world it a grows_next d.accesses quiet d.at.running c (from_actions c h)
 
 -- ---- the actions of a longer run
 
@@ -289,7 +292,7 @@ module _ (files : Program) (frames : ℕ) (events : List Event) (state : State) 
   second : DoesAccess files frames first.next u b
   second =
       let d = does_access files frames state u b in_b (conflict_right files a b conflict) in
-      again files frames state u b d first.next (shape_next files frames state t a first) (λ x h. stack_stays files frames state t a first u x (λ e. ne (sym e)) h)
+      done_again files frames state u b d first.next (grows_next files frames state t a first) (λ x h. stack_stays files frames state t a first u x (λ e. ne (sym e)) h)
 
   abbrev n : ℕ
   n = 0 + length events

@@ -1,78 +1,113 @@
--- Worlds that differ in the values of variables alone.
-use Rattle.std.proofs.Common.{◌≡◌, refl, ap, ℕ, zero, suc, List, [], ◌∷◌, length, map, length-set}
-use Rattle.std.specs.Prelude.{slice_index_or, slice_set}
+-- Worlds of which one is the other with other values of variables, and with more objects.
+use Rattle.std.proofs.Common.{◌≡◌, refl, sym, ◌∙◌, ap, subst, ℕ, zero, suc, List, [], ◌∷◌, ◌++◌, length, map, length-set}
+use Rattle.std.specs.Prelude.{Option, Some, None, slice_get, slice_index_or, slice_set}
+use Rattle.std.specs.Option.{option_map}
+use Rattle.std.proofs.lemmas.Option.{same_Some, none-some, slice_get-map}
 use Rattle.model.specs.declared.value.Value.{Value}
 use Rattle.model.specs.Names.{Member}
-use Rattle.model.specs.State.{ObjectOf, Instance, Primitives, References, type_of, types_of, World, Characters}
-use Rattle.model.specs.Worlds.{object_at, no_object, with_object, with_field, with_static, with_element, elements_of}
+use Rattle.model.specs.Monitors.{unlocked, owns}
+use Rattle.model.specs.ReferenceTypes.{ReferenceType}
+use Rattle.model.specs.State.{ObjectOf, Instance, Primitives, References, Characters, Monitor, type_of, types_of, World}
+use Rattle.model.specs.WellTyped.{Extends}
+use Rattle.model.specs.Worlds.{allocated, object_at, no_object, with_object, with_field, with_static, with_element, elements_of}
+use Rattle.data_races.specs.EventActions.{only_if, owned, owned_from}
+use Rattle.data_races.proofs.Order.{get_left}
+use Rattle.std.proofs.lemmas.Option.{slice_get_within}
 
-pub record IsSameShape (w v : World) : Type 0 where
+-- ---- objects
+
+-- an object in another one's place: of its type, and an array of as many elements
+pub record IsAlike (old new : ObjectOf Value) : Type 0 where
+  pub type : type_of new ≡ type_of old
+  pub size : length (elements_of new) ≡ length (elements_of old)
+
+alike_itself : (o : ObjectOf Value) → IsAlike o o
+alike_itself o = record { type = refl; size = refl }
+
+alike_trans : (o p q : ObjectOf Value) → IsAlike o p → IsAlike p q → IsAlike o q
+alike_trans o p q a b = record { type = b.type ∙ a.type; size = b.size ∙ a.size }
+
+-- each object is there, with the same type and as many elements
+abbrev pub KeepsObjects : List (ObjectOf Value) → List (ObjectOf Value) → Type 0
+KeepsObjects before after =
+    (r : ℕ) (old : ObjectOf Value) → slice_get before r ≡ Some old → (new : ObjectOf Value) × ((slice_get after r ≡ Some new) × IsAlike old new)
+
+keeps_all : (xs : List (ObjectOf Value)) → KeepsObjects xs xs
+keeps_all xs r old e = (old, (e, alike_itself old))
+
+keeps_set : (xs : List (ObjectOf Value)) (r : ℕ) (o d : ObjectOf Value) → IsAlike (slice_index_or xs r d) o → KeepsObjects xs (slice_set xs r o)
+keeps_set [] r o d a q old e = absurd (none-some old e)
+keeps_set (x ∷ xs) zero o d a zero old e = (o, (refl, subst (λ z. IsAlike z o) (same_Some x old e) a))
+keeps_set (x ∷ xs) zero o d a (suc q) old e = (old, (e, alike_itself old))
+keeps_set (x ∷ xs) (suc r) o d a zero old e = (old, (e, alike_itself old))
+keeps_set (x ∷ xs) (suc r) o d a (suc q) old e = keeps_set xs r o d a q old e
+
+keeps_more : (xs more : List (ObjectOf Value)) → KeepsObjects xs (xs ++ more)
+keeps_more xs more r old e = (old, (get_left xs more r (slice_get_within xs r old e) ∙ e, alike_itself old))
+
+keeps_both : (xs ys zs : List (ObjectOf Value)) → KeepsObjects xs ys → KeepsObjects ys zs → KeepsObjects xs zs
+keeps_both xs ys zs f g r old e =
+    let p = f r old e in
+    let q = g r p.0 p.1.0 in
+    (q.0, (q.1.0, alike_trans old p.0 q.0 p.1.1 q.1.1))
+
+pub extends : (xs ys : List (ObjectOf Value)) → KeepsObjects xs ys → Extends (types_of xs) (types_of ys)
+extends xs ys keeps = record { keeps = λ r t e. by r t (slice_get xs r) refl (sym (slice_get-map type_of xs r) ∙ e) }
+  where
+    by : (r : ℕ) (t : ReferenceType) (o : Option (ObjectOf Value)) → slice_get xs r ≡ o → option_map type_of o ≡ Some t → slice_get (types_of ys) r ≡ Some t
+    by r t None q e = absurd (none-some t e)
+    by r t (Some old) q e =
+        let p = keeps r old q in
+        slice_get-map type_of ys r ∙ (ap (option_map type_of) p.1.0 ∙ (ap Some p.1.1.type ∙ e))
+
+-- ---- worlds
+
+pub record IsGrown (w v : World) : Type 0 where
   pub classes : v.classes ≡ w.classes
-  pub monitors : v.monitors ≡ w.monitors
+  pub owned : (t : ℕ) → owned t v ≡ owned t w
   pub threads : v.threads ≡ w.threads
-  pub types : types_of v.heap ≡ types_of w.heap
-  pub kinds : (r : ℕ) → type_of (object_at v r) ≡ type_of (object_at w r)
-  pub lengths : (r : ℕ) → length (elements_of (object_at v r)) ≡ length (elements_of (object_at w r))
+  pub objects : KeepsObjects w.heap v.heap
 
-pub shape_itself : (w : World) → IsSameShape w w
-shape_itself w = record { classes = refl; monitors = refl; threads = refl; types = refl; kinds = λ r. refl; lengths = λ r. refl }
+pub grown_itself : (w : World) → IsGrown w w
+grown_itself w = record { classes = refl; owned = λ t. refl; threads = refl; objects = keeps_all w.heap }
 
-pub shape_of_static : (w : World) (field : Member) (value : Value) → IsSameShape w (with_static w field value)
-shape_of_static w field value = record { classes = refl; monitors = refl; threads = refl; types = refl; kinds = λ r. refl; lengths = λ r. refl }
-
-get_set : {B : Type 0} (f : ObjectOf Value → B) (xs : List (ObjectOf Value)) (r q : ℕ) (o d : ObjectOf Value) → f o ≡ f (slice_index_or xs r d)
-    → f (slice_index_or (slice_set xs r o) q d) ≡ f (slice_index_or xs q d)
-get_set f [] r q o d h = refl
-get_set f (x ∷ xs) zero zero o d h = h
-get_set f (x ∷ xs) zero (suc q) o d h = refl
-get_set f (x ∷ xs) (suc r) zero o d h = refl
-get_set f (x ∷ xs) (suc r) (suc q) o d h = get_set f xs r q o d h
-
-map_set : (xs : List (ObjectOf Value)) (r : ℕ) (o d : ObjectOf Value) → type_of o ≡ type_of (slice_index_or xs r d) → map type_of (slice_set xs r o) ≡ map type_of xs
-map_set [] r o d h = refl
-map_set (x ∷ xs) zero o d h = ap (λ t. t ∷ map type_of xs) h
-map_set (x ∷ xs) (suc r) o d h = ap (λ ts. type_of x ∷ ts) (map_set xs r o d h)
-
-shape_of_object : (w : World) (r : ℕ) (o : ObjectOf Value) → type_of o ≡ type_of (object_at w r) → length (elements_of o) ≡ length (elements_of (object_at w r))
-    → IsSameShape w (with_object w r o)
-shape_of_object w r o type size =
+pub grown_both : (w v u : World) → IsGrown w v → IsGrown v u → IsGrown w u
+grown_both w v u a b =
     record {
-      classes = refl;
-      monitors = refl;
-      threads = refl;
-      types = map_set w.heap r o no_object type;
-      kinds = λ q. get_set type_of w.heap r q o no_object type;
-      lengths = λ q. get_set (λ x. length (elements_of x)) w.heap r q o no_object size;
+      classes = b.classes ∙ a.classes;
+      owned = λ t. b.owned t ∙ a.owned t;
+      threads = b.threads ∙ a.threads;
+      objects = keeps_both w.heap v.heap u.heap a.objects b.objects;
     }
 
-field_type_of : (field : Member) (value : Value) (o : ObjectOf Value) → type_of (with_field field value o) ≡ type_of o
-field_type_of field value (Instance class fields) = refl
-field_type_of field value (Primitives of elements) = refl
-field_type_of field value (References of elements) = refl
-field_type_of field value (Characters text) = refl
+pub grown_by_static : (w : World) (field : Member) (value : Value) → IsGrown w (with_static w field value)
+grown_by_static w field value = record { classes = refl; owned = λ t. refl; threads = refl; objects = keeps_all w.heap }
 
-field_length : (field : Member) (value : Value) (o : ObjectOf Value) → length (elements_of (with_field field value o)) ≡ length (elements_of o)
-field_length field value (Instance class fields) = refl
-field_length field value (Primitives of elements) = refl
-field_length field value (References of elements) = refl
-field_length field value (Characters text) = refl
+grown_by_object : (w : World) (r : ℕ) (o : ObjectOf Value) → IsAlike (object_at w r) o → IsGrown w (with_object w r o)
+grown_by_object w r o a = record { classes = refl; owned = λ t. refl; threads = refl; objects = keeps_set w.heap r o no_object a }
 
-pub shape_of_field : (w : World) (r : ℕ) (field : Member) (value : Value) → IsSameShape w (with_object w r (with_field field value (object_at w r)))
-shape_of_field w r field value =
-    shape_of_object w r (with_field field value (object_at w r)) (field_type_of field value (object_at w r)) (field_length field value (object_at w r))
+field_alike : (field : Member) (value : Value) (o : ObjectOf Value) → IsAlike o (with_field field value o)
+field_alike field value (Instance class fields) = record { type = refl; size = refl }
+field_alike field value (Primitives of elements) = record { type = refl; size = refl }
+field_alike field value (References of elements) = record { type = refl; size = refl }
+field_alike field value (Characters text) = record { type = refl; size = refl }
 
-element_type_of : (index : ℕ) (value : Value) (o : ObjectOf Value) → type_of (with_element index value o) ≡ type_of o
-element_type_of index value (Instance class fields) = refl
-element_type_of index value (Primitives of elements) = refl
-element_type_of index value (References of elements) = refl
-element_type_of index value (Characters text) = refl
+pub grown_by_field : (w : World) (r : ℕ) (field : Member) (value : Value) → IsGrown w (with_object w r (with_field field value (object_at w r)))
+grown_by_field w r field value = grown_by_object w r (with_field field value (object_at w r)) (field_alike field value (object_at w r))
 
-element_length : (index : ℕ) (value : Value) (o : ObjectOf Value) → length (elements_of (with_element index value o)) ≡ length (elements_of o)
-element_length index value (Instance class fields) = refl
-element_length index value (Primitives of elements) = length-set elements index value
-element_length index value (References of elements) = length-set elements index value
-element_length index value (Characters text) = refl
+element_alike : (index : ℕ) (value : Value) (o : ObjectOf Value) → IsAlike o (with_element index value o)
+element_alike index value (Instance class fields) = record { type = refl; size = refl }
+element_alike index value (Primitives of elements) = record { type = refl; size = length-set elements index value }
+element_alike index value (References of elements) = record { type = refl; size = length-set elements index value }
+element_alike index value (Characters text) = record { type = refl; size = refl }
 
-pub shape_of_element : (w : World) (r index : ℕ) (value : Value) → IsSameShape w (with_object w r (with_element index value (object_at w r)))
-shape_of_element w r index value =
-    shape_of_object w r (with_element index value (object_at w r)) (element_type_of index value (object_at w r)) (element_length index value (object_at w r))
+pub grown_by_element : (w : World) (r index : ℕ) (value : Value) → IsGrown w (with_object w r (with_element index value (object_at w r)))
+grown_by_element w r index value = grown_by_object w r (with_element index value (object_at w r)) (element_alike index value (object_at w r))
+
+-- nobody owns the monitor of a new object
+owned_more : (t n : ℕ) (ms : List Monitor) → owned_from t n (ms ++ unlocked ∷ []) ≡ owned_from t n ms
+owned_more t n [] = refl
+owned_more t n (m ∷ ms) = ap (λ ns. only_if (owns t m.owner) (n ∷ []) ++ ns) (owned_more t (suc n) ms)
+
+pub grown_by_new : (w : World) (o : ObjectOf Value) → IsGrown w (allocated w o)
+grown_by_new w o = record { classes = refl; owned = λ t. owned_more t 0 w.monitors; threads = refl; objects = keeps_more w.heap (o ∷ []) }

@@ -2,6 +2,7 @@
 use Rattle.std.proofs.Common.{◌≡◌, refl, sym, ◌∙◌, ap, subst, ℕ, ◌-◌, ◌⊎◌, inl, inr, List, [], ◌∷◌, ◌++◌, length, map, arith}
 use Rattle.std.specs.Prelude.{Option, Some, None, Bool, true, false, cond, not, ◌&&◌, ◌||◌, ◌==◌, IsTrue}
 use Rattle.std.specs.Option.{option_and_then, option_map_or}
+use Rattle.std.proofs.lemmas.Option.{none-some}
 use Rattle.std.specs.List.{filter, list_any}
 use Rattle.std.proofs.lemmas.Bool.{eq-eqb}
 use Rattle.model.specs.declared.event.Event.{Event}
@@ -10,35 +11,24 @@ use Rattle.model.specs.declared.instr.Instr.{Instr}
 use Rattle.model.specs.declared.instr.Instr.TheVariants as instr
 use Rattle.model.specs.declared.instr.FieldAccess.{FieldAccess}
 use Rattle.model.specs.declared.instr.FieldAccess.TheVariants as access
-use Rattle.model.specs.Names.{Name, Member}
+use Rattle.model.specs.Names.{Name, Member, builder_text}
 use Rattle.model.specs.Pool.{field_at}
-use Rattle.model.specs.Classes.{Program, body_of}
+use Rattle.model.specs.Classes.{Program}
 use Rattle.model.specs.Lookup.{find_field}
 use Rattle.model.specs.Operands.{values}
 use Rattle.model.specs.Rows.{counting}
-use Rattle.model.specs.State.{ClassStatus, Monitor, Thread, ThreadStatus, Running, World}
+use Rattle.model.specs.State.{ClassStatus, Thread, ThreadStatus, Running, World}
 use Rattle.model.specs.Worlds.{thread_at, has_ended}
 use Rattle.model.specs.ClassInitialisation.{status_of}
 use Rattle.model.specs.Sites.{referent}
 use Rattle.data_races.specs.Actions.{Action, Read, Write, Lock, Unlock, Start, Wake, Finish, ClearInterrupt, FinishInitialisation, FindInitialised, synchronizes, conflicts, is_read, is_write}
-use Rattle.data_races.specs.Variables.{is_volatile}
-use Rattle.data_races.specs.EventActions.{Instruction, Rule, Does, only_if, found_class, is_finished, needed_class, without_code, built_in_at, operands_of, receiver_of, found_on, interrupts_on, is_done, finds_of, accesses_of, goes_on, outcome_at, interrupts_of, access_by, at_reference, field_access, owned, owned_from, besides, started, clear_actions, finished_classes, end_actions, waiting, is_over, actions_to}
+use Rattle.data_races.specs.Variables.{InstanceField, is_volatile}
+use Rattle.data_races.specs.EventActions.{Instruction, Rule, Does, only_if, found_class, is_finished, needed_class, operands_of, receiver_of, found_on, interrupts_on, is_done, finds_of, accesses_of, goes_on, outcome_at, interrupts_of, access_by, accesses_at, at_reference, field_access, owned, besides, started, clear_actions, finished_classes, end_actions, waiting, is_over, actions_to}
 use Rattle.data_races.proofs.Decided.{In, from_map}
 use Rattle.race_laws.proofs.racy_states.Upto.{to_finds, to_locks, to_accesses, to_unlocks, to_starts, to_interrupts, to_clears, to_finished}
-use Rattle.race_laws.proofs.racy_states.Shapes.{IsSameShape}
-use Rattle.race_laws.proofs.racy_states.Instructions.{runs_none}
-
-pub in_cases : {X : Type 0} (x : X) (xs ys : List X) → In x (xs ++ ys) → In x xs ⊎ In x ys
-in_cases x [] ys h = inr h
-in_cases x (y ∷ xs) ys h = elim h [ inl e ↦ inl (inl e) | inr t ↦ elim (in_cases x xs ys t) [ inl g ↦ inl (inr g) | inr g ↦ inr g ] ]
-
-in_left : {X : Type 0} (x : X) (xs ys : List X) → In x xs → In x (xs ++ ys)
-in_left x [] ys h = absurd h
-in_left x (y ∷ xs) ys h = elim h [ inl e ↦ inl e | inr t ↦ inr (in_left x xs ys t) ]
-
-in_right : {X : Type 0} (x : X) (xs ys : List X) → In x ys → In x (xs ++ ys)
-in_right x [] ys h = h
-in_right x (y ∷ xs) ys h = inr (in_right x xs ys h)
+use Rattle.race_laws.proofs.racy_states.Shapes.{IsGrown}
+pub use Rattle.race_laws.proofs.racy_states.Accesses.{in_cases}
+use Rattle.race_laws.proofs.racy_states.Accesses.{in_left, in_right, Access, OfInstruction, OfText, access_is, no_method, finds_nothing, interrupts_nothing, text_is_plain, IsOfText, ReadsText, WritesText, is_of_text}
 
 or_right : (a b : Bool) → IsTrue b → IsTrue (a || b)
 or_right true b h = refl
@@ -90,16 +80,18 @@ none_besides n ns h =
 abbrev pub IsSilent : Program → Action → Type 0
 IsSilent files c = (later : Action) → synchronizes files c later ≡ false
 
-module _ (files : Program) (t : ℕ) (old new : World) (instruction : Instruction) (a : Action) (same : IsSameShape old new)
-    (accesses : In a (access_by files instruction.site (operands_of instruction) instruction.site.instr)) (silent : IsSilent files a)
+-- the text of a StringBuilder is not volatile
+text_silent : (files : Program) (c : Action) → IsOfText c → IsSilent files c
+text_silent files c (ReadsText r e) = subst (λ (x : Action). IsSilent files x) (sym e) (λ later. refl)
+text_silent files c (WritesText r e) =
+    subst (λ (x : Action). IsSilent files x) (sym e)
+    (λ later. ap (λ b. b && is_read (InstanceField r builder_text) later) (text_is_plain files))
+
+module _ (files : Program) (t : ℕ) (old new : World) (instruction : Instruction) (a : Action) (same : IsGrown old new)
+    (accesses : Access files instruction a old) (silent : IsSilent files a)
     (running : (thread_at old t).status ≡ Running) where
   abbrev e : Event
   e = record { thread = t; pick = 0 }
-
-  no_built_in : built_in_at files old instruction ≡ None
-  no_built_in =
-      ap (λ o. option_and_then (λ (method : Member). without_code method (body_of files method)) o)
-      (runs_none files instruction.site a (operands_of instruction) (operands_of instruction) old accesses)
 
   in_class : (c : Action) (o : Option Name) → In c (found_class old o) → IsSilent files c
   in_class c None h = absurd h
@@ -109,11 +101,11 @@ module _ (files : Program) (t : ℕ) (old new : World) (instruction : Instructio
 
   no_finds : (c : Action) → In c (finds_of files e old (Does instruction)) → ⊥
   no_finds c h =
-      (in_only_if c (is_done t old instruction) [] (subst (λ o. In c (only_if (is_done t old instruction) (option_map_or (found_on old t (receiver_of instruction)) o []))) no_built_in h)).1
+      (in_only_if c (is_done t old instruction) [] (subst (λ l. In c (only_if (is_done t old instruction) l)) (finds_nothing files instruction a old accesses t (receiver_of instruction)) h)).1
 
   no_interrupts : (c : Action) → In c (interrupts_of files e old (Does instruction)) → ⊥
   no_interrupts c h =
-      (in_only_if c (is_done t old instruction) [] (subst (λ o. In c (only_if (is_done t old instruction) (option_map_or (interrupts_on old (receiver_of instruction)) o []))) no_built_in h)).1
+      (in_only_if c (is_done t old instruction) [] (subst (λ l. In c (only_if (is_done t old instruction) l)) (interrupts_nothing files instruction a old accesses (receiver_of instruction)) h)).1
 
   locks : (c : Action) (ns : List ℕ) → In c (map Lock ns) → IsSilent files c
   locks c ns h = let g = from_map (λ n. Lock n) c ns h in subst (λ (x : Action). IsSilent files x) g.2 (λ later. refl)
@@ -139,15 +131,22 @@ module _ (files : Program) (t : ℕ) (old new : World) (instruction : Instructio
   one_of ops (instr.StoreElement kind) x y g h = one_of_reference ops 2 _ x y g h
   one_of ops _ x y g h = absurd g
 
+  -- where the instruction itself accesses a field or an element, it runs no method
+  beside : (c : Action) → Access files instruction a old → Access files instruction c old → IsSilent files c
+  beside c (OfInstruction g) (OfInstruction h) =
+      subst (λ (x : Action). IsSilent files x) (one_of (operands_of instruction) instruction.site.instr a c g h) silent
+  beside c of (OfText b at h) = text_silent files c (is_of_text (operands_of instruction) c b h)
+  beside c (OfText b at g) (OfInstruction h) = absurd (none-some _ (sym (no_method files instruction c h old) ∙ at))
+
   in_accesses : (c : Action) → In c (accesses_of files e old (Does instruction)) → IsSilent files c
   in_accesses c h =
-      let p = in_only_if c (is_done t old instruction && goes_on (outcome_at e old instruction)) (access_by files instruction.site (operands_of instruction) instruction.site.instr) h in
-      subst (λ (x : Action). IsSilent files x) (one_of (operands_of instruction) instruction.site.instr a c accesses p.1) silent
+      let p = in_only_if c (is_done t old instruction && goes_on (outcome_at e old instruction)) (accesses_at files old instruction) h in
+      beside c accesses (access_is files instruction c old p.1)
 
   no_unlocks : (c : Action) → In c (map Unlock (besides (owned t old) (owned t new))) → ⊥
   no_unlocks c h =
       let g = from_map (λ n. Unlock n) c (besides (owned t old) (owned t new)) h in
-      none_besides g.0 (owned t old) (subst (λ (m : List Monitor). In g.0 (besides (owned t old) (owned_from t 0 m))) same.monitors g.1)
+      none_besides g.0 (owned t old) (subst (λ ns. In g.0 (besides (owned t old) ns)) (same.owned t) g.1)
 
   no_starts : (c : Action) → In c (map Start (started old new)) → ⊥
   no_starts c h =

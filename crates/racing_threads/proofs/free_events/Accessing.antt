@@ -1,21 +1,27 @@
 -- A thread whose next event is in a race is to access a variable, and goes on.
 use Rattle.std.proofs.Common.{◌≡◌, ℕ, List, [], ◌∷◌, ◌++◌, length, inl, inr, refl, sym, ap, ◌∙◌, subst}
 use Rattle.std.specs.Prelude.{Option, Some, None, Bool, true, false, not, ◌&&◌, ◌||◌, ◌==◌, ◌-◌, slice_get, slice_set, replicate, IsTrue}
-use Rattle.std.specs.Option.{option_map_or}
+use Rattle.std.specs.Option.{option_and_then, option_map_or}
 use Rattle.std.specs.List.{list_any}
 use Rattle.std.proofs.lemmas.Bool.{false≢true, and_parts}
-use Rattle.std.proofs.lemmas.Option.{same_Some}
+use Rattle.std.proofs.lemmas.Option.{same_Some, none-some}
+use Rattle.model.specs.declared.instr.Instr.{Instr}
+use Rattle.model.specs.declared.instr.Instr.TheVariants as instr
 use Rattle.model.specs.declared.value.Value.{Value}
-use Rattle.model.specs.Classes.{Program}
+use Rattle.model.specs.BuiltInMethods.{BuiltInMethod, StringBuilderBuilds}
+use Rattle.model.specs.Classes.{Program, body_of}
 use Rattle.model.specs.Frames.{at_offset}
+use Rattle.model.specs.Names.{Member}
 use Rattle.model.specs.Operands.{Slots, values, under}
 use Rattle.model.specs.Outcomes.{Cost, OutcomeOf, Goes}
+use Rattle.model.specs.Sites.{Site}
 use Rattle.model.specs.State.{Frame, Invocation, StackOf, World, State}
 use Rattle.model.specs.Step.{ops_of, step}
 use Rattle.data_races.specs.Actions.{Action, Read, Write, conflicts}
-use Rattle.data_races.specs.EventActions.{Instruction, Rule, Begins, Does, Initialises, Relocks, Other, access_by, operands_of, is_done, goes_on, outcome_at, accesses_of, actions_to, actions_of, rule_of}
+use Rattle.data_races.specs.EventActions.{Instruction, Rule, Begins, Does, Initialises, Relocks, Other, without_code, method_run, access_by, accesses_at, operands_of, is_done, goes_on, outcome_at, accesses_of, actions_to, actions_of, rule_of}
 use Rattle.data_races.specs.Races.{ActionOfRun, in_event, memory_order, next_actions}
 use Rattle.data_races.proofs.Decided.{In, from_map}
+use Rattle.race_laws.proofs.racy_states.Accesses.{Access, OfInstruction, OfText, access_is}
 use Rattle.race_laws.proofs.racy_states.Parts.{is_access, access_part}
 use Rattle.race_laws.proofs.racy_states.Silent.{in_only_if}
 use Rattle.race_laws.proofs.racy_states.Stepping.{IsAt, is_at, steps_by, goes}
@@ -42,11 +48,36 @@ conflict_access files _ b h = absurd (false≢true h)
 
 -- ---- a thread that is to access a variable
 
+-- instructions that may access one; the others access none
+abbrev pub may_access : Instr → Bool
+may_access (instr.Field access index) = true
+may_access (instr.LoadElement kind) = true
+may_access (instr.StoreElement kind) = true
+may_access (instr.Invoke invocation index) = true
+may_access (instr.InvokeInterface index count last) = true
+may_access _ = false
+
+module _ (files : Program) (site : Site) (ops : List Value) (a : Action) where
+  accesses_by : (i : Instr) → In a (access_by files site ops i) → may_access i ≡ true
+  accesses_by (instr.Field access index) h = refl
+  accesses_by (instr.LoadElement kind) h = refl
+  accesses_by (instr.StoreElement kind) h = refl
+  accesses_by _ h = absurd h
+
+  runs_by : (i : Instr) (world : World) (b : BuiltInMethod)
+      → option_and_then (λ (method : Member). without_code method (body_of files method)) (method_run files site world ops i) ≡ Some b → may_access i ≡ true
+  runs_by (instr.Invoke invocation index) world b h = refl
+  runs_by (instr.InvokeInterface index count last) world b h = refl
+  runs_by _ world b h = absurd (none-some b h)
+
+may_do : (files : Program) (instruction : Instruction) (a : Action) (world : World) → Access files instruction a world → may_access instruction.site.instr ≡ true
+may_do files instruction a world (OfInstruction h) = accesses_by files instruction.site (operands_of instruction) a instruction.site.instr h
+may_do files instruction a world (OfText b h g) = runs_by files instruction.site (operands_of instruction) a instruction.site.instr world (StringBuilderBuilds b) h
+
 pub record IsToAccess (files : Program) (state : State) (t : ℕ) : Type 0 where
   pub instruction : Instruction
   pub at : IsAt files state t instruction
-  pub action : Action
-  pub accesses : In action (access_by files instruction.site (operands_of instruction) instruction.site.instr)
+  pub may : may_access instruction.site.instr ≡ true
 
 -- it does so
 pub record DoesAccess (files : Program) (frames : ℕ) (state : State) (t : ℕ) : Type 0 where
@@ -63,10 +94,10 @@ module _ (files : Program) (frames : ℕ) (state : State) (t : ℕ) where
   by_rule next (Does instruction) a e r h =
       let done = is_done t state.world instruction in
       let on = goes_on (outcome_at (next_event t) state.world instruction) in
-      let p = in_only_if a (done && on) (access_by files instruction.site (operands_of instruction) instruction.site.instr) h in
+      let p = in_only_if a (done && on) (accesses_at files state.world instruction) h in
       let q = and_parts done on p.0 in
       record {
-        to = record { instruction = instruction; at = is_at files state t instruction r; action = a; accesses = p.1 };
+        to = record { instruction = instruction; at = is_at files state t instruction r; may = may_do files instruction a state.world (access_is files instruction a state.world p.1) };
         next = next;
         steps = e;
         done = q.0;

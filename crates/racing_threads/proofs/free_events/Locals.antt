@@ -1,7 +1,8 @@
 -- A local instruction accesses no variable.
-use Rattle.std.proofs.Common.{◌≡◌, ℕ, List, ◌∷◌, None, refl, sym, ap, ◌∙◌}
+use Rattle.std.proofs.Common.{◌≡◌, ℕ, List, ◌∷◌, None, true, refl, sym, ap, ◌∙◌}
 use Rattle.std.specs.Prelude.{Option, if◌then◌else◌, is_none, slice_get}
 use Rattle.std.specs.Option.{option_map, option_and_then}
+use Rattle.std.proofs.lemmas.Bool.{false≢true}
 use Rattle.std.proofs.lemmas.Option.{none-some}
 use Rattle.model.specs.declared.instr.Instr.{Instr}
 use Rattle.model.specs.declared.instr.Instr.TheVariants as instr
@@ -12,24 +13,22 @@ use Rattle.model.specs.Rows.{local_row}
 use Rattle.model.specs.Sites.{Site}
 use Rattle.model.specs.State.{Frame, Invocation, StackOf, State}
 use Rattle.model.specs.Worlds.{thread_at}
-use Rattle.data_races.specs.Actions.{Action}
-use Rattle.data_races.specs.EventActions.{access_by, operands_of}
-use Rattle.data_races.proofs.Decided.{In}
 use Rattle.run_laws.specs.interleavings.Local.{row_at, row_in, after_local, local_stack, is_going, next_local}
 use Rattle.run_laws.proofs.interleavings.Own.{next_of}
 use Rattle.racing_threads.specs.free_events.Free.{AreLocalEventsFree}
-use Rattle.racing_threads.proofs.free_events.Accessing.{IsToAccess, does_access}
+use Rattle.racing_threads.proofs.free_events.Accessing.{may_access, IsToAccess, does_access}
 use Rattle.racing_threads.proofs.free_events.Standing.{behind, was_to_access}
 
-module _ (files : Program) (site : Site) (ops : List Value) (a : Action) where
-  by_instr : (i : Instr) → In a (access_by files site ops i)
-      → local_row (integers_of site.body.pool) site.body.code.code site.offset site.next i ≡ None
+module _ (site : Site) where
+  by_instr : (i : Instr) → may_access i ≡ true → local_row (integers_of site.body.pool) site.body.code.code site.offset site.next i ≡ None
   by_instr (instr.Field access index) h = refl
   by_instr (instr.LoadElement kind) h = refl
   by_instr (instr.StoreElement kind) h = refl
-  by_instr _ h = absurd h
+  by_instr (instr.Invoke invocation index) h = refl
+  by_instr (instr.InvokeInterface index count last) h = refl
+  by_instr _ h = absurd (false≢true h)
 
-  no_row : In a (access_by files site ops site.instr) → row_at site ≡ None
+  no_row : may_access site.instr ≡ true → row_at site ≡ None
   no_row h = by_instr site.instr h
 
 module _ (files : Program) (state : State) (t : ℕ) (to : IsToAccess files state t) where
@@ -45,7 +44,7 @@ module _ (files : Program) (state : State) (t : ℕ) (to : IsToAccess files stat
       ∙ (ap (option_and_then (local_stack files)) to.at.stack
       ∙ (ap (λ o. after (option_and_then (after_local frame) (option_and_then (row_in frame) o))) to.at.has_body
       ∙ (ap (λ o. after (option_and_then (after_local frame) (option_and_then row_at o))) to.at.at
-      ∙ ap (λ o. after (option_and_then (after_local frame) o)) (no_row files to.instruction.site (operands_of to.instruction) to.action to.accesses)))))
+      ∙ ap (λ o. after (option_and_then (after_local frame) o)) (no_row to.instruction.site to.may)))))
 
 pub local_events_free : AreLocalEventsFree
 local_events_free files trees accepted frames state reached t own e others later are r u c =

@@ -1,7 +1,8 @@
 -- An instruction that leaves a monitor accesses no variable.
-use Rattle.std.proofs.Common.{◌≡◌, ℕ, ◌∷◌, sym, ap, ◌∙◌, subst}
+use Rattle.std.proofs.Common.{◌≡◌, ℕ, ◌∷◌, true, sym, ap, ◌∙◌, subst}
 use Rattle.std.specs.Prelude.{Option, None}
 use Rattle.std.specs.Option.{option_and_then}
+use Rattle.std.proofs.lemmas.Bool.{false≢true}
 use Rattle.std.proofs.lemmas.Option.{same_Some}
 use Rattle.model.specs.declared.instr.Instr.{Instr}
 use Rattle.model.specs.declared.value.Value.{Value}
@@ -9,13 +10,11 @@ use Rattle.model.specs.Classes.{Program, Body, body_of}
 use Rattle.model.specs.Operands.{values}
 use Rattle.model.specs.Sites.{Site, site_at}
 use Rattle.model.specs.State.{Frame, Invocation, StackOf, State}
-use Rattle.data_races.specs.EventActions.{access_by, operands_of}
-use Rattle.data_races.proofs.Decided.{In}
 use Rattle.monitor_laws.specs.owners.Owners.{AreOwnersKeptBy}
 use Rattle.search_laws.specs.OwnedMonitors.{IsAt, IsToUse, Exits, Enters, Returns}
 use Rattle.search_laws.proofs.Releases.{to_use}
 use Rattle.racing_threads.specs.free_events.Free.{AreReleasesFree}
-use Rattle.racing_threads.proofs.free_events.Accessing.{IsToAccess, does_access}
+use Rattle.racing_threads.proofs.free_events.Accessing.{may_access, IsToAccess, does_access}
 use Rattle.racing_threads.proofs.free_events.Standing.{behind, was_to_access}
 
 -- the site at which a stack stands
@@ -27,22 +26,19 @@ site_of files (Invocation frame ∷ stack) = option_and_then (site_in frame) (bo
 site_of files _ = None
 
 module _ (files : Program) (state : State) (t : ℕ) (to : IsToAccess files state t) where
-  abbrev Accesses : Site → Instr → Type 0
-  Accesses site i = In to.action (access_by files site (operands_of to.instruction) i)
-
   same_site : (at : IsAt files state t) → to.instruction.site ≡ at.site
   same_site at =
       let one = ap (option_and_then (site_of files)) to.at.stack ∙ (ap (option_and_then (site_in to.at.frame)) to.at.has_body ∙ to.at.at) in
       let other = ap (option_and_then (site_of files)) at.there ∙ (ap (option_and_then (site_in at.frame)) at.is_body ∙ at.is_site) in
       same_Some to.instruction.site at.site (sym one ∙ other)
 
-  accesses_at : (at : IsAt files state t) (i : Instr) → at.site.instr ≡ i → Accesses at.site i
-  accesses_at at i e = subst (Accesses at.site) e (subst (λ (s : Site). Accesses s s.instr) (same_site at) to.accesses)
+  may_at : (at : IsAt files state t) (i : Instr) → at.site.instr ≡ i → may_access i ≡ true
+  may_at at i e = subst (λ j. may_access j ≡ true) e (subst (λ (s : Site). may_access s.instr ≡ true) (same_site at) to.may)
 
   not_used : (r : ℕ) → IsToUse files state t r → ⊥
-  not_used r (Exits at is q) = accesses_at at _ is
-  not_used r (Enters at is q) = accesses_at at _ is
-  not_used r (Returns at kind is q entry rest below) = accesses_at at _ is
+  not_used r (Exits at is q) = false≢true (may_at at _ is)
+  not_used r (Enters at is q) = false≢true (may_at at _ is)
+  not_used r (Returns at kind is q entry rest below) = false≢true (may_at at _ is)
 
 pub releases_free : AreOwnersKeptBy values → AreReleasesFree
 releases_free owners files trees accepted frames state next reached t r m e others later are runs u c =

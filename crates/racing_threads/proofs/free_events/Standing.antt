@@ -62,6 +62,5 @@ was_to_access files state later t alone to =
         means = to.at.means;
         slots = to.at.slots;
       };
-      action = to.action;
-      accesses = to.accesses;
+      may = to.may;
     }

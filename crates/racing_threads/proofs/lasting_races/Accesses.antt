@@ -19,10 +19,11 @@ use Rattle.model.specs.WrongKind.{finds_operands, finds_in}
 use Rattle.run_laws.specs.laws.Steps.{Rooted}
 use Rattle.run_laws.proofs.laws.Progress.{ready_finds}
 use Rattle.run_laws.proofs.typed_runs.Settled.{thread_there}
+use Rattle.run_laws.proofs.word_runs.WordMeanings.{Kinded}
 use Rattle.data_races.specs.Actions.{Action}
-use Rattle.data_races.specs.EventActions.{only_if, Instruction, Rule, Begins, Does, Initialises, Relocks, Other, access_by, operands_of, is_done, goes_on, outcome_at, accesses_of, actions_to, actions_of, rule_of}
+use Rattle.data_races.specs.EventActions.{only_if, Instruction, Rule, Begins, Does, Initialises, Relocks, Other, accesses_at, operands_of, is_done, goes_on, outcome_at, accesses_of, actions_to, actions_of, rule_of}
 use Rattle.data_races.proofs.Decided.{In}
-use Rattle.race_laws.proofs.racy_states.Instructions.{accessing}
+use Rattle.race_laws.proofs.racy_states.Accesses.{Access, access_is, accesses_from, picks, kinded}
 use Rattle.race_laws.proofs.racy_states.Parts.{is_access, access_part}
 use Rattle.race_laws.proofs.racy_states.Silent.{in_only_if, accesses_among}
 use Rattle.race_laws.proofs.racy_states.Stepping.{event_of_thread, IsAt, is_at, rule_is, after, goes}
@@ -30,7 +31,7 @@ use Rattle.race_laws.proofs.racy_states.Stepping.{event_of_thread, IsAt, is_at, 
 pub record DoesAccess (files : Program) (s : State) (t : ℕ) (a : Action) : Type 0 where
   pub instruction : Instruction
   pub at : IsAt files s t instruction
-  pub accesses : In a (access_by files instruction.site (operands_of instruction) instruction.site.instr)
+  pub accesses : Access files instruction a s.world
   pub done : IsTrue (is_done t s.world instruction)
   pub onward : IsTrue (goes_on (outcome_at (event_of_thread t) s.world instruction))
 
@@ -43,9 +44,9 @@ module _ (files : Program) (frames : ℕ) (s : State) (t : ℕ) (a : Action) whe
       let e = event_of_thread t in
       let does = is_done t s.world instruction in
       let on = goes_on (outcome_at e s.world instruction) in
-      let p = in_only_if a (does && on) (access_by files instruction.site (operands_of instruction) instruction.site.instr) h in
+      let p = in_only_if a (does && on) (accesses_at files s.world instruction) h in
       let q = and_parts does on p.0 in
-      record { instruction = instruction; at = is_at files s t instruction r; accesses = p.1; done = q.0; onward = q.1 }
+      record { instruction = instruction; at = is_at files s t instruction r; accesses = access_is files instruction a s.world p.1; done = q.0; onward = q.1 }
   by_rule (Initialises class phase) r h = absurd h
   by_rule (Relocks cause) r h = absurd h
   by_rule Other r h = absurd h
@@ -91,6 +92,11 @@ module _ (files : Program) (rooted : Rooted files) (s : State) (typed : IsWellTy
         (subst (λ o. finds_operands files os max h.frame (option_and_then (meaning_of values files) o) ≡ true) h.at
         (subst (λ o. finds_in files os h.frame o ≡ true) h.has_body all))
 
+    pub found_kinds : Kinded files (types_of s.world.heap) instruction.meaning.wants (operands_of instruction)
+    found_kinds =
+        subst (λ (x : Slots Value). Kinded files (types_of s.world.heap) instruction.meaning.wants (ops_of values instruction.meaning x)) (sym h.slots)
+        (kinded files (types_of s.world.heap) instruction.meaning.wants h.body.code.max_stack h.frame.place.slots found)
+
   module _ (frames : ℕ) (a : Action) (d : DoesAccess files s t a) where
     abbrev it : Instruction
     it = d.instruction
@@ -106,10 +112,11 @@ module _ (files : Program) (rooted : Rooted files) (s : State) (typed : IsWellTy
     pub among : In a (actions_of files frames s event)
     among =
         let o = outcome_goes (outcome_at event s.world it) d.onward in
-        let may = (accessing files it.site it.meaning a (operands_of it) d.accesses d.at.means).picks event s.world (ops_of values it.meaning d.at.frame.place.slots) in
+        let may = subst (λ (x : Slots Value). IsTrue (it.meaning.may event s.world (ops_of values it.meaning x))) d.at.slots (picks files it a d.at.means event s.world d.accesses) in
         let next = after files frames s t it d.at o.1 o.2 o.3 in
         let steps = goes files frames s t it d.at o.0 o.1 o.2 o.3 (found it d.at) may d.done (at_frame (Goes o.0 o.1 o.2 o.3) o.4) in
         subst (λ x. In a (acts_to files frames s t a (rule_of files s t) x)) (sym steps)
         (subst (λ (r : Rule). In a (actions_to files event s.world r next.world)) (sym (rule_is files s t it d.at))
         (accesses_among files event s.world next.world (Does it) a
-        (in_if a (is_done t s.world it && goes_on (outcome_at event s.world it)) _ (and_from (is_done t s.world it) (goes_on (outcome_at event s.world it)) d.done d.onward) d.accesses)))
+        (in_if a (is_done t s.world it && goes_on (outcome_at event s.world it)) _ (and_from (is_done t s.world it) (goes_on (outcome_at event s.world it)) d.done d.onward)
+        (accesses_from files it a s.world d.accesses))))

@@ -9,7 +9,7 @@ use Rattle.model.specs.declared.instr.Instr.TheVariants as instr
 use Rattle.model.specs.declared.instr.FieldAccess.{FieldAccess}
 use Rattle.model.specs.declared.instr.FieldAccess.TheVariants as access
 use Rattle.model.specs.declared.instr.ArrayKind.{ArrayKind}
-use Rattle.model.specs.Names.{Name, Member, member_eq, system_out}
+use Rattle.model.specs.Names.{Name, Member}
 use Rattle.model.specs.Tree.{FieldTree}
 use Rattle.model.specs.Pool.{integers_of, field_at}
 use Rattle.model.specs.Classes.{Program}
@@ -18,7 +18,7 @@ use Rattle.model.specs.Operands.{values}
 use Rattle.model.specs.Rows.{Row, local_row}
 use Rattle.model.specs.Sites.{MeaningOf, Site}
 use Rattle.model.specs.Arrays.{load_of, store_of}
-use Rattle.model.specs.Meanings.{meaning_of, local_or, local_meaning, other_meaning, field_meaning, if_field, get_static_of, put_static_of, get_field_of, put_field_of, system_out_meaning}
+use Rattle.model.specs.Meanings.{meaning_of, local_or, local_meaning, other_meaning, field_meaning, if_field, get_static_of, put_static_of, get_field_of, put_field_of, stream_of, get_static_by, system_stream_meaning}
 use Rattle.data_races.specs.Actions.{Action}
 use Rattle.data_races.specs.EventActions.{access_by}
 use Rattle.data_races.proofs.Decided.{In}
@@ -29,7 +29,7 @@ either_of None other = other
 
 module _ (files : Program) (site : Site) (Holds : Instr → MeaningOf Value → Type 0) where
   pub record HoldsOfEach : Type 0 where
-    pub system_out : (index : ℕ) → Holds (instr.Field access.GetStatic index) (system_out_meaning values site.next)
+    pub system_stream : (index stream : ℕ) → Holds (instr.Field access.GetStatic index) (system_stream_meaning values site.next stream)
     pub get_static : (index : ℕ) (field : Member) → Holds (instr.Field access.GetStatic index) (get_static_of values files site.next field)
     pub put_static : (index : ℕ) (field : Member) → Holds (instr.Field access.PutStatic index) (put_static_of values files site.next field)
     pub get_field : (index : ℕ) (named : Name) (field : Member) → Holds (instr.Field access.GetField index) (get_field_of values files site.next named field)
@@ -62,15 +62,15 @@ module _ (files : Program) (site : Site) (Holds : Instr → MeaningOf Value → 
     found_case i None test make holds e = absurd (none-some meaning e)
     found_case i (Some field) test make holds e = if_case i _ (make field) (holds field) e
 
-    static_case : (index : ℕ) (b : Bool) (o : Option Member)
-        → (if b then Some (system_out_meaning values site.next) else option_and_then (if_field is_static_field files (get_static_of values files site.next)) o) ≡ Some meaning
+    static_case : (index : ℕ) (o : Option ℕ) (named : Member) → get_static_by values files site.next named o ≡ Some meaning
         → Holds (instr.Field access.GetStatic index) meaning
-    static_case index true o e = of_some _ (system_out_meaning values site.next) (each.system_out index) e
-    static_case index false o e = found_case _ o is_static_field (get_static_of values files site.next) (each.get_static index) e
+    static_case index (Some stream) named e = of_some _ (system_stream_meaning values site.next stream) (each.system_stream index stream) e
+    static_case index None named e =
+        found_case _ (find_field files named) is_static_field (get_static_of values files site.next) (each.get_static index) e
 
     named_case : (kind : FieldAccess) (index : ℕ) (named : Member) → field_meaning values files site.next kind named ≡ Some meaning
         → Holds (instr.Field kind index) meaning
-    named_case access.GetStatic index named e = static_case index (member_eq named system_out) (find_field files named) e
+    named_case access.GetStatic index named e = static_case index (stream_of files named) named e
     named_case access.PutStatic index named e =
         found_case _ (find_field files named) is_static_field (put_static_of values files site.next) (each.put_static index) e
     named_case access.GetField index named e =

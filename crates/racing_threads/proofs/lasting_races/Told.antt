@@ -1,9 +1,11 @@
 -- In well-typed states with the same words the threads are about to do the same accesses.
-use Rattle.std.proofs.Common.{◌≡◌, refl, sym, ◌∙◌, ap, subst, ℕ, List, [], ◌∷◌, map}
+use Rattle.std.proofs.Common.{◌≡◌, refl, sym, ◌∙◌, ap, subst, ℕ, List, [], ◌∷◌, ◌++◌, map}
 use Rattle.std.specs.Prelude.{Option, Some, None, Bool, true, false, slice_get, IsTrue}
 use Rattle.std.specs.Option.{option_map, option_map_or, option_and_then}
 use Rattle.std.proofs.lemmas.Bool.{cond_both}
 use Rattle.std.proofs.lemmas.Option.{same_Some, none-some, slice_get-map}
+use Rattle.model.specs.declared.builder_method.BuilderMethod.{BuilderMethod}
+use Rattle.model.specs.declared.builder_method.BuilderMethod.TheVariants.{ConstructEmpty, ConstructOfString, AppendString, AppendInt, AppendChar, AppendBuilder, ToString}
 use Rattle.model.specs.declared.event.Event.{Event}
 use Rattle.model.specs.declared.instr.ArrayKind.{ArrayKind}
 use Rattle.model.specs.declared.instr.ArrayKind.TheVariants as array_kind
@@ -13,12 +15,13 @@ use Rattle.model.specs.declared.instr.Instr.{Instr}
 use Rattle.model.specs.declared.instr.Instr.TheVariants as instr
 use Rattle.model.specs.declared.value.Value.{Value}
 use Rattle.model.specs.Arrays.{load_of, store_of}
+use Rattle.model.specs.BuiltInMethods.{StringBuilderBuilds}
 use Rattle.model.specs.ClassInitialisation.{look_at}
-use Rattle.model.specs.Calls.{of_class}
+use Rattle.model.specs.Calls.{argument_wants, of_class, parameter_count}
 use Rattle.model.specs.Classes.{Program, body_of}
 use Rattle.model.specs.Lookup.{find_field}
 use Rattle.model.specs.Meanings.{meaning_of, get_field_of, put_field_of, owner_want}
-use Rattle.model.specs.Names.{Name, name_eq, Member}
+use Rattle.model.specs.Names.{Name, name_eq, Member, builder_text}
 use Rattle.model.specs.Objects.{any_object}
 use Rattle.model.specs.Operands.{Slots, words, values, over_words, operands, under, word_of}
 use Rattle.model.specs.Outcomes.{OutcomeOf, Goes, Raises, Throws, Interrupts, Calls, Returns, Waits}
@@ -26,23 +29,29 @@ use Rattle.model.specs.Pool.{field_at}
 use Rattle.model.specs.ReferenceTypes.{Char, Short, Int, ReferenceType, PrimitiveArray, ReferenceArray}
 use Rattle.model.specs.Sites.{MeaningOf, Site, site_at, referent, int_operand}
 use Rattle.model.specs.State as state
-use Rattle.model.specs.State.{types_of, Thread, Frame, FrameOf, Initialisation, StackOf, World, WorldOf, State, StateOf}
+use Rattle.model.specs.State.{type_of, types_of, Thread, Frame, FrameOf, Initialisation, StackOf, World, WorldOf, State, StateOf}
 use Rattle.model.specs.Step.{ops_of}
 use Rattle.model.specs.Types.{Want, AReference, AnOwner, AByteArray, value_meets}
 use Rattle.model.specs.Words.{map_slots, map_frame}
-use Rattle.model.specs.Worlds.{thread_at}
+use Rattle.model.specs.Worlds.{thread_at, object_at}
 use Rattle.run_laws.specs.laws.Steps.{Rooted}
 use Rattle.run_laws.specs.word_runs.Words.{map_outcome}
 use Rattle.run_laws.proofs.laws.Lists.{Pairwise}
 use Rattle.run_laws.proofs.laws.WordLists.{is_object_want, operands_words, under_words}
+use Rattle.run_laws.proofs.laws.StringAnswers.{is_place_of}
+use Rattle.run_laws.proofs.typed_runs.Texts.{texts_kept}
+use Rattle.run_laws.proofs.word_runs.WordBuiltIns.{object_places, wants_on, agrees_on}
 use Rattle.run_laws.proofs.word_runs.WordEvents.{stack_words}
 use Rattle.run_laws.proofs.word_runs.WordMeanings.{Kinded, Same, int_words, referent_words}
 use Rattle.run_laws.proofs.word_runs.WordTable.{SameIf, meaning_same}
-use Rattle.run_laws.proofs.word_runs.WordWorlds.{world_words}
+use Rattle.run_laws.proofs.word_runs.WordWorlds.{KeepsTexts, world_words, object_at_words, type_words}
 use Rattle.data_races.specs.Actions.{Action, Read, Write}
-use Rattle.data_races.specs.EventActions.{Instruction, is_ready, operands_of, goes_on, outcome_at, access_by, field_access}
+use Rattle.data_races.specs.EventActions.{Instruction, is_ready, operands_of, goes_on, outcome_at, access_by, field_access, text_access, builder_accesses}
 use Rattle.data_races.specs.Variables.{Variable, InstanceField, Element}
 use Rattle.data_races.proofs.Decided.{In}
+use Rattle.data_races.proofs.BuilderCalls.{IsCallOn}
+use Rattle.data_races.proofs.BuilderRuns.{Called, builds_by, does_build, kinds_of, wanted}
+use Rattle.race_laws.proofs.racy_states.Accesses.{Access, OfInstruction, OfText}
 use Rattle.race_laws.proofs.racy_states.Stepping.{event_of_thread, IsAt}
 use Rattle.search_laws.specs.Alone.{HaveSameWords}
 use Rattle.search_laws.proofs.Operands.{kinded}
@@ -139,7 +148,7 @@ module _ (files : Program) (site : Site) where
   alike_each : HoldsOfEach files site (AccessesAlike files site)
   alike_each =
       record {
-        system_out = λ index ops others x. static_same ops others access.GetStatic (named index) (λ f. refl);
+        system_stream = λ index stream ops others x. static_same ops others access.GetStatic (named index) (λ f. refl);
         get_static = λ index field ops others x. static_same ops others access.GetStatic (named index) (λ f. refl);
         put_static = λ index field ops others x. static_same ops others access.PutStatic (named index) (λ f. refl);
         get_field = get_field_alike;
@@ -174,13 +183,82 @@ module _ (files : Program) (v : MeaningOf Value) (w : MeaningOf ℕ) (same : Sam
   abbrev onward_at : WorldOf ℕ → Slots ℕ → Bool
   onward_at world slots = onward_of (w.does event world slots (operands over_words v.wants slots) (under v.wants slots))
 
-  onward_is : (world : World) (slots : Slots Value) → Kinded files (types_of world.heap) v.wants (ops_of values v slots)
+  onward_is : (world : World) (slots : Slots Value) → Kinded files (types_of world.heap) v.wants (ops_of values v slots) → KeepsTexts world
       → onward_at (world_words world) (map_slots word_of slots) ≡ goes_on (v.does event world slots (ops_of values v slots) (under v.wants slots))
-  onward_is world slots q =
+  onward_is world slots q texts =
       let ns = map_slots word_of slots in
       ap (λ ops. onward_of (w.does event (world_words world) ns ops (under v.wants ns))) (operands_words v.wants slots)
       ∙ (ap (λ rest. onward_of (w.does event (world_words world) ns (map word_of (ops_of values v slots)) rest)) (under_words v.wants slots)
-      ∙ (ap onward_of (same.does event world slots (under v.wants slots) q) ∙ onward_words (v.does event world slots (ops_of values v slots) (under v.wants slots))))
+      ∙ (ap onward_of (same.does event world slots (under v.wants slots) q texts) ∙ onward_words (v.does event world slots (ops_of values v slots) (under v.wants slots))))
+
+-- ---- methods of StringBuilder
+
+module _ (ops others : List Value) where
+  text_same : (k : ℕ) (make : Variable → Action) → referent values others k ≡ referent values ops k → text_access others k make ≡ text_access ops k make
+  text_same k make e = ap (λ (o : Option ℕ). option_map_or (λ r. make (InstanceField r builder_text) ∷ []) o []) e
+
+  appends_same : referent values others 1 ≡ referent values ops 1
+      → text_access others 1 Read ++ text_access others 1 Write ≡ text_access ops 1 Read ++ text_access ops 1 Write
+  appends_same e = ap (λ xs. xs ++ text_access others 1 Write) (text_same 1 Read e) ∙ ap (λ xs. text_access ops 1 Read ++ xs) (text_same 1 Write e)
+
+  -- they access the same, where the operands that they take as objects are the same
+  builder_same : (b : BuilderMethod)
+      → ((k : ℕ) → is_place_of (object_places (StringBuilderBuilds b)) k ≡ true → referent values others k ≡ referent values ops k)
+      → builder_accesses others b ≡ builder_accesses ops b
+  builder_same ConstructEmpty at = text_same 0 Write (at 0 refl)
+  builder_same ConstructOfString at = text_same 1 Write (at 1 refl)
+  builder_same AppendString at = appends_same (at 1 refl)
+  builder_same AppendInt at = appends_same (at 1 refl)
+  builder_same AppendChar at = appends_same (at 1 refl)
+  builder_same AppendBuilder at =
+      ap (λ xs. xs ++ text_access others 0 Read ++ text_access others 1 Write) (text_same 1 Read (at 1 refl))
+      ∙ (ap (λ xs. text_access ops 1 Read ++ xs ++ text_access others 1 Write) (text_same 0 Read (at 0 refl))
+      ∙ ap (λ xs. text_access ops 1 Read ++ text_access ops 0 Read ++ xs) (text_same 1 Write (at 1 refl)))
+  builder_same ToString at = text_same 0 Read (at 0 refl)
+
+-- the words of a world tell the types of its objects
+same_type : (one other : World) (r : ℕ) → world_words other ≡ world_words one → type_of (object_at other r) ≡ type_of (object_at one r)
+same_type one other r e =
+    sym (type_words (object_at other r))
+    ∙ (sym (ap type_of (object_at_words other r))
+    ∙ (ap (λ (w : WorldOf ℕ). type_of (object_at w r)) e ∙ (ap type_of (object_at_words one r) ∙ type_words (object_at one r))))
+
+module _ (files : Program) (site : Site) (meaning : MeaningOf Value) (c : IsCallOn files site meaning) (one other : World) (same_worlds : world_words other ≡ world_words one)
+    (types other_types : List ReferenceType) (ops others : List Value) (kinds : Kinded files types meaning.wants ops)
+    (other_kinds : Kinded files other_types meaning.wants others) (same : map word_of others ≡ map word_of ops) where
+  record BuildsAlike (b : BuilderMethod) : Type 0 where
+    called : Called files site meaning c other others b
+    accesses : builder_accesses others b ≡ builder_accesses ops b
+
+  wants_of_method : (m : Member) → m.descriptor ≡ c.method.descriptor → (objects : List ReferenceType) (vs : List Value) → Kinded files objects meaning.wants vs
+      → Pairwise (value_meets files objects) (wants_on files m.descriptor c.receiver) vs
+  wants_of_method m e objects vs k =
+      subst (λ n. Pairwise (value_meets files objects) (wants_on files n c.receiver) vs) (sym e) (kinds_of files site meaning c objects vs k)
+
+  builds_alike : (b : BuilderMethod) → Called files site meaning c one ops b → BuildsAlike b
+  builds_alike b h =
+      let place = parameter_count c.method in
+      let wants = argument_wants files c.method (c.receiver ∷ []) in
+      let on = referents_alike files types other_types wants ops others place c.receiver (kinds_of files site meaning c types ops kinds)
+      (kinds_of files site meaning c other_types others other_kinds) same (wanted files site meaning c) c.object in
+      let described = c.describes one h.object h.method h.chosen in
+      let agrees = agrees_on files types h.method c.receiver ops c.object (wants_of_method h.method described types ops kinds) in
+      let others_agree = agrees_on files other_types h.method c.receiver others c.object (wants_of_method h.method described other_types others other_kinds) in
+      let at : (k : ℕ) → is_place_of (object_places (StringBuilderBuilds b)) k ≡ true → referent values others k ≡ referent values ops k =
+      λ k p.
+      let q = subst (λ m. is_place_of (object_places m) k ≡ true) (sym h.is) p in
+      sym (others_agree k q) ∙ (ap (λ ns. referent words ns k) same ∙ agrees k q) in
+      record {
+        called = record {
+          method = h.method;
+          no_code = h.no_code;
+          is = h.is;
+          object = h.object;
+          on = on ∙ h.on;
+          chosen = c.by_type one other h.object (same_type one other h.object same_worlds) ∙ h.chosen;
+        };
+        accesses = builder_same ops others b at;
+      }
 
 -- ---- states
 
@@ -270,24 +348,32 @@ module _ (files : Program) (rooted : Rooted files) (one other : State) (like : H
     same_ops : map word_of others ≡ map word_of ops
     same_ops = sym (operands_words meaning.wants slots) ∙ (ap (λ k. operands over_words meaning.wants k) same_slots ∙ operands_words meaning.wants it.slots)
 
-    same_accesses : access_by files it.site others it.site.instr ≡ access_by files it.site ops it.site.instr
-    same_accesses =
-        holds files it.site (AccessesAlike files it.site) (alike_each files it.site) meaning a ops d.accesses d.at.means ops others
+    same_accesses : In a (access_by files it.site ops it.site.instr) → access_by files it.site others it.site.instr ≡ access_by files it.site ops it.site.instr
+    same_accesses h =
+        holds files it.site (AccessesAlike files it.site) (alike_each files it.site) meaning a ops h d.at.means ops others
         (record { types = types_of one.world.heap; kinds = kinds; other_types = types_of other.world.heap; other_kinds = other_kinds; same = same_ops })
+
+    same_access : Access files it a one.world → Access files theirs a other.world
+    same_access (OfInstruction h) = OfInstruction (subst (λ l. In a l) (sym (same_accesses h)) h)
+    same_access (OfText b h g) =
+        let build = does_build files it.site meaning d.at.means one.world ops b h in
+        let c = build.call in
+        let alike = builds_alike files it.site meaning c one.world other.world (ap (λ (w : StateOf ℕ). w.world) like.same) (types_of one.world.heap) (types_of other.world.heap) ops others kinds other_kinds same_ops b build.called in
+        OfText b (builds_by files it.site meaning c other.world others b alike.called) (subst (λ l. In a l) (sym alike.accesses) g)
 
     same_onward : goes_on (outcome_at event other.world theirs) ≡ goes_on (outcome_at event one.world it)
     same_onward =
         let w = by_words files (meaning_of values files it.site) (meaning_of words files it.site) meaning (meaning_same files it.site) d.at.means in
-        sym (onward_is files meaning w.0 w.1 event other.world slots other_kinds)
+        sym (onward_is files meaning w.0 w.1 event other.world slots other_kinds (texts_kept files other.world like.other_typed.heap))
         ∙ (ap (λ (k : StateOf ℕ). onward_at files meaning w.0 w.1 event k.world (map_slots word_of slots)) like.same
-        ∙ (ap (λ k. onward_at files meaning w.0 w.1 event (world_words one.world) k) same_slots ∙ onward_is files meaning w.0 w.1 event one.world it.slots kinds))
+        ∙ (ap (λ k. onward_at files meaning w.0 w.1 event (world_words one.world) k) same_slots ∙ onward_is files meaning w.0 w.1 event one.world it.slots kinds (texts_kept files one.world like.one_typed.heap)))
 
     pub told : DoesAccess files other t a
     told =
         record {
           instruction = theirs;
           at = there;
-          accesses = subst (λ l. In a l) (sym same_accesses) d.accesses;
+          accesses = same_access d.accesses;
           done = subst (λ look. IsTrue (is_ready look)) (sym (same_look meaning.looks)) d.done;
           onward = same_onward ∙ d.onward;
         }

@@ -22,7 +22,7 @@ use Rattle.model.specs.InstructionStarts.{starts_from, is_start}
 use Rattle.model.specs.Profile.{unknown_opcode}
 use Rattle.model.specs.CodeParts.{marked_from, decodes, any_code, any_instruction, any_instruction_in, class_operand, field_operand, method_operand}
 use Rattle.model.specs.CodeConditions.{jump_off_boundary, unsorted_matches, local_above_max, operand_of_wrong_kind, wrong_interface_count, wrong_interface_end, constructor_not_by_special, calls_initialiser, is_class_aside, special_of_class_aside, new_of_array, too_many_dimensions, malformed_instruction, malformed_code, has_malformed_code}
-use Rattle.model.specs.Resolution.{is_missing, differs, member_classes, operand_classes, superclass_missing, interface_missing, operand_class_missing, new_of_abstract, field_missing, field_of_other_kind, puts_system_out, names_thread_target, method_missing, method_of_other_kind, call_on_other_kind, unresolved_instruction, is_unresolved}
+use Rattle.model.specs.Resolution.{is_missing, differs, member_classes, operand_classes, superclass_missing, interface_missing, operand_class_missing, new_of_abstract, field_missing, field_of_other_kind, puts_system_stream, names_hidden_field, method_missing, method_of_other_kind, call_on_other_kind, unresolved_instruction, is_unresolved}
 use Rattle.run_laws.proofs.laws.Lists.{every_weaken}
 use Rattle.run_laws.proofs.laws.Found.{found_has, none_any, every_all, map_or_at}
 use Rattle.run_laws.proofs.laws.Homes.{Coded, class_has, coded_of}
@@ -100,8 +100,8 @@ module _ (files : Program) where
       let q = or_parts (new_of_abstract files file i) _ p.1 in
       let r = or_parts (field_missing files file i) _ q.1 in
       let s = or_parts (field_of_other_kind files file i) _ r.1 in
-      let t = or_parts (puts_system_out files file i) _ s.1 in
-      let u = or_parts (names_thread_target files file i) _ t.1 in
+      let t = or_parts (puts_system_stream files file i) _ s.1 in
+      let u = or_parts (names_hidden_field files file i) _ t.1 in
       let v = or_parts (method_missing files file i) _ u.1 in
       (or_parts (method_of_other_kind files file i) _ v.1).1
 

@@ -1,7 +1,7 @@
 -- What linking gives of constants: those of fields are of their kinds, and each string constant has an object.
 use Rattle.std.proofs.Common.{◌≡◌, ℕ, zero, suc, List, [], ◌∷◌, ◌++◌, get_or, cond, filter, filter_map, flat_map, Bool, true, false, Option, Some, None, refl, sym, ap, ◌∙◌, subst, ⊎_elim}
 use Rattle.std.specs.List.{AllByRecursion, list_any, list_all, cons_option}
-use Rattle.std.proofs.lemmas.Bool.{false≢true, true≢false, and_parts, or_cases, or_left, or_right, cases_Bool, not_from_false, false_from_ne_true}
+use Rattle.std.proofs.lemmas.Bool.{false≢true, and_parts, or_cases, or_left, or_right, cases_Bool, not_from_false, false_from_ne_true}
 use Rattle.model.specs.Names.{Name, name_eq}
 use Rattle.model.specs.Tree.{Entry, String, Unusable, FieldPart, ConstantOf, SkippedOfField, FieldTree, FileTree}
 use Rattle.model.specs.Spelling.{entry_at}
@@ -11,14 +11,13 @@ use Rattle.model.specs.Conditions.{text_at, is_constant_of, constant_fits, field
 use Rattle.model.specs.BuiltIn.{built_in_classes}
 use Rattle.model.specs.Classes.{Program, class_of}
 use Rattle.model.specs.ClassInitialisation.{constant_in}
-use Rattle.model.specs.StringConstants.{is_other_text, distinct, texts_in, string_texts}
+use Rattle.model.specs.StringConstants.{is_other_text, distinct, texts_in, machine_texts, string_texts}
 use Rattle.run_laws.proofs.laws.Lists.{every_weaken}
 use Rattle.run_laws.proofs.laws.Found.{every_all}
 use Rattle.run_laws.proofs.laws.Classes.{names_same, name_self}
 use Rattle.run_laws.proofs.laws.RootedOf.{name_turned}
 use Rattle.run_laws.proofs.laws.Homes.{class_has}
 use Rattle.run_laws.proofs.laws.Unrefused.{Unrefused}
-use Rattle.run_laws.proofs.laws.LinkedClasses.{entry_right}
 
 -- ---- constants of fields
 
@@ -103,13 +102,23 @@ string_in : (pool : List Entry) (index text : ℕ) (b : Name) → entry_at pool 
 string_in pool zero text b e u = absurd cc
 string_in pool (suc k) text b e u = string_listed pool pool k text b e u
 
-abbrev is_no_string : Entry → Bool
-is_no_string (String text) = false
-is_no_string e = true
+-- ---- the texts of a program
 
-built_in_strings : list_all (λ file. list_all is_no_string file.pool) built_in_classes ≡ true
-unfolding built_in_classes
-built_in_strings = refl
+module _ (files : Program) where
+  text_of_file : (b : Name) → list_any (name_eq b) (flat_map texts_in files) ≡ true → list_any (name_eq b) (string_texts files) ≡ true
+  text_of_file b h = texts_once b _ (any_front b (flat_map texts_in files) _ h)
+
+  text_of_built_in : (b : Name) → list_any (name_eq b) (flat_map texts_in built_in_classes) ≡ true
+      → list_any (name_eq b) (string_texts files) ≡ true
+  text_of_built_in b h = texts_once b _ (any_back b (flat_map texts_in files) _ (any_front b (flat_map texts_in built_in_classes) machine_texts h))
+
+  -- a built-in class has the constant of the empty text
+  empty_built_in : list_any (name_eq []) (flat_map texts_in built_in_classes) ≡ true
+  unfolding built_in_classes
+  empty_built_in = refl
+
+  pub empty_is_text : list_any (name_eq []) (string_texts files) ≡ true
+  empty_is_text = text_of_built_in [] empty_built_in
 
 -- ---- the facts
 
@@ -124,14 +133,14 @@ module _ (files : Program) (ok : Unrefused files) where
   abbrev pub AreKnown : FileTree → Type 0
   AreKnown file = (index text : ℕ) (bytes : List ℕ) → entry_at file.pool index ≡ String text → utf8_at file.pool text ≡ Some bytes → list_any (name_eq bytes) (string_texts files) ≡ true
 
-  none_known : (file : FileTree) → list_all is_no_string file.pool ≡ true → AreKnown file
-  none_known file h index text bytes e u = absurd (true≢false (sym (entry_right is_no_string file.pool index refl h) ∙ ap is_no_string e))
+  -- of some of the classes, whose texts are among those of the program
+  known_of : (fs : List FileTree) → ((b : Name) → list_any (name_eq b) (flat_map texts_in fs) ≡ true → list_any (name_eq b) (string_texts files) ≡ true)
+      → AllByRecursion AreKnown fs
+  known_of fs among =
+      every_weaken (λ f. (b : Name) → list_any (name_eq b) (texts_in f) ≡ true → list_any (name_eq b) (string_texts files) ≡ true) AreKnown fs
+      (λ f h index text bytes q u. h bytes (string_in f.pool index text bytes q u))
+      (texts_of_all (λ b. list_any (name_eq b) (string_texts files) ≡ true) fs among)
 
   pub string_known : (class : Name) (file : FileTree) → class_of files class ≡ Some file → AreKnown file
   string_known class file e =
-      class_has files AreKnown
-      (every_weaken (λ f. list_all is_no_string f.pool ≡ true) AreKnown built_in_classes none_known (every_all _ built_in_classes built_in_strings))
-      (every_weaken (λ f. (b : Name) → list_any (name_eq b) (texts_in f) ≡ true → list_any (name_eq b) (string_texts files) ≡ true) AreKnown files
-      (λ f h index text bytes q u. h bytes (string_in f.pool index text bytes q u))
-      (texts_of_all (λ b. list_any (name_eq b) (string_texts files) ≡ true) files (λ b q. texts_once b (flat_map texts_in files) q)))
-      class file e
+      class_has files AreKnown (known_of built_in_classes (text_of_built_in files)) (known_of files (text_of_file files)) class file e

@@ -10,7 +10,7 @@ use Rattle.model.specs.declared.instr.Instr.TheVariants as instr
 use Rattle.model.specs.declared.instr.Invocation.{Invocation}
 use Rattle.model.specs.declared.instr.Invocation.TheVariants as invocation
 use Rattle.model.specs.declared.instr.Returned.{Returned}
-use Rattle.model.specs.Names.{Name, name_eq, Member, member_eq, constructor_name, system_out, println_int, java_lang_class, java_lang_string}
+use Rattle.model.specs.Names.{Name, name_eq, Member, member_eq, constructor_name, println_int, java_lang_class, java_lang_string}
 use Rattle.model.specs.Tree.{Entry, Utf8, Integer, Float, Long, Double, Class, String, Field, Method, InterfaceMethod, NameAndType, Unusable, FieldTree, FileTree, MethodTree}
 use Rattle.model.specs.Spelling.{entry_at}
 use Rattle.model.specs.Pool.{integers_of, utf8_at, class_name_at, field_at, method_at, interface_method_at}
@@ -27,7 +27,7 @@ use Rattle.model.specs.Arrays.{load_of, store_of, primitive_array_meaning, primi
 use Rattle.model.specs.Calls.{is_one, is_instance_one, if_method, static_call, virtual_call, virtual_of, special_call, constructor_call, special_of, interface_call, interface_of, return_of}
 use Rattle.model.specs.ThrowMeaning.{throw_meaning}
 use Rattle.model.specs.MonitorMeanings.{monitor_enter_meaning, monitor_exit_meaning}
-use Rattle.model.specs.Meanings.{local_meaning, system_out_meaning, get_static_of, put_static_of, get_field_of, put_field_of, if_field, field_meaning, println_meaning, invoke_virtual_meaning, invoke_meaning, other_meaning, local_or, meaning_of}
+use Rattle.model.specs.Meanings.{local_meaning, stream_of, system_stream_meaning, get_static_of, get_static_by, put_static_of, get_field_of, put_field_of, if_field, field_meaning, println_meaning, invoke_virtual_meaning, invoke_meaning, other_meaning, local_or, meaning_of}
 
 -- ---- what an operand names
 
@@ -74,12 +74,19 @@ pub record NamedText (site : Site) (entry : ℕ → Entry) : Type 0 where
   pub text : Name
   pub names : utf8_at site.body.pool place ≡ Some text
 
+-- a field of System whose value is a PrintStream that is there from the start
+pub record NamedStream (files : Program) (site : Site) (index stream : ℕ) : Type 0 where
+  pub instruction : site.instr ≡ instr.Field access.GetStatic index
+  pub named : Member
+  pub names : field_at site.body.pool index ≡ Some named
+  pub streams : stream_of files named ≡ Some stream
+
 -- ---- operations
 
 pub data Operation (files : Program) (site : Site) : Type 0 where
   OfRow : (row : Row) → local_row (integers_of site.body.pool) site.body.code.code site.offset site.next site.instr ≡ Some row
       → Operation files site
-  GetSystemOut : (index : ℕ) → site.instr ≡ instr.Field access.GetStatic index → Operation files site
+  GetSystemStream : (index stream : ℕ) → NamedStream files site index stream → Operation files site
   GetStatic : NamedField files site access.GetStatic is_static_field → Operation files site
   PutStatic : NamedField files site access.PutStatic is_static_field → Operation files site
   GetField : NamedField files site access.GetField is_instance_field → Operation files site
@@ -112,7 +119,7 @@ pub data Operation (files : Program) (site : Site) : Type 0 where
 
 abbrev pub operation : {A : Type 0} (C : Carrier A) (files : Program) (site : Site) → Operation files site → MeaningOf A
 operation C files site (OfRow row e) = local_meaning C row
-operation C files site (GetSystemOut index i) = system_out_meaning C site.next
+operation C files site (GetSystemStream index stream n) = system_stream_meaning C site.next stream
 operation C files site (GetStatic f) = get_static_of C files site.next f.field
 operation C files site (PutStatic f) = put_static_of C files site.next f.field
 operation C files site (GetField f) = get_field_of C files site.next f.named.class f.field
@@ -180,10 +187,12 @@ module _ {A B : Type 0} (C : Carrier A) (D : Carrier B) (files : Program) (site 
 
     access_does : (how : FieldAccess) → site.instr ≡ instr.Field how index
         → Operates (field_meaning C files site.next how named) (field_meaning D files site.next how named)
-    access_does access.GetStatic i =
-        either_does (member_eq named system_out) (Some (system_out_meaning C site.next)) (option_and_then (if_field is_static_field files (get_static_of C files site.next)) (find_field files named)) (Some (system_out_meaning D site.next)) (option_and_then (if_field is_static_field files (get_static_of D files site.next)) (find_field files named))
-        (λ e. does (GetSystemOut index i))
-        (λ e. field_does is_static_field (get_static_of C files site.next) (get_static_of D files site.next) named (λ field found passes. does (GetStatic (named_field access.GetStatic is_static_field i field found passes))))
+    access_does access.GetStatic i = by (stream_of files named) refl
+      where
+        by : (o : Option ℕ) → stream_of files named ≡ o → Operates (get_static_by C files site.next named o) (get_static_by D files site.next named o)
+        by None e =
+            field_does is_static_field (get_static_of C files site.next) (get_static_of D files site.next) named (λ field found passes. does (GetStatic (named_field access.GetStatic is_static_field i field found passes)))
+        by (Some stream) e = does (GetSystemStream index stream (record { instruction = i; named = named; names = names; streams = e }))
     access_does access.PutStatic i =
         field_does is_static_field (put_static_of C files site.next) (put_static_of D files site.next) named (λ field found passes. does (PutStatic (named_field access.PutStatic is_static_field i field found passes)))
     access_does access.GetField i =

@@ -21,7 +21,7 @@ use Rattle.model.specs.Objects.{cast}
 use Rattle.model.specs.Arrays.{is_negative, made_array, in_range, at_index, element_at, load_of, stored, kept_by, may_stand_in, if_storable, store_reference_meaning, store_of}
 use Rattle.model.specs.MonitorMeanings.{left, monitor_exit_meaning}
 use Rattle.model.specs.Meanings.{local_meaning, meaning_of}
-use Rattle.run_laws.proofs.laws.Operations.{Operation, OfRow, GetSystemOut, GetStatic, PutStatic, GetField, PutField, Println, CallVirtual, CallConstructor, CallSpecial, CallStatic, CallInterface, Return, LoadClass, LoadString, New, NewArray, NewReferenceArray, ArrayLength, LoadElement, StoreElement, CheckCast, InstanceOf, Throw, MonitorEnter, MonitorExit, operation, OfMeaning, each_meaning}
+use Rattle.run_laws.proofs.laws.Operations.{Operation, OfRow, GetSystemStream, GetStatic, PutStatic, GetField, PutField, Println, CallVirtual, CallConstructor, CallSpecial, CallStatic, CallInterface, Return, LoadClass, LoadString, New, NewArray, NewReferenceArray, ArrayLength, LoadElement, StoreElement, CheckCast, InstanceOf, Throw, MonitorEnter, MonitorExit, operation, OfMeaning, each_meaning}
 use Rattle.run_laws.specs.monitor_counts.Counts.{AreMonitorsCounted}
 use Rattle.run_laws.proofs.monitor_counts.Counted.{more_monitors}
 use Rattle.run_laws.proofs.monitor_counts.CountedWorlds.{OutcomeCounted, not_null_counted, entry_counted, exit_keeps, built_in_counted}
@@ -84,7 +84,7 @@ module _ {A : Type 0} where
 
         runs_counted : (site : Site) (event : Event) (object : ℕ) (method : Member) (o : Option Body)
             → OutcomeCounted fat (runs C files site event world slots ops rest object method o)
-        runs_counted site event object method None = built_in_counted fat world h C (built_in_method method) site.next event slots ops rest
+        runs_counted site event object method None = built_in_counted fat world h C files (built_in_method method) site.next event slots ops rest
         runs_counted site event object method (Some body) = tt
 
         pub invoked_counted : (site : Site) (event : Event) (object : ℕ) (chosen : Chosen)
@@ -139,7 +139,7 @@ module _ {A : Type 0} where
 
     operation_counts : (site : Site) (o : Operation files site) → Counts (operation C files site o)
     operation_counts site (OfRow row e) = local_counts row
-    operation_counts site (GetSystemOut index i) = λ event world slots ops rest fat h. h
+    operation_counts site (GetSystemStream index stream n) = λ event world slots ops rest fat h. h
     operation_counts site (GetStatic f) = λ event world slots ops rest fat h. h
     operation_counts site (PutStatic f) = λ event world slots ops rest fat h. h
     operation_counts site (GetField f) = λ event world slots ops rest fat h. not_null_counted fat (referent C ops 0) _ (λ r. h)

@@ -1,16 +1,21 @@
 -- What events and the methods of the machine make of a world in which counts are right.
 use Rattle.std.proofs.Common.{◌≡◌, ℕ, zero, suc, List, [], ◌∷◌, Bool, true, false, Option, Some, None, refl}
 use Rattle.std.specs.Prelude.{slice_get, is_some}
+use Rattle.std.specs.Option.{is_none}
+use Rattle.model.specs.Classes.{Program}
+use Rattle.model.specs.Opening.{string_reference}
 use Rattle.model.specs.declared.event.Event.{Event}
 use Rattle.model.specs.Operands.{Slots, Carrier}
 use Rattle.model.specs.State.{WorldOf, Waiter, WakeCause, Notified, Interrupted, ThreadStatus, Running, Waiting, Relock, Ended}
+use Rattle.model.specs.BuilderMethods as building
+use Rattle.model.specs.BuilderMethods.{BuilderAnswer, KeepsEmpty, Keeps, Adds, GivesText, builder_answer, builder_shown, builds}
 use Rattle.model.specs.Outcomes.{Cost, Joins, OutcomeOf, Goes, Raises, Throws, Interrupts, Calls, Returns, Waits, not_null}
 use Rattle.model.specs.Monitors as monitors
 use Rattle.model.specs.StringMethods.{StringAnswer, IsNull, IsOutside, Answers, Same, Composes, string_answer}
 use Rattle.model.specs.Monitors.{unlocked, owns, monitor_at}
-use Rattle.model.specs.Worlds.{thread_at, thread_of, is_alive, is_owner, with_monitors, with_entry, entry_cost, with_exit, with_status, with_interrupted, woken, all_woken, waiters_of}
-use Rattle.model.specs.Sites.{int_operand, pushing}
-use Rattle.model.specs.BuiltInMethods.{BuiltInMethod, Construct, ConstructWithTarget, ObjectWait, ObjectNotify, ObjectNotifyAll, ThreadStart, ThreadInterrupt, ThreadIsInterrupted, ThreadInterrupted, ThreadYield, ThreadCurrentThread, ThreadJoin, ThreadIsAlive, PrintStreamPrints, StringAnswers, object_of, waiting, wait_by, notified_one, notified, notified_all, if_owner, start_by, interrupted_in, interrupted_on, join_by, string_operand, answered, built_in_does}
+use Rattle.model.specs.Worlds.{thread_at, thread_of, is_alive, is_owner, string_shown, with_monitors, with_entry, entry_cost, with_exit, with_status, with_interrupted, woken, all_woken, waiters_of}
+use Rattle.model.specs.Sites.{referent, int_operand, pushing}
+use Rattle.model.specs.BuiltInMethods.{BuiltInMethod, Construct, ConstructWithTarget, ObjectWait, ObjectNotify, ObjectNotifyAll, ThreadStart, ThreadInterrupt, ThreadIsInterrupted, ThreadInterrupted, ThreadYield, ThreadCurrentThread, ThreadJoin, ThreadIsAlive, PrintStreamPrints, StringAnswers, StringBuilderBuilds, object_of, waiting, wait_by, notified_one, notified, notified_all, if_owner, start_by, interrupted_in, interrupted_on, join_by, string_operand, answered, built_in_does}
 use Rattle.run_laws.specs.monitor_counts.Counts.{is_fat_after, IsStatusCounted, AreMonitorsCounted, Returns as ReturnsTo}
 use Rattle.run_laws.proofs.monitor_counts.Counted.{Each, fat_still, fat_joined, counted_more, owner_entries, enter_counted, exit_counted, wait_counted, notify_counted, emptied_counted, interrupt_counted, relock_counted, as_owner_counted, with_one, with_same, more_threads, more_monitors, called}
 
@@ -150,26 +155,38 @@ module _ {A : Type 0} where
     answered_counted C (Same k) next slots ops rest = h
     answered_counted C (Composes text) next slots ops rest = more_monitors fat world.monitors world.threads h
 
-    pub built_in_counted : (C : Carrier A) (method : BuiltInMethod) (next : ℕ) (event : Event) (slots : Slots A) (ops rest : List A)
-        → OutcomeCounted fat (built_in_does C method next event world slots ops rest)
-    built_in_counted C Construct next event slots ops rest = h
-    built_in_counted C ConstructWithTarget next event slots ops rest = h
-    built_in_counted C ObjectWait next event slots ops rest =
+    builds_counted : (C : Carrier A) (empty : ℕ) (answer : BuilderAnswer) (next : ℕ) (slots : Slots A) (ops rest : List A)
+        → OutcomeCounted fat (builds C empty answer next world slots ops rest)
+    builds_counted C empty building.IsNull next slots ops rest = tt
+    builds_counted C empty KeepsEmpty next slots ops rest = h
+    builds_counted C empty Keeps next slots ops rest = h
+    builds_counted C empty (Adds added) next slots ops rest = more_monitors fat world.monitors world.threads h
+    builds_counted C empty GivesText next slots ops rest = h
+
+    pub built_in_counted : (C : Carrier A) (files : Program) (method : BuiltInMethod) (next : ℕ) (event : Event) (slots : Slots A) (ops rest : List A)
+        → OutcomeCounted fat (built_in_does C files method next event world slots ops rest)
+    built_in_counted C files Construct next event slots ops rest = h
+    built_in_counted C files ConstructWithTarget next event slots ops rest = h
+    built_in_counted C files ObjectWait next event slots ops rest =
         wait_by_counted (is_owner world event.thread (object_of C ops 0)) (thread_at world event.thread).interrupted event.thread (object_of C ops 0) rest refl
-    built_in_counted C ObjectNotify next event slots ops rest =
+    built_in_counted C files ObjectNotify next event slots ops rest =
         owner_counted (is_owner world event.thread (object_of C ops 0)) (pushing next [] (notified world event.thread (object_of C ops 0) event.pick) slots rest)
         (notified_keeps event.thread (object_of C ops 0) event.pick)
-    built_in_counted C ObjectNotifyAll next event slots ops rest =
+    built_in_counted C files ObjectNotifyAll next event slots ops rest =
         owner_counted (is_owner world event.thread (object_of C ops 0)) (pushing next [] (notified_all world event.thread (object_of C ops 0)) slots rest)
         (notified_all_keeps event.thread (object_of C ops 0))
-    built_in_counted C ThreadStart next event slots ops rest = start_counted (is_some (thread_of world (object_of C ops 0))) next (object_of C ops 0) slots rest
-    built_in_counted C ThreadInterrupt next event slots ops rest = interrupted_on_keeps (thread_of world (object_of C ops 0))
-    built_in_counted C ThreadIsInterrupted next event slots ops rest = h
-    built_in_counted C ThreadInterrupted next event slots ops rest = interrupted_keeps fat world h event.thread false
-    built_in_counted C ThreadYield next event slots ops rest = h
-    built_in_counted C ThreadCurrentThread next event slots ops rest = h
-    built_in_counted C ThreadJoin next event slots ops rest = join_counted (is_alive world (object_of C ops 0)) next slots rest
-    built_in_counted C ThreadIsAlive next event slots ops rest = h
-    built_in_counted C (PrintStreamPrints print) next event slots ops rest = h
-    built_in_counted C (StringAnswers method) next event slots ops rest =
+    built_in_counted C files ThreadStart next event slots ops rest = start_counted (is_some (thread_of world (object_of C ops 0))) next (object_of C ops 0) slots rest
+    built_in_counted C files ThreadInterrupt next event slots ops rest = interrupted_on_keeps (thread_of world (object_of C ops 0))
+    built_in_counted C files ThreadIsInterrupted next event slots ops rest = h
+    built_in_counted C files ThreadInterrupted next event slots ops rest = interrupted_keeps fat world h event.thread false
+    built_in_counted C files ThreadYield next event slots ops rest = h
+    built_in_counted C files ThreadCurrentThread next event slots ops rest = h
+    built_in_counted C files ThreadJoin next event slots ops rest = join_counted (is_alive world (object_of C ops 0)) next slots rest
+    built_in_counted C files ThreadIsAlive next event slots ops rest = h
+    built_in_counted C files (PrintStreamPrints print) next event slots ops rest = h
+    built_in_counted C files (StringAnswers method) next event slots ops rest =
         answered_counted C (string_answer method (int_operand C ops) (string_operand C world ops)) next slots ops rest
+    built_in_counted C files (StringBuilderBuilds method) next event slots ops rest =
+        builds_counted C (string_reference files [])
+        (builder_answer method (int_operand C ops 0) (is_none (referent C ops 0)) (string_shown world (referent C ops 0)) (builder_shown C world (referent C ops 0)))
+        next slots ops rest

@@ -1,18 +1,23 @@
 -- How many objects there are after what an instruction does: outcomes, the changes of the world, and the methods of the
 -- machine.
-use Rattle.std.proofs.Common.{◌≡◌, ℕ, ◌+◌, List, [], ◌∷◌, length, Bool, true, false, Option, Some, None, refl, arith}
+use Rattle.std.proofs.Common.{◌≡◌, ℕ, ◌+◌, List, [], ◌∷◌, ◌++◌, length, Bool, true, false, Option, Some, None, refl, ◌∙◌, arith}
 use Rattle.std.specs.Prelude.{if◌then◌else◌, slice_get, is_some}
+use Rattle.std.specs.Option.{is_none}
 use Rattle.std.proofs.lemmas.List.{length-set, length_push}
 use Rattle.model.specs.declared.event.Event.{Event}
-use Rattle.model.specs.Names.{thread_target}
+use Rattle.model.specs.Names.{thread_target, builder_text}
+use Rattle.model.specs.Classes.{Program}
+use Rattle.model.specs.Opening.{string_reference}
 use Rattle.model.specs.Operands.{Slots, Carrier}
 use Rattle.model.specs.State.{ObjectOf, WorldOf, Waiter, WakeCause, Notified, ThreadStatus, Running, Waiting, Relock, Ended, Characters}
 use Rattle.model.specs.Monitors as monitors
 use Rattle.model.specs.StringMethods.{StringAnswer, IsNull, IsOutside, Answers, Same, Composes, string_answer}
+use Rattle.model.specs.BuilderMethods as building
+use Rattle.model.specs.BuilderMethods.{BuilderAnswer, KeepsEmpty, Keeps, Adds, GivesText, builder_answer, built_text, builder_shown, builds}
 use Rattle.model.specs.Outcomes.{OutcomeOf, Goes, Raises, Throws, Interrupts, Calls, Returns, Waits, not_null}
-use Rattle.model.specs.Worlds.{thread_at, thread_of, is_alive, object_at, with_object, with_field, is_owner, with_monitors, woken, all_woken, waiters_of}
-use Rattle.model.specs.Sites.{operand, int_operand, pushing}
-use Rattle.model.specs.BuiltInMethods.{BuiltInMethod, Construct, ConstructWithTarget, ObjectWait, ObjectNotify, ObjectNotifyAll, ThreadStart, ThreadInterrupt, ThreadIsInterrupted, ThreadInterrupted, ThreadYield, ThreadCurrentThread, ThreadJoin, ThreadIsAlive, PrintStreamPrints, StringAnswers, object_of, wait_by, notified_one, notified, notified_all, if_owner, start_by, interrupted_in, interrupted_on, join_by, string_operand, answered, built_in_does}
+use Rattle.model.specs.Worlds.{thread_at, thread_of, is_alive, object_at, allocated, string_shown, with_object, with_field, is_owner, with_monitors, woken, all_woken, waiters_of}
+use Rattle.model.specs.Sites.{operand, referent, int_operand, pushing}
+use Rattle.model.specs.BuiltInMethods.{BuiltInMethod, Construct, ConstructWithTarget, ObjectWait, ObjectNotify, ObjectNotifyAll, ThreadStart, ThreadInterrupt, ThreadIsInterrupted, ThreadInterrupted, ThreadYield, ThreadCurrentThread, ThreadJoin, ThreadIsAlive, PrintStreamPrints, StringAnswers, StringBuilderBuilds, object_of, wait_by, notified_one, notified, notified_all, if_owner, start_by, interrupted_in, interrupted_on, join_by, string_operand, answered, built_in_does}
 use Rattle.run_laws.specs.object_counts.Bounds.{made}
 
 -- ---- lists
@@ -101,35 +106,58 @@ module _ {A : Type 0} where
   answered_counted C (Same k) next world slots ops rest = unchanged (length world.heap)
   answered_counted C (Composes text) next world slots ops rest = length_push world.heap (Characters text)
 
-  pub built_in_counted : (C : Carrier A) (method : BuiltInMethod) (next : ℕ) (event : Event) (world : WorldOf A) (slots : Slots A)
-      (ops rest : List A) → OutcomeCounted (length world.heap) (built_in_does C method next event world slots ops rest)
-  built_in_counted C Construct next event world slots ops rest = unchanged (length world.heap)
-  built_in_counted C ConstructWithTarget next event world slots ops rest =
+  -- so is a new text of a StringBuilder
+  builds_counted : (C : Carrier A) (empty : ℕ) (answer : BuilderAnswer) (next : ℕ) (world : WorldOf A) (slots : Slots A) (ops rest : List A)
+      → OutcomeCounted (length world.heap) (builds C empty answer next world slots ops rest)
+  builds_counted C empty building.IsNull next world slots ops rest = tt
+  builds_counted C empty KeepsEmpty next world slots ops rest =
+      let o = object_of C ops 0 in
+      let new = with_field builder_text (C.reference empty) (object_at world o) in
+      same_count (length (with_object world o new).heap) (length world.heap) (object_count world o new)
+  builds_counted C empty Keeps next world slots ops rest =
+      let o = object_of C ops 1 in
+      let new = with_field builder_text (operand C ops 0) (object_at world o) in
+      same_count (length (with_object world o new).heap) (length world.heap) (object_count world o new)
+  builds_counted C empty (Adds added) next world slots ops rest =
+      let o = object_of C ops 1 in
+      let text = built_text C world o ++ added in
+      let made = allocated world (Characters text) in
+      object_count made o (with_field builder_text (C.reference (length world.heap)) (object_at made o)) ∙ length_push world.heap (Characters text)
+  builds_counted C empty GivesText next world slots ops rest = unchanged (length world.heap)
+
+  pub built_in_counted : (C : Carrier A) (files : Program) (method : BuiltInMethod) (next : ℕ) (event : Event) (world : WorldOf A) (slots : Slots A)
+      (ops rest : List A) → OutcomeCounted (length world.heap) (built_in_does C files method next event world slots ops rest)
+  built_in_counted C files Construct next event world slots ops rest = unchanged (length world.heap)
+  built_in_counted C files ConstructWithTarget next event world slots ops rest =
       let o = object_of C ops 1 in
       let new = with_field thread_target (operand C ops 0) (object_at world o) in
       same_count (length (with_object world o new).heap) (length world.heap) (object_count world o new)
-  built_in_counted C ObjectWait next event world slots ops rest =
+  built_in_counted C files ObjectWait next event world slots ops rest =
       wait_counted (is_owner world event.thread (object_of C ops 0)) (thread_at world event.thread).interrupted event.thread (object_of C ops 0) world rest
-  built_in_counted C ObjectNotify next event world slots ops rest =
+  built_in_counted C files ObjectNotify next event world slots ops rest =
       let o = object_of C ops 0 in
       let free = with_monitors world (monitors.notify o event.thread event.pick world.monitors) in
       owner_counted (length world.heap) (is_owner world event.thread o) (pushing next [] (notified world event.thread o event.pick) slots rest)
       (same_count (length (notified world event.thread o event.pick).heap) (length world.heap) (notified_count free o (slice_get (waiters_of world o) event.pick)))
-  built_in_counted C ObjectNotifyAll next event world slots ops rest =
+  built_in_counted C files ObjectNotifyAll next event world slots ops rest =
       let o = object_of C ops 0 in
       let free = with_monitors world (monitors.notify_all o event.thread world.monitors) in
       owner_counted (length world.heap) (is_owner world event.thread o) (pushing next [] (notified_all world event.thread o) slots rest)
       (same_count (length (notified_all world event.thread o).heap) (length world.heap) (woken_count o Notified free (waiters_of world o)))
-  built_in_counted C ThreadStart next event world slots ops rest = start_counted (is_some (thread_of world (object_of C ops 0))) next (object_of C ops 0) world slots rest
-  built_in_counted C ThreadInterrupt next event world slots ops rest =
+  built_in_counted C files ThreadStart next event world slots ops rest = start_counted (is_some (thread_of world (object_of C ops 0))) next (object_of C ops 0) world slots rest
+  built_in_counted C files ThreadInterrupt next event world slots ops rest =
       let after = interrupted_on world (thread_of world (object_of C ops 0)) in
       same_count (length after.heap) (length world.heap) (interrupted_on_count world (thread_of world (object_of C ops 0)))
-  built_in_counted C ThreadIsInterrupted next event world slots ops rest = unchanged (length world.heap)
-  built_in_counted C ThreadInterrupted next event world slots ops rest = unchanged (length world.heap)
-  built_in_counted C ThreadYield next event world slots ops rest = unchanged (length world.heap)
-  built_in_counted C ThreadCurrentThread next event world slots ops rest = unchanged (length world.heap)
-  built_in_counted C ThreadJoin next event world slots ops rest = join_counted (is_alive world (object_of C ops 0)) next world slots rest
-  built_in_counted C ThreadIsAlive next event world slots ops rest = unchanged (length world.heap)
-  built_in_counted C (PrintStreamPrints print) next event world slots ops rest = unchanged (length world.heap)
-  built_in_counted C (StringAnswers method) next event world slots ops rest =
+  built_in_counted C files ThreadIsInterrupted next event world slots ops rest = unchanged (length world.heap)
+  built_in_counted C files ThreadInterrupted next event world slots ops rest = unchanged (length world.heap)
+  built_in_counted C files ThreadYield next event world slots ops rest = unchanged (length world.heap)
+  built_in_counted C files ThreadCurrentThread next event world slots ops rest = unchanged (length world.heap)
+  built_in_counted C files ThreadJoin next event world slots ops rest = join_counted (is_alive world (object_of C ops 0)) next world slots rest
+  built_in_counted C files ThreadIsAlive next event world slots ops rest = unchanged (length world.heap)
+  built_in_counted C files (PrintStreamPrints print) next event world slots ops rest = unchanged (length world.heap)
+  built_in_counted C files (StringAnswers method) next event world slots ops rest =
       answered_counted C (string_answer method (int_operand C ops) (string_operand C world ops)) next world slots ops rest
+  built_in_counted C files (StringBuilderBuilds method) next event world slots ops rest =
+      builds_counted C (string_reference files [])
+      (builder_answer method (int_operand C ops 0) (is_none (referent C ops 0)) (string_shown world (referent C ops 0)) (builder_shown C world (referent C ops 0)))
+      next world slots ops rest

@@ -22,7 +22,7 @@ use Rattle.model.specs.Objects.{cast}
 use Rattle.model.specs.Arrays.{is_negative, made_array, in_range, at_index, element_at, load_of, stored, kept_by, may_stand_in, if_storable, store_reference_meaning, store_of}
 use Rattle.model.specs.MonitorMeanings.{left, monitor_exit_meaning}
 use Rattle.model.specs.Meanings.{local_meaning, get_field_of, put_field_of, println_meaning, meaning_of}
-use Rattle.run_laws.proofs.laws.Operations.{Operation, OfRow, GetSystemOut, GetStatic, PutStatic, GetField, PutField, Println, CallVirtual, CallConstructor, CallSpecial, CallStatic, CallInterface, Return, LoadClass, LoadString, New, NewArray, NewReferenceArray, ArrayLength, LoadElement, StoreElement, CheckCast, InstanceOf, Throw, MonitorEnter, MonitorExit, operation, OfMeaning, each_meaning}
+use Rattle.run_laws.proofs.laws.Operations.{Operation, OfRow, GetSystemStream, GetStatic, PutStatic, GetField, PutField, Println, CallVirtual, CallConstructor, CallSpecial, CallStatic, CallInterface, Return, LoadClass, LoadString, New, NewArray, NewReferenceArray, ArrayLength, LoadElement, StoreElement, CheckCast, InstanceOf, Throw, MonitorEnter, MonitorExit, operation, OfMeaning, each_meaning}
 use Rattle.run_laws.proofs.object_counts.Counted.{unchanged, same_count, object_count, OutcomeCounted, not_null_counted, either_counted, built_in_counted}
 
 module _ {A : Type 0} where
@@ -126,7 +126,7 @@ module _ {A : Type 0} where
 
     runs_counted : (site : Site) (event : Event) (world : WorldOf A) (slots : Slots A) (ops rest : List A) (object : ℕ) (method : Member)
         (o : Option Body) → OutcomeCounted (length world.heap) (runs C files site event world slots ops rest object method o)
-    runs_counted site event world slots ops rest object method None = built_in_counted C (built_in_method method) site.next event world slots ops rest
+    runs_counted site event world slots ops rest object method None = built_in_counted C files (built_in_method method) site.next event world slots ops rest
     runs_counted site event world slots ops rest object method (Some body) = tt
 
     invoked_counted : (site : Site) (event : Event) (world : WorldOf A) (slots : Slots A) (ops rest : List A) (object : ℕ)
@@ -152,7 +152,7 @@ module _ {A : Type 0} where
 
     operation_counts : (site : Site) (o : Operation files site) → Counts (operation C files site o)
     operation_counts site (OfRow row e) = local_counts row
-    operation_counts site (GetSystemOut index i) = λ event world slots ops rest. unchanged (length world.heap)
+    operation_counts site (GetSystemStream index stream n) = λ event world slots ops rest. unchanged (length world.heap)
     operation_counts site (GetStatic f) = λ event world slots ops rest. unchanged (length world.heap)
     operation_counts site (PutStatic f) = λ event world slots ops rest. unchanged (length world.heap)
     operation_counts site (GetField f) = get_field_counts site.next f.named.class f.field

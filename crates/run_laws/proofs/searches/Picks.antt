@@ -12,7 +12,7 @@ use Rattle.model.specs.declared.instr.Returned.{Returned}
 use Rattle.model.specs.declared.instr.Returned.TheVariants as returned
 use Rattle.model.specs.Names.{Name, Member}
 use Rattle.model.specs.Arrays.{load_of, store_of}
-use Rattle.model.specs.BuiltInMethods.{BuiltInMethod, Construct, ConstructWithTarget, ObjectWait, ObjectNotify, ObjectNotifyAll, ThreadStart, ThreadInterrupt, ThreadIsInterrupted, ThreadInterrupted, ThreadYield, ThreadCurrentThread, ThreadJoin, ThreadIsAlive, PrintStreamPrints, StringAnswers, built_in_method, built_in_may, built_in_does, if_owner, object_of}
+use Rattle.model.specs.BuiltInMethods.{BuiltInMethod, Construct, ConstructWithTarget, ObjectWait, ObjectNotify, ObjectNotifyAll, ThreadStart, ThreadInterrupt, ThreadIsInterrupted, ThreadInterrupted, ThreadYield, ThreadCurrentThread, ThreadJoin, ThreadIsAlive, PrintStreamPrints, StringAnswers, StringBuilderBuilds, built_in_method, built_in_may, built_in_does, if_owner, object_of}
 use Rattle.model.specs.Calls.{Chosen, Fails, Runs, invoked, runs, may_run, may_invoke, return_of}
 use Rattle.model.specs.Classes.{Program, Body, body_of}
 use Rattle.model.specs.ClassInitialisation.{Look, IsReady, IsNew, IsHeld, HasFailed, look_by, status_of}
@@ -23,7 +23,7 @@ use Rattle.model.specs.Sites.{MeaningOf, Site, site_at}
 use Rattle.model.specs.State.{types_of, ThreadStatus, Running, Waiting, Relock, Ended, FrameOf, Invocation, Initialisation, StackOf, WorldOf, StateOf}
 use Rattle.model.specs.Step.{SteppedOf, NotEnabled, WrongKind, Next, PartOf, enabled_if, unpicked, settled, needing, needing_class, become, ops_of, done, bytecode_by, bytecode_in, running_event, going_event, thread_event, thread_at, with_part, event_of, stepped, is_enabled_by, is_enabled}
 use Rattle.model.specs.Worlds.{is_owner, waiters_of}
-use Rattle.run_laws.proofs.laws.Operations.{Operation, OfRow, GetSystemOut, GetStatic, PutStatic, GetField, PutField, Println, CallVirtual, CallConstructor, CallSpecial, CallStatic, CallInterface, Return, LoadClass, LoadString, New, NewArray, NewReferenceArray, ArrayLength, LoadElement, StoreElement, CheckCast, InstanceOf, Throw, MonitorEnter, MonitorExit, operation, OfMeaning, each_meaning}
+use Rattle.run_laws.proofs.laws.Operations.{Operation, OfRow, GetSystemStream, GetStatic, PutStatic, GetField, PutField, Println, CallVirtual, CallConstructor, CallSpecial, CallStatic, CallInterface, Return, LoadClass, LoadString, New, NewArray, NewReferenceArray, ArrayLength, LoadElement, StoreElement, CheckCast, InstanceOf, Throw, MonitorEnter, MonitorExit, operation, OfMeaning, each_meaning}
 use Rattle.run_laws.specs.searches.Picks.{ArePicksInOrder}
 
 abbrev event_at : ℕ → ℕ → Event
@@ -60,42 +60,43 @@ module _ {A : Type 0} where
   owner_stays false o h = tt
 
   module _ (C : Carrier A) where
-    abbrev MayLower : BuiltInMethod → Type 0
-    MayLower b =
+    abbrev MayLower : Program → BuiltInMethod → Type 0
+    MayLower files b =
         (t k next : ℕ) (world : WorldOf A) (ops : List A) → built_in_may C b (event_at t (suc k)) world ops ≡ true
         → (built_in_may C b (event_at t k) world ops ≡ true)
-        × ((slots : Slots A) (rest : List A) → Stays (built_in_does C b next (event_at t k) world slots ops rest))
+        × ((slots : Slots A) (rest : List A) → Stays (built_in_does C files b next (event_at t k) world slots ops rest))
 
     notify_may : (b : Bool) (n k : ℕ) → (if b then nat_lt (suc k) n else (suc k == 0)) ≡ true → (if b then nat_lt k n else (k == 0)) ≡ true
     notify_may true n k e = below k n e
     notify_may false n k e = none_past k e
 
-    built_in_lower : (b : BuiltInMethod) → MayLower b
-    built_in_lower Construct t k next world ops e = none_past k e
-    built_in_lower ConstructWithTarget t k next world ops e = none_past k e
-    built_in_lower ObjectWait t k next world ops e = none_past k e
-    built_in_lower ObjectNotify t k next world ops e = (
+    built_in_lower : (files : Program) (b : BuiltInMethod) → MayLower files b
+    built_in_lower files Construct t k next world ops e = none_past k e
+    built_in_lower files ConstructWithTarget t k next world ops e = none_past k e
+    built_in_lower files ObjectWait t k next world ops e = none_past k e
+    built_in_lower files ObjectNotify t k next world ops e = (
       notify_may (is_owner world t (object_of C ops 0) && nat_lt 0 (length (waiters_of world (object_of C ops 0)))) (length (waiters_of world (object_of C ops 0))) k e,
       λ slots rest. owner_stays (is_owner world t (object_of C ops 0)) _ tt,
     )
-    built_in_lower ObjectNotifyAll t k next world ops e = none_past k e
-    built_in_lower ThreadStart t k next world ops e = none_past k e
-    built_in_lower ThreadInterrupt t k next world ops e = none_past k e
-    built_in_lower ThreadIsInterrupted t k next world ops e = none_past k e
-    built_in_lower ThreadInterrupted t k next world ops e = none_past k e
-    built_in_lower ThreadYield t k next world ops e = none_past k e
-    built_in_lower ThreadCurrentThread t k next world ops e = none_past k e
-    built_in_lower ThreadJoin t k next world ops e = none_past k (and_parts _ _ e).0
-    built_in_lower ThreadIsAlive t k next world ops e = none_past k e
-    built_in_lower (PrintStreamPrints print) t k next world ops e = none_past k e
-    built_in_lower (StringAnswers method) t k next world ops e = none_past k e
+    built_in_lower files ObjectNotifyAll t k next world ops e = none_past k e
+    built_in_lower files ThreadStart t k next world ops e = none_past k e
+    built_in_lower files ThreadInterrupt t k next world ops e = none_past k e
+    built_in_lower files ThreadIsInterrupted t k next world ops e = none_past k e
+    built_in_lower files ThreadInterrupted t k next world ops e = none_past k e
+    built_in_lower files ThreadYield t k next world ops e = none_past k e
+    built_in_lower files ThreadCurrentThread t k next world ops e = none_past k e
+    built_in_lower files ThreadJoin t k next world ops e = none_past k (and_parts _ _ e).0
+    built_in_lower files ThreadIsAlive t k next world ops e = none_past k e
+    built_in_lower files (PrintStreamPrints print) t k next world ops e = none_past k e
+    built_in_lower files (StringAnswers method) t k next world ops e = none_past k e
+    built_in_lower files (StringBuilderBuilds method) t k next world ops e = none_past k e
 
     module _ (files : Program) (site : Site) where
       run_lower : (method : Member) (o : Option Body) (t k : ℕ) (world : WorldOf A) (ops : List A) (object : ℕ)
           → may_run C (event_at t (suc k)) world ops method o ≡ true
           → (may_run C (event_at t k) world ops method o ≡ true)
           × ((slots : Slots A) (rest : List A) → Stays (runs C files site (event_at t k) world slots ops rest object method o))
-      run_lower method None t k world ops object e = built_in_lower (built_in_method method) t k site.next world ops e
+      run_lower method None t k world ops object e = built_in_lower files (built_in_method method) t k site.next world ops e
       run_lower method (Some body) t k world ops object e = none_past k e
 
       invoke_lower : (chosen : Chosen) (t k : ℕ) (world : WorldOf A) (ops : List A) (object : ℕ)
@@ -127,7 +128,7 @@ module _ {A : Type 0} where
       -- each instruction, in a line
       lower : (o : Operation files site) → Lower (operation C files site o)
       lower (OfRow row e) = λ t k world ops e. none_past k e
-      lower (GetSystemOut index i) = λ t k world ops e. none_past k e
+      lower (GetSystemStream index stream n) = λ t k world ops e. none_past k e
       lower (GetStatic f) = λ t k world ops e. none_past k e
       lower (PutStatic f) = λ t k world ops e. none_past k e
       lower (GetField f) = λ t k world ops e. none_past k e

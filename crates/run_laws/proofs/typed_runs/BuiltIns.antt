@@ -1,14 +1,14 @@
 -- The built-in methods without code: each brings about what a call of it has to.
 use Rattle.std.proofs.Common.{◌≡◌, ℕ, zero, suc, List, [], ◌∷◌, ◌++◌, map, reverse, length, drop, Bool, true, false, Option, Some, None, refl, sym, ap, ◌∙◌, subst, ⊎_elim}
-use Rattle.std.specs.Prelude.{slice_get, slice_index_or, find, unwrap_or, is_some, codes}
-use Rattle.std.specs.Option.{option_map}
+use Rattle.std.specs.Prelude.{slice_get, slice_index_or, find, unwrap_or, is_some, codes, if◌then◌else◌}
+use Rattle.std.specs.Option.{option_map, is_none}
 use Rattle.std.specs.List.{AllByRecursion, list_any}
 use Rattle.std.proofs.lemmas.Bool.{false≢true, and_parts, and_from, or_cases, or_from, cond_both}
 use Rattle.std.proofs.lemmas.List.{reverse-reverse}
 use Rattle.model.specs.declared.event.Event.{Event}
 use Rattle.model.specs.declared.value.Value.{Value}
 use Rattle.model.specs.declared.value.Value.TheVariants as value
-use Rattle.model.specs.Names.{Name, Member, java_lang_object, java_lang_string, java_lang_runnable, java_lang_thread, java_io_print_stream, constructor_name, thread_target, println_int}
+use Rattle.model.specs.Names.{Name, Member, java_lang_object, java_lang_string, java_lang_string_builder, java_lang_runnable, java_lang_thread, java_io_print_stream, constructor_name, thread_target, println_int}
 use Rattle.model.specs.DescriptorParts.{returns_void}
 use Rattle.model.specs.DescriptorScan.{method_type, field_type, parameters_at, field_at, element_at}
 use Rattle.model.specs.BuiltIn.{built_in_classes}
@@ -17,25 +17,29 @@ use Rattle.model.specs.ReferenceTypes.{ReferenceType, ClassType}
 use Rattle.model.specs.Types.{VerificationType, Unusable, IntType, OfType, UninitialisedThis, is_value_below}
 use Rattle.model.specs.DescribedTypes.{field_declared, verification_type, made_type}
 use Rattle.model.specs.Operands.{values, reference_of}
-use Rattle.model.specs.State.{types_of, Characters, Thread, Frame, World, new_thread}
+use Rattle.model.specs.State.{ObjectOf, types_of, Characters, Thread, Frame, World, new_thread}
 use Rattle.model.specs.Outcomes.{Cost, OutcomeOf, Makes, Free}
 use Rattle.model.specs.Worlds.{thread_at, allocated, object_at, with_object, with_field, with_interrupted, is_owner, is_alive, is_interrupted, thread_of}
 use Rattle.model.specs.Frames.{at_offset, at_call}
-use Rattle.model.specs.Sites.{pushing, pushing_at, operand, int_operand}
+use Rattle.model.specs.Sites.{pushing, pushing_at, operand, referent, int_operand}
 use Rattle.model.specs.Calls.{parameter_count, result_types}
 use Rattle.model.specs.declared.string_method.StringMethod.{StringMethod}
 use Rattle.model.specs.declared.string_method.StringMethod.TheVariants.{Length, CharAt, Equals, HashCode, CompareTo, Concat, Substring, IndexOf, RegionMatches}
+use Rattle.model.specs.declared.builder_method.BuilderMethod.TheVariants.{ConstructEmpty, ToString}
+use Rattle.model.specs.BuilderMethods as building
+use Rattle.model.specs.BuilderMethods.{Adds, kept_string, built_text, with_string, with_composed, builds}
+use Rattle.model.specs.Opening.{string_reference}
 use Rattle.model.specs.StringMethods.{StringAnswer, IsNull, IsOutside, Answers, Same, Composes, string_answer}
 use Rattle.model.specs.Texts.{Text}
 use Rattle.model.specs.BuiltInMethods
 use Rattle.model.specs.declared.print_method.PrintMethod.{PrintMethod}
 use Rattle.model.specs.declared.print_method.PrintMethod.TheVariants.{Println, PrintlnChar, PrintlnInt, PrintlnString, PrintChar, PrintInt, PrintString}
-use Rattle.model.specs.BuiltInMethods.{BuiltInMethod, Construct, ConstructWithTarget, PrintStreamPrints, StringAnswers, of_object, of_thread, of_print_stream, of_string, printed_by, built_in_methods, is_row_of, built_in_does, wait_by, notified, notified_all, if_owner, with_started, start_by, interrupted_on, join_by, bit, with_printed, string_operand, answered, object_of}
+use Rattle.model.specs.BuiltInMethods.{BuiltInMethod, Construct, ConstructWithTarget, PrintStreamPrints, StringAnswers, StringBuilderBuilds, of_object, of_thread, of_print_stream, of_string, of_string_builder, printed_by, built_in_methods, is_row_of, built_in_does, wait_by, notified, notified_all, if_owner, with_started, start_by, interrupted_on, join_by, bit, with_printed, string_operand, answered, object_of}
 use Rattle.model.specs.Typing.{has_no_receiver, argument_types}
 use Rattle.model.specs.WellTyped.{has_type, is_object_in, are_typed, Ready, Awaits}
 use Rattle.run_laws.proofs.laws.Lists.{Pairwise, pairs_of, pair_get, get_front}
 use Rattle.run_laws.proofs.laws.Classes.{members_same}
-use Rattle.run_laws.proofs.laws.Order.{Extends, extends_self}
+use Rattle.run_laws.proofs.laws.Order.{Extends, extends_self, has_type_more}
 use Rattle.run_laws.proofs.laws.StringAnswers.{IsOfInt, IsOfString, length_of_int, char_of_int, equals_of_int, hash_of_int, compared_of_int, index_of_int, regions_of_int, concat_of_string, substring_of_string}
 use Rattle.run_laws.proofs.typed_runs.Invariant.{awaits_more}
 use Rattle.run_laws.proofs.typed_runs.Objects.{object_found, added_below}
@@ -46,6 +50,8 @@ use Rattle.run_laws.proofs.laws.LinkedMethods.{returns_nothing}
 use Rattle.run_laws.proofs.typed_runs.Threads.{kept_self, waits, wait_sets_weaken}
 use Rattle.run_laws.proofs.typed_runs.WorldChanges.{Keeps, self_keeps, object_keeps, allocated_keeps, printed_keeps, interrupted_keeps, goes_on}
 use Rattle.run_laws.proofs.typed_runs.WaitChanges.{notified_keeps, notified_all_keeps, interrupted_on_keeps, waiting_changes, waits_on}
+use Rattle.run_laws.proofs.typed_runs.Builders.{a_builder, Shaped, empty_constructor, string_constructor, append_string, append_int, append_char, append_builder, to_string, string_keeps, composed_keeps, empty_typed}
+use Rattle.run_laws.proofs.typed_runs.Texts.{kept_string_typed}
 use Rattle.run_laws.proofs.typed_runs.Called.{Called, BuiltInTyped}
 use Rattle.run_laws.proofs.typed_runs.Instructions.{at_typed, at_there, with_field_typed, with_field_same}
 use Rattle.run_laws.proofs.typed_runs.Callees.{pair_reverse}
@@ -241,7 +247,7 @@ module _ (files : Program) (linked : Linked files) (event : Event) (w : World) (
   -- ---- the methods, each by its row
 
   abbrev Typed : BuiltInMethod → Type 0
-  Typed b = OutcomeTyped files event.thread w f (built_in_does values b next event w f.place.slots ops rest)
+  Typed b = OutcomeTyped files event.thread w f (built_in_does values files b next event w f.place.slots ops rest)
 
   waited : method ≡ of_object (codes "wait") → (b interrupted : Bool) → is_owner w event.thread (object_of values ops 0) ≡ b
       → OutcomeTyped files event.thread w f (wait_by b interrupted event.thread (object_of values ops 0) w rest)
@@ -356,6 +362,86 @@ module _ (files : Program) (linked : Linked files) (event : Event) (w : World) (
       (typed_operand (OfType (ClassType java_lang_string) ∷ IntType ∷ IntType ∷ []) (ap (argument_types files) e ∙ substring_arguments files) 2)
       (substring_of_string ints texts)
 
+  -- ---- methods of StringBuilder
+
+  abbrev empty : ℕ
+  empty = string_reference files []
+
+  -- of a method of a certain shape: its receiver is there, and it gives what it is to give
+  module _ {m : Member} {arguments results : List VerificationType} {parameters : ℕ} (shape : Shaped files m arguments results parameters) (e : method ≡ m) where
+    taken : (k : ℕ) → has_type files (types_of w.heap) (slice_index_or (reverse arguments) k Unusable) (operand values ops k) ≡ true
+    taken = typed_operand arguments (ap (argument_types files) e ∙ shape.takes)
+
+    builder_there : is_value_below files (types_of w.heap) (ClassType java_lang_string_builder) (operand values ops parameters) ≡ true
+        → (o : ObjectOf Value) × (slice_get w.heap (object_of values ops parameters) ≡ Some o)
+    builder_there below =
+        let r = object_of values ops parameters in
+        let found = object_found files w.heap r (ClassType java_lang_string_builder) (receiver_in java_lang_string_builder parameters (ap (has_no_receiver files) e ∙ shape.receiver) (ap parameter_count e ∙ shape.count) below) in
+        (found.0, found.1)
+
+    gives : result_types files method ≡ results
+    gives = ap (result_types files) e ∙ shape.gives
+
+  keeps_empty : method ≡ of_string_builder constructor_name (codes "()V") → Typed (StringBuilderBuilds ConstructEmpty)
+  keeps_empty e =
+      let shape = empty_constructor files in
+      let o = builder_there shape e (taken shape e 0) in
+      let r = object_of values ops 0 in
+      let v = value.Reference empty in
+      carries [] (with_string w r v) [] (gives shape e) (string_keeps files w c.fits r o.0 v o.1 (empty_typed files w c.fits)) refl
+
+  keeps_string : method ≡ of_string_builder constructor_name (codes "(Ljava/lang/String;)V") → (null : Bool)
+      → OutcomeTyped files event.thread w f (builds values empty (if null then building.IsNull else building.Keeps) next w f.place.slots ops rest)
+  keeps_string e true = tt
+  keeps_string e false =
+      let shape = string_constructor files in
+      let o = builder_there shape e (taken shape e 1) in
+      let r = object_of values ops 1 in
+      let v = operand values ops 0 in
+      carries [] (with_string w r v) [] (gives shape e) (string_keeps files w c.fits r o.0 v o.1 (taken shape e 0)) refl
+
+  adds : {m : Member} {last : VerificationType} (shape : Shaped files m (a_builder ∷ last ∷ []) (a_builder ∷ []) 1) → method ≡ m → (added : Text)
+      → OutcomeTyped files event.thread w f (builds values empty (Adds added) next w f.place.slots ops rest)
+  adds shape e added =
+      let r = object_of values ops 1 in
+      let text = built_text values w r ++ added in
+      let o = builder_there shape e (taken shape e 1) in
+      let after = with_composed values w r text in
+      let k = composed_keeps files w c.fits r o.0 text o.1 in
+      carries_at (Makes (length text)) (a_builder ∷ []) after (operand values ops 1 ∷ []) (gives shape e) k
+      (and_from _ _ (has_type_more files (types_of w.heap) (types_of after.heap) k.extends a_builder (operand values ops 1) (taken shape e 1)) refl)
+
+  gives_text : method ≡ of_string_builder (codes "toString") (codes "()Ljava/lang/String;") → Typed (StringBuilderBuilds ToString)
+  gives_text e =
+      let os = types_of w.heap in
+      let r = object_of values ops 0 in
+      carries (a_string files) w (kept_string values (object_at w r) ∷ []) (gives (to_string files) e) (self_keeps files w c.fits)
+      (and_from _ _ (kept_string_typed files os (object_at w r) (at_typed files os w.heap r c.fits.heap)) refl)
+
+  builder_rows : AllByRecursion (λ (row : Member × BuiltInMethod). method ≡ row.0 → Typed row.1) (drop 30 built_in_methods)
+  builder_rows = (
+    keeps_empty,
+    (
+      λ e. keeps_string e (is_none (referent values ops 0)),
+      (
+        λ e. adds (append_string files) e _,
+        (
+          λ e. adds (append_int files) e _,
+          (
+            λ e. adds (append_char files) e _,
+            (
+              λ e. adds (append_builder files) e _,
+              (
+                gives_text,
+                tt,
+              ),
+            ),
+          ),
+        ),
+      ),
+    ),
+  )
+
   string_rows : AllByRecursion (λ (row : Member × BuiltInMethod). method ≡ row.0 → Typed row.1) (drop 19 built_in_methods)
   string_rows = (
     answers_int Length (of_string (codes "length") (codes "()I")) (int_answered_results files (codes "length")) (length_of_int ints texts),
@@ -379,7 +465,7 @@ module _ (files : Program) (linked : Linked files) (event : Event) (w : World) (
                       λ e. composed _ (ap (result_types files) e ∙ int_text_results files),
                       (
                         λ e. composed _ (ap (result_types files) e ∙ char_text_results files),
-                        tt,
+                        builder_rows,
                       ),
                     ),
                   ),
@@ -465,7 +551,7 @@ module _ (files : Program) (linked : Linked files) (event : Event) (w : World) (
       (λ q. h.0 (sym (members_same row.0 method q))) (λ q. walk rows h.1 (λ n. k (or_from (is_row_of method row) (list_any (is_row_of method) rows) q n)))
 
   built_in_case : OutcomeTyped files event.thread w
-      f (built_in_does values (BuiltInMethods.built_in_method method) next event w f.place.slots ops rest)
+      f (built_in_does values files (BuiltInMethods.built_in_method method) next event w f.place.slots ops rest)
   built_in_case =
       walk built_in_methods on_rows
       (λ n. constructed (⊎_elim (λ q. absurd (false≢true (sym n ∙ q))) (λ q. (and_parts _ _ q).1) (or_cases (list_any (is_row_of method) built_in_methods) _ c.machine)))

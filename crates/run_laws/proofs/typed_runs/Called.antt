@@ -38,4 +38,4 @@ BuiltInTyped files =
     (event : Event) (world : World) (frame : Frame) (next : ℕ) (method : Member) (ops rest : List Value)
     → Called files event world frame next method ops rest
     → OutcomeTyped files event.thread world
-    frame (built_in_does values (built_in_method method) next event world frame.place.slots ops rest)
+    frame (built_in_does values files (built_in_method method) next event world frame.place.slots ops rest)

@@ -19,12 +19,12 @@ use Rattle.model.specs.State.{Frame, World}
 use Rattle.model.specs.Sites.{MeaningOf, Site}
 use Rattle.model.specs.Step.{ops_of}
 use Rattle.model.specs.Calls.{return_of}
-use Rattle.run_laws.proofs.laws.Operations.{NamedText, Operation, OfRow, GetSystemOut, GetStatic, PutStatic, GetField, PutField, Println, CallVirtual, CallConstructor, CallSpecial, CallStatic, CallInterface, Return, LoadClass, LoadString, New, NewArray, NewReferenceArray, ArrayLength, LoadElement, StoreElement, CheckCast, InstanceOf, Throw, MonitorEnter, MonitorExit, operation, OfMeaning, each_meaning}
+use Rattle.run_laws.proofs.laws.Operations.{NamedText, Operation, OfRow, GetSystemStream, GetStatic, PutStatic, GetField, PutField, Println, CallVirtual, CallConstructor, CallSpecial, CallStatic, CallInterface, Return, LoadClass, LoadString, New, NewArray, NewReferenceArray, ArrayLength, LoadElement, StoreElement, CheckCast, InstanceOf, Throw, MonitorEnter, MonitorExit, operation, OfMeaning, each_meaning}
 use Rattle.run_laws.proofs.typed_runs.Called.{BuiltInTyped}
 use Rattle.run_laws.proofs.typed_runs.Going.{Here, Allows}
 use Rattle.run_laws.proofs.typed_runs.Flows.{InstructionsTyped}
 use Rattle.run_laws.proofs.typed_runs.Instructions.{Does, row_typed, get_static_typed, put_static_typed, get_field_typed, put_field_typed, println_typed, throw_typed, monitor_enter_typed, monitor_exit_typed}
-use Rattle.run_laws.proofs.typed_runs.ObjectInstructions.{class_constant_typed, string_constant_typed, system_out_typed, new_typed, check_cast_typed, instance_of_typed, return_typed, int_return_typed, reference_return_typed}
+use Rattle.run_laws.proofs.typed_runs.ObjectInstructions.{class_constant_typed, string_constant_typed, system_stream_typed, new_typed, check_cast_typed, instance_of_typed, return_typed, int_return_typed, reference_return_typed}
 use Rattle.run_laws.proofs.typed_runs.ArrayInstructions.{primitive_array_typed, reference_array_typed, array_length_typed, load_typed, store_typed}
 use Rattle.run_laws.proofs.typed_runs.Invocations.{static_typed, virtual_typed, interface_typed, special_typed, constructor_typed}
 
@@ -63,7 +63,7 @@ module _ (files : Program) (built_ins : BuiltInTyped files) (event : Event) (w :
 
   operation_done : (o : Operation files site) → Done (operation values files site o)
   operation_done (OfRow row e) a may = row_typed files event w f site h row a
-  operation_done (GetSystemOut index i) a may = system_out_typed files event w f site h a
+  operation_done (GetSystemStream index stream n) a may = system_stream_typed files event w f site h n.named stream n.streams a
   operation_done (GetStatic n) a may = get_static_typed files event w f site h n.field a
   operation_done (PutStatic n) a may = put_static_typed files event w f site h n.field a
   operation_done (GetField n) a may = get_field_typed files event w f site h n.named.class n.field a

@@ -47,7 +47,7 @@ pub declared_met : (files : Program) (os : List ReferenceType) (d : DeclaredType
 declared_met files os DeclaredInt v h = h
 declared_met files os (DeclaredReference type) v h = h
 
-fields_typed : (files : Program) (os : List ReferenceType) (o : ObjectOf Value) → is_object_typed files os o ≡ true
+pub fields_typed : (files : Program) (os : List ReferenceType) (o : ObjectOf Value) → is_object_typed files os o ≡ true
     → list_all (is_field_typed files os) (fields_of o) ≡ true
 fields_typed files os (Instance class fields) h = h
 fields_typed files os (Primitives of elements) h = refl

@@ -7,7 +7,7 @@ use Rattle.std.proofs.lemmas.Bool.{false≢true, and_parts, and_from}
 use Rattle.model.specs.declared.event.Event.{Event}
 use Rattle.model.specs.declared.value.Value.{Value}
 use Rattle.model.specs.declared.value.Value.TheVariants as value
-use Rattle.model.specs.Names.{Name, name_eq, java_lang_class, java_lang_string, java_io_print_stream}
+use Rattle.model.specs.Names.{Name, name_eq, Member, java_lang_class, java_lang_string, java_io_print_stream}
 use Rattle.model.specs.Tree.{FileTree}
 use Rattle.model.specs.StringConstants.{string_texts}
 use Rattle.model.specs.Classes.{Program, classes_of, is_named, class_of}
@@ -19,20 +19,20 @@ use Rattle.model.specs.DescribedTypes.{DeclaredType, DeclaredInt, DeclaredRefere
 use Rattle.model.specs.InitialisedTypes.{forgotten}
 use Rattle.model.specs.Operands.{values, under}
 use Rattle.model.specs.State.{types_of, Frame, World}
-use Rattle.model.specs.Opening.{new_instance, opening_heap, class_reference, string_reference, print_stream_reference}
+use Rattle.model.specs.Opening.{new_instance, opening_heap, class_reference, string_reference}
 use Rattle.model.specs.Outcomes.{Makes, Free}
-use Rattle.model.specs.Worlds.{allocated, fields_of}
+use Rattle.model.specs.Worlds.{allocated, cells_of}
 use Rattle.model.specs.Sites.{Site, operand}
 use Rattle.model.specs.Step.{ops_of}
 use Rattle.model.specs.Calls.{result_types, returned_by, is_nothing, is_int_returned, is_reference_returned, return_meaning, int_return_meaning, reference_return_meaning}
 use Rattle.model.specs.Objects.{new_meaning, check_cast_meaning, cast, instance_of_meaning, object_meaning}
-use Rattle.model.specs.Meanings.{system_out_meaning}
+use Rattle.model.specs.Meanings.{stream_of, system_stream_meaning}
 use Rattle.model.specs.WellTyped.{has_type, is_object_in, are_typed}
 use Rattle.run_laws.proofs.laws.Lists.{of_pairs, pairs_of, pair_map_left}
 use Rattle.run_laws.proofs.laws.Order.{assignable_self, forgotten_typed}
 use Rattle.run_laws.proofs.typed_runs.Objects.{added_below, new_instance_typed, new_instance_type}
 use Rattle.run_laws.proofs.laws.Found.{found_any, found_passes}
-use Rattle.run_laws.proofs.typed_runs.OpeningObjects.{print_stream_there, class_there, string_there}
+use Rattle.run_laws.proofs.typed_runs.OpeningObjects.{stream_there, class_there, string_there}
 use Rattle.run_laws.proofs.typed_runs.Changes.{OutcomeTyped}
 use Rattle.run_laws.proofs.typed_runs.WorldChanges.{Keeps, self_keeps, allocated_keeps, gives_back}
 use Rattle.run_laws.proofs.typed_runs.Subtypes.{instance_below}
@@ -105,10 +105,11 @@ module _ (files : Program) (event : Event) (w : World) (f : Frame) (site : Site)
       → Does files event w f (object_meaning values site java_lang_string (string_reference files text))
   string_constant_typed text e a = there_typed java_lang_string (string_reference files text) (string_there files text e) a
 
-  pub system_out_typed : Allows files f h.ready.stopped.stands site (system_out_meaning values site.next)
-      → Does files event w f (system_out_meaning values site.next)
-  system_out_typed a =
-      pushes files event.thread w f site h _ a (OfType (ClassType java_io_print_stream) ∷ []) _ a.leads.0 Free w (value.Reference print_stream_reference ∷ []) same (and_from _ _ (opened_object java_io_print_stream print_stream_reference (print_stream_there files)) refl)
+  pub system_stream_typed : (named : Member) (stream : ℕ) → stream_of files named ≡ Some stream
+      → Allows files f h.ready.stopped.stands site (system_stream_meaning values site.next stream)
+      → Does files event w f (system_stream_meaning values site.next stream)
+  system_stream_typed named stream e a =
+      pushes files event.thread w f site h _ a (OfType (ClassType java_io_print_stream) ∷ []) _ a.leads.0 Free w (value.Reference stream ∷ []) same (and_from _ _ (opened_object java_io_print_stream stream (stream_there files named stream e)) refl)
 
   -- ---- new, checkcast, instanceof
 
@@ -120,7 +121,7 @@ module _ (files : Program) (event : Event) (w : World) (f : Frame) (site : Site)
       let ts = h.ready.stopped.stands.type.slots in
       pushes_on files event.thread w f site h _ a (map (forgotten site.offset) ts.locals) (Uninitialised site.offset class ∷ []) _ a.leads.0
       (of_pairs _ _ _ (pair_map_left (has_type files os) (forgotten site.offset) (λ s v q. forgotten_typed files h.linked.rooted os site.offset s v q) ts.locals f.place.slots.locals (pairs_of _ _ _ h.ready.stopped.locals)))
-      (Makes (length (fields_of o))) (allocated w o) (value.Reference (length w.heap) ∷ [])
+      (Makes (cells_of o)) (allocated w o) (value.Reference (length w.heap) ∷ [])
       (allocated_keeps files w h.fits o (new_instance_typed files (types_of (w.heap ++ o ∷ [])) class))
       (and_from _ _ (subst (λ type. is_value_below files (types_of (w.heap ++ o ∷ [])) type (value.Reference (length w.heap)) ≡ true) (new_instance_type files os class) (added_below files w.heap h.fits.heap o)) refl)
 

@@ -1,10 +1,10 @@
 -- The opening state is well typed.
-use Rattle.std.proofs.Common.{◌≡◌, ℕ, suc, List, [], ◌∷◌, map, true, refl}
+use Rattle.std.proofs.Common.{◌≡◌, ℕ, suc, List, [], ◌∷◌, ◌++◌, map, true, refl}
 use Rattle.std.specs.List.{list_all}
 use Rattle.std.proofs.lemmas.Bool.{and_from}
 use Rattle.std.proofs.lemmas.List.{length-map}
 use Rattle.model.specs.declared.value.Value.{Value}
-use Rattle.model.specs.Names.{java_lang_class, java_lang_thread}
+use Rattle.model.specs.Names.{java_lang_class, java_lang_thread, java_io_print_stream}
 use Rattle.model.specs.Classes.{Program, classes_of}
 use Rattle.model.specs.ReferenceTypes.{ClassType}
 use Rattle.model.specs.Operands.{values}
@@ -23,9 +23,10 @@ unfolding opening_heap
 heap_typed files =
     let os = types_of (opening_heap values files) in
     and_from _ _ refl (and_from _ _ refl (and_from _ _ (new_instance_typed files os java_lang_thread)
-    (all_append (is_object_typed files os) (map (λ file. Instance java_lang_class []) (classes_of files)) (map (λ bytes. Characters (decoded bytes)) (string_texts files))
+    (all_append (is_object_typed files os) (map (λ file. Instance java_lang_class []) (classes_of files)) (map (λ bytes. Characters (decoded bytes)) (string_texts files) ++ Instance java_io_print_stream [] ∷ [])
     (all_map (is_object_typed files os) (λ file. Instance java_lang_class []) (classes_of files) (λ file. refl))
-    (all_map (is_object_typed files os) (λ bytes. Characters (decoded bytes)) (string_texts files) (λ bytes. refl)))))
+    (all_append (is_object_typed files os) (map (λ bytes. Characters (decoded bytes)) (string_texts files)) (Instance java_io_print_stream [] ∷ [])
+    (all_map (is_object_typed files os) (λ bytes. Characters (decoded bytes)) (string_texts files) (λ bytes. refl)) refl))))
 
 none_wait : (threads : List Thread) (k : ℕ) (objects : List (ObjectOf Value))
     → are_wait_sets threads k (map (λ object. unlocked) objects) ≡ true

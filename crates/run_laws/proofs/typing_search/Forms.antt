@@ -18,7 +18,7 @@ use Rattle.model.specs.Objects.{any_object, new_leads, check_cast_meaning, insta
 use Rattle.model.specs.Arrays.{load_of, store_of, primitive_array_meaning, reference_array_meaning}
 use Rattle.model.specs.Calls.{result_types, constructed_leads, static_call, virtual_call, special_call, constructor_call, interface_call, return_of}
 use Rattle.model.specs.Meanings.{local_meaning, put_static_of, get_field_of, put_field_of, println_meaning, meaning_of}
-use Rattle.run_laws.proofs.laws.Operations.{Operation, OfRow, GetSystemOut, GetStatic, PutStatic, GetField, PutField, Println, CallVirtual, CallConstructor, CallSpecial, CallStatic, CallInterface, Return, LoadClass, LoadString, New, NewArray, NewReferenceArray, ArrayLength, LoadElement, StoreElement, CheckCast, InstanceOf, Throw, MonitorEnter, MonitorExit, operation, OfMeaning, each_meaning}
+use Rattle.run_laws.proofs.laws.Operations.{Operation, OfRow, GetSystemStream, GetStatic, PutStatic, GetField, PutField, Println, CallVirtual, CallConstructor, CallSpecial, CallStatic, CallInterface, Return, LoadClass, LoadString, New, NewArray, NewReferenceArray, ArrayLength, LoadElement, StoreElement, CheckCast, InstanceOf, Throw, MonitorEnter, MonitorExit, operation, OfMeaning, each_meaning}
 
 abbrev pub Leading : Type 0
 Leading = Slots VerificationType → List VerificationType → List VerificationType → List (ℕ × Slots VerificationType)
@@ -63,7 +63,7 @@ module _ (files : Program) (P : Wants → Leading → Type 0)
 
   operation_each : (site : Site) (o : Operation files site) → Of (operation values files site o)
   operation_each site (OfRow row e) = row_leads row
-  operation_each site (GetSystemOut index i) = next site.next (OfType (ClassType java_io_print_stream) ∷ []) (wants_of [] 1)
+  operation_each site (GetSystemStream index stream n) = next site.next (OfType (ClassType java_io_print_stream) ∷ []) (wants_of [] 1)
   operation_each site (GetStatic f) = next site.next (verification_type files (field_declared f.field.descriptor) ∷ []) (wants_of [] 1)
   operation_each site (PutStatic f) = next site.next [] (put_static_of values files site.next f.field).wants
   operation_each site (GetField f) = next site.next (verification_type files (field_declared f.field.descriptor) ∷ []) (get_field_of values files site.next f.named.class f.field).wants

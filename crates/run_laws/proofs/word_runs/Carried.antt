@@ -33,10 +33,11 @@ use Rattle.run_laws.proofs.laws.Rows.{ready_popped}
 use Rattle.run_laws.proofs.laws.Progress.{ready_finds}
 use Rattle.run_laws.proofs.laws.Answered.{thread_of_stack}
 use Rattle.run_laws.proofs.laws.WordLists.{map_set, map_copies, operands_words, under_words}
-use Rattle.run_laws.proofs.word_runs.WordWorlds.{world_words, types_words, object_at_words, class_words, all_words}
+use Rattle.run_laws.proofs.word_runs.WordWorlds.{KeepsTexts, world_words, types_words, object_at_words, class_words, all_words}
 use Rattle.run_laws.proofs.word_runs.WordMeanings.{Kinded, Same}
 use Rattle.run_laws.proofs.word_runs.WordTable.{SameIf, meaning_same}
 use Rattle.run_laws.proofs.word_runs.WordEvents.{stack_words, Carries, enabled_words, raised_words, failed_words, needing_class_words, pushed_words, become_words, initialiser_words, unwound_words, after_wait_words}
+use Rattle.run_laws.proofs.typed_runs.Texts.{texts_kept}
 use Rattle.run_laws.proofs.word_runs.WordCalls.{frame_words}
 
 after_reads : {A B : Type 0} (f : A → B) (rs : List A) (ys : List B) → drop (length rs) (map f rs ++ ys) ≡ ys
@@ -53,7 +54,7 @@ kinded files os w max s e =
 module _ (files : Program) where
   -- ---- an instruction
 
-  module _ (frames : ℕ) (event : Event) (world : World) (frame : Frame) (stack : StackOf Value) where
+  module _ (frames : ℕ) (event : Event) (world : World) (texts : KeepsTexts world) (frame : Frame) (stack : StackOf Value) where
     module _ (v : MeaningOf Value) (w : MeaningOf ℕ) (same : Same files v w) (q : Kinded files (types_of world.heap) v.wants (ops_of values v frame.place.slots)) where
       ops_same : ops_of words w (map_slots word_of frame.place.slots) ≡ map word_of (ops_of values v frame.place.slots)
       ops_same = ap (λ x. operands over_words x (map_slots word_of frame.place.slots)) same.wants ∙ operands_words v.wants frame.place.slots
@@ -67,7 +68,7 @@ module _ (files : Program) where
           ap (become files frames event.thread (world_words world) (map_frame word_of frame) (stack_words stack))
           (ap (λ o. w.does event (world_words world) (map_slots word_of frame.place.slots) o (under w.wants (map_slots word_of frame.place.slots))) ops_same
           ∙ (ap (λ r. w.does event (world_words world) (map_slots word_of frame.place.slots) (map word_of (ops_of values v frame.place.slots)) r) under_same
-          ∙ same.does event world frame.place.slots (under v.wants frame.place.slots) q))
+          ∙ same.does event world frame.place.slots (under v.wants frame.place.slots) q texts))
           ∙ become_words files frames event.thread world frame stack (v.does event world frame.place.slots (ops_of values v frame.place.slots) (under v.wants frame.place.slots))
 
       allowed_words : w.may event (world_words world) (ops_of words w (map_slots word_of frame.place.slots))
@@ -175,13 +176,13 @@ module _ (files : Program) where
 
   -- ---- a thread
 
-  module _ (rooted : Rooted files) (frames : ℕ) (event : Event) (world : World) where
+  module _ (rooted : Rooted files) (frames : ℕ) (event : Event) (world : World) (texts : KeepsTexts world) where
     running_words : (stack : StackOf Value) → IsRunning files (types_of world.heap) None stack
         → Carries (running_event words files frames event (world_words world) (stack_words stack))
         (running_event values files frames event world stack)
     running_words [] h = enabled_words (event.pick == 0) _ (begin_event values files frames world event.thread) (begin_words frames world event.thread)
     running_words (Invocation frame ∷ stack) h =
-        bytecode_in_words frames event world frame stack (body_of files frame.method) (ready_finds files rooted (types_of world.heap) frame h.0)
+        bytecode_in_words frames event world texts frame stack (body_of files frame.method) (ready_finds files rooted (types_of world.heap) frame h.0)
     running_words (Initialisation class phase ∷ stack) h =
         enabled_words (event.pick == 0) _ (initialisation_event values files frames event.thread class phase world stack) (initialisation_words frames event.thread class phase world stack)
 
@@ -248,5 +249,5 @@ carried files rooted frames state event h =
         let thread = thread_at state.world event.thread in
         let typed = thread_of_stack files (types_of state.world.heap) state.world.threads state.stacks event.thread stack h.threads e in
         let y = thread_event values files frames event state.world stack thread.status in
-        ap (λ x. with_part (words_of state) event.thread (settled event.thread x)) (thread_words files rooted frames event state.world stack thread thread.status refl typed.stack_typed)
+        ap (λ x. with_part (words_of state) event.thread (settled event.thread x)) (thread_words files rooted frames event state.world (texts_kept files state.world h.heap) stack thread thread.status refl typed.stack_typed)
         ∙ (ap (with_part (words_of state) event.thread) (settled_words event.thread y) ∙ back_words state event.thread (settled event.thread y))

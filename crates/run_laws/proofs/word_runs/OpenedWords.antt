@@ -21,10 +21,13 @@ unfolding opening_heap
 heap_words files =
     let classes : List (ObjectOf Value) = map (λ file. Instance java_lang_class []) (classes_of files) in
     let strings : List (ObjectOf Value) = map (λ bytes. Characters (decoded bytes)) (string_texts files) in
+    let errors : List (ObjectOf Value) = Instance java_io_print_stream [] ∷ [] in
+    let behind =
+    ap (λ l. l ++ Instance java_io_print_stream [] ∷ []) (map_same object_words (λ bytes. Characters (decoded bytes)) (λ bytes. Characters (decoded bytes)) (string_texts files) (λ bytes. refl))
+    ∙ sym (map-append object_words strings errors) in
     let others =
-    ap (λ l. l ++ map (λ bytes. Characters (decoded bytes)) (string_texts files)) (map_same object_words (λ file. Instance java_lang_class []) (λ file. Instance java_lang_class []) (classes_of files) (λ file. refl))
-    ∙ (ap (λ l. map object_words classes ++ l) (map_same object_words (λ bytes. Characters (decoded bytes)) (λ bytes. Characters (decoded bytes)) (string_texts files) (λ bytes. refl))
-    ∙ sym (map-append object_words classes strings)) in
+    ap (λ l. l ++ (map (λ bytes. Characters (decoded bytes)) (string_texts files) ++ Instance java_io_print_stream [] ∷ [])) (map_same object_words (λ file. Instance java_lang_class []) (λ file. Instance java_lang_class []) (classes_of files) (λ file. refl))
+    ∙ (ap (λ l. map object_words classes ++ l) behind ∙ sym (map-append object_words classes (strings ++ errors))) in
     λ i. Instance java_io_print_stream [] ∷ References (ClassType java_lang_string) [] ∷ new_words files java_lang_thread i ∷ others i
 
 monitors_same : (objects : List (ObjectOf Value))

@@ -46,7 +46,7 @@ module _ (files : Program) where
         looks = refl;
         wants = refl;
         may = λ event world ops q. refl;
-        does = λ event world slots rest q.
+        does = λ event world slots rest q texts.
             let ops = ops_of values (array_meaning values files site type av first) slots in
             ap (λ n. made_array words (is_negative n) site.next n aw (word_of first) (world_words world) (map_slots word_of slots) (map word_of rest)) (int_words ops 0)
             ∙ made_words (is_negative (int_operand values ops 0)) site.next (int_operand values ops 0) av aw first world slots rest e;
@@ -74,7 +74,7 @@ module _ (files : Program) where
         looks = refl;
         wants = refl;
         may = λ event world ops q. refl;
-        does = λ event world slots rest q.
+        does = λ event world slots rest q texts.
             let ops = ops_of values (array_length_meaning values site) slots in
             not_null_words (referent words (map word_of ops) 0) (referent values ops 0) _
             (λ r. Goes Free world (record { locals = slots.locals; stack = value.Int (length (elements_of (object_at world r))) ∷ rest }) site.next)
@@ -102,7 +102,7 @@ module _ (files : Program) where
         looks = refl;
         wants = refl;
         may = λ event world ops q. refl;
-        does = λ event world slots rest q.
+        does = λ event world slots rest q texts.
             let ops = ops_of values (load_meaning values site array first type) slots in
             let i = int_operand values ops 0 in
             not_null_words (referent words (map word_of ops) 1) (referent values ops 1) _
@@ -139,7 +139,7 @@ module _ (files : Program) where
         looks = refl;
         wants = refl;
         may = λ event world ops q. refl;
-        does = λ event world slots rest q.
+        does = λ event world slots rest q texts.
             let ops = ops_of values (store_int_meaning values site array) slots in
             let i = int_operand values ops 1 in
             not_null_words (referent words (map word_of ops) 2) (referent values ops 2) _
@@ -174,7 +174,7 @@ module _ (files : Program) where
         looks = refl;
         wants = refl;
         may = λ event world ops q. refl;
-        does = λ event world slots rest q.
+        does = λ event world slots rest q texts.
             let ops = ops_of values (store_reference_meaning values files site) slots in
             let ws = (store_reference_meaning values files site).wants.pops in
             let i = int_operand values ops 1 in

@@ -1,34 +1,39 @@
 -- Methods of the machine by their words.
 use Rattle.std.proofs.Common.{◌≡◌, ℕ, List, map, length, find, Bool, true, false, not, ◌&&◌, ◌==◌, nat_lt, is_some, if◌then◌else◌, Option, Some, None, option_map, refl, sym, ap, ◌∙◌, subst, zero, suc, [], ◌∷◌, ◌++◌, reverse, ⊎_elim}
 use Rattle.std.specs.Prelude.{unwrap_or, slice_get}
-use Rattle.std.specs.Option.{option_map_or, option_and_then}
+use Rattle.std.specs.Option.{option_map_or, option_and_then, is_none}
 use Rattle.std.specs.List.{list_all}
-use Rattle.std.proofs.lemmas.Bool.{and_parts, or_cases, not-true, false≢true, eqb-true}
+use Rattle.std.proofs.lemmas.Bool.{and_parts, or_cases, not-true, false≢true, eqb-true, cond_both}
 use Rattle.std.proofs.lemmas.List.{length-map}
 use Rattle.model.specs.declared.event.Event.{Event}
 use Rattle.model.specs.declared.value.Value.{Value}
 use Rattle.model.specs.declared.value.Value.TheVariants as value
-use Rattle.model.specs.Names.{Member, thread_target, Name}
+use Rattle.model.specs.Names.{Member, thread_target, builder_text, Name}
 use Rattle.model.specs.AccessFlags.{is_static_method}
 use Rattle.model.specs.BuiltIn.{built_in_classes}
 use Rattle.model.specs.DescriptorScan.{element_at, field_at, field_type, parameters_at, method_type}
 use Rattle.model.specs.Classes.{Program}
-use Rattle.model.specs.Operands.{Slots, words, values, word_of}
+use Rattle.model.specs.Operands.{Slots, words, values, word_of, word_reference, reference_of}
 use Rattle.model.specs.State.{Characters, Waiter, Notified, ThreadStatus, Running, Waiting, Relock, Ended, World}
 use Rattle.model.specs.Outcomes.{Free, Makes, Goes}
 use Rattle.model.specs.Worlds.{allocated, with_monitors, thread_at, object_at, with_object, with_field, is_owner, is_alive, is_interrupted, thread_of, waiters_of, text_of}
 use Rattle.model.specs.Monitors as monitors
 use Rattle.model.specs.Sites.{operand, referent, int_operand}
 use Rattle.model.specs.Calls.{is_one, parameter_count}
-use Rattle.model.specs.BuiltInMethods.{BuiltInMethod, Construct, ConstructWithTarget, ObjectWait, ObjectNotify, ObjectNotifyAll, ThreadStart, ThreadInterrupt, ThreadIsInterrupted, ThreadInterrupted, ThreadYield, ThreadCurrentThread, ThreadJoin, ThreadIsAlive, PrintStreamPrints, StringAnswers, printed_by, built_in_methods, is_row_of, built_in_method, wait_by, notified_one, notified, if_owner, start_by, interrupted_in, interrupted_on, may_join, notified_all, bit, join_by, with_printed, object_of, built_in_may, built_in_does, string_shown, string_text, string_operand, answered}
+use Rattle.model.specs.BuiltInMethods.{BuiltInMethod, Construct, ConstructWithTarget, ObjectWait, ObjectNotify, ObjectNotifyAll, ThreadStart, ThreadInterrupt, ThreadIsInterrupted, ThreadInterrupted, ThreadYield, ThreadCurrentThread, ThreadJoin, ThreadIsAlive, PrintStreamPrints, StringAnswers, StringBuilderBuilds, printed_by, built_in_methods, is_row_of, built_in_method, wait_by, notified_one, notified, if_owner, start_by, interrupted_in, interrupted_on, may_join, notified_all, bit, join_by, with_printed, object_of, built_in_may, built_in_does, string_shown, string_text, string_operand, answered}
 use Rattle.model.specs.Words.{map_slots}
 use Rattle.model.specs.declared.print_method.PrintMethod.{PrintMethod}
 use Rattle.model.specs.declared.print_method.PrintMethod.TheVariants.{Println, PrintlnChar, PrintlnInt, PrintlnString, PrintChar, PrintInt, PrintString}
 use Rattle.model.specs.declared.string_method.StringMethod.{StringMethod}
+use Rattle.model.specs.declared.builder_method.BuilderMethod.{BuilderMethod}
+use Rattle.model.specs.declared.builder_method.BuilderMethod.TheVariants.{ConstructEmpty, ConstructOfString, AppendString, AppendInt, AppendChar, AppendBuilder, ToString}
+use Rattle.model.specs.BuilderMethods as building
+use Rattle.model.specs.BuilderMethods.{BuilderAnswer, KeepsEmpty, Keeps, Adds, GivesText, builder_answer, kept_string, text_or_empty, built_text, builder_shown, with_string, with_composed, composed, builds}
+use Rattle.model.specs.Opening.{string_reference}
 use Rattle.model.specs.StringMethods.{StringAnswer, IsNull, IsOutside, Answers, Same, Composes, string_answer}
 use Rattle.model.specs.declared.instr.Conversion.TheVariants.{ToChar}
 use Rattle.model.specs.Ints.{signed, converted}
-use Rattle.model.specs.Texts.{int_line}
+use Rattle.model.specs.Texts.{Text, int_line}
 use Rattle.model.specs.ReferenceTypes.{ReferenceType}
 use Rattle.model.specs.DescribedTypes.{declared_want, parameters_declared}
 use Rattle.model.specs.Types.{Want, AReference, value_meets}
@@ -40,7 +45,7 @@ use Rattle.std.specs.Fmt.{signed_decimal}
 use Rattle.run_laws.specs.word_runs.Words.{map_outcome}
 use Rattle.run_laws.proofs.laws.Found.{found_passes, found_has, every_all}
 use Rattle.run_laws.proofs.laws.Classes.{members_same}
-use Rattle.run_laws.proofs.word_runs.WordWorlds.{all_words, world_words, object_words, allocated_words, string_text_words, object_at_words, with_field_words, with_object_words, text_words}
+use Rattle.run_laws.proofs.word_runs.WordWorlds.{KeepsTexts, kept_string_words, all_words, world_words, object_words, allocated_words, string_text_words, object_at_words, with_field_words, with_object_words, text_words}
 use Rattle.run_laws.proofs.word_runs.WordMeanings.{operand_words, int_words, pushes_words, becomes_words, goes_words, referent_words}
 
 -- ---- what holds of each row holds of the methods
@@ -74,6 +79,15 @@ module _ {A : Type 0} (place : BuiltInMethod → Option A) (none : place Constru
 
 -- ---- the operand that a method of the machine takes as its receiver, if it has one
 
+abbrev pub builder_place : BuilderMethod → ℕ
+builder_place ConstructEmpty = 0
+builder_place ConstructOfString = 1
+builder_place AppendString = 1
+builder_place AppendInt = 1
+builder_place AppendChar = 1
+builder_place AppendBuilder = 1
+builder_place ToString = 0
+
 abbrev pub receiver_place : BuiltInMethod → Option ℕ
 receiver_place Construct = None
 receiver_place ConstructWithTarget = Some 1
@@ -90,6 +104,7 @@ receiver_place ThreadJoin = Some 0
 receiver_place ThreadIsAlive = Some 0
 receiver_place (PrintStreamPrints print) = None
 receiver_place (StringAnswers string) = None
+receiver_place (StringBuilderBuilds builder) = Some (builder_place builder)
 
 -- it is under the parameters, and the method is not static
 abbrev is_placed : Program → Member → ℕ → Bool
@@ -119,9 +134,19 @@ print_places PrintChar = []
 print_places PrintInt = []
 print_places PrintString = 0 ∷ []
 
+abbrev pub builder_places : BuilderMethod → List ℕ
+builder_places ConstructEmpty = 0 ∷ []
+builder_places ConstructOfString = 0 ∷ 1 ∷ []
+builder_places AppendString = 0 ∷ 1 ∷ []
+builder_places AppendInt = 1 ∷ []
+builder_places AppendChar = 1 ∷ []
+builder_places AppendBuilder = 0 ∷ 1 ∷ []
+builder_places ToString = 0 ∷ []
+
 abbrev pub object_places : BuiltInMethod → List ℕ
 object_places (PrintStreamPrints print) = print_places print
 object_places (StringAnswers string) = string_places string
+object_places (StringBuilderBuilds builder) = builder_places builder
 object_places other = option_map_or (λ k. k ∷ []) (receiver_place other) []
 
 -- an object is wanted at a place
@@ -216,10 +241,18 @@ module _ (event : Event) (world : World) where
   may_words ThreadIsAlive ops a = refl
   may_words (PrintStreamPrints print) ops a = refl
   may_words (StringAnswers string) ops a = refl
+  may_words (StringBuilderBuilds builder) ops a = refl
 
-  module _ (next : ℕ) (slots : Slots Value) (rest : List Value) where
+  module _ (texts : KeepsTexts world) (files : Program) (next : ℕ) (slots : Slots Value) (rest : List Value) where
     abbrev Carries : BuiltInMethod → List Value → Type 0
-    Carries method ops = built_in_does words method next event (world_words world) (map_slots word_of slots) (map word_of ops) (map word_of rest) ≡ map_outcome word_of (built_in_does values method next event world slots ops rest)
+    Carries method ops = built_in_does words files method next event (world_words world) (map_slots word_of slots) (map word_of ops) (map word_of rest) ≡ map_outcome word_of (built_in_does values files method next event world slots ops rest)
+
+    with_field_at_words : (before : World) (r : ℕ) (field : Member) (v : Value)
+        → with_object (world_words before) r (with_field field (word_of v) (object_at (world_words before) r))
+        ≡ world_words (with_object before r (with_field field v (object_at before r)))
+    with_field_at_words before r field v =
+        ap (λ o. with_object (world_words before) r (with_field field (word_of v) o)) (object_at_words before r)
+        ∙ (ap (λ o. with_object (world_words before) r o) (with_field_words field v (object_at before r)) ∙ with_object_words before r (with_field field v (object_at before r)))
 
     target_words : (ops : List Value) → Agrees ConstructWithTarget ops → Carries ConstructWithTarget ops
     target_words ops a =
@@ -228,8 +261,7 @@ module _ (event : Event) (world : World) where
         becomes_words _ (with_object world r (with_field thread_target v (object_at world r))) rest slots.locals next
         (ap (λ o. with_object (world_words world) o (with_field thread_target (operand words (map word_of ops) 0) (object_at (world_words world) o))) (as_object ops 1 (a 1 refl))
         ∙ (ap (λ n. with_object (world_words world) r (with_field thread_target n (object_at (world_words world) r))) (operand_words ops 0)
-        ∙ (ap (λ o. with_object (world_words world) r (with_field thread_target (word_of v) o)) (object_at_words world r)
-        ∙ (ap (λ o. with_object (world_words world) r o) (with_field_words thread_target v (object_at world r)) ∙ with_object_words world r (with_field thread_target v (object_at world r))))))
+        ∙ with_field_at_words world r thread_target v))
 
     wait_words : (owner interrupted : Bool) (object : ℕ)
         → wait_by owner interrupted event.thread object (world_words world) (map word_of rest)
@@ -314,6 +346,92 @@ module _ (event : Event) (world : World) where
         goes_words (Makes (length text)) (Makes (length text)) _ (allocated world (Characters text)) _ (value.Reference (length world.heap) ∷ rest) slots.locals next refl
         (allocated_words world (Characters text)) (ap (λ n. suc n ∷ map word_of rest) (length-map world.heap object_words))
 
+    -- ---- methods of StringBuilder
+
+    built_text_words : (r : ℕ) → built_text words (world_words world) r ≡ built_text values world r
+    built_text_words r =
+        let v = kept_string values (object_at world r) in
+        let string : word_reference (kept_string words (object_at (world_words world) r)) ≡ reference_of v =
+        ap (λ o. word_reference (kept_string words o)) (object_at_words world r) ∙ (ap word_reference (kept_string_words (object_at world r)) ∙ texts r) in
+        ap (text_or_empty (world_words world)) string ∙ of_string (reference_of v)
+      where
+        of_string : (o : Option ℕ) → text_or_empty (world_words world) o ≡ text_or_empty world o
+        of_string None = refl
+        of_string (Some s) = ap text_of (object_at_words world s) ∙ text_words (object_at world s)
+
+    builder_shown_words : (o : Option ℕ) → builder_shown words (world_words world) o ≡ builder_shown values world o
+    builder_shown_words None = refl
+    builder_shown_words (Some r) = built_text_words r
+
+    -- a method's answer by the words of its operands
+    builder_answer_words : (builder : BuilderMethod) (ops : List Value) → Agrees (StringBuilderBuilds builder) ops
+        → builder_answer builder (int_operand words (map word_of ops) 0) (is_none (referent words (map word_of ops) 0)) (string_shown (world_words world) (referent words (map word_of ops) 0)) (builder_shown words (world_words world) (referent words (map word_of ops) 0))
+        ≡ builder_answer builder (int_operand values ops 0) (is_none (referent values ops 0)) (string_shown world (referent values ops 0)) (builder_shown values world (referent values ops 0))
+    builder_answer_words ConstructEmpty ops a = refl
+    builder_answer_words ConstructOfString ops a = ap (λ o. if is_none o then building.IsNull else Keeps) (a 0 refl)
+    builder_answer_words AppendString ops a = ap Adds (string_words ops (a 0 refl))
+    builder_answer_words AppendInt ops a = ap (λ n. Adds (signed_decimal (signed n))) (int_words ops 0)
+    builder_answer_words AppendChar ops a = ap (λ n. Adds (converted ToChar n ∷ [])) (int_words ops 0)
+    builder_answer_words AppendBuilder ops a =
+        ap Adds (ap (builder_shown words (world_words world)) (a 0 refl) ∙ builder_shown_words (referent values ops 0))
+    builder_answer_words ToString ops a = refl
+
+    -- the receiver of an answer is as it should be
+    abbrev ReceiverAgrees : BuilderAnswer → List Value → Type 0
+    ReceiverAgrees building.IsNull ops = Unit {0}
+    ReceiverAgrees KeepsEmpty ops = referent words (map word_of ops) 0 ≡ referent values ops 0
+    ReceiverAgrees Keeps ops = referent words (map word_of ops) 1 ≡ referent values ops 1
+    ReceiverAgrees (Adds added) ops = referent words (map word_of ops) 1 ≡ referent values ops 1
+    ReceiverAgrees GivesText ops = referent words (map word_of ops) 0 ≡ referent values ops 0
+
+    receiver_agrees : (builder : BuilderMethod) (ops : List Value) → Agrees (StringBuilderBuilds builder) ops
+        → ReceiverAgrees (builder_answer builder (int_operand values ops 0) (is_none (referent values ops 0)) (string_shown world (referent values ops 0)) (builder_shown values world (referent values ops 0))) ops
+    receiver_agrees ConstructEmpty ops a = a 0 refl
+    receiver_agrees ConstructOfString ops a =
+        cond_both (is_none (referent values ops 0)) building.IsNull Keeps (λ answer. ReceiverAgrees answer ops) (λ e. tt) (λ e. a 1 refl)
+    receiver_agrees AppendString ops a = a 1 refl
+    receiver_agrees AppendInt ops a = a 1 refl
+    receiver_agrees AppendChar ops a = a 1 refl
+    receiver_agrees AppendBuilder ops a = a 1 refl
+    receiver_agrees ToString ops a = a 0 refl
+
+    composed_words : (text : Text) (ops : List Value) → referent words (map word_of ops) 1 ≡ referent values ops 1
+        → composed words text next (world_words world) (map_slots word_of slots) (map word_of ops) (map word_of rest)
+        ≡ map_outcome word_of (composed values text next world slots ops rest)
+    composed_words text ops e =
+        let r = object_of values ops 1 in
+        let made = allocated world (Characters text) in
+        let v = value.Reference (length world.heap) in
+        goes_words (Makes (length text)) (Makes (length text)) _ (with_composed values world r text) _ (operand values ops 1 ∷ rest) slots.locals next refl
+        (ap (λ o. with_composed words (world_words world) o text) (as_object ops 1 e)
+        ∙ (ap (λ w. with_string w r (suc (length (world_words world).heap))) (allocated_words world (Characters text))
+        ∙ (ap (λ n. with_string (world_words made) r (suc n)) (length-map world.heap object_words) ∙ with_field_at_words made r builder_text v)))
+        (ap (λ n. n ∷ map word_of rest) (operand_words ops 1))
+
+    builds_words : (empty : ℕ) (answer : BuilderAnswer) (ops : List Value) → ReceiverAgrees answer ops
+        → builds words empty answer next (world_words world) (map_slots word_of slots) (map word_of ops) (map word_of rest)
+        ≡ map_outcome word_of (builds values empty answer next world slots ops rest)
+    builds_words empty building.IsNull ops e = refl
+    builds_words empty KeepsEmpty ops e =
+        let r = object_of values ops 0 in
+        becomes_words _ (with_string world r (value.Reference empty)) rest slots.locals next
+        (ap (λ o. with_string (world_words world) o (suc empty)) (as_object ops 0 e) ∙ with_field_at_words world r builder_text (value.Reference empty))
+    builds_words empty Keeps ops e =
+        let r = object_of values ops 1 in
+        becomes_words _ (with_string world r (operand values ops 0)) rest slots.locals next
+        (ap (λ o. with_string (world_words world) o (operand words (map word_of ops) 0)) (as_object ops 1 e)
+        ∙ (ap (λ n. with_string (world_words world) r n) (operand_words ops 0) ∙ with_field_at_words world r builder_text (operand values ops 0)))
+    builds_words empty (Adds added) ops e =
+        let before = built_text values world (object_of values ops 1) in
+        ap (λ text. composed words text next (world_words world) (map_slots word_of slots) (map word_of ops) (map word_of rest))
+        (ap (λ o. built_text words (world_words world) o ++ added) (as_object ops 1 e) ∙ ap (λ t. t ++ added) (built_text_words (object_of values ops 1)))
+        ∙ composed_words (before ++ added) ops e
+    builds_words empty GivesText ops e =
+        let r = object_of values ops 0 in
+        pushes_words world _ (kept_string values (object_at world r)) rest slots.locals next
+        (ap (λ o. kept_string words (object_at (world_words world) o)) (as_object ops 0 e)
+        ∙ (ap (kept_string words) (object_at_words world r) ∙ kept_string_words (object_at world r)))
+
     pub does_words : (method : BuiltInMethod) (ops : List Value) → Agrees method ops → Carries method ops
     does_words Construct ops a = refl
     does_words ConstructWithTarget ops a = target_words ops a
@@ -350,3 +468,9 @@ module _ (event : Event) (world : World) where
     does_words (StringAnswers string) ops a =
         ap (λ o. answered words o next (world_words world) (map_slots word_of slots) (map word_of ops) (map word_of rest)) (answer_words string ops a)
         ∙ answered_words ops (string_answer string (int_operand values ops) (string_operand values world ops))
+    does_words (StringBuilderBuilds builder) ops a =
+        let empty = string_reference files [] in
+        ap (λ answer. builds words empty answer next (world_words world) (map_slots word_of slots) (map word_of ops) (map word_of rest)) (builder_answer_words builder ops a)
+        ∙ builds_words empty
+        (builder_answer builder (int_operand values ops 0) (is_none (referent values ops 0)) (string_shown world (referent values ops 0)) (builder_shown values world (referent values ops 0)))
+        ops (receiver_agrees builder ops a)

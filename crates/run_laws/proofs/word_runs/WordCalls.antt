@@ -31,7 +31,7 @@ use Rattle.model.specs.Words.{map_slots, map_frame}
 use Rattle.run_laws.specs.word_runs.Words.{map_outcome}
 use Rattle.run_laws.proofs.laws.Lists.{Pairwise, get_last}
 use Rattle.run_laws.proofs.laws.WordLists.{map_copies, map_reversed, is_object_want}
-use Rattle.run_laws.proofs.word_runs.WordWorlds.{world_words, object_at_words, class_words, type_words}
+use Rattle.run_laws.proofs.word_runs.WordWorlds.{world_words, object_at_words, class_words, type_words, KeepsTexts}
 use Rattle.run_laws.proofs.word_runs.WordMeanings.{operand_words, referent_words, Same}
 use Rattle.run_laws.proofs.word_runs.WordBuiltIns.{wanted, wants_on, Agrees, agrees_on, may_words, does_words}
 
@@ -68,12 +68,12 @@ module _ (files : Program) where
   chosen_agrees os descriptor receiver ops (Runs method) o q d =
       agrees_on files os method receiver ops o (subst (λ n. Pairwise (value_meets files os) (wants_on files n receiver) ops) (sym d) q)
 
-  module _ (site : Site) (event : Event) (world : World) where
+  module _ (site : Site) (event : Event) (world : World) (texts : KeepsTexts world) where
     run_words : (slots : Slots Value) (ops rest : List Value) (object : ℕ) (method : Member) (o : Option Body)
         → Agrees (built_in_method method) ops
         → runs words files site event (world_words world) (map_slots word_of slots) (map word_of ops) (map word_of rest) object method o
         ≡ map_outcome word_of (runs values files site event world slots ops rest object method o)
-    run_words slots ops rest object method None a = does_words event world site.next slots rest (built_in_method method) ops a
+    run_words slots ops rest object method None a = does_words event world texts files site.next slots rest (built_in_method method) ops a
     run_words slots ops rest object method (Some body) a =
         ap (λ f. Calls f (map word_of rest)) (ap (λ l. frame_with words method l (entered_by files method object) body) (map_reversed word_of ops) ∙ frame_words method (reverse ops) (entered_by files method object) body)
 
@@ -140,12 +140,12 @@ module _ (files : Program) where
           may = λ event world ops q.
               ap (λ c. may_invoke words files event (world_words world) (map word_of ops) c) (choice_words world ops q)
               ∙ may_invoke_words event world ops (of_receiver (referent values ops (parameter_count method)) (v world)) (choice_agrees world ops q);
-          does = λ event world slots rest q.
+          does = λ event world slots rest q texts.
               let ops = ops_of values (call_on values files site method (receiver ∷ []) leads v) slots in
               let chosen = of_receiver (referent values ops (parameter_count method)) (v world) in
               ap (λ o. invoked words files site event (world_words world) (map_slots word_of slots) (map word_of ops) (map word_of rest) (unwrap_or o 0) (of_receiver (referent words (map word_of ops) (parameter_count method)) (w (world_words world)))) (receiver_words (types_of world.heap) ops q)
               ∙ (ap (λ c. invoked words files site event (world_words world) (map_slots word_of slots) (map word_of ops) (map word_of rest) (unwrap_or (referent values ops (parameter_count method)) 0) c) (choice_words world ops q)
-              ∙ invoked_words site event world slots ops rest (unwrap_or (referent values ops (parameter_count method)) 0) chosen (choice_agrees world ops q));
+              ∙ invoked_words site event world texts slots ops rest (unwrap_or (referent values ops (parameter_count method)) 0) chosen (choice_agrees world ops q));
         }
 
   -- ---- which method is chosen
@@ -197,8 +197,8 @@ module _ (files : Program) where
         looks = refl;
         wants = refl;
         may = λ event world ops q. may_invoke_words event world ops (Runs method) (agrees ops);
-        does = λ event world slots rest q.
-            invoked_words site event world slots (ops_of values (static_call values files site method) slots) rest (class_reference files method.class) (Runs method) (agrees (ops_of values (static_call values files site method) slots));
+        does = λ event world slots rest q texts.
+            invoked_words site event world texts slots (ops_of values (static_call values files site method) slots) rest (class_reference files method.class) (Runs method) (agrees (ops_of values (static_call values files site method) slots));
       }
     where
       agrees : (ops : List Value) → Agrees (built_in_method method) ops
@@ -235,11 +235,11 @@ module _ (files : Program) where
         looks = refl;
         wants = refl;
         may = λ event world ops q. refl;
-        does = λ event world slots rest q. ap (λ n. Returns (world_words world) (n ∷ [])) (operand_words (ops_of values (value_return values allowed pops) slots) 0);
+        does = λ event world slots rest q texts. ap (λ n. Returns (world_words world) (n ∷ [])) (operand_words (ops_of values (value_return values allowed pops) slots) 0);
       }
 
   pub return_same : (descriptor : Name) (kind : Returned)
       → Same files (return_of values files descriptor kind) (return_of words files descriptor kind)
-  return_same descriptor returned.Nothing = record { looks = refl; wants = refl; may = λ event world ops q. refl; does = λ event world slots rest q. refl }
+  return_same descriptor returned.Nothing = record { looks = refl; wants = refl; may = λ event world ops q. refl; does = λ event world slots rest q texts. refl }
   return_same descriptor returned.Int = value_same _ _
   return_same descriptor returned.Reference = value_same _ _

@@ -15,12 +15,12 @@ use Rattle.model.specs.Rows.{Row, row_wants, after_row, row_target}
 use Rattle.model.specs.State.{types_of, World, WorldOf}
 use Rattle.model.specs.Outcomes.{Cost, Free, Makes, OutcomeOf, Goes, Raises, Throws, Arithmetic, not_null}
 use Rattle.model.specs.Opening.{first_of, new_instance}
-use Rattle.model.specs.Worlds.{allocated, object_at, with_object, value_in, fields_of, with_field, with_static, put_value, is_owner}
+use Rattle.model.specs.Worlds.{allocated, object_at, with_object, value_in, fields_of, cells_of, with_field, with_static, put_value, is_owner}
 use Rattle.model.specs.Texts.{int_line}
 use Rattle.model.specs.BuiltInMethods.{with_printed}
 use Rattle.model.specs.Sites.{MeaningOf, Site, operand, referent, int_operand}
 use Rattle.model.specs.Objects.{any_object, cast, instance_bit, new_meaning, check_cast_meaning, instance_of_meaning, object_meaning}
-use Rattle.model.specs.Meanings.{local_meaning, system_out_meaning, get_static_of, put_static_of, get_field_of, put_field_of, owner_want, println_meaning}
+use Rattle.model.specs.Meanings.{local_meaning, system_stream_meaning, get_static_of, put_static_of, get_field_of, put_field_of, owner_want, println_meaning}
 use Rattle.model.specs.Calls.{of_class}
 use Rattle.model.specs.ThrowMeaning.{throw_meaning}
 use Rattle.model.specs.MonitorMeanings.{may_enter_object, left, monitor_enter_meaning, monitor_exit_meaning}
@@ -29,7 +29,7 @@ use Rattle.model.specs.Words.{map_field, map_slots}
 use Rattle.run_laws.specs.word_runs.Words.{map_outcome}
 use Rattle.run_laws.proofs.laws.Lists.{Pairwise}
 use Rattle.run_laws.proofs.laws.WordLists.{map_index, wanted_referent, is_object_want, row_words}
-use Rattle.run_laws.proofs.word_runs.WordWorlds.{world_words, object_words, types_words, object_at_words, field_words, fields_words, with_field_words, put_words, with_object_words, allocated_words, with_static_words, new_words}
+use Rattle.run_laws.proofs.word_runs.WordWorlds.{world_words, object_words, types_words, KeepsTexts, cells_words, object_at_words, field_words, fields_words, with_field_words, put_words, with_object_words, allocated_words, with_static_words, new_words}
 
 -- ---- operands
 
@@ -94,7 +94,7 @@ pub record Same (files : Program) (v : MeaningOf Value) (w : MeaningOf ℕ) : Ty
   pub may : (event : Event) (world : World) (ops : List Value) → Kinded files (types_of world.heap) v.wants ops
       → w.may event (world_words world) (map word_of ops) ≡ v.may event world ops
   pub does : (event : Event) (world : World) (slots : Slots Value) (rest : List Value)
-      → Kinded files (types_of world.heap) v.wants (ops_of values v slots)
+      → Kinded files (types_of world.heap) v.wants (ops_of values v slots) → KeepsTexts world
       → w.does event (world_words world) (map_slots word_of slots) (map word_of (ops_of values v slots)) (map word_of rest)
       ≡ map_outcome word_of (v.does event world slots (ops_of values v slots) rest)
 
@@ -107,7 +107,7 @@ module _ (files : Program) where
         looks = refl;
         wants = refl;
         may = λ event world ops q. refl;
-        does = λ event world slots rest q. by world slots (map word_of (operands over_values (row_wants row) slots)) (row.fails (map word_of (operands over_values (row_wants row) slots)));
+        does = λ event world slots rest q texts. by world slots (map word_of (operands over_values (row_wants row) slots)) (row.fails (map word_of (operands over_values (row_wants row) slots)));
       }
     where
       by : (world : World) (slots : Slots Value) (ns : List ℕ) (fails : Bool)
@@ -119,8 +119,8 @@ module _ (files : Program) where
 
   -- ---- static fields
 
-  pub system_out_same : (next : ℕ) → Same files (system_out_meaning values next) (system_out_meaning words next)
-  system_out_same next = record { looks = refl; wants = refl; may = λ event world ops q. refl; does = λ event world slots rest q. refl }
+  pub system_stream_same : (next stream : ℕ) → Same files (system_stream_meaning values next stream) (system_stream_meaning words next stream)
+  system_stream_same next stream = record { looks = refl; wants = refl; may = λ event world ops q. refl; does = λ event world slots rest q texts. refl }
 
   pub get_static_same : (next : ℕ) (field : Member)
       → Same files (get_static_of values files next field) (get_static_of words files next field)
@@ -129,7 +129,7 @@ module _ (files : Program) where
         looks = refl;
         wants = refl;
         may = λ event world ops q. refl;
-        does = λ event world slots rest q. pushes_words world _ (value_in (first_of values field) field world.statics) rest slots.locals next (field_words field world.statics);
+        does = λ event world slots rest q texts. pushes_words world _ (value_in (first_of values field) field world.statics) rest slots.locals next (field_words field world.statics);
       }
 
   put_operand : (field : Member) (ops : List Value) (k : ℕ)
@@ -143,7 +143,7 @@ module _ (files : Program) where
         looks = refl;
         wants = refl;
         may = λ event world ops q. refl;
-        does = λ event world slots rest q.
+        does = λ event world slots rest q texts.
             let ops = ops_of values (put_static_of values files next field) slots in
             becomes_words _ (with_static world field (put_value values field (operand values ops 0))) rest slots.locals next
             (ap (λ n. with_static (world_words world) field n) (put_operand field ops 0) ∙ with_static_words world field (put_value values field (operand values ops 0)));
@@ -158,7 +158,7 @@ module _ (files : Program) where
         looks = refl;
         wants = refl;
         may = λ event world ops q. refl;
-        does = λ event world slots rest q.
+        does = λ event world slots rest q texts.
             let ops = ops_of values (get_field_of values files next named field) slots in
             not_null_words (referent words (map word_of ops) 0) (referent values ops 0) _
             (λ r. Goes Free world (record { locals = slots.locals; stack = value_in (first_of values field) field (fields_of (object_at world r)) ∷ rest }) next)
@@ -178,7 +178,7 @@ module _ (files : Program) where
         looks = refl;
         wants = refl;
         may = λ event world ops q. refl;
-        does = λ event world slots rest q.
+        does = λ event world slots rest q texts.
             let ops = ops_of values (put_field_of values files next named field) slots in
             let kept = put_value values field (operand values ops 0) in
             not_null_words (referent words (map word_of ops) 1) (referent values ops 1) _
@@ -196,7 +196,7 @@ module _ (files : Program) where
         looks = refl;
         wants = refl;
         may = λ event world ops q. refl;
-        does = λ event world slots rest q.
+        does = λ event world slots rest q texts.
             let ops = ops_of values (println_meaning values next) slots in
             not_null_words (referent words (map word_of ops) 1) (referent values ops 1) _
             (λ r. Goes Free (with_printed world (int_line (int_operand values ops 0))) (record { locals = slots.locals; stack = rest }) next)
@@ -212,10 +212,10 @@ module _ (files : Program) where
         looks = refl;
         wants = refl;
         may = λ event world ops q. refl;
-        does = λ event world slots rest q.
+        does = λ event world slots rest q texts.
             let new = new_instance values files class in
-            goes_words _ (Makes (length (fields_of new))) _ (allocated world new) _ (value.Reference (length world.heap) ∷ rest) slots.locals site.next
-            (ap (λ o. Makes (length (fields_of o))) (new_words files class) ∙ ap Makes (ap length (fields_words new) ∙ length-map (fields_of new) (map_field word_of)))
+            goes_words _ (Makes (cells_of new)) _ (allocated world new) _ (value.Reference (length world.heap) ∷ rest) slots.locals site.next
+            (ap (λ o. Makes (cells_of o)) (new_words files class) ∙ ap Makes (cells_words new))
             (ap (λ o. allocated (world_words world) o) (new_words files class) ∙ allocated_words world new)
             (ap (λ n. suc n ∷ map word_of rest) (length-map world.heap object_words));
       }
@@ -244,7 +244,7 @@ module _ (files : Program) where
         looks = refl;
         wants = refl;
         may = λ event world ops q. refl;
-        does = λ event world slots rest q.
+        does = λ event world slots rest q texts.
             let ops = ops_of values (check_cast_meaning values files site type) slots in
             ap (λ b. cast b site.next (operand words (map word_of ops) 0) (world_words world) (map_slots word_of slots) (map word_of rest)) (instance_operand world (check_cast_meaning values files site type).wants.pops ops 0 any_object type q refl)
             ∙ (ap (λ n. cast (is_value_of files (types_of world.heap) type (operand values ops 0)) site.next n (world_words world) (map_slots word_of slots) (map word_of rest)) (operand_words ops 0)
@@ -264,7 +264,7 @@ module _ (files : Program) where
         looks = refl;
         wants = refl;
         may = λ event world ops q. refl;
-        does = λ event world slots rest q.
+        does = λ event world slots rest q texts.
             let ops = ops_of values (instance_of_meaning values files site type) slots in
             let ws = (instance_of_meaning values files site type).wants.pops in
             pushes_words world _ (value.Int (instance_bit (referent values ops 0) (is_value_of files (types_of world.heap) type (operand values ops 0)))) rest slots.locals site.next
@@ -274,7 +274,7 @@ module _ (files : Program) where
 
   pub object_same : (site : Site) (class : Name) (r : ℕ)
       → Same files (object_meaning values site class r) (object_meaning words site class r)
-  object_same site class r = record { looks = refl; wants = refl; may = λ event world ops q. refl; does = λ event world slots rest q. refl }
+  object_same site class r = record { looks = refl; wants = refl; may = λ event world ops q. refl; does = λ event world slots rest q texts. refl }
 
   -- ---- throws and monitors
 
@@ -284,7 +284,7 @@ module _ (files : Program) where
         looks = refl;
         wants = refl;
         may = λ event world ops q. refl;
-        does = λ event world slots rest q.
+        does = λ event world slots rest q texts.
             let ops = ops_of values (throw_meaning values) slots in
             not_null_words (referent words (map word_of ops) 0) (referent values ops 0) _ (λ r. Throws r)
             (referent_words files (types_of world.heap) (throw_meaning values).wants.pops ops 0 _ q refl refl) (λ r. refl);
@@ -298,7 +298,7 @@ module _ (files : Program) where
         may = λ event world ops q.
             ap (λ o. (event.pick == 0) && may_enter_object (world_words world) event.thread o) (referent_words files (types_of world.heap) (monitor_enter_meaning values site).wants.pops ops 0 _ q refl refl)
             ∙ ap (λ b. (event.pick == 0) && b) (entry world event.thread (referent values ops 0));
-        does = λ event world slots rest q.
+        does = λ event world slots rest q texts.
             let ops = ops_of values (monitor_enter_meaning values site) slots in
             not_null_words (referent words (map word_of ops) 0) (referent values ops 0) _ _
             (referent_words files (types_of world.heap) (monitor_enter_meaning values site).wants.pops ops 0 _ q refl refl) (λ r. refl);
@@ -314,7 +314,7 @@ module _ (files : Program) where
         looks = refl;
         wants = refl;
         may = λ event world ops q. refl;
-        does = λ event world slots rest q.
+        does = λ event world slots rest q texts.
             let ops = ops_of values (monitor_exit_meaning values site) slots in
             not_null_words (referent words (map word_of ops) 0) (referent values ops 0) _
             (λ r. left (is_owner world event.thread r) site.next event.thread r world slots rest)

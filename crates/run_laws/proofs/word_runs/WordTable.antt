@@ -8,8 +8,8 @@ use Rattle.model.specs.Operands.{words, values}
 use Rattle.model.specs.Opening.{class_reference, string_reference}
 use Rattle.model.specs.Sites.{MeaningOf, Site}
 use Rattle.model.specs.Meanings.{meaning_of}
-use Rattle.run_laws.proofs.laws.Operations.{Operation, OfRow, GetSystemOut, GetStatic, PutStatic, GetField, PutField, Println, CallVirtual, CallConstructor, CallSpecial, CallStatic, CallInterface, Return, LoadClass, LoadString, New, NewArray, NewReferenceArray, ArrayLength, LoadElement, StoreElement, CheckCast, InstanceOf, Throw, MonitorEnter, MonitorExit, operation, Operates, nothing, does, operates}
-use Rattle.run_laws.proofs.word_runs.WordMeanings.{Same, local_same, system_out_same, get_static_same, put_static_same, get_field_same, put_field_same, println_same, new_same, check_cast_same, instance_of_same, object_same, throw_same, enter_same, exit_same}
+use Rattle.run_laws.proofs.laws.Operations.{Operation, OfRow, GetSystemStream, GetStatic, PutStatic, GetField, PutField, Println, CallVirtual, CallConstructor, CallSpecial, CallStatic, CallInterface, Return, LoadClass, LoadString, New, NewArray, NewReferenceArray, ArrayLength, LoadElement, StoreElement, CheckCast, InstanceOf, Throw, MonitorEnter, MonitorExit, operation, Operates, nothing, does, operates}
+use Rattle.run_laws.proofs.word_runs.WordMeanings.{Same, local_same, system_stream_same, get_static_same, put_static_same, get_field_same, put_field_same, println_same, new_same, check_cast_same, instance_of_same, object_same, throw_same, enter_same, exit_same}
 use Rattle.run_laws.proofs.word_runs.WordArrays.{primitive_array_same, reference_array_same, length_same, load_of_same, store_of_same}
 use Rattle.run_laws.proofs.word_runs.WordCalls.{static_same, virtual_same, interface_same, special_same, constructor_same, return_same}
 
@@ -23,7 +23,7 @@ SameIf files (Some v) (Some w) = Same files v w
 module _ (files : Program) (site : Site) where
   operation_same : (o : Operation files site) → Same files (operation values files site o) (operation words files site o)
   operation_same (OfRow row e) = local_same files row
-  operation_same (GetSystemOut index i) = system_out_same files site.next
+  operation_same (GetSystemStream index stream n) = system_stream_same files site.next stream
   operation_same (GetStatic f) = get_static_same files site.next f.field
   operation_same (PutStatic f) = put_static_same files site.next f.field
   operation_same (GetField f) = get_field_same files site.next f.named.class f.field

@@ -1,9 +1,10 @@
 -- Worlds by their words: what is read of them, and how they change.
-use Rattle.std.proofs.Common.{◌≡◌, ℕ, List, [], ◌∷◌, map, Bool, true, false, ◌==◌, if◌then◌else◌, Option, Some, None, option_map, refl, sym, ap, ◌∙◌}
+use Rattle.std.proofs.Common.{◌≡◌, ℕ, suc, List, [], ◌∷◌, map, length, cond, filter, Bool, true, false, ◌==◌, if◌then◌else◌, Option, Some, None, option_map, refl, sym, ap, ◌∙◌}
 use Rattle.std.specs.Option.{option_map_or, option_and_then}
-use Rattle.std.proofs.lemmas.List.{map-append}
+use Rattle.std.proofs.lemmas.List.{map-append, length-map}
 use Rattle.model.specs.declared.value.Value.{Value}
-use Rattle.model.specs.Names.{Name, Member, member_eq, name_eq, java_lang_string}
+use Rattle.model.specs.declared.value.Value.TheVariants as value
+use Rattle.model.specs.Names.{Name, Member, member_eq, name_eq, java_lang_string, builder_text}
 use Rattle.model.specs.Tree.{Entry, Utf8, Integer, Float, Long, Double, Class, String, Field, Method, InterfaceMethod, NameAndType, Unusable, FieldTree, FileTree}
 use Rattle.model.specs.Spelling.{entry_at}
 use Rattle.model.specs.Pool.{utf8_at}
@@ -13,10 +14,11 @@ use Rattle.model.specs.Descriptors as descriptors
 use Rattle.model.specs.DescriptorScan.{field_type}
 use Rattle.model.specs.DescribedTypes.{DeclaredType, DeclaredInt, DeclaredReference, field_declared}
 use Rattle.model.specs.Lookup.{field_member, instance_fields}
-use Rattle.model.specs.Operands.{values, words, word_of}
+use Rattle.model.specs.Operands.{values, words, word_of, word_reference, reference_of}
+use Rattle.model.specs.BuilderMethods.{kept_string}
 use Rattle.model.specs.State.{Waiter, WakeCause, ObjectOf, Instance, Primitives, References, InProgress, type_of, types_of, World, WorldOf, Characters}
 use Rattle.model.specs.Opening.{first_value, first_of, with_first, new_instance, string_reference}
-use Rattle.model.specs.Worlds.{woken, all_woken, allocated, no_object, object_at, with_object, value_in, with_value, fields_of, with_field, with_static, elements_of, with_element, element_kept, type_kept, put_value, class_of_object, text_of}
+use Rattle.model.specs.Worlds.{woken, all_woken, allocated, no_object, object_at, with_object, value_in, with_value, fields_of, with_field, is_cell_field, cells_of, with_static, elements_of, with_element, element_kept, type_kept, put_value, class_of_object, text_of}
 use Rattle.model.specs.BuiltInMethods.{string_text}
 use Rattle.model.specs.ClassInitialisation.{constant_in, constant_of, constant_value, with_constant, with_constants, with_class_status, with_class_begun}
 use Rattle.model.specs.Words.{map_field, map_object, map_world}
@@ -65,7 +67,7 @@ value_in_if : (b : Bool) (x y : Value) (z : ℕ) → z ≡ word_of y → (if b t
 value_in_if true x y z e = refl
 value_in_if false x y z e = e
 
-value_in_words : (first : Value) (field : Member) (fields : List (Member × Value))
+pub value_in_words : (first : Value) (field : Member) (fields : List (Member × Value))
     → value_in (word_of first) field (map (map_field word_of) fields) ≡ word_of (value_in first field fields)
 value_in_words first field [] = refl
 value_in_words first field (f ∷ fields) =
@@ -103,6 +105,24 @@ with_field_words field v (Primitives of elements) = refl
 with_field_words field v (References of elements) = refl
 with_field_words field v (Characters text) = refl
 
+-- ---- cells
+
+cells_kept : (c d : Bool) (x : Member × Value) (xs : List (Member × Value)) (ys : List (Member × ℕ)) → d ≡ c → length ys ≡ length xs
+    → length (cond d (map_field word_of x ∷ ys) ys) ≡ length (cond c (x ∷ xs) xs)
+cells_kept true d x xs ys e h = ap (λ b. length (cond b (map_field word_of x ∷ ys) ys)) e ∙ ap suc h
+cells_kept false d x xs ys e h = ap (λ b. length (cond b (map_field word_of x ∷ ys) ys)) e ∙ h
+
+cell_count_words : (fields : List (Member × Value)) → length (filter is_cell_field (map (map_field word_of) fields)) ≡ length (filter is_cell_field fields)
+cell_count_words [] = refl
+cell_count_words (f ∷ fields) =
+    cells_kept (is_cell_field f) (is_cell_field f) f (filter is_cell_field fields) (filter is_cell_field (map (map_field word_of) fields)) refl (cell_count_words fields)
+
+pub cells_words : (o : ObjectOf Value) → cells_of (object_words o) ≡ cells_of o
+cells_words (Instance class fields) = cell_count_words fields
+cells_words (Primitives of elements) = length-map elements word_of
+cells_words (References of elements) = length-map elements word_of
+cells_words (Characters text) = refl
+
 -- ---- elements
 
 pub elements_words : (o : ObjectOf Value) → elements_of (object_words o) ≡ map word_of (elements_of o)
@@ -131,6 +151,14 @@ string_text_words (Instance class fields) = refl
 string_text_words (Primitives of elements) = refl
 string_text_words (References of elements) = refl
 string_text_words (Characters text) = refl
+
+-- the String of a StringBuilder
+pub kept_string_words : (o : ObjectOf Value) → kept_string words (object_words o) ≡ word_of (kept_string values o)
+kept_string_words o = ap (value_in 0 builder_text) (fields_words o) ∙ value_in_words value.Null builder_text (fields_of o)
+
+-- it is null or a reference, and its word tells which
+abbrev pub KeepsTexts : World → Type 0
+KeepsTexts world = (r : ℕ) → word_reference (word_of (kept_string values (object_at world r))) ≡ reference_of (kept_string values (object_at world r))
 
 -- ---- what a put keeps
 

@@ -1,5 +1,5 @@
 -- The built-in classes beside those of a Java platform, and subtypes.
-use Rattle.std.specs.Prelude.{◌≡◌, ℕ, List, [], ◌∷◌, Option, Some, None, Bool, true, false, map, length, replicate, codes}
+use Rattle.std.specs.Prelude.{◌≡◌, ℕ, List, [], ◌∷◌, ◌++◌, Option, Some, None, Bool, true, false, map, length, replicate, codes}
 use Rattle.std.specs.Option.{option_map}
 use Rattle.std.specs.List.{AllByRecursion}
 use Rattle.model.specs.Names.{Name, java_lang_object, java_lang_class, java_lang_string, java_lang_thread, java_io_print_stream}
@@ -10,6 +10,7 @@ use Rattle.model.specs.Classes.{name_of, super_name_of, class_of, is_subclass}
 use Rattle.model.specs.ReferenceTypes.{ReferenceType, ClassType, PrimitiveArray, ReferenceArray, Byte, Int, is_subtype}
 use Rattle.model.specs.Operands.{values}
 use Rattle.model.specs.State.{State, types_of}
+use Rattle.model.specs.StringConstants.{string_texts}
 use Rattle.model.specs.Opening.{opening}
 use Rattle.run_laws.specs.examples.OnlyReturns.{only_returns_file}
 
@@ -53,6 +54,7 @@ platform =
     ∷ (codes "java/lang/Cloneable", Some (codes "java/lang/Object"), 0x0601)
     ∷ (codes "java/lang/CloneNotSupportedException", Some (codes "java/lang/Exception"), 0x0021)
     ∷ (codes "java/lang/AssertionError", Some (codes "java/lang/Error"), 0x0021)
+    ∷ (codes "java/lang/StringBuilder", Some (codes "java/lang/Object"), 0x0031)
     ∷ []
 
 -- how a class of that name is declared
@@ -87,9 +89,12 @@ pub record BuiltInClasses : Type 0 where
   pub error_aside : is_subclass [] (codes "java/lang/StackOverflowError") (codes "java/lang/Exception") ≡ false
   pub subtyped : map (λ s. map (λ t. is_subtype [] s t) types) types ≡ subtypes
 
--- Before any event there are the stream, the arguments, the Thread of main, and a Class for each class.
-abbrev pub OpeningObjects : Type 0
-OpeningObjects =
-    types_of (let s : State = opening values (only_returns_file ∷ []) in s).world.heap
-    ≡ ClassType java_io_print_stream ∷ ReferenceArray (ClassType java_lang_string)
-    ∷ ClassType java_lang_thread ∷ replicate 37 (ClassType java_lang_class)
+-- Before any event there are the stream, the arguments, the Thread of main, a Class for each class, a String for each text,
+-- and the stream of System.err. The texts are those of String and StringBuilder, and those that the machine gives.
+pub record OpeningObjects : Type 0 where
+  pub types : types_of (let s : State = opening values (only_returns_file ∷ []) in s).world.heap
+      ≡ ClassType java_io_print_stream ∷ ReferenceArray (ClassType java_lang_string)
+      ∷ ClassType java_lang_thread
+      ∷ (replicate 38 (ClassType java_lang_class) ++ (replicate 6 (ClassType java_lang_string) ++ ClassType java_io_print_stream ∷ []))
+  pub texts : string_texts (only_returns_file ∷ [])
+      ≡ codes "true" ∷ codes "false" ∷ codes "null" ∷ [] ∷ codes "main" ∷ codes "/ by zero" ∷ []

@@ -4,11 +4,12 @@ use Rattle.std.specs.Option.{option_map}
 use Rattle.std.specs.List.{flat_map}
 use Rattle.model.specs.Names.{Name, java_lang_throwable}
 use Rattle.model.specs.Tree.{MethodTree, FileTree}
-use Rattle.model.specs.BuiltIn.{runnable_class, system_class, print_stream_class, comparable_class, char_sequence_class, built_in_classes}
+use Rattle.model.specs.BuiltIn.{runnable_class, system_class, comparable_class, char_sequence_class, built_in_classes}
 use Rattle.model.specs.built_in.Object.{object_class}
 use Rattle.model.specs.built_in.Thread.{thread_class}
 use Rattle.model.specs.built_in.String.{string_class}
 use Rattle.model.specs.built_in.Class.{class_class}
+use Rattle.model.specs.built_in.PrintStream.{print_stream_class}
 use Rattle.model.specs.Classes.{name_of, class_of, is_subclass}
 use Rattle.model.specs.Listing.{listing}
 use Rattle.model.specs.Profile.{method_name, method_descriptor}
@@ -85,14 +86,23 @@ pub record BuiltInMembers : Type 0 where
       ++ codes "method subSequence(II)Ljava/lang/CharSequence; flags 0401\nmethod toString()Ljava/lang/String; flags 0401\n"
   pub cloneable : option_map listing (class_of [] (codes "java/lang/Cloneable"))
       ≡ Some (codes "interface java/lang/Cloneable extends java/lang/Object\n")
-  pub system : listing system_class ≡ codes "class java/lang/System extends java/lang/Object\nfield out Ljava/io/PrintStream; flags 0019\n"
+  pub system : listing system_class
+      ≡ codes "class java/lang/System extends java/lang/Object\nfield out Ljava/io/PrintStream; flags 0019\n"
+      ++ codes "field err Ljava/io/PrintStream; flags 0019\n"
   pub print_stream : listing print_stream_class
-      ≡ codes "class java/io/PrintStream extends java/lang/Object\nmethod println()V flags 0101\nmethod println(C)V flags 0101\n"
+      ≡ codes "class java/io/PrintStream extends java/lang/Object\n"
+      ++ (codes "method println(Z)V flags 0001 stack 2 locals 2\n00000 2a aload_0\n00001 1b iload_1\n"
+      ++ (codes "00002 b8000a invokestatic java/lang/String.valueOf:(Z)Ljava/lang/String;\n"
+      ++ (codes "00005 b6000e invokevirtual java/io/PrintStream.println:(Ljava/lang/String;)V\n00008 b1 return\n"
+      ++ (codes "method print(Z)V flags 0001 stack 2 locals 2\n00000 2a aload_0\n00001 1b iload_1\n"
+      ++ (codes "00002 b8000a invokestatic java/lang/String.valueOf:(Z)Ljava/lang/String;\n"
+      ++ (codes "00005 b60011 invokevirtual java/io/PrintStream.print:(Ljava/lang/String;)V\n00008 b1 return\n"
+      ++ (codes "method println()V flags 0101\nmethod println(C)V flags 0101\n"
       ++ (codes "method println(I)V flags 0101\nmethod println(Ljava/lang/String;)V flags 0101\nmethod print(C)V flags 0101\n"
-      ++ codes "method print(I)V flags 0101\nmethod print(Ljava/lang/String;)V flags 0101\n")
+      ++ codes "method print(I)V flags 0101\nmethod print(Ljava/lang/String;)V flags 0101\n"))))))))
   -- each throwable has constructors alone
   pub constructors : map (λ (file : FileTree). map (method_row file) file.methods) throwables ≡ constructors_of_throwables
   -- that Object has no superclass is what no file may say
   pub whole : flat_map malformed_as built_in_classes ≡ codes "Index" ∷ codes "Name" ∷ []
-  -- Thread.run names the field that no file may name
-  pub no_other : flat_map standing_in built_in_classes ≡ codes "names_thread_target" ∷ []
+  -- Thread.run and methods of StringBuilder name fields that no file may name
+  pub no_other : flat_map standing_in built_in_classes ≡ codes "names_hidden_field" ∷ codes "names_hidden_field" ∷ []

@@ -1,26 +1,15 @@
--- Typings of the methods with code of the built-in classes, each by its list of frame types. They are typings in each
--- program.
-use Rattle.std.specs.Prelude.{◌≡◌, ℕ, List, [], ◌∷◌, ◌++◌, Some, IsTrue, map, is_some, codes}
-use Rattle.model.specs.Names.{Name, Member, thread_run, java_lang_object, java_lang_string, java_lang_class}
+-- Typings of the methods with code of the built-in classes, each by its list of frame types.
+-- Made by `tools/build-built-in` of the class files of builtin/classes. Not to be edited.
+use Rattle.std.specs.Prelude.{◌≡◌, ℕ, List, [], ◌∷◌, ◌++◌, Some, IsTrue, is_some, codes}
+use Rattle.model.specs.Names.{Member, java_lang_object, java_lang_class, java_lang_thread, java_io_print_stream}
 use Rattle.model.specs.Classes.{Program, Body, class_of, body_of}
-use Rattle.model.specs.ReferenceTypes.{ClassType}
-use Rattle.model.specs.Types.{VerificationType, Unusable, IntType, OfType}
+use Rattle.model.specs.Types.{IntType}
 use Rattle.model.specs.TypeOrder.{FrameType}
 use Rattle.model.specs.Typing.{HasTyping}
-use Rattle.run_laws.specs.examples.Typings.{frame, object, run_types}
-
-abbrev pub string : VerificationType
-string = OfType (ClassType java_lang_string)
-
-abbrev pub class : VerificationType
-class = OfType (ClassType java_lang_class)
-
--- offsets at which the local variables have the same types, with the types on the stack at each
-abbrev pub with_locals : List VerificationType → List (ℕ × List VerificationType) → List (ℕ × FrameType)
-with_locals locals stacks = map (λ entry. (entry.0, frame locals entry.1)) stacks
-
-abbrev pub member : Name → Name → Name → Member
-member class name descriptor = record { class = class; name = name; descriptor = descriptor }
+use Rattle.run_laws.specs.examples.Typings.{object, stream, thread}
+use Rattle.run_laws.specs.examples.FrameTypes.{string, class, with_locals, member}
+use Rattle.run_laws.specs.examples.StringTypings.{string_typings}
+use Rattle.run_laws.specs.examples.StringBuilderTypings.{string_builder_typings}
 
 -- Object.equals(Ljava/lang/Object;)Z
 abbrev pub object_equals_types : List (ℕ × FrameType)
@@ -28,183 +17,54 @@ object_equals_types =
     with_locals (object ∷ object ∷ []) ((0, []) ∷ (1, object ∷ []) ∷ (2, object ∷ object ∷ []) ∷ (5, [])
     ∷ (6, IntType ∷ []) ∷ (9, []) ∷ (10, IntType ∷ []) ∷ [])
 
--- String.isEmpty()Z
-abbrev pub string_is_empty_types : List (ℕ × FrameType)
-string_is_empty_types =
-    with_locals (string ∷ []) ((0, []) ∷ (1, string ∷ []) ∷ (4, IntType ∷ []) ∷ (7, []) ∷ (8, IntType ∷ [])
-    ∷ (11, []) ∷ (12, IntType ∷ []) ∷ [])
+abbrev pub object_typings : List (Member × List (ℕ × FrameType))
+object_typings =
+    (member java_lang_object (codes "equals") (codes "(Ljava/lang/Object;)Z"), object_equals_types)
+    ∷ []
 
--- String.toString()Ljava/lang/String;
-abbrev pub string_to_string_types : List (ℕ × FrameType)
-string_to_string_types =
-    with_locals (string ∷ []) ((0, []) ∷ (1, string ∷ []) ∷ [])
+-- Thread.run()V
+abbrev pub thread_run_types : List (ℕ × FrameType)
+thread_run_types =
+    with_locals (thread ∷ []) ((0, []) ∷ (1, thread ∷ []) ∷ (4, object ∷ []) ∷ (7, []) ∷ (8, thread ∷ [])
+    ∷ (11, object ∷ []) ∷ (16, []) ∷ [])
 
--- String.substring(I)Ljava/lang/String;
-abbrev pub string_substring_types : List (ℕ × FrameType)
-string_substring_types =
-    with_locals (string ∷ IntType ∷ []) ((0, []) ∷ (1, string ∷ []) ∷ (2, IntType ∷ string ∷ [])
-    ∷ (3, string ∷ IntType ∷ string ∷ []) ∷ (6, IntType ∷ IntType ∷ string ∷ []) ∷ (9, string ∷ []) ∷ [])
-
--- String.subSequence(II)Ljava/lang/CharSequence;
-abbrev pub string_sub_sequence_types : List (ℕ × FrameType)
-string_sub_sequence_types =
-    with_locals (string ∷ IntType ∷ IntType ∷ []) ((0, []) ∷ (1, string ∷ []) ∷ (2, IntType ∷ string ∷ [])
-    ∷ (3, IntType ∷ IntType ∷ string ∷ []) ∷ (6, string ∷ []) ∷ [])
-
--- String.compareTo(Ljava/lang/Object;)I
-abbrev pub string_compare_to_types : List (ℕ × FrameType)
-string_compare_to_types =
-    with_locals (string ∷ object ∷ []) ((0, []) ∷ (1, string ∷ []) ∷ (2, object ∷ string ∷ [])
-    ∷ (5, string ∷ string ∷ []) ∷ (8, IntType ∷ []) ∷ [])
-
--- String.indexOf(I)I
-abbrev pub string_index_of_types : List (ℕ × FrameType)
-string_index_of_types =
-    with_locals (string ∷ IntType ∷ []) ((0, []) ∷ (1, string ∷ []) ∷ (2, IntType ∷ string ∷ [])
-    ∷ (3, IntType ∷ IntType ∷ string ∷ []) ∷ (6, IntType ∷ []) ∷ [])
-
--- String.indexOf(Ljava/lang/String;)I
-abbrev pub string_index_of_2_types : List (ℕ × FrameType)
-string_index_of_2_types =
-    with_locals (string ∷ string ∷ []) ((0, []) ∷ (1, string ∷ []) ∷ (2, string ∷ string ∷ [])
-    ∷ (3, IntType ∷ string ∷ string ∷ []) ∷ (6, IntType ∷ []) ∷ [])
-
--- String.indexOf(Ljava/lang/String;I)I
-abbrev pub string_index_of_3_types : List (ℕ × FrameType)
-string_index_of_3_types =
-    with_locals (string ∷ string ∷ IntType ∷ Unusable ∷ Unusable ∷ Unusable ∷ []) ((0, []) ∷ (1, string ∷ [])
-    ∷ (4, IntType ∷ []) ∷ [])
-    ++ (with_locals (string ∷ string ∷ IntType ∷ IntType ∷ Unusable ∷ Unusable ∷ []) ((5, []) ∷ (6, string ∷ [])
-    ∷ (9, IntType ∷ []) ∷ (10, IntType ∷ IntType ∷ []) ∷ (11, IntType ∷ []) ∷ [])
-    ++ (with_locals (string ∷ string ∷ IntType ∷ IntType ∷ IntType ∷ Unusable ∷ []) ((13, []) ∷ (14, IntType ∷ [])
-    ∷ (17, []) ∷ (18, IntType ∷ []) ∷ (21, []) ∷ (22, IntType ∷ []) ∷ [])
-    ++ with_locals (string ∷ string ∷ IntType ∷ IntType ∷ IntType ∷ IntType ∷ []) ((24, []) ∷ (26, IntType ∷ [])
-    ∷ (28, IntType ∷ IntType ∷ []) ∷ (31, []) ∷ (32, string ∷ []) ∷ (34, IntType ∷ string ∷ [])
-    ∷ (35, string ∷ IntType ∷ string ∷ []) ∷ (36, IntType ∷ string ∷ IntType ∷ string ∷ [])
-    ∷ (37, IntType ∷ IntType ∷ string ∷ IntType ∷ string ∷ []) ∷ (40, IntType ∷ []) ∷ (43, []) ∷ (45, IntType ∷ [])
-    ∷ (46, []) ∷ (49, []) ∷ (52, []) ∷ (53, IntType ∷ []) ∷ (56, []) ∷ (57, string ∷ []) ∷ (60, IntType ∷ [])
-    ∷ (63, []) ∷ (64, IntType ∷ []) ∷ [])))
-
--- String.lastIndexOf(I)I
-abbrev pub string_last_index_of_types : List (ℕ × FrameType)
-string_last_index_of_types =
-    with_locals (string ∷ IntType ∷ []) ((0, []) ∷ (1, string ∷ []) ∷ (2, IntType ∷ string ∷ [])
-    ∷ (3, string ∷ IntType ∷ string ∷ []) ∷ (6, IntType ∷ IntType ∷ string ∷ [])
-    ∷ (7, IntType ∷ IntType ∷ IntType ∷ string ∷ []) ∷ (8, IntType ∷ IntType ∷ string ∷ []) ∷ (11, IntType ∷ [])
-    ∷ [])
-
--- String.lastIndexOf(II)I
-abbrev pub string_last_index_of_2_types : List (ℕ × FrameType)
-string_last_index_of_2_types =
-    with_locals (string ∷ IntType ∷ IntType ∷ Unusable ∷ Unusable ∷ []) ((0, []) ∷ (1, string ∷ [])
-    ∷ (4, IntType ∷ []) ∷ (5, IntType ∷ IntType ∷ []) ∷ (6, IntType ∷ []) ∷ [])
-    ++ (with_locals (string ∷ IntType ∷ IntType ∷ IntType ∷ Unusable ∷ []) ((7, []) ∷ (8, IntType ∷ [])
-    ∷ (9, IntType ∷ IntType ∷ []) ∷ (12, []) ∷ (13, IntType ∷ []) ∷ (16, []) ∷ (17, IntType ∷ []) ∷ [])
-    ++ with_locals (string ∷ IntType ∷ IntType ∷ IntType ∷ IntType ∷ []) ((19, []) ∷ (21, IntType ∷ []) ∷ (24, [])
-    ∷ (25, string ∷ []) ∷ (27, IntType ∷ string ∷ []) ∷ (30, IntType ∷ []) ∷ (31, IntType ∷ IntType ∷ []) ∷ (34, [])
-    ∷ (36, IntType ∷ []) ∷ (37, []) ∷ (40, []) ∷ (43, []) ∷ (44, IntType ∷ []) ∷ []))
-
--- String.lastIndexOf(Ljava/lang/String;)I
-abbrev pub string_last_index_of_3_types : List (ℕ × FrameType)
-string_last_index_of_3_types =
-    with_locals (string ∷ string ∷ []) ((0, []) ∷ (1, string ∷ []) ∷ (2, string ∷ string ∷ [])
-    ∷ (3, string ∷ string ∷ string ∷ []) ∷ (6, IntType ∷ string ∷ string ∷ []) ∷ (9, IntType ∷ []) ∷ [])
-
--- String.lastIndexOf(Ljava/lang/String;I)I
-abbrev pub string_last_index_of_4_types : List (ℕ × FrameType)
-string_last_index_of_4_types =
-    with_locals (string ∷ string ∷ IntType ∷ Unusable ∷ Unusable ∷ Unusable ∷ []) ((0, []) ∷ (1, string ∷ [])
-    ∷ (4, IntType ∷ []) ∷ [])
-    ++ (with_locals (string ∷ string ∷ IntType ∷ IntType ∷ Unusable ∷ Unusable ∷ []) ((5, []) ∷ (6, string ∷ [])
-    ∷ (9, IntType ∷ []) ∷ (10, IntType ∷ IntType ∷ []) ∷ (11, IntType ∷ []) ∷ [])
-    ++ (with_locals (string ∷ string ∷ IntType ∷ IntType ∷ IntType ∷ Unusable ∷ []) ((13, []) ∷ (14, IntType ∷ [])
-    ∷ (16, IntType ∷ IntType ∷ []) ∷ (19, []) ∷ (20, IntType ∷ []) ∷ (23, []) ∷ (25, IntType ∷ []) ∷ [])
-    ++ with_locals (string ∷ string ∷ IntType ∷ IntType ∷ IntType ∷ IntType ∷ []) ((27, []) ∷ (29, IntType ∷ [])
-    ∷ (32, []) ∷ (33, string ∷ []) ∷ (35, IntType ∷ string ∷ []) ∷ (36, string ∷ IntType ∷ string ∷ [])
-    ∷ (37, IntType ∷ string ∷ IntType ∷ string ∷ []) ∷ (38, IntType ∷ IntType ∷ string ∷ IntType ∷ string ∷ [])
-    ∷ (41, IntType ∷ []) ∷ (44, []) ∷ (46, IntType ∷ []) ∷ (47, []) ∷ (50, []) ∷ (53, []) ∷ (54, IntType ∷ []) ∷ [])))
-
--- String.startsWith(Ljava/lang/String;)Z
-abbrev pub string_starts_with_types : List (ℕ × FrameType)
-string_starts_with_types =
-    with_locals (string ∷ string ∷ []) ((0, []) ∷ (1, string ∷ []) ∷ (2, IntType ∷ string ∷ [])
-    ∷ (3, string ∷ IntType ∷ string ∷ []) ∷ (4, IntType ∷ string ∷ IntType ∷ string ∷ [])
-    ∷ (5, string ∷ IntType ∷ string ∷ IntType ∷ string ∷ [])
-    ∷ (8, IntType ∷ IntType ∷ string ∷ IntType ∷ string ∷ []) ∷ (11, IntType ∷ []) ∷ [])
-
--- String.startsWith(Ljava/lang/String;I)Z
-abbrev pub string_starts_with_2_types : List (ℕ × FrameType)
-string_starts_with_2_types =
-    with_locals (string ∷ string ∷ IntType ∷ []) ((0, []) ∷ (1, string ∷ []) ∷ (2, IntType ∷ string ∷ [])
-    ∷ (3, string ∷ IntType ∷ string ∷ []) ∷ (4, IntType ∷ string ∷ IntType ∷ string ∷ [])
-    ∷ (5, string ∷ IntType ∷ string ∷ IntType ∷ string ∷ [])
-    ∷ (8, IntType ∷ IntType ∷ string ∷ IntType ∷ string ∷ []) ∷ (11, IntType ∷ []) ∷ [])
-
--- String.endsWith(Ljava/lang/String;)Z
-abbrev pub string_ends_with_types : List (ℕ × FrameType)
-string_ends_with_types =
-    with_locals (string ∷ string ∷ []) ((0, []) ∷ (1, string ∷ []) ∷ (2, string ∷ string ∷ [])
-    ∷ (5, IntType ∷ string ∷ []) ∷ (6, string ∷ IntType ∷ string ∷ []) ∷ (9, IntType ∷ IntType ∷ string ∷ [])
-    ∷ (10, IntType ∷ string ∷ []) ∷ (11, string ∷ IntType ∷ string ∷ [])
-    ∷ (12, IntType ∷ string ∷ IntType ∷ string ∷ []) ∷ (13, string ∷ IntType ∷ string ∷ IntType ∷ string ∷ [])
-    ∷ (16, IntType ∷ IntType ∷ string ∷ IntType ∷ string ∷ []) ∷ (19, IntType ∷ []) ∷ [])
-
--- String.contains(Ljava/lang/CharSequence;)Z
-abbrev pub string_contains_types : List (ℕ × FrameType)
-string_contains_types =
-    with_locals (string ∷ object ∷ []) ((0, []) ∷ (1, string ∷ []) ∷ (2, object ∷ string ∷ [])
-    ∷ (7, string ∷ string ∷ []) ∷ (8, IntType ∷ string ∷ string ∷ []) ∷ (11, IntType ∷ []) ∷ (14, [])
-    ∷ (15, IntType ∷ []) ∷ (18, []) ∷ (19, IntType ∷ []) ∷ [])
-
--- String.contentEquals(Ljava/lang/CharSequence;)Z
-abbrev pub string_content_equals_types : List (ℕ × FrameType)
-string_content_equals_types =
-    with_locals (string ∷ object ∷ []) ((0, []) ∷ (1, string ∷ []) ∷ (2, object ∷ string ∷ [])
-    ∷ (7, string ∷ string ∷ []) ∷ (10, IntType ∷ []) ∷ [])
-
--- String.trim()Ljava/lang/String;
-abbrev pub string_trim_types : List (ℕ × FrameType)
-string_trim_types =
-    with_locals (string ∷ Unusable ∷ Unusable ∷ []) ((0, []) ∷ (1, IntType ∷ []) ∷ [])
-    ++ (with_locals (string ∷ IntType ∷ Unusable ∷ []) ((2, []) ∷ (3, string ∷ []) ∷ (6, IntType ∷ []) ∷ [])
-    ++ with_locals (string ∷ IntType ∷ IntType ∷ []) ((7, []) ∷ (8, IntType ∷ []) ∷ (9, IntType ∷ IntType ∷ [])
-    ∷ (12, []) ∷ (13, string ∷ []) ∷ (14, IntType ∷ string ∷ []) ∷ (17, IntType ∷ []) ∷ (19, IntType ∷ IntType ∷ [])
-    ∷ (22, []) ∷ (25, []) ∷ (28, []) ∷ (29, IntType ∷ []) ∷ (30, IntType ∷ IntType ∷ []) ∷ (33, [])
-    ∷ (34, string ∷ []) ∷ (35, IntType ∷ string ∷ []) ∷ (36, IntType ∷ IntType ∷ string ∷ [])
-    ∷ (37, IntType ∷ string ∷ []) ∷ (40, IntType ∷ []) ∷ (42, IntType ∷ IntType ∷ []) ∷ (45, []) ∷ (48, [])
-    ∷ (51, []) ∷ (52, string ∷ []) ∷ (53, IntType ∷ string ∷ []) ∷ (54, IntType ∷ IntType ∷ string ∷ [])
-    ∷ (57, string ∷ []) ∷ []))
+abbrev pub thread_typings : List (Member × List (ℕ × FrameType))
+thread_typings =
+    (member java_lang_thread (codes "run") (codes "()V"), thread_run_types)
+    ∷ []
 
 -- Class.desiredAssertionStatus()Z
 abbrev pub class_desired_assertion_status_types : List (ℕ × FrameType)
 class_desired_assertion_status_types =
     with_locals (class ∷ []) ((0, []) ∷ (1, IntType ∷ []) ∷ [])
 
+abbrev pub class_typings : List (Member × List (ℕ × FrameType))
+class_typings =
+    (member java_lang_class (codes "desiredAssertionStatus") (codes "()Z"), class_desired_assertion_status_types)
+    ∷ []
+
+-- PrintStream.println(Z)V
+abbrev pub print_stream_println_types : List (ℕ × FrameType)
+print_stream_println_types =
+    with_locals (stream ∷ IntType ∷ []) ((0, []) ∷ (1, stream ∷ []) ∷ (2, IntType ∷ stream ∷ [])
+    ∷ (5, string ∷ stream ∷ []) ∷ (8, []) ∷ [])
+
+-- PrintStream.print(Z)V
+abbrev pub print_stream_print_types : List (ℕ × FrameType)
+print_stream_print_types =
+    with_locals (stream ∷ IntType ∷ []) ((0, []) ∷ (1, stream ∷ []) ∷ (2, IntType ∷ stream ∷ [])
+    ∷ (5, string ∷ stream ∷ []) ∷ (8, []) ∷ [])
+
+abbrev pub print_stream_typings : List (Member × List (ℕ × FrameType))
+print_stream_typings =
+    (member java_io_print_stream (codes "println") (codes "(Z)V"), print_stream_println_types)
+    ∷ (member java_io_print_stream (codes "print") (codes "(Z)V"), print_stream_print_types)
+    ∷ []
+
 -- each method with code, with its frame types
 abbrev pub built_in_types : List (Member × List (ℕ × FrameType))
 built_in_types =
-    (member java_lang_object (codes "equals") (codes "(Ljava/lang/Object;)Z"), object_equals_types)
-    ∷ (member java_lang_string (codes "isEmpty") (codes "()Z"), string_is_empty_types)
-    ∷ (member java_lang_string (codes "toString") (codes "()Ljava/lang/String;"), string_to_string_types)
-    ∷ (member java_lang_string (codes "substring") (codes "(I)Ljava/lang/String;"), string_substring_types)
-    ∷ (member java_lang_string (codes "subSequence") (codes "(II)Ljava/lang/CharSequence;"), string_sub_sequence_types)
-    ∷ (member java_lang_string (codes "compareTo") (codes "(Ljava/lang/Object;)I"), string_compare_to_types)
-    ∷ (member java_lang_string (codes "indexOf") (codes "(I)I"), string_index_of_types)
-    ∷ (member java_lang_string (codes "indexOf") (codes "(Ljava/lang/String;)I"), string_index_of_2_types)
-    ∷ (member java_lang_string (codes "indexOf") (codes "(Ljava/lang/String;I)I"), string_index_of_3_types)
-    ∷ (member java_lang_string (codes "lastIndexOf") (codes "(I)I"), string_last_index_of_types)
-    ∷ (member java_lang_string (codes "lastIndexOf") (codes "(II)I"), string_last_index_of_2_types)
-    ∷ (member java_lang_string (codes "lastIndexOf") (codes "(Ljava/lang/String;)I"), string_last_index_of_3_types)
-    ∷ (member java_lang_string (codes "lastIndexOf") (codes "(Ljava/lang/String;I)I"), string_last_index_of_4_types)
-    ∷ (member java_lang_string (codes "startsWith") (codes "(Ljava/lang/String;)Z"), string_starts_with_types)
-    ∷ (member java_lang_string (codes "startsWith") (codes "(Ljava/lang/String;I)Z"), string_starts_with_2_types)
-    ∷ (member java_lang_string (codes "endsWith") (codes "(Ljava/lang/String;)Z"), string_ends_with_types)
-    ∷ (member java_lang_string (codes "contains") (codes "(Ljava/lang/CharSequence;)Z"), string_contains_types)
-    ∷ (member java_lang_string (codes "contentEquals") (codes "(Ljava/lang/CharSequence;)Z"), string_content_equals_types)
-    ∷ (member java_lang_string (codes "trim") (codes "()Ljava/lang/String;"), string_trim_types)
-    ∷ (member java_lang_class (codes "desiredAssertionStatus") (codes "()Z"), class_desired_assertion_status_types)
-    ∷ (thread_run, run_types)
-    ∷ []
+    object_typings ++ (thread_typings ++ (string_typings ++ (class_typings ++ (print_stream_typings ++ string_builder_typings))))
 
 -- a method with code of a class that is built in has a typing, whatever the files of the program are
 pub record BuiltInTyped : Type 0 where

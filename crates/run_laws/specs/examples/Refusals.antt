@@ -129,8 +129,8 @@ pub record Unresolveds : Type 0 where
   pub getfield : Meets (a_with (field 0x0009 13 12 [] ∷ []) (method 0x0009 8 9 (code (codes "01 b40030 57 b1")) ∷ [])
       ∷ []) (codes "field_of_other_kind")
   -- putstatic System.out, getfield Thread.target
-  pub out : Meets (doing (codes "01 b30036 b1")) (codes "puts_system_out")
-  pub target : Meets (doing (codes "01 b4003c 57 b1")) (codes "names_thread_target")
+  pub out : Meets (doing (codes "01 b30036 b1")) (codes "puts_system_stream")
+  pub target : Meets (doing (codes "01 b4003c 57 b1")) (codes "names_hidden_field")
   -- invokevirtual B.f, invokespecial B.<init>, neither of which B declares
   pub no_method : Meets (a_with [] (method 0x0009 8 9 (code (codes "01 b60027 b1")) ∷ []) ∷ b_below 4 [] [] ∷ []) (codes "method_missing")
   pub no_constructor : Meets (a_with [] (method 0x0009 8 9 (code (codes "bb0025 b70029 b1")) ∷ []) ∷ b_below 4 [] []

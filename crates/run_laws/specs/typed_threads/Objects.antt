@@ -1,6 +1,6 @@
 -- Which objects are there at the words of a well-typed state, and of what types (JVMS 2.4, 4.10.1.2): those that were
 -- there stay.
-use Rattle.std.specs.Prelude.{◌≡◌, ℕ, ◌<◌, ◌≤◌, List, Some, length, slice_get, IsTrue}
+use Rattle.std.specs.Prelude.{◌≡◌, ℕ, zero, suc, ◌<◌, ◌≤◌, List, Some, length, slice_get, IsTrue}
 use Rattle.std.specs.List.{list_any}
 use Rattle.model.specs.declared.event.Event.{Event}
 use Rattle.model.specs.Names.{Name, name_eq, java_io_print_stream, java_lang_class, java_lang_string, java_lang_thread}
@@ -10,7 +10,9 @@ use Rattle.model.specs.StringConstants.{string_texts}
 use Rattle.model.specs.Operands.{words}
 use Rattle.model.specs.State.{ObjectOf, types_of, StateOf}
 use Rattle.model.specs.Outcomes.{Cost}
-use Rattle.model.specs.Opening.{print_stream_reference, arguments_reference, main_thread_reference, class_reference, string_reference, opening_heap}
+use Rattle.model.specs.Opening.{print_stream_reference, arguments_reference, main_thread_reference, class_reference, string_reference, error_stream_reference, opening_heap}
+use Rattle.model.specs.Worlds.{object_at}
+use Rattle.model.specs.BuilderMethods.{kept_string}
 use Rattle.model.specs.Step.{Next, stepped}
 use Rattle.model.specs.WellTyped.{Extends}
 use Rattle.model.specs.Words.{AreWellTypedWords}
@@ -30,7 +32,8 @@ pub record Keeps {A : Type 0} (before after : List (ObjectOf A)) : Type 0 where
 
 -- ---- the objects of the opening heap
 
--- the PrintStream of System.out, the arguments, the Thread of main, a Class for each class, and a String for each text
+-- the PrintStream of System.out, the arguments, the Thread of main, a Class for each class, a String for each text, and the
+-- PrintStream of System.err
 pub record HasOpeningObjects (files : Program) (heap : List (ObjectOf ℕ)) : Type 0 where
   pub keeps : Keeps (opening_heap words files) heap
   pub print_stream : slice_get (types_of heap) print_stream_reference ≡ Some (ClassType java_io_print_stream)
@@ -40,10 +43,24 @@ pub record HasOpeningObjects (files : Program) (heap : List (ObjectOf ℕ)) : Ty
       → slice_get (types_of heap) (class_reference files name) ≡ Some (ClassType java_lang_class)
   pub texts : (text : List ℕ) → IsTrue (list_any (name_eq text) (string_texts files))
       → slice_get (types_of heap) (string_reference files text) ≡ Some (ClassType java_lang_string)
+  pub error_stream : slice_get (types_of heap) (error_stream_reference files) ≡ Some (ClassType java_io_print_stream)
 
 -- they are there in words of a well-typed state
 abbrev pub AreOpeningObjectsThere : Type 0
 AreOpeningObjectsThere = (files : Program) (at : StateOf ℕ) → AreWellTypedWords files at → HasOpeningObjects files at.world.heap
+
+-- ---- the texts of StringBuilders
+
+-- null, or a reference to a String that is there, by its word
+abbrev pub IsText : Program → List (ObjectOf ℕ) → ℕ → Type 0
+IsText files heap zero = Unit {0}
+IsText files heap (suc r) = IsInstance files heap java_lang_string r
+
+-- what each object keeps as its text, in words of a well-typed state
+abbrev pub AreTextsStrings : Type 0
+AreTextsStrings =
+    (files : Program) (at : StateOf ℕ) → AreWellTypedWords files at → (r : ℕ)
+    → IsText files at.world.heap (kept_string words (object_at at.world r))
 
 -- ---- events
 

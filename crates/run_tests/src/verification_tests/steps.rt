@@ -6,10 +6,13 @@ use std::alloc::Global;
 use std::test::Fail;
 use verifier::{MOST_STEPS, verify_within};
 
-/// How many steps are given, and what is told of a main with a loop over many local variables. The built-in methods
-/// with code are verified before it, Object.equals first, and are in no file.
+/// How many steps are given, and what is told of a main with a loop over many local variables. Built-in methods take
+/// none.
 const ROWS: [(u64, &str); 4] = [
-    (0, "refused 8 TooLarge method equals(Ljava/lang/Object;)Z"),
+    (
+        0,
+        "refused 8 TooLarge file 0 method main([Ljava/lang/String;)V",
+    ),
     (
         100_000,
         "refused 8 TooLarge file 0 method main([Ljava/lang/String;)V",

@@ -137,6 +137,7 @@ nothing_of world t u called.ThreadJoin a e i s j = absurd (j refl)
 nothing_of world t u called.ThreadIsAlive a e i s j = absurd (i refl)
 nothing_of world t u (called.PrintStreamPrints print) a e i s j = refl
 nothing_of world t u (called.StringAnswers method) a e i s j = refl
+nothing_of world t u (called.StringBuilderBuilds method) a e i s j = refl
 
 pub on_thread : (world : World) (t object : ℕ) (b : Called) → (b ≡ called.ObjectWait → ⊥) → (b ≡ called.ThreadInterrupted → ⊥)
     → found_on world t object (built_in_of b) ≡ of_thread (worlds.thread_of world object) (λ u. found_of world t u (built_in_of b))
@@ -155,6 +156,7 @@ on_thread world t object called.ThreadJoin w i = refl
 on_thread world t object called.ThreadIsAlive w i = refl
 on_thread world t object (called.PrintStreamPrints print) w i = nobody (worlds.thread_of world object)
 on_thread world t object (called.StringAnswers method) w i = nobody (worlds.thread_of world object)
+on_thread world t object (called.StringBuilderBuilds method) w i = nobody (worlds.thread_of world object)
 
 pub no_interrupt_on : (world : World) (object : ℕ) (b : Called) → (b ≡ called.ThreadInterrupt → ⊥) → interrupts_on world object (built_in_of b) ≡ []
 no_interrupt_on world object called.Construct n = refl
@@ -172,6 +174,7 @@ no_interrupt_on world object called.ThreadJoin n = refl
 no_interrupt_on world object called.ThreadIsAlive n = refl
 no_interrupt_on world object (called.PrintStreamPrints print) n = refl
 no_interrupt_on world object (called.StringAnswers method) n = refl
+no_interrupt_on world object (called.StringBuilderBuilds method) n = refl
 
 -- what is told in place of other actions, or of another method
 module _ (heap : Heap) (table : ThreadTable) where

@@ -1,13 +1,13 @@
 //! What calls of methods did that have no code.
 
 ghost use Rattle.std.specs.Prelude.{◌≡◌};
-ghost use Rattle.traces.specs.traced_events.Answered.{answered};
+ghost use Rattle.traces.specs.traced_events.Answered.{answered, built};
 
 use crate::traced_events::before::Before;
 use crate::traced_events::deed::Deed;
 use linked_code::{BuiltInMethod, LinkedProgram, MethodBody};
 use machine_state::method_selection::method_at;
-use model::PrintMethod;
+use model::{BuilderMethod, PrintMethod};
 
 /// The built-in method of a number, if it is one.
 pub(crate) fn built_in_called(
@@ -54,6 +54,20 @@ fn answer_deed(objects: u32, answer: Answer) -> Deed
     Deed::Pushes { word: answer.word }
 }
 
+/// What a method of StringBuilder did, by its number and the word on top after it.
+fn builder_deed(builder: BuilderMethod, method: u32, word: u32) -> Deed
+    ensures { result ≡ built builder method word }
+{
+    match builder {
+        BuilderMethod::ConstructEmpty | BuilderMethod::ConstructOfString => Deed::Runs { method },
+        BuilderMethod::AppendString
+        | BuilderMethod::AppendInt
+        | BuilderMethod::AppendChar
+        | BuilderMethod::AppendBuilder
+        | BuilderMethod::ToString => Deed::Pushes { word },
+    }
+}
+
 /// What a call of a built-in method did, by what is there after it and the pick of its event.
 pub(crate) fn built_in_deed(
     before: &Before,
@@ -80,5 +94,6 @@ pub(crate) fn built_in_deed(
         | BuiltInMethod::ThreadIsAlive => Deed::Pushes { word: answer.word },
         BuiltInMethod::PrintStreamPrints(method) => print_deed(before, method),
         BuiltInMethod::StringAnswers(_) => answer_deed(before.objects, answer),
+        BuiltInMethod::StringBuilderBuilds(builder) => builder_deed(builder, method, answer.word),
     }
 }

@@ -101,8 +101,7 @@ pub enum Deed {
     Prints {
         number: i32,
     },
-    /// The event printed a text, which is the last part of what was printed so far: `Before` tells where it begins. It
-    /// did nothing else.
+    /// The event printed a text, which is the last part of what was printed so far: `Before` tells where it begins.
     PrintsText,
     /// An exception was caught, by a handler at this offset.
     Catches {

@@ -45,7 +45,7 @@ stays_none (Waits cost world rest) h = refl
 module _ (trees : Program) (site : Site) (t : ℕ) (world : WorldOf ℕ) (slots : Slots ℕ) (ops rest : List ℕ) (object : ℕ) where
   body_entered : (method : Member) (o : Option Body)
       → callee_entered (runs words trees site (event_of t) world slots ops rest object method o) ≡ (option_and_then (λ (body : Body). entered_by trees method object) o)
-  body_entered method None = stays_none _ (built_in_stays (built_in_method method) site.next t world slots ops rest)
+  body_entered method None = stays_none _ (built_in_stays trees (built_in_method method) site.next t world slots ops rest)
   body_entered method (Some body) = refl
 
   pub invoked_entered : (chosen : Chosen) → callee_entered (invoked words trees site (event_of t) world slots ops rest object chosen) ≡ entered_of trees object chosen

@@ -4,13 +4,17 @@
 
 mod class;
 mod object;
+mod print_stream;
 mod string;
+mod string_builder;
 mod thread;
 
 use crate::builtin::form::{BuiltInClass, Declared, Operand, Stored};
 use crate::builtin::tables::class::CLASS;
 use crate::builtin::tables::object::OBJECT;
+use crate::builtin::tables::print_stream::PRINT_STREAM;
 use crate::builtin::tables::string::STRING;
+use crate::builtin::tables::string_builder::STRING_BUILDER;
 use crate::builtin::tables::thread::THREAD;
 
 /// The built-in classes by their numbers: 0 to 1.
@@ -34,8 +38,8 @@ pub(crate) static FROM_THREAD: [BuiltInClass; 1] = [THREAD];
 /// The built-in classes by their numbers: 3.
 pub(crate) static FROM_STRING: [BuiltInClass; 1] = [STRING];
 
-/// The built-in classes by their numbers: 4 to 11.
-pub(crate) static FROM_CLASS: [BuiltInClass; 8] = [
+/// The built-in classes by their numbers: 4 to 5.
+pub(crate) static FROM_CLASS: [BuiltInClass; 2] = [
     CLASS,
     BuiltInClass {
         flags: 0x0031,
@@ -45,29 +49,17 @@ pub(crate) static FROM_CLASS: [BuiltInClass; 8] = [
         operands: &[
             Operand::Utf8(b"out"),
             Operand::Utf8(b"Ljava/io/PrintStream;"),
+            Operand::Utf8(b"err"),
         ],
-        fields: &[Stored(0x0019, 5, 6)],
+        fields: &[Stored(0x0019, 5, 6), Stored(0x0019, 7, 6)],
         coded: &[],
         natives: &[],
     },
-    BuiltInClass {
-        flags: 0x0021,
-        name: b"java/io/PrintStream",
-        superclass: Some(b"java/lang/Object"),
-        interfaces: &[],
-        operands: &[],
-        fields: &[],
-        coded: &[],
-        natives: &[
-            Declared(0x0101, b"println", b"()V"),
-            Declared(0x0101, b"println", b"(C)V"),
-            Declared(0x0101, b"println", b"(I)V"),
-            Declared(0x0101, b"println", b"(Ljava/lang/String;)V"),
-            Declared(0x0101, b"print", b"(C)V"),
-            Declared(0x0101, b"print", b"(I)V"),
-            Declared(0x0101, b"print", b"(Ljava/lang/String;)V"),
-        ],
-    },
+];
+
+/// The built-in classes by their numbers: 6 to 13.
+pub(crate) static FROM_PRINT_STREAM: [BuiltInClass; 8] = [
+    PRINT_STREAM,
     BuiltInClass {
         flags: 0x0021,
         name: b"java/lang/Throwable",
@@ -158,10 +150,6 @@ pub(crate) static FROM_CLASS: [BuiltInClass; 8] = [
             ),
         ],
     },
-];
-
-/// The built-in classes by their numbers: 12 to 19.
-pub(crate) static FROM_INCOMPATIBLE_CLASS_CHANGE_ERROR: [BuiltInClass; 8] = [
     BuiltInClass {
         flags: 0x0021,
         name: b"java/lang/IncompatibleClassChangeError",
@@ -188,6 +176,10 @@ pub(crate) static FROM_INCOMPATIBLE_CLASS_CHANGE_ERROR: [BuiltInClass; 8] = [
             Declared(0x0101, b"<init>", b"(Ljava/lang/String;)V"),
         ],
     },
+];
+
+/// The built-in classes by their numbers: 14 to 21.
+pub(crate) static FROM_EXCEPTION_IN_INITIALIZER_ERROR: [BuiltInClass; 8] = [
     BuiltInClass {
         flags: 0x0021,
         name: b"java/lang/ExceptionInInitializerError",
@@ -271,10 +263,6 @@ pub(crate) static FROM_INCOMPATIBLE_CLASS_CHANGE_ERROR: [BuiltInClass; 8] = [
             Declared(0x0101, b"<init>", b"(Ljava/lang/String;)V"),
         ],
     },
-];
-
-/// The built-in classes by their numbers: 20 to 27.
-pub(crate) static FROM_ARRAY_STORE_EXCEPTION: [BuiltInClass; 8] = [
     BuiltInClass {
         flags: 0x0021,
         name: b"java/lang/ArrayStoreException",
@@ -301,6 +289,10 @@ pub(crate) static FROM_ARRAY_STORE_EXCEPTION: [BuiltInClass; 8] = [
             Declared(0x0101, b"<init>", b"(Ljava/lang/String;)V"),
         ],
     },
+];
+
+/// The built-in classes by their numbers: 22 to 29.
+pub(crate) static FROM_ILLEGAL_MONITOR_STATE_EXCEPTION: [BuiltInClass; 8] = [
     BuiltInClass {
         flags: 0x0021,
         name: b"java/lang/IllegalMonitorStateException",
@@ -389,10 +381,6 @@ pub(crate) static FROM_ARRAY_STORE_EXCEPTION: [BuiltInClass; 8] = [
             Declared(0x0101, b"<init>", b"(Ljava/lang/String;)V"),
         ],
     },
-];
-
-/// The built-in classes by their numbers: 28 to 35.
-pub(crate) static FROM_ILLEGAL_THREAD_STATE_EXCEPTION: [BuiltInClass; 8] = [
     BuiltInClass {
         flags: 0x0021,
         name: b"java/lang/IllegalThreadStateException",
@@ -419,6 +407,10 @@ pub(crate) static FROM_ILLEGAL_THREAD_STATE_EXCEPTION: [BuiltInClass; 8] = [
             Declared(0x0101, b"<init>", b"(Ljava/lang/String;)V"),
         ],
     },
+];
+
+/// The built-in classes by their numbers: 30 to 35.
+pub(crate) static FROM_COMPARABLE: [BuiltInClass; 6] = [
     BuiltInClass {
         flags: 0x0601,
         name: b"java/lang/Comparable",
@@ -498,3 +490,6 @@ pub(crate) static FROM_ILLEGAL_THREAD_STATE_EXCEPTION: [BuiltInClass; 8] = [
         ],
     },
 ];
+
+/// The built-in classes by their numbers: 36.
+pub(crate) static FROM_STRING_BUILDER: [BuiltInClass; 1] = [STRING_BUILDER];

@@ -6,4 +6,4 @@ use Rattle.model.specs.DescriptorScan.{element_at, field_at, field_type, paramet
 
 pub returns : goal.returns
 unfolding built_in_classes opening_heap element_at field_at field_type parameters_at method_type
-returns c = record { holds = refl }
+returns c = record { holds = record { types = refl; texts = refl } }

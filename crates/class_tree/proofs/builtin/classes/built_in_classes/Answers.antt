@@ -12,7 +12,7 @@ with_next : (at count : ℕ) (before part now : List FileTree) → now ≡ befor
 with_next at count before part now n b p =
     n ∙ ap (λ xs. xs ++ part) b ∙ ap (λ xs. take at built_in_classes ++ xs) p ∙ sym (take-add at count built_in_classes)
 
-all_of_them : take 36 built_in_classes ≡ built_in_classes
+all_of_them : take 37 built_in_classes ≡ built_in_classes
 unfolding built_in_classes
 all_of_them = refl
 
@@ -21,7 +21,9 @@ returns c =
     let two = with_next 0 2 _ _ _ c.in_ok-push_classes.ensures (ap (map file_of) c.new-classes.ensures.items) c.from_object.ensures.1 in
     let three = with_next 2 1 _ _ _ c.in_ok-push_classes-2.ensures two c.from_thread.ensures.1 in
     let four = with_next 3 1 _ _ _ c.in_ok-push_classes-3.ensures three c.from_string.ensures.1 in
-    let twelve = with_next 4 8 _ _ _ c.in_ok-push_classes-4.ensures four c.from_class.ensures.1 in
-    let twenty = with_next 12 8 _ _ _ c.in_ok-push_classes-5.ensures twelve c.from_incompatible_class_change_error.ensures.1 in
-    let most = with_next 20 8 _ _ _ c.in_ok-push_classes-6.ensures twenty c.from_array_store_exception.ensures.1 in
-    with_next 28 8 _ _ _ c.in_ok-push_classes-7.ensures most c.from_illegal_thread_state_exception.ensures.1 ∙ all_of_them
+    let six = with_next 4 2 _ _ _ c.in_ok-push_classes-4.ensures four c.from_class.ensures.1 in
+    let fourteen = with_next 6 8 _ _ _ c.in_ok-push_classes-5.ensures six c.from_print_stream.ensures.1 in
+    let twenty_two = with_next 14 8 _ _ _ c.in_ok-push_classes-6.ensures fourteen c.from_exception_in_initializer_error.ensures.1 in
+    let thirty = with_next 22 8 _ _ _ c.in_ok-push_classes-7.ensures twenty_two c.from_illegal_monitor_state_exception.ensures.1 in
+    let most = with_next 30 6 _ _ _ c.in_ok-push_classes-8.ensures thirty c.from_comparable.ensures.1 in
+    with_next 36 1 _ _ _ c.in_ok-push_classes-9.ensures most c.from_string_builder.ensures.1 ∙ all_of_them

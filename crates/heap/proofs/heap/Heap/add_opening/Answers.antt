@@ -10,7 +10,7 @@ invariant_of-self-2 c =
     let small : c.args.count < 2 ^ 32 = omega arith in
     rw (c.in_ok-add.ensures.entry, c.in_ok-add.ensures.words, c.in_ok-add.ensures.monitor) (
     opened_sound c.self.inside.table.items c.self.inside.cells.items c.self.inside.monitors c.self.inside.opening
-    c.self.inside.object_limit c.self.inside.cell_limit
+    c.self.inside.counted c.self.inside.object_limit c.self.inside.cell_limit
     c.args.kind c.args.count c.len-reference.result c.args.self.now c.self.view_is c.self.invariant small
     c.len-reference.ensures.objects c.requires
     )
@@ -19,7 +19,7 @@ pub returns-clause-ok : goal.returns-clause-ok
 returns-clause-ok c =
     rw (c.in_ok-add.ensures.entry, c.in_ok-add.ensures.words, c.in_ok-add.ensures.monitor) (
     opened c.self.inside.table.items c.self.inside.cells.items c.self.inside.monitors c.self.inside.opening
-    c.self.inside.object_limit c.self.inside.cell_limit
+    c.self.inside.counted c.self.inside.object_limit c.self.inside.cell_limit
     c.args.kind c.args.count c.len-reference.result c.args.self.now c.self.view_is c.self.invariant
     c.len-reference.ensures.objects c.requires
     )

@@ -9,6 +9,7 @@ returns c =
       arith,
       c.len.ensures,
       objects_left c.self.inside.table.items c.self.inside.cells.items c.self.inside.monitors
-          c.self.inside.opening c.self.inside.object_limit c.self.inside.cell_limit c.self.invariant,
+          c.self.inside.opening c.self.inside.counted c.self.inside.object_limit
+          c.self.inside.cell_limit c.self.invariant,
     )
     )

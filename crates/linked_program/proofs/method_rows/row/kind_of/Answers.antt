@@ -16,7 +16,7 @@ pub returns-then-call : goal.returns-then-call
 returns-then-call c = λ files linked class member at stands told.
     let file = file_of c.args.file.now in
     let m = method_of c.args.method.now in
-    let uncoded : is_some c.args.call.now.code ≡ false = search rules in
+    let uncoded : is_some c.args.call.now.code ≡ false = sym c.is_some.ensures ∙ c.if-is_some.false in
     let abstract : c.args.call.now.is_abstract ≡ true = search rules in
     kind_abstract files (member_of file m) (body_of files (member_of file m)) c.args.call.now.code told.code uncoded (sym told.abstract ∙ abstract)
 
@@ -24,6 +24,6 @@ pub returns-else-call : goal.returns-else-call
 returns-else-call c = λ files linked class member at stands told.
     let file = file_of c.args.file.now in
     let m = method_of c.args.method.now in
-    let uncoded : is_some c.args.call.now.code ≡ false = search rules in
+    let uncoded : is_some c.args.call.now.code ≡ false = sym c.is_some.ensures ∙ c.if-is_some.false in
     let concrete : c.args.call.now.is_abstract ≡ false = search rules in
     kind_built_in files (member_of file m) (body_of files (member_of file m)) c.args.call.now.code c.machine_method.result told.code uncoded (sym told.abstract ∙ concrete) c.machine_method.ensures

@@ -14,7 +14,7 @@ use Rattle.linker.proofs.class_constants.slots.next_slot.Goals as goal
 pub returns-then-class-lt-BUILT_IN_CLASSES : goal.returns-then-class-lt-BUILT_IN_CLASSES
 returns-then-class-lt-BUILT_IN_CLASSES c =
     let files = c.args.set.now in
-    let same : c.args.class - 36 ≡ (c.args.class + 1) - 36 = omega arith in
+    let same : c.args.class - 37 ≡ (c.args.class + 1) - 37 = omega arith in
     c.requires.begins ∙ ap (λ n. length (static_fields (take n files))) same
 
 pub slot_behind_all-requires : goal.slot_behind_all-requires
@@ -27,8 +27,8 @@ pub returns : goal.returns
 returns c =
     let files = c.args.set.now in
     let file = file_of c.args.file.now in
-    let number = c.args.class - 36 in
+    let number = c.args.class - 37 in
     let there : slice_get files number ≡ Some file = sym (file_behind files number) ∙ ap (slice_get (classes_of files)) (omega arith) ∙ c.requires.stands in
     let fields : length (filter is_static_field (map field_of c.deref.result.now)) ≡ length (filter is_static_field file.fields) = ap (λ l. length (filter is_static_field (map field_of l))) c.deref.ensures.value in
-    let next : (c.args.class + 1) - 36 ≡ number + 1 = omega arith in
+    let next : (c.args.class + 1) - 37 ≡ number + 1 = omega arith in
     omega (arith, c.slot_behind_all.ensures, c.requires.begins, fields, slots_more files number file there, ap (λ n. length (static_fields (take n files))) next)

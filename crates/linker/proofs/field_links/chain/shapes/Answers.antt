@@ -8,7 +8,7 @@ use Rattle.hierarchy.proofs.RowLaws.{drop_past, row_pushed, all_pushed}
 
 pub loop-place-init : goal.loop-place-init
 unfolding shapes
-loop-place-init c = ap (λ (l : List Shape). l ++ map (shape_of c.args.set.now) (classes_of c.args.set.now)) c.new-rows.ensures.items
+loop-place-init c = ap (λ (l : List Shape). l ++ map (shape_of c.args.counted c.args.set.now) (classes_of c.args.set.now)) c.new-rows.ensures.items
 
 pub returns-in_default : goal.returns-in_default
 returns-in_default c = all_pushed _ _ _ _ (drop_past (classes_of c.args.set.now) c.loop-place.place (sym c.in_default.ensures)) c.loop-place.invariant
@@ -16,5 +16,6 @@ returns-in_default c = all_pushed _ _ _ _ (drop_past (classes_of c.args.set.now)
 pub loop-place-preserved : goal.loop-place-preserved
 loop-place-preserved c =
     let files = c.args.set.now in
-    row_pushed (shape_of files) c.loop-place.rows.items c.push.new.self.items c.shape_of.result (classes_of files) c.loop-place.place (file_of c.in-Some.class.now) (shapes files) (sym c.in-Some.ensures)
+    let what = c.args.counted in
+    row_pushed (shape_of what files) c.loop-place.rows.items c.push.new.self.items c.shape_of.result (classes_of files) c.loop-place.place (file_of c.in-Some.class.now) (shapes what files) (sym c.in-Some.ensures)
     c.shape_of.ensures c.in_ok-push.ensures.items c.loop-place.invariant

@@ -7,8 +7,8 @@ use Rattle.machine_instructions.proofs.called_methods.printing.println.Goals as 
 
 pub run_built_in-requires : goal.run_built_in-requires
 run_built_in-requires c =
-    let p = c.requires.running.0 in
-    let r = c.requires.running.1 in
+    let p = c.args.program.now in
+    let r = c.requires.running in
     record {
       trees = r.trees;
       p = p;
@@ -22,11 +22,12 @@ run_built_in-requires c =
     }
 
 pub returns : goal.returns
-returns c = λ p frames trees bounds inflated state frame rest code site meaning is.
+returns c = λ frames trees bounds inflated state frame rest code site meaning is.
+    let p = c.args.program.now in
     let t = c.args.thread in
     let old = c.args.shared.now in
     let from = c.args.stack.now in
     subst (λ (s : SteppedOf (PartOf ℕ)). Does trees p bounds inflated t state.world (Invocation frame ∷ rest) s c.run_built_in.result old c.run_built_in.new.shared from c.run_built_in.new.stack)
     (sym (prints trees p bounds inflated t old from state frame rest code site meaning is frames c.args.pick c.receiver.result c.receiver.ensures c.if-is_none.ensures))
-    (c.run_built_in.ensures trees p bounds inflated state frame rest _
+    (c.run_built_in.ensures trees bounds inflated state frame rest _
     (calling trees p bounds inflated t old from state frame rest code site meaning is c.place_behind-next.result c.place_behind-next.ensures) frames)

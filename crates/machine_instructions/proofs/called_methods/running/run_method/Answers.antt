@@ -49,7 +49,7 @@ returns-in-BuiltIn c = λ trees bounds inflated state frame rest site chosen is.
     let run = c.methods_are_run.ensures.holds in
     subst (λ (s : SteppedOf (PartOf ℕ)). Does trees p bounds inflated c.args.thread state.world (Invocation frame ∷ rest) s c.run_built_in.result c.args.shared.now c.run_built_in.new.shared c.args.stack.now c.run_built_in.new.stack)
     (built_in_done run trees p bounds inflated c.args.thread c.args.shared.now c.args.stack.now state frame rest site c.args.call chosen is c.in-Some.row.now (sym c.in-Some.ensures) c.in-BuiltIn.method c.in-BuiltIn.is c.args.frames c.args.pick)
-    (c.run_built_in.ensures trees p bounds inflated state frame rest site.next
+    (c.run_built_in.ensures trees bounds inflated state frame rest site.next
     (calling run trees p bounds inflated c.args.thread c.args.shared.now c.args.stack.now state frame rest site c.args.call chosen is c.in-Some.row.now (sym c.in-Some.ensures) c.in-BuiltIn.method c.in-BuiltIn.is c.place_behind-next.result c.place_behind-next.ensures)
     c.args.frames)
 

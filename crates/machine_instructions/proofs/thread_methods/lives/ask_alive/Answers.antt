@@ -8,7 +8,7 @@ use Rattle.machine_instructions.proofs.thread_methods.Calls.{answered, says}
 use Rattle.machine_instructions.proofs.thread_methods.lives.ask_alive.Goals as goal
 
 pub returns : goal.returns
-returns c = λ t trees p bounds inflated state frame rest offset is frames.
+returns c = λ t p trees bounds inflated state frame rest offset is frames.
     answered trees p bounds inflated t c.args.shared.now c.args.stack.now state frame rest method.ThreadIsAlive c.args.operands c.args.next offset is
     c.word_of.result (bit (is_alive state.world (object_of words (take c.args.operands frame.place.slots.stack) 0)))
     (c.word_of.ensures ∙ ap bit (says trees p bounds inflated t c.args.shared.now c.args.stack.now state frame rest method.ThreadIsAlive c.args.operands c.args.next offset is is_any is.arguments c.object.result c.object.ensures (λ world object. is_alive world object) c.is_alive-alive.result (c.is_alive-alive.ensures state.world)))

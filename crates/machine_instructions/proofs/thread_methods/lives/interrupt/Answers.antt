@@ -13,7 +13,7 @@ use Rattle.machine_instructions.proofs.thread_methods.lives.interrupt.Goals.{in-
 use Rattle.machine_instructions.proofs.thread_methods.lives.interrupt.Goals as goal
 
 pub returns : goal.returns
-returns c = λ t trees p bounds inflated state frame rest offset is frames.
+returns c = λ t p trees bounds inflated state frame rest offset is frames.
     let old = c.args.shared.now in
     elim c.match-number.branch [
       | in-Some w ↦

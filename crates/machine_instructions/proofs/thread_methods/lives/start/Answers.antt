@@ -63,13 +63,13 @@ module _ (trees : Program) (p : LinkedProgram) (bounds : Bounds) (inflated : Lis
   lacks false = refused trees p bounds inflated t old from state frame rest method.ThreadStart count next offset is old _ Starts _ refl event.Memory refl refl result wants
 
 pub returns-in_err-spare : goal.returns-in_err-spare
-returns-in_err-spare c = λ t trees p bounds inflated state frame rest offset is frames.
+returns-in_err-spare c = λ t p trees bounds inflated state frame rest offset is frames.
     let object = object_of words (take c.args.operands frame.place.slots.stack) 0 in
     lacks trees p bounds inflated t c.args.shared.now c.args.stack.now state frame rest c.args.operands c.args.next offset is frames object
     c.from_residual.result c.from_residual.ensures.1 (is_some (thread_of state.world object))
 
 pub returns-in_err-started : goal.returns-in_err-started
-returns-in_err-started c = λ t trees p bounds inflated state frame rest offset is frames.
+returns-in_err-started c = λ t p trees bounds inflated state frame rest offset is frames.
     let old = c.args.shared.now in
     let object = object_of words (take c.args.operands frame.place.slots.stack) 0 in
     let new = record old { threads = c.start.new.threads } in
@@ -81,7 +81,7 @@ returns-in_err-started c = λ t trees p bounds inflated state frame rest offset 
     c.from_residual-in_err-started.result c.from_residual-in_err-started.ensures.1
 
 pub returns-then-not-started : goal.returns-then-not-started
-returns-then-not-started c = λ t trees p bounds inflated state frame rest offset is frames.
+returns-then-not-started c = λ t p trees bounds inflated state frame rest offset is frames.
     let old = c.args.shared.now in
     let object = object_of words (take c.args.operands frame.place.slots.stack) 0 in
     let h = subst (λ b. StartsBy (Ok b) c.object.result old.threads c.start.new.threads) c.if-not-started.true c.in_ok-started.ensures in
@@ -89,7 +89,7 @@ returns-then-not-started c = λ t trees p bounds inflated state frame rest offse
     ((λ i. become trees frames t state.world frame rest (start_by (sym started i) offset object state.world frame.place.slots (drop c.args.operands frame.place.slots.stack))), record { shared = λ i. record old { threads = h.1 i }; stack = refl })
 
 pub returns : goal.returns
-returns c = λ t trees p bounds inflated state frame rest offset is frames.
+returns c = λ t p trees bounds inflated state frame rest offset is frames.
     let old = c.args.shared.now in
     let object = object_of words (take c.args.operands frame.place.slots.stack) 0 in
     let h = subst (λ b. StartsBy (Ok b) c.object.result old.threads c.start.new.threads) c.if-not-started.false c.in_ok-started.ensures in
@@ -109,6 +109,7 @@ returns c = λ t trees p bounds inflated state frame rest offset is frames.
         represents = record {
           world_is = record {
             objects = r.world_is.objects;
+            counted = r.world_is.counted;
             monitors = r.world_is.monitors;
             statics = r.world_is.statics;
             statuses = r.world_is.statuses;

@@ -14,7 +14,7 @@ use Rattle.machine_instructions.proofs.thread_methods.Printed.{printed_is}
 use Rattle.machine_instructions.proofs.thread_methods.printing.print.Goals as goal
 
 pub returns-in_err-spare : goal.returns-in_err-spare
-returns-in_err-spare c = λ t trees p bounds inflated state frame rest offset is frames.
+returns-in_err-spare c = λ t p trees bounds inflated state frame rest offset is frames.
     let old = c.args.shared.now in
     let from = c.args.stack.now in
     let called = method.PrintStreamPrints c.args.print in
@@ -34,7 +34,7 @@ returns-in_err-spare c = λ t trees p bounds inflated state frame rest offset is
     c.from_residual.result c.from_residual.ensures.1
 
 pub returns : goal.returns
-returns c = λ t trees p bounds inflated state frame rest offset is frames.
+returns c = λ t p trees bounds inflated state frame rest offset is frames.
     let old = c.args.shared.now in
     let from = c.args.stack.now in
     let called = method.PrintStreamPrints c.args.print in
@@ -53,6 +53,7 @@ returns c = λ t trees p bounds inflated state frame rest offset is frames.
     (record {
       world_is = record {
         objects = world_is.objects;
+        counted = world_is.counted;
         monitors = world_is.monitors;
         statics = world_is.statics;
         statuses = world_is.statuses;

@@ -1,12 +1,13 @@
 use Rattle.std.proofs.Common.{◌≡◌, ℕ, suc, [], Some, take, refl, sym, ap, subst, arith, ◌∙◌}
-use Rattle.std.specs.Prelude.{slice_get, slice_index_or, slice_set}
+use Rattle.std.specs.Prelude.{drop, sum_by, slice_get, slice_index_or, slice_set}
 use Rattle.std.proofs.lemmas.Option.{get_or_from_slice_get, slice_get_within}
 use Rattle.model.specs.Names.{java_lang_thread, thread_target}
 use Rattle.model.specs.State.{ObjectOf, Instance}
 use Rattle.model.specs.BuiltInMethods.{object_of}
 use Rattle.model.specs.Operands.{words}
 use Rattle.heap.specs.monitor.Locks.{Locks}
-use Rattle.model.specs.Worlds.{no_object, with_field, with_object, object_at}
+use Rattle.model.specs.LimitStands.{opening_count}
+use Rattle.model.specs.Worlds.{cells_of, no_object, with_field, with_object, object_at}
 use Rattle.heap.specs.Heap.{Heap, put_field}
 use Rattle.run_laws.proofs.laws.LinkedOf.{linked_of}
 use Rattle.machine_state.specs.shown_objects.Shown.{ShowsObjects}
@@ -18,7 +19,7 @@ use Rattle.machine_instructions.proofs.thread_methods.ThreadFields.{target_slot,
 use Rattle.machine_instructions.proofs.thread_methods.targets.set_target.Goals as goal
 
 pub returns : goal.returns
-returns c = λ t trees p bounds inflated state frame rest offset is frames.
+returns c = λ t p trees bounds inflated state frame rest offset is frames.
     let old = c.args.shared.now in
     let world = state.world in
     let refers = is.arguments in
@@ -55,6 +56,10 @@ returns c = λ t trees p bounds inflated state frame rest offset is frames.
     (record {
       world_is = record {
         objects = objects;
+        counted =
+            ap (λ (h : Heap). h.counted) c.put_field.ensures
+            ∙ (is.lent.represents.world_is.counted
+            ∙ (sym (field.counted value (opening_count trees)) ∙ ap (λ heap. sum_by cells_of (drop (opening_count trees) heap)) heap_is));
         monitors = ap (λ (l : Locks). l.monitors) locks ∙ is.lent.represents.world_is.monitors;
         statics = is.lent.represents.world_is.statics;
         statuses = is.lent.represents.world_is.statuses;

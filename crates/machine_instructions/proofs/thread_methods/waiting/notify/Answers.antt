@@ -23,13 +23,13 @@ notifies trees frames t world frame rest count offset object pick may owner =
     enabled_if may (become trees frames t world frame rest (if_owner owner (pushing offset [] (notified world t object pick) frame.place.slots (drop count frame.place.slots.stack))))
 
 pub returns-then-not-may_pick : goal.returns-then-not-may_pick
-returns-then-not-may_pick c = λ trees p bounds inflated state frame rest offset is frames.
+returns-then-not-may_pick c = λ p trees bounds inflated state frame rest offset is frames.
     let object = object_of words (take c.args.operands frame.place.slots.stack) 0 in
     let may = sym c.if-not-may_pick.true ∙ says_over trees p bounds inflated c.args.thread c.args.shared.now c.args.stack.now state frame rest method.ObjectNotify c.args.operands c.args.next offset is is_any is.arguments c.object-object.result c.object-object.ensures (λ world object. may_pick world object c.args.thread c.args.pick) c.may_pick.result (c.may_pick.ensures state.world) in
     ((λ i. notifies trees frames c.args.thread state.world frame rest c.args.operands offset object c.args.pick (sym may i) (is_owner state.world c.args.thread object)), record { shared = refl; stack = refl })
 
 pub returns-then-not-notify : goal.returns-then-not-notify
-returns-then-not-notify c = λ trees p bounds inflated state frame rest offset is frames.
+returns-then-not-notify c = λ p trees bounds inflated state frame rest offset is frames.
     let object = object_of words (take c.args.operands frame.place.slots.stack) 0 in
     let may = sym c.if-not-may_pick.false ∙ says_over trees p bounds inflated c.args.thread c.args.shared.now c.args.stack.now state frame rest method.ObjectNotify c.args.operands c.args.next offset is is_any is.arguments c.object-object.result c.object-object.ensures (λ world object. may_pick world object c.args.thread c.args.pick) c.may_pick.result (c.may_pick.ensures state.world) in
     let owner = sym c.if-not-notify.true ∙ says_over trees p bounds inflated c.args.thread c.args.shared.now c.args.stack.now state frame rest method.ObjectNotify c.args.operands c.args.next offset is is_any is.arguments c.object-object.result c.object-object.ensures (λ world object. is_owner world c.args.thread object) c.notify.result (c.notify.ensures.owner state.world) in (
@@ -38,7 +38,7 @@ returns-then-not-notify c = λ trees p bounds inflated state frame rest offset i
     )
 
 pub returns : goal.returns
-returns c = λ trees p bounds inflated state frame rest offset is frames.
+returns c = λ p trees bounds inflated state frame rest offset is frames.
     let old = c.args.shared.now in
     let new = record old { heap = c.notify.new.heap; threads = c.notify.new.threads } in
     let object = object_of words (take c.args.operands frame.place.slots.stack) 0 in

@@ -21,7 +21,7 @@ notifies trees frames t world frame rest count offset object owner =
     become trees frames t world frame rest (if_owner owner (pushing offset [] (notified_all world t object) frame.place.slots (drop count frame.place.slots.stack)))
 
 pub returns-then-not-notify_all : goal.returns-then-not-notify_all
-returns-then-not-notify_all c = λ trees p bounds inflated state frame rest offset is frames.
+returns-then-not-notify_all c = λ p trees bounds inflated state frame rest offset is frames.
     let object = object_of words (take c.args.operands frame.place.slots.stack) 0 in
     let owner = sym c.if-not-notify_all.true ∙ says_over trees p bounds inflated c.args.thread c.args.shared.now c.args.stack.now state frame rest method.ObjectNotifyAll c.args.operands c.args.next offset is is_any is.arguments c.object-object.result c.object-object.ensures (λ world object. is_owner world c.args.thread object) c.notify_all.result (c.notify_all.ensures.owner state.world) in (
       (λ i. notifies trees frames c.args.thread state.world frame rest c.args.operands offset object (sym owner i)),
@@ -29,7 +29,7 @@ returns-then-not-notify_all c = λ trees p bounds inflated state frame rest offs
     )
 
 pub returns : goal.returns
-returns c = λ trees p bounds inflated state frame rest offset is frames.
+returns c = λ p trees bounds inflated state frame rest offset is frames.
     let old = c.args.shared.now in
     let new = record old { heap = c.notify_all.new.heap; threads = c.notify_all.new.threads } in
     let object = object_of words (take c.args.operands frame.place.slots.stack) 0 in

@@ -28,20 +28,20 @@ waited trees frames t world frame rest count object owner interrupted =
     become trees frames t world frame rest (wait_by owner interrupted t object world (drop count frame.place.slots.stack))
 
 pub returns-then-not-is_owner : goal.returns-then-not-is_owner
-returns-then-not-is_owner c = λ trees p bounds inflated state frame rest offset is frames.
+returns-then-not-is_owner c = λ p trees bounds inflated state frame rest offset is frames.
     let object = object_of words (take c.args.operands frame.place.slots.stack) 0 in
     let owner = sym c.if-not-is_owner.true ∙ says_over trees p bounds inflated c.args.thread c.args.shared.now c.args.stack.now state frame rest method.ObjectWait c.args.operands c.args.next offset is is_any is.arguments c.object-object.result c.object-object.ensures (λ world object. is_owner world c.args.thread object) c.is_owner.result (c.is_owner.ensures state.world) in
     ((λ i. waited trees frames c.args.thread state.world frame rest c.args.operands object (sym owner i) (thread_at state.world c.args.thread).interrupted), record { shared = refl; stack = refl })
 
 pub returns-then-interrupted : goal.returns-then-interrupted
-returns-then-interrupted c = λ trees p bounds inflated state frame rest offset is frames.
+returns-then-interrupted c = λ p trees bounds inflated state frame rest offset is frames.
     let object = object_of words (take c.args.operands frame.place.slots.stack) 0 in
     let owner = sym c.if-not-is_owner.false ∙ says_over trees p bounds inflated c.args.thread c.args.shared.now c.args.stack.now state frame rest method.ObjectWait c.args.operands c.args.next offset is is_any is.arguments c.object-object.result c.object-object.ensures (λ world object. is_owner world c.args.thread object) c.is_owner.result (c.is_owner.ensures state.world) in
     let interrupted = sym c.if-interrupted.true ∙ c.interrupted.ensures ∙ row_is trees p bounds inflated c.args.thread c.args.shared.now c.args.stack.now state frame rest method.ObjectWait c.args.operands c.args.next offset is (λ row. row.interrupted) in
     ((λ i. waited trees frames c.args.thread state.world frame rest c.args.operands object (sym owner i) (sym interrupted i)), record { shared = refl; stack = refl })
 
 pub returns-in_err-wait : goal.returns-in_err-wait
-returns-in_err-wait c = λ trees p bounds inflated state frame rest offset is frames.
+returns-in_err-wait c = λ p trees bounds inflated state frame rest offset is frames.
     let old = c.args.shared.now in
     let new = record old { heap = c.wait.new.heap; threads = c.wait.new.threads } in
     let object = object_of words (take c.args.operands frame.place.slots.stack) 0 in
@@ -68,7 +68,7 @@ module _ (trees : Program) (p : LinkedProgram) (bounds : Bounds) (inflated : Lis
   joins false w = absurd (true≢false (sym own ∙ w.0))
 
 pub returns : goal.returns
-returns c = λ trees p bounds inflated state frame rest offset is frames.
+returns c = λ p trees bounds inflated state frame rest offset is frames.
     let old = c.args.shared.now in
     let new = record old { heap = c.wait.new.heap; threads = c.wait.new.threads } in
     let object = object_of words (take c.args.operands frame.place.slots.stack) 0 in

@@ -7,7 +7,7 @@ use Rattle.machine_threads.proofs.instruction_events.calls.any_instruction.Goals
 
 -- src/calls.rt:44:39
 pub println-requires-clause-running : goal.println-requires-clause-running
-println-requires-clause-running c = (c.args.program.now, subst (CanRun c.args.program.now c.args.thread c.args.shared.now c.args.stack.now) c.in-Println.is c.requires.able)
+println-requires-clause-running c = subst (CanRun c.args.program.now c.args.thread c.args.shared.now c.args.stack.now) c.in-Println.is c.requires.able
 
 -- src/calls.rt:13:1
 pub returns-in-InvokeStatic : goal.returns-in-InvokeStatic
@@ -32,7 +32,7 @@ returns-in-InvokeInterface c =
 -- src/calls.rt:13:1
 pub returns-in-Println : goal.returns-in-Println
 returns-in-Println c =
-    instruction_same c.args.program.now c.args.instruction linked.Println c.args.frames (record { thread = c.args.thread; pick = c.args.pick }) c.println.result c.args.shared.now c.println.new.shared c.args.stack.now c.println.new.stack c.in-Println.is (c.println.ensures c.args.program.now c.args.frames)
+    instruction_same c.args.program.now c.args.instruction linked.Println c.args.frames (record { thread = c.args.thread; pick = c.args.pick }) c.println.result c.args.shared.now c.println.new.shared c.args.stack.now c.println.new.stack c.in-Println.is (c.println.ensures c.args.frames)
 
 -- src/calls.rt:13:1
 pub returns-then-pick-eq0 : goal.returns-then-pick-eq0

@@ -15,8 +15,8 @@ pub monitor_exit-requires : goal.monitor_exit-requires
 monitor_exit-requires c = (c.args.program.now, subst (CanRun c.args.program.now c.args.thread c.args.shared.now c.args.stack.now) c.in-MonitorExit.is c.requires.able)
 
 -- src/own.rt:20:1
-pub returns-in-GetSystemOut : goal.returns-in-GetSystemOut
-returns-in-GetSystemOut c = own_same c.args.program.now c.args.instruction linked.GetSystemOut c.args.thread c.get_system_out.result c.args.shared.now c.args.shared.now c.args.stack.now c.get_system_out.new.stack c.in-GetSystemOut.is (c.get_system_out.ensures c.args.program.now c.args.thread c.args.shared.now)
+pub returns-in-GetSystemStream : goal.returns-in-GetSystemStream
+returns-in-GetSystemStream c = own_same c.args.program.now c.args.instruction (linked.GetSystemStream c.in-GetSystemStream.word) c.args.thread c.get_system_stream.result c.args.shared.now c.args.shared.now c.args.stack.now c.get_system_stream.new.stack c.in-GetSystemStream.is (c.get_system_stream.ensures c.args.program.now c.args.thread c.args.shared.now)
 
 -- src/own.rt:20:1
 pub returns-in-LoadElement : goal.returns-in-LoadElement
@@ -44,7 +44,7 @@ returns-in-LoadObject c = own_same c.args.program.now c.args.instruction (linked
 
 -- src/own.rt:20:1
 pub returns-in-New : goal.returns-in-New
-returns-in-New c = own_same c.args.program.now c.args.instruction (linked.New c.in-New.class c.in-New.fields) c.args.thread c.new_object.result c.args.shared.now c.new_object.new.shared c.args.stack.now c.new_object.new.stack c.in-New.is (c.new_object.ensures c.args.program.now c.args.thread)
+returns-in-New c = own_same c.args.program.now c.args.instruction (linked.New c.in-New.class c.in-New.fields c.in-New.cells) c.args.thread c.new_object.result c.args.shared.now c.new_object.new.shared c.args.stack.now c.new_object.new.stack c.in-New.is (c.new_object.ensures c.args.program.now c.args.thread)
 
 -- src/own.rt:20:1
 pub returns-in-NewArray : goal.returns-in-NewArray
@@ -86,5 +86,5 @@ returns-in-ReturnValue c = own_same c.args.program.now c.args.instruction linked
 pub returns-in_default : goal.returns-in_default
 returns-in_default c = λ frames trees bounds inflated state frame rest code site meaning is.
     c.field_instruction.ensures (field_left trees c.args.program.now (offset_in code.starts.items) code.instructions.items site is.shown.place c.args.instruction c.requires.own is.stands.linked
-    c.in_default.not-GetSystemOut c.in_default.not-LoadElement c.in_default.not-StoreInt c.in_default.not-StoreNarrow c.in_default.not-StoreReference c.in_default.not-ArrayLength c.in_default.not-LoadObject c.in_default.not-New c.in_default.not-NewArray c.in_default.not-NewReferenceArray c.in_default.not-CheckCast c.in_default.not-InstanceOf c.in_default.not-Throw c.in_default.not-MonitorEnter c.in_default.not-MonitorExit c.in_default.not-Return c.in_default.not-ReturnValue)
+    c.in_default.not-GetSystemStream c.in_default.not-LoadElement c.in_default.not-StoreInt c.in_default.not-StoreNarrow c.in_default.not-StoreReference c.in_default.not-ArrayLength c.in_default.not-LoadObject c.in_default.not-New c.in_default.not-NewArray c.in_default.not-NewReferenceArray c.in_default.not-CheckCast c.in_default.not-InstanceOf c.in_default.not-Throw c.in_default.not-MonitorEnter c.in_default.not-MonitorExit c.in_default.not-Return c.in_default.not-ReturnValue)
     c.args.thread frames trees bounds inflated state frame rest code site meaning is

@@ -1,0 +1,40 @@
+//! Strings that a run makes.
+
+ghost use Rattle.std.specs.Prelude.{◌≡◌, ◌+◌, ◌<◌, ◌≤◌, ℕ, length, OnOk, IfErr};
+ghost use Rattle.heap.specs.Heap.{made, with_object, IsRefused};
+ghost use Rattle.machine_state.specs.allocations.Allocated.{string_of};
+
+use heap::{AllocRefusal, Heap, ObjectKind};
+use model::built_in::STRING;
+
+/// The limit that stands where more cells are wanted than a heap may have.
+fn full(heap: &Heap) -> AllocRefusal
+    ensures { (count : ℕ) → heap.now.cell_limit < count → IsRefused result count heap.now heap.now }
+{
+    if heap.len().saturating_sub(heap.opening()) < heap.object_limit() {
+        AllocRefusal::Cells
+    } else {
+        AllocRefusal::Objects
+    }
+}
+
+/// A new String with these units, where no limit stands. A refusal says which limit stands, or that there was no
+/// memory; nothing has changed then.
+pub(crate) fn add_string(heap: &mut Heap, units: &[u32]) -> Result<(), AllocRefusal>
+    ensures ok { OnOk result (heap.new ≡ with_object heap.old (string_of units.now) (length units.now)) }
+    ensures opened { OnOk result (heap.old.opening ≤ length heap.old.objects) }
+    ensures objects { OnOk result (made heap.old < heap.old.object_limit) }
+    ensures cells { OnOk result (heap.old.counted + length units.now ≤ heap.old.cell_limit) }
+    ensures err { IfErr result (λ refusal. IsRefused refusal (length units.now) heap.old heap.new) }
+{
+    if units.len() > heap.cell_limit() as usize {
+        return Err(full(heap));
+    }
+    heap.add_words(
+        ObjectKind::Instance {
+            class: STRING as u32,
+        },
+        units,
+        units.len() as u32,
+    )
+}

@@ -1,0 +1,5 @@
+pub mod Rows
+pub mod Named
+pub mod Receiving
+pub mod Calls
+pub mod Instructions
