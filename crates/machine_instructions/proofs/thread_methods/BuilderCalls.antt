@@ -87,7 +87,7 @@ module _ (trees : Program) (p : LinkedProgram) (bounds : Bounds) (inflated : Lis
 
   abbrev pub event : BuilderMethod → SteppedOf (PartOf ℕ)
   event asked =
-      become trees frames t world frame rest (builder_does words (string_reference trees []) asked offset world frame.place.slots ops (drop count frame.place.slots.stack))
+      become words trees frames t world frame rest (builder_does words (string_reference trees []) asked offset world frame.place.slots ops (drop count frame.place.slots.stack))
 
   abbrev pub DoesBy : Result Effect EventRefusal → (new : Shared) → (to : List ShownEntry) → Type 0
   DoesBy result new to = Does trees p bounds inflated t world (model.Invocation frame ∷ rest) (event m) result old new from to
@@ -120,8 +120,8 @@ module _ (trees : Program) (p : LinkedProgram) (bounds : Bounds) (inflated : Lis
         record { shared = refl; stack = refl },
       )
     where
-      null_raises : slice_index_or ops 0 0 ≡ 0 → event ConstructOfString ≡ become trees frames t world frame rest (Raises NullPointer)
-      null_raises e = ap (λ w. become trees frames t world frame rest (builds words (string_reference trees []) (if is_none (word_reference w) then IsNull else Keeps) offset world frame.place.slots ops (drop count frame.place.slots.stack))) e
+      null_raises : slice_index_or ops 0 0 ≡ 0 → event ConstructOfString ≡ become words trees frames t world frame rest (Raises NullPointer)
+      null_raises e = ap (λ w. become words trees frames t world frame rest (builds words (string_reference trees []) (if is_none (word_reference w) then IsNull else Keeps) offset world frame.place.slots ops (drop count frame.place.slots.stack))) e
 
   pub constructs_of : (r word : ℕ) → m ≡ ConstructOfString → r ≡ operand_of 1 from - 1 → word ≡ operand_of 0 from → (word ≡ 0 → ⊥)
       → (heap : Heap) → heap ≡ record old.heap { objects = with_kept old.heap.objects r word }
@@ -141,9 +141,9 @@ module _ (trees : Program) (p : LinkedProgram) (bounds : Bounds) (inflated : Lis
     where
       keeps_it : (w : ℕ) → slice_index_or ops 0 0 ≡ w → (w ≡ 0 → ⊥)
           → event ConstructOfString
-          ≡ become trees frames t world frame rest (builds words (string_reference trees []) Keeps offset world frame.place.slots ops (drop count frame.place.slots.stack))
+          ≡ become words trees frames t world frame rest (builds words (string_reference trees []) Keeps offset world frame.place.slots ops (drop count frame.place.slots.stack))
       keeps_it zero e some = absurd (some refl)
-      keeps_it (suc w) e some = ap (λ v. become trees frames t world frame rest (builds words (string_reference trees []) (if is_none (word_reference v) then IsNull else Keeps) offset world frame.place.slots ops (drop count frame.place.slots.stack))) e
+      keeps_it (suc w) e some = ap (λ v. become words trees frames t world frame rest (builds words (string_reference trees []) (if is_none (word_reference v) then IsNull else Keeps) offset world frame.place.slots ops (drop count frame.place.slots.stack))) e
 
   -- ---- toString
 
@@ -175,7 +175,7 @@ module _ (trees : Program) (p : LinkedProgram) (bounds : Bounds) (inflated : Lis
   text = built_text words world (object_of words ops 1) ++ added m
 
   appended : (asked : BuilderMethod) → appends asked ≡ true
-      → event asked ≡ become trees frames t world frame rest (composed words (built_text words world (object_of words ops 1) ++ added asked) offset world frame.place.slots ops (drop count frame.place.slots.stack))
+      → event asked ≡ become words trees frames t world frame rest (composed words (built_text words world (object_of words ops 1) ++ added asked) offset world frame.place.slots ops (drop count frame.place.slots.stack))
   appended ConstructEmpty h = absurd (false≢true h)
   appended ConstructOfString h = absurd (false≢true h)
   appended AppendString h = refl
@@ -274,7 +274,7 @@ module _ (trees : Program) (p : LinkedProgram) (bounds : Bounds) (inflated : Lis
     abbrev after : PartOf ℕ
     after = part (with_string grown receiver (suc (length world.heap))) own
 
-    event_is : event m ≡ become trees frames t world frame rest (composed words text offset world frame.place.slots ops (drop count frame.place.slots.stack))
+    event_is : event m ≡ become words trees frames t world frame rest (composed words text offset world frame.place.slots ops (drop count frame.place.slots.stack))
     event_is = appended m some
 
     -- a new String is there, and becomes the text

@@ -95,7 +95,7 @@ module _ (trees : Program) (p : LinkedProgram) (bounds : Bounds) (inflated : Lis
   -- ---- the event
 
   abbrev pub event : StringAnswer → SteppedOf (PartOf ℕ)
-  event answer = become trees frames t world frame rest (answered words answer offset world frame.place.slots ops (drop count frame.place.slots.stack))
+  event answer = become words trees frames t world frame rest (answered words answer offset world frame.place.slots ops (drop count frame.place.slots.stack))
 
   abbrev pub DoesBy : StringAnswer → Result Effect EventRefusal → (new : Shared) → (to : List ShownEntry) → Type 0
   DoesBy answer result new to = Does trees p bounds inflated t world (model.Invocation frame ∷ rest) (event answer) result old new from to

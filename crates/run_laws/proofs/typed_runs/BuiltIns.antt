@@ -5,21 +5,22 @@ use Rattle.std.specs.Option.{option_map, is_none}
 use Rattle.std.specs.List.{AllByRecursion, list_any}
 use Rattle.std.proofs.lemmas.Bool.{false≢true, and_parts, and_from, or_cases, or_from, cond_both}
 use Rattle.std.proofs.lemmas.List.{reverse-reverse}
+use Rattle.std.proofs.lemmas.Option.{get_or_from_slice_get}
 use Rattle.model.specs.declared.event.Event.{Event}
 use Rattle.model.specs.declared.value.Value.{Value}
 use Rattle.model.specs.declared.value.Value.TheVariants as value
-use Rattle.model.specs.Names.{Name, Member, java_lang_object, java_lang_string, java_lang_string_builder, java_lang_runnable, java_lang_thread, java_io_print_stream, constructor_name, thread_target, println_int}
+use Rattle.model.specs.Names.{Name, Member, java_lang_object, java_lang_class, java_lang_throwable, java_lang_string, java_lang_string_builder, java_lang_runnable, java_lang_thread, java_io_print_stream, constructor_name, thread_target, throwable_message, throwable_cause, name_eq, println_int}
 use Rattle.model.specs.DescriptorParts.{returns_void}
 use Rattle.model.specs.DescriptorScan.{method_type, field_type, parameters_at, field_at, element_at}
 use Rattle.model.specs.BuiltIn.{built_in_classes}
 use Rattle.model.specs.Classes.{Program}
-use Rattle.model.specs.ReferenceTypes.{ReferenceType, ClassType}
-use Rattle.model.specs.Types.{VerificationType, Unusable, IntType, OfType, UninitialisedThis, is_value_below}
-use Rattle.model.specs.DescribedTypes.{field_declared, verification_type, made_type}
+use Rattle.model.specs.ReferenceTypes.{ReferenceType, ClassType, PrimitiveArray, ReferenceArray, is_assignable}
+use Rattle.model.specs.Types.{VerificationType, Unusable, IntType, OfType, UninitialisedThis, is_value_below, is_object_below}
+use Rattle.model.specs.DescribedTypes.{field_declared, parameters_declared, verification_type, made_type}
 use Rattle.model.specs.Operands.{values, reference_of}
-use Rattle.model.specs.State.{ObjectOf, types_of, Characters, Thread, Frame, World, new_thread}
+use Rattle.model.specs.State.{ObjectOf, type_of, types_of, Characters, Thread, Frame, World, new_thread}
 use Rattle.model.specs.Outcomes.{Cost, OutcomeOf, Makes, Free}
-use Rattle.model.specs.Worlds.{thread_at, allocated, object_at, with_object, with_field, with_interrupted, is_owner, is_alive, is_interrupted, thread_of}
+use Rattle.model.specs.Worlds.{no_object, thread_at, allocated, object_at, with_object, with_field, with_interrupted, is_owner, is_alive, is_interrupted, thread_of}
 use Rattle.model.specs.Frames.{at_offset, at_call}
 use Rattle.model.specs.Sites.{pushing, pushing_at, operand, referent, int_operand}
 use Rattle.model.specs.Calls.{parameter_count, result_types}
@@ -28,18 +29,22 @@ use Rattle.model.specs.declared.string_method.StringMethod.TheVariants.{Length, 
 use Rattle.model.specs.declared.builder_method.BuilderMethod.TheVariants.{ConstructEmpty, ToString}
 use Rattle.model.specs.BuilderMethods as building
 use Rattle.model.specs.BuilderMethods.{Adds, kept_string, built_text, with_string, with_composed, builds}
-use Rattle.model.specs.Opening.{string_reference}
+use Rattle.model.specs.Opening.{string_reference, class_reference}
+use Rattle.model.specs.declared.object_method.ObjectMethod.{ObjectMethod}
+use Rattle.model.specs.declared.object_method.ObjectMethod.TheVariants as object_method
+use Rattle.model.specs.ObjectMethods as telling
+use Rattle.model.specs.ObjectMethods.{ObjectAnswer, HasNoClass, IsOf, class_answer, object_answer, tells, type_at}
 use Rattle.model.specs.StringMethods.{StringAnswer, IsNull, IsOutside, Answers, Same, Composes, string_answer}
 use Rattle.model.specs.Texts.{Text}
 use Rattle.model.specs.BuiltInMethods
 use Rattle.model.specs.declared.print_method.PrintMethod.{PrintMethod}
 use Rattle.model.specs.declared.print_method.PrintMethod.TheVariants.{Println, PrintlnChar, PrintlnInt, PrintlnString, PrintChar, PrintInt, PrintString}
-use Rattle.model.specs.BuiltInMethods.{BuiltInMethod, Construct, ConstructWithTarget, PrintStreamPrints, StringAnswers, StringBuilderBuilds, of_object, of_thread, of_print_stream, of_string, of_string_builder, printed_by, built_in_methods, is_row_of, built_in_does, wait_by, notified, notified_all, if_owner, with_started, start_by, interrupted_on, join_by, bit, with_printed, string_operand, answered, object_of}
-use Rattle.model.specs.Typing.{has_no_receiver, argument_types}
-use Rattle.model.specs.WellTyped.{has_type, is_object_in, are_typed, Ready, Awaits}
+use Rattle.model.specs.BuiltInMethods.{BuiltInMethod, Construct, ConstructWithMessage, ConstructWithCause, ConstructWithTarget, PrintStreamPrints, StringAnswers, StringBuilderBuilds, ObjectAnswers, of_object, constructor_of, of_thread, of_print_stream, of_string, of_string_builder, printed_by, built_in_methods, is_row_of, built_in_does, wait_by, notified, notified_all, if_owner, with_started, start_by, interrupted_on, join_by, bit, with_printed, string_operand, answered, object_of}
+use Rattle.model.specs.Typing.{has_no_receiver, receiver_type, parameter_types, argument_types}
+use Rattle.model.specs.WellTyped.{has_type, is_object_typed, is_object_in, are_typed, Ready, Awaits}
 use Rattle.run_laws.proofs.laws.Lists.{Pairwise, pairs_of, pair_get, get_front}
-use Rattle.run_laws.proofs.laws.Classes.{members_same}
-use Rattle.run_laws.proofs.laws.Order.{Extends, extends_self, has_type_more}
+use Rattle.run_laws.proofs.laws.Classes.{members_same, names_same}
+use Rattle.run_laws.proofs.laws.Order.{Extends, extends_self, has_type_more, assignable_self}
 use Rattle.run_laws.proofs.laws.StringAnswers.{IsOfInt, IsOfString, length_of_int, char_of_int, equals_of_int, hash_of_int, compared_of_int, index_of_int, regions_of_int, concat_of_string, substring_of_string}
 use Rattle.run_laws.proofs.typed_runs.Invariant.{awaits_more}
 use Rattle.run_laws.proofs.typed_runs.Objects.{object_found, added_below}
@@ -52,6 +57,9 @@ use Rattle.run_laws.proofs.typed_runs.WorldChanges.{Keeps, self_keeps, object_ke
 use Rattle.run_laws.proofs.typed_runs.WaitChanges.{notified_keeps, notified_all_keeps, interrupted_on_keeps, waiting_changes, waits_on}
 use Rattle.run_laws.proofs.typed_runs.Builders.{a_builder, Shaped, empty_constructor, string_constructor, append_string, append_int, append_char, append_builder, to_string, string_keeps, composed_keeps, empty_typed}
 use Rattle.run_laws.proofs.typed_runs.Texts.{kept_string_typed}
+use Rattle.run_laws.proofs.typed_runs.Exceptions.{message_typed, cause_typed, changed_keeps}
+use Rattle.run_laws.proofs.typed_runs.OpeningObjects.{class_there}
+use Rattle.run_laws.proofs.typed_runs.Told.{IsIntTold, IsTextTold, a_class, an_object, class_is_there, hash_code, get_class, identity_results, name_results, described_results, hash_told, identity_told, name_told, described_told}
 use Rattle.run_laws.proofs.typed_runs.Called.{Called, BuiltInTyped}
 use Rattle.run_laws.proofs.typed_runs.Instructions.{at_typed, at_there, with_field_typed, with_field_same}
 use Rattle.run_laws.proofs.typed_runs.Callees.{pair_reverse}
@@ -145,11 +153,11 @@ module _ (files : Program) where
   unfolding method_type parameters_at field_at element_at field_type built_in_classes
   char_text_results = refl
 
-  wait_arguments : argument_types files (of_object (codes "wait")) ≡ OfType (ClassType java_lang_object) ∷ []
+  wait_arguments : argument_types files (of_object (codes "wait") (codes "()V")) ≡ OfType (ClassType java_lang_object) ∷ []
   unfolding method_type parameters_at field_at element_at field_type built_in_classes
   wait_arguments = refl
 
-  wait_receiver : has_no_receiver files (of_object (codes "wait")) ≡ false
+  wait_receiver : has_no_receiver files (of_object (codes "wait") (codes "()V")) ≡ false
   unfolding built_in_classes
   wait_receiver = refl
 
@@ -181,6 +189,15 @@ module _ (files : Program) where
   target_type : verification_type files (field_declared thread_target.descriptor) ≡ OfType (made_type files (ClassType java_lang_runnable))
   unfolding field_type field_at element_at
   target_type = refl
+
+  message_parameters : map (verification_type files) (parameters_declared (codes "(Ljava/lang/String;)V")) ≡ a_string
+  unfolding method_type parameters_at field_at element_at field_type built_in_classes
+  message_parameters = refl
+
+  cause_parameters : map (verification_type files) (parameters_declared (codes "(Ljava/lang/String;Ljava/lang/Throwable;)V"))
+      ≡ OfType (ClassType java_lang_string) ∷ OfType (ClassType java_lang_throwable) ∷ []
+  unfolding method_type parameters_at field_at element_at field_type built_in_classes
+  cause_parameters = refl
 
 -- ---- a thread that is started
 
@@ -249,7 +266,7 @@ module _ (files : Program) (linked : Linked files) (event : Event) (w : World) (
   abbrev Typed : BuiltInMethod → Type 0
   Typed b = OutcomeTyped files event.thread w f (built_in_does values files b next event w f.place.slots ops rest)
 
-  waited : method ≡ of_object (codes "wait") → (b interrupted : Bool) → is_owner w event.thread (object_of values ops 0) ≡ b
+  waited : method ≡ of_object (codes "wait") (codes "()V") → (b interrupted : Bool) → is_owner w event.thread (object_of values ops 0) ≡ b
       → OutcomeTyped files event.thread w f (wait_by b interrupted event.thread (object_of values ops 0) w rest)
   waited e false interrupted q = tt
   waited e true true q = tt
@@ -418,6 +435,68 @@ module _ (files : Program) (linked : Linked files) (event : Event) (w : World) (
       carries (a_string files) w (kept_string values (object_at w r) ∷ []) (gives (to_string files) e) (self_keeps files w c.fits)
       (and_from _ _ (kept_string_typed files os (object_at w r) (at_typed files os w.heap r c.fits.heap)) refl)
 
+  -- ---- what an object tells of itself
+
+  abbrev asked : Option ℕ
+  asked = referent values ops 0
+
+  int_told : (a : ObjectAnswer) → result_types files method ≡ IntType ∷ [] → IsIntTold a
+      → OutcomeTyped files event.thread w f (tells values files a next w f.place.slots rest)
+  int_told telling.IsNull e is = tt
+  int_told HasNoClass e is = tt
+  int_told (telling.Answers bits) e is = carries (IntType ∷ []) w (value.Int bits ∷ []) e (self_keeps files w c.fits) refl
+  int_told (IsOf class) e is = absurd is
+  int_told (telling.Composes text) e is = absurd is
+
+  text_told : (a : ObjectAnswer) → result_types files method ≡ a_string files → IsTextTold a
+      → OutcomeTyped files event.thread w f (tells values files a next w f.place.slots rest)
+  text_told telling.IsNull e is = tt
+  text_told HasNoClass e is = tt
+  text_told (telling.Answers bits) e is = absurd is
+  text_told (IsOf class) e is = absurd is
+  text_told (telling.Composes text) e is = composed text e
+
+  -- the Class object of the receiver's class
+  class_told : method ≡ of_object (codes "getClass") (codes "()Ljava/lang/Class;") → Typed (ObjectAnswers object_method.GetClass)
+  class_told e = by (operand values ops 0) (taken (get_class files) e 0)
+    where
+      of_type : (t : ReferenceType) → is_assignable files t (ClassType java_lang_object) ≡ true
+          → OutcomeTyped files event.thread w f (tells values files (class_answer t) next w f.place.slots rest)
+      of_type (ClassType name) h =
+          let r = class_reference files name in
+          let there = c.fits.opened.keeps r (ClassType java_lang_class) (class_there files name (class_is_there files name h)) in
+          carries (a_class ∷ []) w (value.Reference r ∷ []) (gives (get_class files) e) (self_keeps files w c.fits)
+          (and_from _ _ (subst (λ o. is_object_below files (ClassType java_lang_class) o ≡ true) (sym there) (assignable_self files (ClassType java_lang_class))) refl)
+      of_type (PrimitiveArray of) h = tt
+      of_type (ReferenceArray of) h = tt
+
+      by : (v : Value) → is_value_below files (types_of w.heap) (ClassType java_lang_object) v ≡ true
+          → OutcomeTyped files event.thread w f (tells values files (object_answer files object_method.GetClass (reference_of v) (type_at w) (int_operand values ops 0)) next w f.place.slots rest)
+      by value.Unset h = tt
+      by (value.Int bits) h = tt
+      by value.Null h = tt
+      by (value.Reference r) h =
+          let found = object_found files w.heap r (ClassType java_lang_object) h in
+          of_type (type_at w r) (subst (λ o. is_assignable files (type_of o) (ClassType java_lang_object) ≡ true) (sym (get_or_from_slice_get w.heap r found.0 no_object found.1)) found.2)
+
+  object_rows : AllByRecursion (λ (row : Member × BuiltInMethod). method ≡ row.0 → Typed row.1) (drop 37 built_in_methods)
+  object_rows = (
+    λ e. int_told _ (gives (hash_code files) e) (hash_told files (type_at w) (int_operand values ops 0) asked),
+    (
+      class_told,
+      (
+        λ e. int_told _ (ap (result_types files) e ∙ identity_results files) (identity_told files (type_at w) (int_operand values ops 0) asked),
+        (
+          λ e. text_told _ (ap (result_types files) e ∙ name_results files) (name_told files (type_at w) (int_operand values ops 0) asked),
+          (
+            λ e. text_told _ (ap (result_types files) e ∙ described_results files) (described_told files (type_at w) (int_operand values ops 0) (referent values ops 1)),
+            tt,
+          ),
+        ),
+      ),
+    ),
+  )
+
   builder_rows : AllByRecursion (λ (row : Member × BuiltInMethod). method ≡ row.0 → Typed row.1) (drop 30 built_in_methods)
   builder_rows = (
     keeps_empty,
@@ -433,7 +512,7 @@ module _ (files : Program) (linked : Linked files) (event : Event) (w : World) (
               λ e. adds (append_builder files) e _,
               (
                 gives_text,
-                tt,
+                object_rows,
               ),
             ),
           ),
@@ -538,22 +617,71 @@ module _ (files : Program) (linked : Linked files) (event : Event) (w : World) (
     ),
   )
 
-  -- a constructor
-  constructed : returns_void method.descriptor ≡ true → Typed Construct
-  constructed void = carries [] w [] (ap (map (verification_type files)) (returns_nothing method.descriptor void)) (self_keeps files w c.fits) refl
+  -- ---- constructors
+
+  -- an operand of a method with these parameters, whether it has a receiver or not
+  typed_over : (ps : List VerificationType) → parameter_types files method ≡ ps → (k : ℕ) (t : VerificationType)
+      → slice_index_or (reverse ps) k Unusable ≡ t → slice_index_or (reverse (receiver_type method ∷ ps)) k Unusable ≡ t
+      → has_type files (types_of w.heap) t (operand values ops k) ≡ true
+  typed_over ps e k t alone over = by (has_no_receiver files method) refl
+    where
+      by : (b : Bool) → has_no_receiver files method ≡ b → has_type files (types_of w.heap) t (operand values ops k) ≡ true
+      by true q =
+          subst (λ u. has_type files (types_of w.heap) u (operand values ops k) ≡ true) alone
+          (typed_operand ps (ap (λ x. if x then parameter_types files method else receiver_type method ∷ parameter_types files method) q ∙ e) k)
+      by false q =
+          subst (λ u. has_type files (types_of w.heap) u (operand values ops k) ≡ true) over
+          (typed_operand (receiver_type method ∷ ps) (ap (λ x. if x then parameter_types files method else receiver_type method ∷ parameter_types files method) q ∙ ap (λ l. receiver_type method ∷ l) e) k)
+
+  module _ (void : returns_void method.descriptor ≡ true) where
+    sets : (r : ℕ) (change : ObjectOf Value → ObjectOf Value) → ((o : ObjectOf Value) → type_of (change o) ≡ type_of o)
+        → ((o : ObjectOf Value) → is_object_typed files (types_of w.heap) o ≡ true → is_object_typed files (types_of w.heap) (change o) ≡ true)
+        → OutcomeTyped files event.thread w f (pushing next [] (with_object w r (change (object_at w r))) f.place.slots rest)
+    sets r change same typed =
+        carries [] (with_object w r (change (object_at w r))) [] (ap (map (verification_type files)) (returns_nothing method.descriptor void)) (changed_keeps files w c.fits r change same typed) refl
+
+    abbrev os : List ReferenceType
+    os = types_of w.heap
+
+    with_a_message : method.descriptor ≡ codes "(Ljava/lang/String;)V" → Typed ConstructWithMessage
+    with_a_message e =
+        let v = operand values ops 0 in
+        let ps = ap (λ d. map (verification_type files) (parameters_declared d)) e ∙ message_parameters files in
+        let given = typed_over (a_string files) ps 0 (OfType (ClassType java_lang_string)) refl refl in
+        sets (object_of values ops 1) (with_field throwable_message v) (with_field_same throwable_message v) (λ o h. message_typed files os v o given h)
+
+    with_a_cause : method.descriptor ≡ codes "(Ljava/lang/String;Ljava/lang/Throwable;)V" → Typed ConstructWithCause
+    with_a_cause e =
+        let v = operand values ops 0 in
+        let m = operand values ops 1 in
+        let two = OfType (ClassType java_lang_string) ∷ OfType (ClassType java_lang_throwable) ∷ [] in
+        let ps = ap (λ d. map (verification_type files) (parameters_declared d)) e ∙ cause_parameters files in
+        let cause = typed_over two ps 0 (OfType (ClassType java_lang_throwable)) refl refl in
+        let message = typed_over two ps 1 (OfType (ClassType java_lang_string)) refl refl in
+        sets (object_of values ops 2) (λ o. with_field throwable_cause v (with_field throwable_message m o))
+        (λ o. with_field_same throwable_cause v (with_field throwable_message m o) ∙ with_field_same throwable_message m o)
+        (λ o h. cause_typed files os v (with_field throwable_message m o) cause (message_typed files os m o message h))
+
+    constructed : Typed (constructor_of method.descriptor)
+    constructed =
+        let one = codes "(Ljava/lang/String;)V" in
+        let two = codes "(Ljava/lang/String;Ljava/lang/Throwable;)V" in
+        cond_both (name_eq method.descriptor one) _ _ Typed (λ q. with_a_message (names_same method.descriptor one q))
+        (λ q. cond_both (name_eq method.descriptor two) _ _ Typed (λ r. with_a_cause (names_same method.descriptor two r))
+        (λ r. carries [] w [] (ap (map (verification_type files)) (returns_nothing method.descriptor void)) (self_keeps files w c.fits) refl))
 
   walk : (rows : List (Member × BuiltInMethod)) → AllByRecursion (λ (row : Member × BuiltInMethod). method ≡ row.0 → Typed row.1) rows
-      → (list_any (is_row_of method) rows ≡ false → Typed Construct)
-      → Typed (unwrap_or (option_map (λ (row : Member × BuiltInMethod). row.1) (find (is_row_of method) rows)) Construct)
-  walk [] h k = k refl
-  walk (row ∷ rows) h k =
-      cond_both (is_row_of method row) (Some row) (find (is_row_of method) rows) (λ o. Typed (unwrap_or (option_map (λ (r : Member × BuiltInMethod). r.1) o) Construct))
-      (λ q. h.0 (sym (members_same row.0 method q))) (λ q. walk rows h.1 (λ n. k (or_from (is_row_of method row) (list_any (is_row_of method) rows) q n)))
+      → (other : BuiltInMethod) → (list_any (is_row_of method) rows ≡ false → Typed other)
+      → Typed (unwrap_or (option_map (λ (row : Member × BuiltInMethod). row.1) (find (is_row_of method) rows)) other)
+  walk [] h other k = k refl
+  walk (row ∷ rows) h other k =
+      cond_both (is_row_of method row) (Some row) (find (is_row_of method) rows) (λ o. Typed (unwrap_or (option_map (λ (r : Member × BuiltInMethod). r.1) o) other))
+      (λ q. h.0 (sym (members_same row.0 method q))) (λ q. walk rows h.1 other (λ n. k (or_from (is_row_of method row) (list_any (is_row_of method) rows) q n)))
 
   built_in_case : OutcomeTyped files event.thread w
       f (built_in_does values files (BuiltInMethods.built_in_method method) next event w f.place.slots ops rest)
   built_in_case =
-      walk built_in_methods on_rows
+      walk built_in_methods on_rows (constructor_of method.descriptor)
       (λ n. constructed (⊎_elim (λ q. absurd (false≢true (sym n ∙ q))) (λ q. (and_parts _ _ q).1) (or_cases (list_any (is_row_of method) built_in_methods) _ c.machine)))
 
 -- each built-in method brings about what a call of it has to
