@@ -169,10 +169,11 @@ with_form app = with_rule (with_rule (with_rule app (flag (codes "columns"))) (f
 abbrev pub jvm_trace : App
 jvm_trace = with_files (with_program (with_form (with_window (with_schedule (new_app (codes "trace")))))) class_files
 
--- which outcome is to be found, among how many states, in how much memory and how many seconds, and where its schedule is recorded
+-- which outcome is to be found, with how many preemptions, among how many states, in how much memory and how many seconds, and where its schedule is recorded
 abbrev pub with_search_options : App → App
-with_search_options app = with_record (with_rule (with_rule (with_rule (with_rule app
+with_search_options app = with_record (with_rule (with_rule (with_rule (with_rule (with_rule app
     goal_option)
+    (number_option (codes "preemptions") 0 4294967295))
     (number_option (codes "states") 0 4294967295))
     (number_option (codes "memory") 0 4294967295))
     (number_option (codes "seconds") 1 4294967295))
@@ -366,6 +367,7 @@ pub record AreTraceValues (rows : List Row) (trace : Trace) : Type 0 where
 -- the values that the words give to `jvm search`
 pub record AreSearchValues (rows : List Row) (search : Search) : Type 0 where
   pub goal : IsSearchGoal (first_of (codes "for") rows) search.goal
+  pub preemptions : IsNumber 0 4294967295 (first_of (codes "preemptions") rows) search.preemptions
   pub states : IsNumber 0 4294967295 (first_of (codes "states") rows) search.states
   pub memory : IsNumber 0 4294967295 (first_of (codes "memory") rows) search.memory
   pub seconds : IsNumber 1 4294967295 (first_of (codes "seconds") rows) search.seconds

@@ -161,6 +161,8 @@ What it does:
                     feed, \\\\ a backslash, \\uXXXX a UTF-16 unit in hexadecimal
     differs=FILE    a run ended that printed something else than FILE has
   Where it says `search complete`, no other end and no other kind is possible.
+  With --preemptions it follows only schedules that leave a thread which can go on
+  that often at most, few times at first: `search complete within 2 preemptions`.
   `no data race: correctly synchronized` is told where no state is a race. Where
   it gives up, nothing is said.
 

@@ -130,6 +130,9 @@ pub enum TraceForm {
 pub struct Search {
     /// What is to be found, and `None` where all outcomes and kinds are asked for.
     pub goal: Option<SearchGoal>,
+    /// How many preemptions a run may have, and `None` for any number: a preemption is a switch away from a thread that
+    /// may still step.
+    pub preemptions: Option<u32>,
     /// How many states there may be, and `None` for the usual number.
     pub states: Option<u32>,
     /// How many bytes the states that are kept may take, and `None` for the usual number.

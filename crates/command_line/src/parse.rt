@@ -7,7 +7,7 @@ ghost use Rattle.command_line.specs.CommandLine.{AreDisasmValues, AreRunNumbers,
 ghost use Rattle.command_line.specs.Policies.{GoTogether};
 
 use crate::numbers::{
-    BUDGET, FROM, MEMORY, ONLY, QUANTUM, SECONDS, STATES, TO, WHOLE_BUDGET, WORKERS,
+    BUDGET, FROM, MEMORY, ONLY, PREEMPTIONS, QUANTUM, SECONDS, STATES, TO, WHOLE_BUDGET, WORKERS,
     negative_number,
 };
 use crate::options;
@@ -183,6 +183,7 @@ fn search_of(alloc: Global, matches: &ArgMatches<'_>) -> Result<Search, Usage>
         → AreSearchValues (rows_of (found_of matches.now)) search → ⊥)) }
 {
     let goal = search_goal_of(alloc, matches)?;
+    let preemptions = PREEMPTIONS.number(alloc, matches)?;
     let states = STATES.number(alloc, matches)?;
     let memory = MEMORY.number(alloc, matches)?;
     let seconds = SECONDS.number(alloc, matches)?;
@@ -191,6 +192,7 @@ fn search_of(alloc: Global, matches: &ArgMatches<'_>) -> Result<Search, Usage>
     check_search_goal(alloc, matches, &goal)?;
     Ok(Search {
         goal,
+        preemptions,
         states,
         memory,
         seconds,

@@ -16,8 +16,8 @@ use crate::help::{
     SHRINK_PAGE, TRACE_PAGE, VERIFY_PAGE, VERSION,
 };
 use crate::numbers::{
-    AS_VERSION, BUDGET, CELLS, FRAMES, FROM, MEMORY, MONITORS, OBJECTS, ONLY, QUANTUM, SECONDS,
-    STATES, THREADS, TO, WHOLE_BUDGET, WORKERS,
+    AS_VERSION, BUDGET, CELLS, FRAMES, FROM, MEMORY, MONITORS, OBJECTS, ONLY, PREEMPTIONS, QUANTUM,
+    SECONDS, STATES, THREADS, TO, WHOLE_BUDGET, WORKERS,
 };
 use crate::run_arguments::{policy_argument, seed_argument};
 use crate::sweep_arguments::seeds_argument;
@@ -322,6 +322,7 @@ fn with_search_options<'a>(
         → IfOk result (λ whole. IsParser whole (spec.with_search_options app)) }
 {
     let command = with_argument(command, goal_argument(alloc, SEARCH_GOAL_HELP));
+    let command = with_argument(command, PREEMPTIONS.argument(alloc));
     let command = with_argument(command, STATES.argument(alloc));
     let command = with_argument(command, MEMORY.argument(alloc));
     let command = with_argument(command, SECONDS.argument(alloc));

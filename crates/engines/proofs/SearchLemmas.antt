@@ -15,15 +15,15 @@ use Rattle.search.specs.declared.kinds.Goal.{Goal}
 use Rattle.search.specs.declared.search_reports.answers.Answer.TheVariants as answers
 use Rattle.engines.specs.Devices.{fault_of}
 use Rattle.engines.specs.Engines.{IsOfFile}
-use Rattle.engines.specs.Searches.{IsFileOf, IsUnsearched, SearchesPart}
+use Rattle.engines.specs.Searches.{Extent, IsFileOf, IsUnsearched, SearchesPart}
 use Rattle.engines.specs.declared.fault.Fault.{Fault}
 use Rattle.engines.specs.declared.fault.Fault.TheVariants as faults
 use Rattle.engines.specs.declared.recording.RecordForm.{RecordForm}
 
-module _ (form : RecordForm) (lefts : List (Option (List ℕ))) (asked : LimitOptions) (goal : Goal) (may_stop : Bool) (most : ℕ) (recorded : Bool) where
+module _ (form : RecordForm) (lefts : List (Option (List ℕ))) (asked : LimitOptions) (goal : Goal) (may_stop : Bool) (extent : Extent) (recorded : Bool) where
   -- a class file isn't read, and nothing is written
   pub unread_is_unsearched : (fault : Fault) (held : Option (List ℕ)) (kept : Option (List ℕ)) (file : ℕ) → file < length lefts → IsOfFile file fault
-      → IsUnsearched form lefts asked goal may_stop most recorded held held kept kept fault
+      → IsUnsearched form lefts asked goal may_stop extent recorded held held kept kept fault
   unread_is_unsearched faults.Device held kept file within of_file = inl (refl, refl)
   unread_is_unsearched faults.Memory held kept file within of_file = absurd of_file
   unread_is_unsearched (faults.Schedule fault) held kept file within of_file = absurd of_file
@@ -33,7 +33,7 @@ module _ (form : RecordForm) (lefts : List (Option (List ℕ))) (asked : LimitOp
 
   -- the writing stops
   pub part_is_unsearched : (fault : DeviceFault) (old new : Option (List ℕ)) (kept made : Option (List ℕ))
-      → SearchesPart form lefts asked goal may_stop most recorded old new kept made → IsUnsearched form lefts asked goal may_stop most recorded old new kept made (fault_of fault)
+      → SearchesPart form lefts asked goal may_stop extent recorded old new kept made → IsUnsearched form lefts asked goal may_stop extent recorded old new kept made (fault_of fault)
   part_is_unsearched devices.Device old new kept made part = part
   part_is_unsearched devices.Memory old new kept made part = part
 

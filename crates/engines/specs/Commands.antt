@@ -41,7 +41,7 @@ use Rattle.engines.specs.RecordForms.{record_form}
 use Rattle.engines.specs.Recordings.{conditions_of}
 use Rattle.engines.specs.Replays.{IsFaulty, Replays}
 use Rattle.engines.specs.Runs.{IsUnrun, Runs}
-use Rattle.engines.specs.Searches.{IsUnsearched, Searches, most_states}
+use Rattle.engines.specs.Searches.{IsUnsearched, Searches, extent_of}
 use Rattle.engines.specs.Placings.{IsPlacesDone, IsPlacesUndone}
 use Rattle.engines.specs.Shrinks.{IsShrinkDone, IsShrinkUndone}
 use Rattle.engines.specs.Sweeps.{IsUnswept, SweepsOver}
@@ -282,14 +282,14 @@ pub record IsSearchDone (held : Held) (given : ℕ) (lefts : List (Option (List 
   pub goal : SearchesFor
   pub asked : IsSearchedFor held search.goal goal
   pub file : Option (List ℕ)
-  pub searches : Searches (record_form given search.as_version) lefts search.limits goal (is_some search.seconds) (most_states search) (is_some search.record) text file status
+  pub searches : Searches (record_form given search.as_version) lefts search.limits goal (is_some search.seconds) (extent_of search) (is_some search.record) text file status
   pub recorded : written ≡ written_at search.record file
 
 pub record IsSearchUndone (held : Held) (given : ℕ) (lefts : List (Option (List ℕ))) (search : Search) (old new : Option (List ℕ)) (fault : Fault) (written : Written) : Type 0 where
   pub goal : SearchesFor
   pub asked : IsSearchedFor held search.goal goal
   pub file : Option (List ℕ)
-  pub unsearched : IsUnsearched (record_form given search.as_version) lefts search.limits goal (is_some search.seconds) (most_states search) (is_some search.record) old new None file fault
+  pub unsearched : IsUnsearched (record_form given search.as_version) lefts search.limits goal (is_some search.seconds) (extent_of search) (is_some search.record) old new None file fault
   pub recorded : (written ≡ None) ⊎ (written ≡ written_at search.record file)
 
 -- ---- verify and disasm

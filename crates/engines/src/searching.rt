@@ -6,7 +6,7 @@ ghost use Rattle.std.specs.Io.KnownBytes.{Appends};
 ghost use Rattle.model.specs.Accepted.{IsAccepted};
 ghost use Rattle.engines.specs.Engines.{CountsFailure};
 ghost use Rattle.engines.specs.RecordForms.{record_form, recorded_as};
-ghost use Rattle.engines.specs.Searches.{IsFileOf, IsSearched, IsUnsearched, Searches, most_states};
+ghost use Rattle.engines.specs.Searches.{IsFileOf, IsSearched, IsUnsearched, Searches, extent_of, most_states};
 
 use crate::class_files::read_class_files;
 use crate::fault::Fault;
@@ -17,7 +17,7 @@ use crate::verification::accepted;
 use command_line::Search;
 use model::{Limits, Sink, Source};
 use program_runs::verified_programs::verified_program;
-use search::search_reports::{Answer, search_report};
+use search::search_reports::{Answer, report_by};
 use search::{Goal, Progress, states_within};
 use std::alloc::{AllocError, Global};
 use verifier::Verified;
@@ -46,12 +46,12 @@ pub fn search_engine<P: Progress, S: Source, W: Sink>(
     ensures searched { IfOk result (λ status. (text : _)
         × Searches (record_form given options.now.as_version)
         (map S.remaining files.old) options.now.limits goal.now (P.may_stop progress.now)
-        (most_states options.now) (is_some options.now.record) text (option_map vec_items file.new) status
+        (extent_of options.now) (is_some options.now.record) text (option_map vec_items file.new) status
         × Appends (W.contents report.old) (W.contents report.new) text) }
     ensures faulty { IfErr result
         (IsUnsearched (record_form given options.now.as_version)
         (map S.remaining files.old) options.now.limits goal.now (P.may_stop progress.now)
-        (most_states options.now) (is_some options.now.record) (W.contents report.old) (W.contents report.new)
+        (extent_of options.now) (is_some options.now.record) (W.contents report.old) (W.contents report.new)
         (option_map vec_items file.old) (option_map vec_items file.new)) }
     ensures counted { CountsFailure result
         (sum_by S.failures files.old + W.failures report.old)
@@ -80,7 +80,7 @@ fn searched<P: Progress>(
     ensures { IfOk result (λ searched.
         IsSearched (record_form given options.now.as_version)
         (map vec_items files.now) options.now.limits goal.now (P.may_stop progress.now)
-        (most_states options.now) (is_some options.now.record) searched.text.items
+        (extent_of options.now) (is_some options.now.record) searched.text.items
         (option_map vec_items searched.file) searched.status) }
 {
     search_of(alloc, progress, &verified, files, given, options, goal)
@@ -100,14 +100,17 @@ fn search_of<P: Progress>(
     ensures { IfOk result (λ searched.
         IsSearched (record_form given options.now.as_version)
         (map vec_items files.now) options.now.limits goal.now (P.may_stop progress.now)
-        (most_states options.now) (is_some options.now.record) searched.text.items
+        (extent_of options.now) (is_some options.now.record) searched.text.items
         (option_map vec_items searched.file) searched.status) }
 {
     let limits = options.limits.limits();
     let program = verified_program(alloc, verified)?;
     let linked = verified.linked();
     let most = most_states(options);
-    let searched = search_report(alloc, progress, linked, program, limits, goal, most)?;
+    let preemptions = options.preemptions;
+    let searched = report_by(
+        alloc, progress, linked, program, limits, goal, most, preemptions,
+    )?;
     let text = searched.text(alloc)?;
     let is_recorded = options.record.is_some();
     let form = RecordForm {
@@ -151,6 +154,6 @@ fn found_file(
             limits,
             schedule,
         ),
-        Answer::Complete(_, _) | Answer::GaveUp => Ok(None),
+        Answer::Complete(_, _) | Answer::Within(_, _, _) | Answer::GaveUp => Ok(None),
     }
 }

@@ -11,5 +11,6 @@ pub mod Visits
 pub mod Walks
 pub mod local_runs
 pub mod met_states
+pub mod preemptions
 pub mod run_outcomes
 pub mod search_reports

@@ -72,6 +72,7 @@ pub mod local_runs;
 mod machines;
 pub mod met_states;
 mod own_edges;
+pub mod preemptions;
 mod progress;
 pub mod run_outcomes;
 pub mod search_reports;

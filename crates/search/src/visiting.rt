@@ -88,7 +88,7 @@ fn is_outcome_found(
 }
 
 /// Lists what a state shows, unless it is to be found: then the answer is true. The only error is a want of memory.
-fn is_found(
+pub(crate) fn is_found(
     asked: &Asked<'_>,
     seen: &mut Seen,
     outcome: Option<Outcome>,

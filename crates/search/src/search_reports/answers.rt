@@ -1,7 +1,7 @@
 //! The text of what a search answers.
 
 ghost use Rattle.std.specs.Prelude.{◌≡◌, ◌++◌, IfOk, OnOk};
-ghost use Rattle.search.specs.search_reports.Reports.{answer_word, found_text, kind_lines, line_if, race_line, scope_text, search_text};
+ghost use Rattle.search.specs.search_reports.Reports.{answer_line, found_text, kind_lines, line_if, race_line, scope_text, search_text};
 
 use crate::kinds::Kinds;
 use crate::run_outcomes::Outcomes;
@@ -20,6 +20,9 @@ pub enum Answer {
     Found(Schedule, Report, End),
     /// The outcomes of all runs that end, and the kinds of the states that any run comes to. None is to be found.
     Complete(Outcomes, Kinds),
+    /// The outcomes of all runs that end with at most so many preemptions, and kinds of the states that some of these
+    /// comes to. None is to be found.
+    Within(Outcomes, Kinds, u32),
     /// Nothing.
     GaveUp,
 }
@@ -65,7 +68,7 @@ fn push_found(alloc: Global, text: &mut Vec<u8>, answer: &Answer) -> Result<(), 
             text.extend_from_slice(&lines)?;
             Ok(())
         }
-        Answer::Complete(outcomes, kinds) => {
+        Answer::Complete(outcomes, kinds) | Answer::Within(outcomes, kinds, _) => {
             push_outcomes(alloc, text, outcomes)?;
             push_kinds(text, *kinds)
         }
@@ -96,20 +99,23 @@ fn push_scope(text: &mut Vec<u8>, answer: &Answer, own_edges: bool) -> Result<()
             push_line(text, b"of runs that end")?;
             push_races(text, *kinds, own_edges)
         }
+        Answer::Within(_, _, _) => push_line(text, b"of runs that end"),
         Answer::Found(_, _, _) | Answer::GaveUp => Ok(()),
     }
 }
 
-impl Answer {
-    /// What the answer is, in a word or two.
-    fn word(&self) -> &str
-        ensures { result.now ≡ answer_word self.now }
-    {
-        match self {
-            Answer::Found(_, _, _) => "found",
-            Answer::Complete(_, _) => "complete",
-            Answer::GaveUp => "gave up",
+/// The last line, which says what the answer is.
+fn push_answer(alloc: Global, text: &mut Vec<u8>, answer: &Answer) -> Result<(), AllocError>
+    ensures { OnOk result (text.new.items ≡ text.old.items ++ answer_line answer.now) }
+{
+    match answer {
+        Answer::Found(_, _, _) => push_line(text, b"search found"),
+        Answer::Complete(_, _) => push_line(text, b"search complete"),
+        Answer::Within(_, _, count) => {
+            let line = format!(in alloc; "search complete within {count} preemptions")?;
+            push_line(text, line.as_bytes())
         }
+        Answer::GaveUp => push_line(text, b"search gave up"),
     }
 }
 
@@ -119,8 +125,9 @@ impl SearchReport {
     /// the threads as a report has them, behind these a line `outcomes` with their number, and a line `kind` for each
     /// kind that some run shows, in the order `race`, `uncaught`, `deadlock`, `endless`. Then come a line `states` with
     /// their number; where all outcomes are known, a line `of runs that end`, and one that there is no data race, if
-    /// there is none; and a line `search` with `found`, `complete` or `gave up`. Outcomes are of runs that end, kinds
-    /// of all. Each line ends with a line feed. The only error is a want of memory.
+    /// there is none; and a line `search` with `found`, `complete`, `complete within N preemptions` or `gave up`. Outcomes
+    /// are of runs that end, kinds of all. Within so many preemptions nothing is said of races that aren't there. Each line
+    /// ends with a line feed. The only error is a want of memory.
     pub fn text(&self, alloc: Global) -> Result<Vec<u8>, AllocError>
         ensures { IfOk result (λ v. v.items ≡ search_text self.now.answer self.now.own_edges self.now.states) }
     {
@@ -129,8 +136,7 @@ impl SearchReport {
         push_found(alloc, &mut text, &self.answer)?;
         push_line(&mut text, format!(in alloc; "states {states}")?.as_bytes())?;
         push_scope(&mut text, &self.answer, self.own_edges)?;
-        let word = self.answer.word();
-        push_line(&mut text, format!(in alloc; "search {word}")?.as_bytes())?;
+        push_answer(alloc, &mut text, &self.answer)?;
         Ok(text)
     }
 }

@@ -4,7 +4,7 @@ use Rattle.std.proofs.lemmas.List.{length-map}
 use Rattle.model.specs.Classes.{Program}
 use Rattle.machine.specs.Machines.{IsProgramOf}
 use Rattle.search.specs.OwnEdges.{names_own_edges}
-use Rattle.search.specs.search_reports.Answers.{Answers}
+use Rattle.search.specs.search_reports.Answers.{AnswersBy}
 use Rattle.search.specs.search_reports.Reports.{search_text}
 use Rattle.std.specs.Option.{option_map}
 use Rattle.engines.specs.RecordForms.{record_form, recorded_as}
@@ -12,8 +12,8 @@ use Rattle.engines.specs.Searches.{IsFileOf}
 use Rattle.engines.proofs.RunLemmas.{few_files}
 use Rattle.engines.proofs.searching.search_of.Goals as goal
 
-pub search_report-requires : goal.search_report-requires
-search_report-requires g c =
+pub report_by-requires : goal.report_by-requires
+report_by-requires g c =
     subst (λ (t : Program). IsProgramOf t (arc_value c.in_ok-program.program)) (sym c.linked-linked.ensures.same) c.in_ok-program.ensures
 
 pub found_file-requires : goal.found_file-requires
@@ -23,7 +23,8 @@ pub returns : goal.returns
 returns g c =
     let found = c.in_ok-searched.searched in
     let most = c.most_states-most.ensures in
-    let answers = subst (λ (t : Program). Answers t c.limits-limits.result c.args.goal.now (g.P.Progress.may_stop c.args.progress.now) c.most_states-most.result found.states found.answer) c.linked-linked.ensures.same c.in_ok-searched.ensures.answers in
+    let preemptions = c.args.options.now.preemptions in
+    let answers = subst (λ (t : Program). AnswersBy t c.limits-limits.result c.args.goal.now (g.P.Progress.may_stop c.args.progress.now) preemptions c.most_states-most.result found.states found.answer) c.linked-linked.ensures.same c.in_ok-searched.ensures.answers in
     record {
       trees = c.args.verified.now;
       accepted = c.requires;
@@ -31,7 +32,7 @@ returns g c =
       chosen = c.limits-limits.ensures;
       answer = found.answer;
       states = found.states;
-      answers = subst (λ m. Answers c.args.verified.now c.limits-limits.result c.args.goal.now (g.P.Progress.may_stop c.args.progress.now) m found.states found.answer) most answers;
+      answers = subst (λ m. AnswersBy c.args.verified.now c.limits-limits.result c.args.goal.now (g.P.Progress.may_stop c.args.progress.now) preemptions m found.states found.answer) most answers;
       few = subst (λ m. 1 ≤ m → found.states ≤ m) most c.in_ok-searched.ensures.few;
       told =
           c.in_ok-text.ensures
