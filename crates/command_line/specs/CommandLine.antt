@@ -27,6 +27,7 @@ use Rattle.command_line.specs.declared.options.Disasm.{Disasm}
 use Rattle.command_line.specs.declared.options.Goal.{Goal}
 use Rattle.command_line.specs.declared.options.LimitOptions.{LimitOptions}
 use Rattle.command_line.specs.declared.options.Places.{Places}
+use Rattle.command_line.specs.declared.options.Races.{Races}
 use Rattle.command_line.specs.declared.options.Replay.{Replay}
 use Rattle.command_line.specs.declared.options.Run.{Run}
 use Rattle.command_line.specs.declared.options.Schedule.{Schedule}
@@ -169,6 +170,10 @@ with_form app = with_rule (with_rule (with_rule app (flag (codes "columns"))) (f
 abbrev pub jvm_trace : App
 jvm_trace = with_files (with_program (with_form (with_window (with_schedule (new_app (codes "trace")))))) class_files
 
+-- under which schedule, and over which class files
+abbrev pub jvm_races : App
+jvm_races = with_files (with_program (with_schedule (new_app (codes "races")))) class_files
+
 -- which outcome is to be found, among how many states, in how much memory and how many seconds, and where its schedule is recorded
 abbrev pub with_search_options : App → App
 with_search_options app = with_record (with_rule (with_rule (with_rule (with_rule app
@@ -219,10 +224,11 @@ with_version shape = record shape { has_version = true; subcommand_required = tr
 
 -- all subcommands
 abbrev pub with_subcommands : App → App
-with_subcommands app = with_subcommand (with_subcommand (with_subcommand (with_subcommand (with_subcommand (with_subcommand (with_subcommand (with_subcommand app
+with_subcommands app = with_subcommand (with_subcommand (with_subcommand (with_subcommand (with_subcommand (with_subcommand (with_subcommand (with_subcommand (with_subcommand app
     jvm_run.top)
     jvm_replay.top)
     jvm_trace.top)
+    jvm_races.top)
     jvm_search.top)
     jvm_shrink.top)
     jvm_verify.top)
@@ -363,6 +369,17 @@ pub record AreTraceValues (rows : List Row) (trace : Trace) : Type 0 where
   pub quiet : trace.quiet ≡ is_set (first_of (codes "quiet") rows)
   pub files_alone : trace.files_alone ≡ is_set (first_of (codes "files-alone") rows)
 
+-- the values that the words give to `jvm races`
+pub record AreRacesValues (rows : List Row) (races : Races) : Type 0 where
+  pub schedule : first_of (codes "schedule") rows ≡ Some (string_bytes races.schedule)
+  pub any_files : races.any_files ≡ is_set (first_of (codes "any-files") rows)
+  pub limits : AreLimitNumbers rows races.limits
+  pub main : first_of (codes "main") rows ≡ option_map string_bytes races.main
+  pub files : all_of (codes "files") rows ≡ Some (map string_bytes races.files.items)
+  pub explain : races.explain ≡ is_set (first_of (codes "explain") rows)
+  pub quiet : races.quiet ≡ is_set (first_of (codes "quiet") rows)
+  pub files_alone : races.files_alone ≡ is_set (first_of (codes "files-alone") rows)
+
 -- the values that the words give to `jvm search`
 pub record AreSearchValues (rows : List Row) (search : Search) : Type 0 where
   pub goal : IsSearchGoal (first_of (codes "for") rows) search.goal
@@ -453,6 +470,7 @@ abbrev pub name_of : Command → Text
 name_of (commands.Run run) = codes "run"
 name_of (commands.Replay replay) = codes "replay"
 name_of (commands.Trace trace) = codes "trace"
+name_of (commands.Races races) = codes "races"
 name_of (commands.Search search) = codes "search"
 name_of (commands.Shrink shrink) = codes "shrink"
 name_of (commands.Verify verify) = codes "verify"
@@ -465,6 +483,7 @@ abbrev pub AreValuesOf : List Row → Command → Type 0
 AreValuesOf rows (commands.Run run) = AreRunValues rows run
 AreValuesOf rows (commands.Replay replay) = AreValues rows replay
 AreValuesOf rows (commands.Trace trace) = AreTraceValues rows trace
+AreValuesOf rows (commands.Races races) = AreRacesValues rows races
 AreValuesOf rows (commands.Search search) = AreSearchValues rows search
 AreValuesOf rows (commands.Shrink shrink) = AreShrinkValues rows shrink
 AreValuesOf rows (commands.Verify verify) = AreVerifyValues rows verify

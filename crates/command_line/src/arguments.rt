@@ -2,10 +2,9 @@
 
 ghost use Rattle.std.specs.Prelude.{◌≡◌, codes, false};
 ghost use Rattle.clap.specs.Words.{rule_of};
-ghost use Rattle.command_line.specs.CommandLine.{alone_flag, class_files, flag, goal_option, main_option, number_option, path_option, record_option, required_goal_option, schedule_option};
+ghost use Rattle.command_line.specs.CommandLine.{alone_flag, class_files, flag, goal_option, main_option, path_option, record_option, required_goal_option, schedule_option};
 
 use crate::help::OUTCOME_HELP;
-use clap::builder::ValueParser;
 use clap::{Arg, ArgAction};
 use std::alloc::Global;
 
@@ -47,12 +46,11 @@ pub(crate) fn main_argument<'a>(alloc: Global) -> Arg<'a>
     ensures rule { rule_of result ≡ main_option }
     ensures local { result.global ≡ false }
 {
-    value_argument(
-        alloc,
-        "main",
-        "NAME",
-        "The class whose main method is run, as bank.Main or bank/Main",
-    )
+    Arg::new(alloc, "main")
+        .long("main")
+        .value_name("NAME")
+        .action(ArgAction::Set)
+        .help("The class whose main method is run, as bank.Main or bank/Main")
 }
 
 /// That no class is added from the library.
@@ -80,7 +78,11 @@ pub(crate) fn goal_argument<'a>(alloc: Global, help: &'a str) -> Arg<'a>
     ensures rule { rule_of result ≡ goal_option }
     ensures local { result.global ≡ false }
 {
-    value_argument(alloc, "for", "OUTCOME", help)
+    Arg::new(alloc, "for")
+        .long("for")
+        .value_name("OUTCOME")
+        .action(ArgAction::Set)
+        .help(help)
 }
 
 /// The class files, one or more.
@@ -101,42 +103,10 @@ pub(crate) fn path_argument<'a>(alloc: Global, name: &'a str, help: &'a str) -> 
     ensures rule { rule_of result ≡ path_option name.now }
     ensures local { result.global ≡ false }
 {
-    value_argument(alloc, name, "FILE", help)
-}
-
-/// An option that takes any text, by the name that help has for what the text is.
-pub(crate) fn value_argument<'a>(
-    alloc: Global,
-    name: &'a str,
-    value: &'a str,
-    help: &'a str,
-) -> Arg<'a>
-    ensures rule { rule_of result ≡ path_option name.now }
-    ensures local { result.global ≡ false }
-{
     Arg::new(alloc, name)
         .long(name)
-        .value_name(value)
+        .value_name("FILE")
         .action(ArgAction::Set)
-        .help(help)
-}
-
-/// An option that takes a number, within these two.
-pub(crate) fn number_argument<'a>(
-    alloc: Global,
-    name: &'a str,
-    least: u64,
-    most: u64,
-    help: &'a str,
-) -> Arg<'a>
-    ensures rule { rule_of result ≡ number_option name.now least most }
-    ensures local { result.global ≡ false }
-{
-    Arg::new(alloc, name)
-        .long(name)
-        .value_name("NUMBER")
-        .action(ArgAction::Set)
-        .value_parser(ValueParser::unsigned(least, most))
         .help(help)
 }
 

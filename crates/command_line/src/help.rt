@@ -141,6 +141,31 @@ Statuses:
 Example:
   jvm trace --schedule a.schedule --from 100 --to 120 A.class";
 
+/// What stands below the options of `races`.
+pub(crate) const RACES_PAGE: &str = "\
+What it does:
+  Runs class files under a schedule as `jvm replay` does, and tells each data race
+  of the run on a line: the variable, and the two accesses of it, at least one of
+  them a write, that nothing orders. A lock, a start, a join, a volatile variable
+  and the like order what stands before them and what comes behind. A race is told
+  once for a variable, its two places and its two threads. Behind the lines it
+  prints the report. A run without a race says nothing of other runs of the same
+  class files: of all of them tells `jvm search`. Of the words of a schedule, and of
+  places among them, tells `jvm replay --help`.
+
+Statuses:
+  0  all threads have ended, and there is no race
+  1  there is a race; or all threads have ended, some by an exception
+  2  a class file or the schedule is refused
+  3  an event was not enabled, or was refused for a limit, or a place gave up; or
+     memory was missing
+  4  nothing can go on, and a thread hasn't ended, and there is no race
+  5  the schedule is used up, and a thread can go on, and there is no race
+  6  the command is wrong, or a file can't be read, or the output not written
+
+Example:
+  jvm races --schedule a.schedule A.class";
+
 /// What stands below the options of `search`.
 pub(crate) const SEARCH_PAGE: &str = "\
 What it does:

@@ -50,8 +50,8 @@ mod usage;
 mod values;
 
 pub use options::{
-    Command, Disasm, Goal, LimitOptions, Places, Replay, Run, Schedule, Search, SearchGoal, Shrink,
-    ThenRun, Trace, TraceForm, Verify,
+    Command, Disasm, Goal, LimitOptions, Places, Races, Replay, Run, Schedule, Search, SearchGoal,
+    Shrink, ThenRun, Trace, TraceForm, Verify,
 };
 pub use parse::command;
 pub use paths::{is_absolute, is_same_path, steps_of};

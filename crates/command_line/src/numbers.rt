@@ -7,10 +7,10 @@ ghost use Rattle.clap.specs.Words.{first_of, found_of, rows_of, rule_of};
 ghost use Rattle.command_line.specs.CommandLine.{AreNumbers, AreNumerals, Asks, IsNumber, Refuses, number_option, parts_of, path_option};
 ghost use Rattle.command_line.specs.Numerals.{IsNumeralWithin};
 
-use crate::arguments::{number_argument, value_argument};
 use crate::run_arguments::SEED;
 use crate::usage::Usage;
-use clap::{Arg, ArgMatches};
+use clap::builder::ValueParser;
+use clap::{Arg, ArgAction, ArgMatches};
 use std::alloc::{AllocError, Global};
 
 /// An option that takes a number: its name, its range, and what its help says.
@@ -140,13 +140,12 @@ impl NumberOption {
         ensures rule { rule_of result ≡ number_option self.name.now self.least self.most }
         ensures local { result.global ≡ false }
     {
-        number_argument(
-            alloc,
-            self.name,
-            u64::from(self.least),
-            u64::from(self.most),
-            self.help,
-        )
+        Arg::new(alloc, self.name)
+            .long(self.name)
+            .value_name("NUMBER")
+            .action(ArgAction::Set)
+            .value_parser(ValueParser::unsigned(u64::from(self.least), u64::from(self.most)))
+            .help(self.help)
     }
 
     /// The option, for the parser, where it takes numbers with commas between them. The parser takes any text for them.
@@ -154,7 +153,11 @@ impl NumberOption {
         ensures rule { rule_of result ≡ path_option self.name.now }
         ensures local { result.global ≡ false }
     {
-        value_argument(alloc, self.name, "NUMBER", self.help)
+        Arg::new(alloc, self.name)
+            .long(self.name)
+            .value_name("NUMBER")
+            .action(ArgAction::Set)
+            .help(self.help)
     }
 
     /// Its number among what the parser found, and `None` where it isn't there.

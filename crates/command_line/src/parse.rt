@@ -3,7 +3,7 @@
 ghost use Rattle.std.specs.Prelude.{◌≡◌, ◌⊎◌, List, codes, map, string_bytes, IfOk, IfErr, MatchOption};
 ghost use Rattle.clap.specs.Words.{HasMatchesOf, first_of, found_of, kind_of, rows_of, Text};
 ghost use Rattle.clap.specs.declared.error.kind.ErrorKind.TheVariants.{UnknownArgument as unknown_argument};
-ghost use Rattle.command_line.specs.CommandLine.{AreDisasmValues, AreRunNumbers, AreRunValues, AreSearchValues, AreShrinkValues, AreTraceValues, AreValues, AreValuesOf, AreVerifyValues, Asks, Fails, IsRequiredGoal, IsThenRun, IsTraceForm, Refuses, Spells, UnlessSweep, jvm, name_of, usage_of};
+ghost use Rattle.command_line.specs.CommandLine.{AreDisasmValues, AreRacesValues, AreRunNumbers, AreRunValues, AreSearchValues, AreShrinkValues, AreTraceValues, AreValues, AreValuesOf, AreVerifyValues, Asks, Fails, IsRequiredGoal, IsThenRun, IsTraceForm, Refuses, Spells, UnlessSweep, jvm, name_of, usage_of};
 ghost use Rattle.command_line.specs.Policies.{GoTogether};
 
 use crate::numbers::{
@@ -12,7 +12,7 @@ use crate::numbers::{
 };
 use crate::options;
 use crate::options::{
-    Disasm, Goal, Replay, Run, Search, Shrink, ThenRun, Trace, TraceForm, Verify,
+    Disasm, Goal, Races, Replay, Run, Search, Shrink, ThenRun, Trace, TraceForm, Verify,
 };
 use crate::parsers::program;
 use crate::paths::{check_file, check_goal, check_search_goal};
@@ -65,6 +65,7 @@ fn named_command_of(
         "run" => Ok(options::Command::Run(run_of(alloc, matches)?)),
         "replay" => Ok(options::Command::Replay(replay_of(alloc, matches)?)),
         "trace" => Ok(options::Command::Trace(trace_of(alloc, matches)?)),
+        "races" => Ok(options::Command::Races(races_of(alloc, matches)?)),
         "search" => Ok(options::Command::Search(search_of(alloc, matches)?)),
         "shrink" => Ok(options::Command::Shrink(shrink_of(alloc, matches)?)),
         "verify" => Ok(options::Command::Verify(verify_of(alloc, matches)?)),
@@ -168,6 +169,25 @@ fn trace_of(alloc: Global, matches: &ArgMatches<'_>) -> Result<Trace, Usage>
         only,
         form,
         summary: is_set(matches, "summary"),
+        limits: program.limits,
+        main: program.main,
+        files: program.files,
+        explain: program.explain,
+        quiet: program.quiet,
+        files_alone: program.files_alone,
+    })
+}
+
+fn races_of(alloc: Global, matches: &ArgMatches<'_>) -> Result<Races, Usage>
+    ensures values { IfOk result (AreRacesValues (rows_of (found_of matches.now))) }
+    ensures none { IfErr result (λ usage. Refuses usage ((races : _)
+        → AreRacesValues (rows_of (found_of matches.now)) races → ⊥)) }
+{
+    let schedule = required_path_of(alloc, matches, "schedule")?;
+    let program = program_options_of(alloc, matches)?;
+    Ok(Races {
+        schedule,
+        any_files: is_set(matches, "any-files"),
         limits: program.limits,
         main: program.main,
         files: program.files,

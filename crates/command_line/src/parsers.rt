@@ -3,7 +3,7 @@
 ghost use Rattle.std.specs.Prelude.{◌≡◌, false, IfOk, IfErr};
 ghost use Rattle.clap.specs.Words.{App, Rule, app_of, kind_of, new_app, rule_of, with_rule, with_subcommand};
 ghost use Rattle.clap.specs.declared.error.kind.ErrorKind.TheVariants.{OutOfMemory as no_memory};
-ghost use Rattle.command_line.specs.CommandLine.{IsParser, class_files, jvm, jvm_disasm, jvm_replay, jvm_run, jvm_schedule, jvm_search, jvm_shrink, jvm_trace, jvm_verify};
+ghost use Rattle.command_line.specs.CommandLine.{IsParser, class_files, jvm, jvm_disasm, jvm_races, jvm_replay, jvm_run, jvm_schedule, jvm_search, jvm_shrink, jvm_trace, jvm_verify};
 ghost use Rattle.command_line.specs.CommandLine as spec;
 
 use crate::arguments::{
@@ -11,9 +11,9 @@ use crate::arguments::{
     main_argument, path_argument, record_argument, required_goal_argument, schedule_argument,
 };
 use crate::help::{
-    ABOUT, AFTER, DISASM_PAGE, FILES_HELP, LISTED_HELP, OUTCOME_HELP, RECORD_HELP, REPLAY_PAGE,
-    RUN_PAGE, RUN_RECORD_HELP, SCHEDULE_HELP, SCHEDULE_PAGE, SEARCH_GOAL_HELP, SEARCH_PAGE,
-    SHRINK_PAGE, TRACE_PAGE, VERIFY_PAGE, VERSION,
+    ABOUT, AFTER, DISASM_PAGE, FILES_HELP, LISTED_HELP, OUTCOME_HELP, RACES_PAGE, RECORD_HELP,
+    REPLAY_PAGE, RUN_PAGE, RUN_RECORD_HELP, SCHEDULE_HELP, SCHEDULE_PAGE, SEARCH_GOAL_HELP,
+    SEARCH_PAGE, SHRINK_PAGE, TRACE_PAGE, VERIFY_PAGE, VERSION,
 };
 use crate::numbers::{
     AS_VERSION, BUDGET, CELLS, FRAMES, FROM, MEMORY, MONITORS, OBJECTS, ONLY, QUANTUM, SECONDS,
@@ -47,6 +47,7 @@ fn with_parsers<'a>(
     let program = with_parser(program, run_parser(alloc))?;
     let program = with_parser(program, replay_parser(alloc))?;
     let program = with_parser(program, trace_parser(alloc))?;
+    let program = with_parser(program, races_parser(alloc))?;
     let program = with_parser(program, search_parser(alloc))?;
     let program = with_parser(program, shrink_parser(alloc))?;
     let program = with_parser(program, verify_parser(alloc))?;
@@ -122,6 +123,20 @@ fn trace_parser<'a>(alloc: Global) -> Result<clap::Command<'a>, AllocError>
     let trace = with_form(alloc, trace);
     let trace = with_program(alloc, trace);
     with_files(alloc, trace, FILES_HELP)
+}
+
+fn races_parser<'a>(alloc: Global) -> Result<clap::Command<'a>, AllocError>
+    ensures { IfOk result (λ races. IsParser races jvm_races) }
+{
+    let races = Ok(titled(
+        alloc,
+        "races",
+        "Runs class files under the schedule of a file, and tells the data races of the run",
+        RACES_PAGE,
+    ));
+    let races = with_schedule(alloc, races);
+    let races = with_program(alloc, races);
+    with_files(alloc, races, FILES_HELP)
 }
 
 fn search_parser<'a>(alloc: Global) -> Result<clap::Command<'a>, AllocError>

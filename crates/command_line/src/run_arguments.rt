@@ -8,10 +8,10 @@ ghost use Rattle.command_line.specs.CommandLine.{IsNumber, Refuses, number_optio
 ghost use Rattle.command_line.specs.Numerals.{IsNumeralWithin};
 ghost use Rattle.command_line.specs.Policies.{IsPolicy, IsPolicyWord};
 
-use crate::arguments::{number_argument, value_argument};
 use crate::run_options::PolicyName;
 use crate::usage::Usage;
-use clap::{Arg, ArgMatches};
+use clap::builder::ValueParser;
+use clap::{Arg, ArgAction, ArgMatches};
 use std::alloc::Global;
 
 /// The name of the option that takes a seed.
@@ -22,13 +22,14 @@ pub(crate) fn seed_argument<'a>(alloc: Global) -> Arg<'a>
     ensures rule { rule_of result ≡ number_option (codes "seed") 0 18446744073709551615 }
     ensures local { result.global ≡ false }
 {
-    number_argument(
-        alloc,
-        SEED,
-        0,
-        u64::MAX,
-        "The seed of the policy, for the same run again [default: one that is drawn and told]",
-    )
+    Arg::new(alloc, SEED)
+        .long(SEED)
+        .value_name("NUMBER")
+        .action(ArgAction::Set)
+        .value_parser(ValueParser::unsigned(0, u64::MAX))
+        .help(
+            "The seed of the policy, for the same run again [default: one that is drawn and told]",
+        )
 }
 
 /// The option that takes a policy, for the parser, which takes any text for it.
@@ -36,12 +37,11 @@ pub(crate) fn policy_argument<'a>(alloc: Global) -> Arg<'a>
     ensures rule { rule_of result ≡ path_option (codes "policy") }
     ensures local { result.global ≡ false }
 {
-    value_argument(
-        alloc,
-        "policy",
-        "POLICY",
-        "How threads get turns: mixed, random or rotation [default: mixed]",
-    )
+    Arg::new(alloc, "policy")
+        .long("policy")
+        .value_name("POLICY")
+        .action(ArgAction::Set)
+        .help("How threads get turns: mixed, random or rotation [default: mixed]")
 }
 
 /// The seed among what the parser found, and `None` where it isn't there.

@@ -6,12 +6,11 @@ ghost use Rattle.clap.specs.Words.{first_of, found_of, rows_of, rule_of};
 ghost use Rattle.command_line.specs.CommandLine.{IsFollow, Refuses, path_option};
 ghost use Rattle.command_line.specs.Sweeps.{AreSeeds, IsSeedRange, IsSweep, IsSweepOf, IsSweepPolicy};
 
-use crate::arguments::value_argument;
 use crate::run_arguments::{SEED, seed_by};
 use crate::sweep_options::{SeedRange, SweepOptions, SweepPolicy};
 use crate::usage::Usage;
 use crate::values::{check_beside, goal_of, is_set};
-use clap::{Arg, ArgMatches};
+use clap::{Arg, ArgAction, ArgMatches};
 use std::alloc::{AllocError, Global};
 
 /// The name of the option that takes seeds.
@@ -22,12 +21,11 @@ pub(crate) fn seeds_argument<'a>(alloc: Global) -> Arg<'a>
     ensures rule { rule_of result ≡ path_option (codes "seeds") }
     ensures local { result.global ≡ false }
 {
-    value_argument(
-        alloc,
-        SEEDS,
-        "A..B",
-        "A run for each seed from A to B, and what they show, as 1..100",
-    )
+    Arg::new(alloc, SEEDS)
+        .long(SEEDS)
+        .value_name("A..B")
+        .action(ArgAction::Set)
+        .help("A run for each seed from A to B, and what they show, as 1..100")
 }
 
 /// The sweep that is asked for, where seeds are. An outcome to be found stands beside them alone.

@@ -1,0 +1,22 @@
+use Rattle.std.proofs.Common.{rules, ap, subst, ◌∙◌}
+use Rattle.std.specs.Arc.{arc_value}
+use Rattle.model.specs.Classes.{Program}
+use Rattle.model.specs.Schedule.{events_of}
+use Rattle.race_runs.specs.raced_runs.Raced.{IsRacedRun}
+use Rattle.engines.specs.Races.{raced_status}
+use Rattle.engines.proofs.racing.races_of.Goals as goal
+
+pub returns : goal.returns
+returns c = λ bytes options opened.
+    let given = c.args.opened.now in
+    record {
+      trees = arc_value given.verified;
+      events = events_of given.schedule;
+      limits = given.limits;
+      gives_up = given.gives_up;
+      opened = opened;
+      run = c.in_ok-run.run;
+      raced = subst (λ (t : Program). IsRacedRun t (events_of given.schedule) given.limits c.in_ok-run.run) c.deref.ensures c.in_ok-run.ensures;
+      told = search (rules, c.in_ok-extend_from_slice.ensures, c.in_ok-extend_from_slice-2.ensures, c.in_ok-report.ensures.text);
+      ended = c.raced_status.ensures ∙ ap (λ s. raced_status s c.in_ok-run.run.has_race) c.in_ok-report.ensures.status;
+    }
