@@ -1,6 +1,6 @@
 //! The advice on files: the walk over all of them, which goes on where linking stops.
 
-ghost use Rattle.std.specs.Prelude.{◌≡◌, false, true, None, IfOk, MatchOption, OnOk, length, map, slice_index_or};
+ghost use Rattle.std.specs.Prelude.{◌≡◌, false, true, None, IfOk, IsFalse, MatchOption, OnOk, length, map, slice_index_or};
 ghost use Rattle.model.specs.Linkable.{stands, DuplicateClass};
 ghost use Rattle.hierarchy.specs.Set.{trees_of};
 ghost use Rattle.classfile.specs.View.{file_of};
@@ -108,6 +108,21 @@ fn class_set(alloc: Global, classes: Vec<ClassFile>) -> Result<Option<ClassSet>,
     }
 }
 
+/// What is wrong with all files, whose classes these are.
+fn told_of_set(
+    alloc: Global,
+    files: &[GivenFile<'_>],
+    set: ClassSet,
+    places: &[Option<usize>],
+    faults: &[Option<FileFault>],
+) -> Result<Vec<Told>, AllocError>
+    requires { IsFalse (stands set DuplicateClass) }
+    ensures { IfOk result (λ told. TellsFiles set places.now told.items (length files.now)) }
+{
+    let classes = Classes::new(alloc, set)?;
+    told_of_files(alloc, files, &classes, places, faults)
+}
+
 /// What is wrong with files of which some declare one class.
 fn told_of_distinct(alloc: Global, files: &[GivenFile<'_>]) -> Result<Vec<Told>, AllocError> {
     let ReadFiles {
@@ -116,10 +131,7 @@ fn told_of_distinct(alloc: Global, files: &[GivenFile<'_>]) -> Result<Vec<Told>,
         faults,
     } = read_distinct(alloc, files)?;
     match class_set(alloc, classes)? {
-        Some(set) => {
-            let classes = Classes::new(alloc, set)?;
-            told_of_files(alloc, files, &classes, &places, &faults)
-        }
+        Some(set) => told_of_set(alloc, files, set, &places, &faults),
         None => Ok(Vec::new(alloc)),
     }
 }
@@ -134,10 +146,7 @@ fn told_of(alloc: Global, files: &[GivenFile<'_>]) -> Result<Vec<Told>, AllocErr
         faults,
     } = read_files(alloc, files)?;
     match class_set(alloc, classes)? {
-        Some(set) => {
-            let classes = Classes::new(alloc, set)?;
-            told_of_files(alloc, files, &classes, &places, &faults)
-        }
+        Some(set) => told_of_set(alloc, files, set, &places, &faults),
         None => told_of_distinct(alloc, files),
     }
 }

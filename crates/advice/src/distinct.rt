@@ -1,7 +1,7 @@
 //! Files of which some declare one class: of those that do the first is kept.
 
 use crate::given::GivenFile;
-use crate::reading::{FileFault, ReadFiles, fault_of, read_file};
+use crate::reading::{FileFault, ReadFile, ReadFiles, fault_of, read_file};
 use class_tree::builtin::built_in_classes;
 use classfile::{ClassFile, class_name};
 use indexmap::IndexSet;
@@ -52,6 +52,24 @@ impl Declared {
     }
 }
 
+/// Adds what a file is read as, without its class where that was declared before.
+fn push_distinct(
+    alloc: Global,
+    read: &mut ReadFiles,
+    declared: &mut Declared,
+    one: ReadFile,
+    number: usize,
+) -> Result<(), AllocError> {
+    let again = match &one.class {
+        Some(class) => declared.declare(alloc, class, number)?,
+        None => None,
+    };
+    match again {
+        Some(fault) => read.push(None, Some(fault)),
+        None => read.push(one.class, fault_of(one.fault)),
+    }
+}
+
 /// What the files are read as, without the classes that were declared before.
 pub(crate) fn read_distinct(
     alloc: Global,
@@ -61,14 +79,7 @@ pub(crate) fn read_distinct(
     let mut declared = Declared::new(alloc)?;
     for (number, file) in files.iter().enumerate() {
         let one = read_file(alloc, &file.bytes)?;
-        let again = match &one.class {
-            Some(class) => declared.declare(alloc, class, number)?,
-            None => None,
-        };
-        match again {
-            Some(fault) => read.push(None, Some(fault))?,
-            None => read.push(one.class, fault_of(one.fault))?,
-        }
+        push_distinct(alloc, &mut read, &mut declared, one, number)?;
     }
     Ok(read)
 }

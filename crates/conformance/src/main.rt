@@ -16,79 +16,16 @@
 //! trials, and then the cases of each text.
 #![tactic(auto)]
 
-mod cases;
-mod trials;
+mod engines_program;
 
-use anyhow::{Context, Result};
-use cases::run_texts;
-use std::env::Args;
+use conformance_runs::tried_words::all_done;
+use engines::SystemFolder;
+use engines_program::EnginesProgram;
 use std::process::ExitCode;
-use std::rt::Files;
-use std::sync::Wait;
-use std::thread::Threads;
-use std::{env, fs};
-use trials::try_words;
-
-/// The words that the first one can be.
-pub(crate) const WORDS: &str = "cases, fronts, bytes, events, sets, each";
-
-/// Does what these words say. Answers how many forms or sets were wrong.
-fn words_done<R: Files + Print + AllocGlobal + Threads + Wait + Sync>(
-    rt: &R,
-    first: String,
-    args: Args,
-) -> Result<u64> {
-    if first.as_str() != "cases" {
-        return try_words(rt, first, args);
-    }
-    run_texts(rt, args)?;
-    Ok(0)
-}
-
-/// Does what a line says. An empty line says nothing.
-fn line_done<R: Files + Print + AllocGlobal + Threads + Wait + Sync>(
-    rt: &R,
-    line: &str,
-) -> Result<u64> {
-    let mut words = Vec::new(rt.alloc());
-    for word in line.split_whitespace() {
-        words.push(String::from_str(rt.alloc(), word)?)?;
-    }
-    let mut args = words.into_iter();
-    match args.next() {
-        Some(word) => words_done(rt, word, args),
-        None => Ok(0),
-    }
-}
-
-/// Does what each line of the file says.
-fn each_done<R: Files + Print + AllocGlobal + Threads + Wait + Sync>(
-    rt: &R,
-    path: &str,
-) -> Result<u64> {
-    let lines = fs::read_to_string(rt, path).context(format_args!("{path}"))?;
-    let mut wrong = 0u64;
-    for line in lines.lines() {
-        wrong = wrong.saturating_add(line_done(rt, line)?);
-    }
-    Ok(wrong)
-}
-
-/// Does what the words of the command line say.
-fn all_done<R: Files + env::Env + Print + AllocGlobal + Threads + Wait + Sync>(
-    rt: &R,
-) -> Result<u64> {
-    let mut args = env::args(rt)?;
-    let word = args.nth(1).context(WORDS)?;
-    if word.as_str() != "each" {
-        return words_done(rt, word, args);
-    }
-    let path = args.next().context("which file")?;
-    each_done(rt, path.as_str())
-}
 
 fn main(rt: HostRuntime) -> ExitCode {
-    match all_done(&rt) {
+    let folder = SystemFolder::new(&rt);
+    match all_done(&rt, &EnginesProgram, &folder) {
         Ok(0) => ExitCode::SUCCESS,
         Ok(_) => ExitCode::FAILURE,
         Err(error) => {

@@ -2,7 +2,8 @@
 
 ghost use Rattle.std.specs.Prelude.{◌≡◌, ◌<◌, ◌≤◌, length, IfOk};
 ghost use Rattle.std.specs.Arc.{arc_value};
-ghost use Rattle.machine.specs.Machines.{IsProgramOf};
+ghost use Rattle.machine.specs.Machines.{IsOfAccepted, IsProgramOf};
+ghost use Rattle.search.specs.States.{one_state};
 ghost use Rattle.search.specs.Verdicts.{Says};
 ghost use Rattle.search.specs.Visits.{nothing_seen, HasVisited};
 ghost use Rattle.search.specs.Endless.{IsFoundAt};
@@ -127,6 +128,24 @@ fn visit_all<P: Progress>(
     }
 }
 
+/// A walk that is in the opening state, alone met. The only error is a want of memory.
+fn opened_walk(
+    alloc: Global,
+    program: Arc<LinkedProgram>,
+    limits: Limits,
+) -> Result<Walk, AllocError>
+    requires { IsOfAccepted (arc_value program) }
+    ensures { IfOk result (λ walk. walk.states ≡ one_state (arc_value program) limits walk.states.parts) }
+{
+    let machine = opened(alloc, Arc::try_clone(&program)?, limits)?;
+    let states = States::new(alloc, program, limits, &machine)?;
+    Ok(Walk {
+        states,
+        machine,
+        moved: false,
+    })
+}
+
 /// Searches all schedules of a program (JVMS 2.5, 2.6, 5.5, chapter 6; JLS 17), which is that of the linked classes,
 /// as far as so many states, for a run that ends with a wanted outcome, or comes to a state of a kind that is to be
 /// found. Meanwhile it tells how far it has come. The only error is a want of memory.
@@ -144,23 +163,18 @@ pub fn search<P: Progress>(
         s.verdict) }
     ensures few { IfOk result (λ s. 1 ≤ most → s.states ≤ most) }
 {
-    let machine = opened(alloc, Arc::try_clone(&program)?, limits)?;
-    let states = States::new(alloc, program, limits, &machine)?;
-    let walk = Walk {
-        states,
-        machine,
-        moved: false,
-    };
+    let tables = AccessTables::new(alloc, linked)?;
+    let walk = opened_walk(alloc, program, limits)?;
     let asked = Asked {
         alloc,
         linked,
-        tables: AccessTables::new(alloc, linked)?,
+        tables,
         goal,
         most,
     };
-    let (verdict, walk) = visit_all(progress, &asked, walk)?;
+    let (verdict, walked) = visit_all(progress, &asked, walk)?;
     Ok(Searched {
         verdict,
-        states: walk.states.len(),
+        states: walked.states.len(),
     })
 }

@@ -2,16 +2,21 @@
 
 use crate::trials::counts::last_line;
 use crate::trials::folder::{File, MemoryFolder};
-use engines::{Counted, Explanation, Open, Status, run};
+use crate::tried_program::Program;
 use std::alloc::{AllocError, Global};
 use std::io;
 use std::sync::Wait;
 use std::thread::Threads;
 
+/// The status where nothing was wrong, and where a schedule was used up.
+const RETURNED: u8 = 0;
+
+const USED_UP: u8 = 5;
+
 /// What comes of a command line.
 #[derive(Drop)]
 pub struct Outcome {
-    pub status: Status,
+    pub status: u8,
     /// What is written to the output.
     pub written: Vec<u8>,
     /// What is said on standard error: one line of a fault, or the text of a usage fault.
@@ -21,6 +26,11 @@ pub struct Outcome {
 }
 
 impl Outcome {
+    /// Whether nothing was wrong.
+    pub fn has_returned(&self) -> bool {
+        self.status == RETURNED
+    }
+
     /// Whether the same is written and said, with the same status.
     pub fn is_same(&self, other: &Outcome) -> bool {
         self.status == other.status
@@ -36,7 +46,7 @@ impl Outcome {
         let is_end = if end == b"end quiet".as_slice() {
             end_again == end && replay.status == self.status
         } else {
-            end_again == b"end schedule".as_slice() && matches!(replay.status, Status::UsedUp)
+            end_again == b"end schedule".as_slice() && replay.status == USED_UP
         };
         report == again && is_end
     }
@@ -45,39 +55,20 @@ impl Outcome {
 /// Does what the words behind `jvm` say over these files, with no other file there and nothing to read on the input.
 ///
 /// The only error is a want of memory for the words, for what is said, or for the file that is made.
-pub fn outcome_of<R: Threads + Wait + Sync>(
+pub fn outcome_of<R: Threads + Wait + Sync, P: Program>(
     rt: &R,
     alloc: Global,
+    program: &P,
     files: &[File<'_>],
     words: &[&str],
 ) -> io::Result<Outcome> {
     let words = words_of(alloc, words)?;
     let mut folder = MemoryFolder::new(files);
-    let mut input = Counted::new(alloc, b"".as_slice());
-    let mut output = Counted::new(alloc, Vec::new(alloc));
-    let mut said = Vec::new(alloc);
-    let answer = run(
-        rt,
-        alloc,
-        &Open,
-        &[],
-        &mut folder,
-        words.as_slice(),
-        &mut input,
-        &mut output,
-        &mut Explanation::new(alloc, false),
-    );
-    let status = match answer {
-        Ok(status) => status,
-        Err(complaint) => {
-            complaint.write_text(&mut said)?;
-            Status::of_complaint(&complaint)
-        }
-    };
+    let outcome = program.outcome(rt, alloc, &mut folder, words.as_slice(), b"", false)?;
     Ok(Outcome {
-        status,
-        written: output.into_inner(),
-        said,
+        status: outcome.status,
+        written: outcome.written,
+        said: outcome.said,
         made: folder.made,
     })
 }

@@ -2,8 +2,8 @@
 
 ghost use Rattle.std.specs.Prelude.{None};
 
-use engines::Folder;
 use indexmap::IndexMap;
+use program_files::Folder;
 use std::alloc::Global;
 use std::io;
 use std::io::ErrorKind;

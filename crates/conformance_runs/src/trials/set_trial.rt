@@ -7,8 +7,8 @@ use crate::trials::counts::Counts;
 use crate::trials::folder::File;
 use crate::trials::outcome::{Outcome, outcome_of};
 use crate::trials::spelling::wrong_spelling;
+use crate::tried_program::Program;
 use conformance_inputs::random_programs::{NAMES, Random, class_files};
-use engines::Status;
 use std::alloc::{AllocError, Global};
 use std::sync::Wait;
 use std::thread::Threads;
@@ -78,7 +78,12 @@ impl SetTrial {
     }
 
     /// What comes of these words and the names of the class files.
-    fn outcome<R: Threads + Wait + Sync>(&self, rt: &R, words: &[&str]) -> io::Result<Outcome> {
+    fn outcome<R: Threads + Wait + Sync, P: Program>(
+        &self,
+        rt: &R,
+        program: &P,
+        words: &[&str],
+    ) -> io::Result<Outcome> {
         let mut files = Vec::new(self.alloc);
         for (name, bytes) in NAMES.iter().zip(&self.files) {
             files.push(File {
@@ -90,13 +95,14 @@ impl SetTrial {
             name: SCHEDULE,
             bytes: self.schedule.as_slice(),
         })?;
-        outcome_of(rt, self.alloc, files.as_slice(), words)
+        outcome_of(rt, self.alloc, program, files.as_slice(), words)
     }
 
     /// What comes of these words and all class files, with the limits where the words run them.
-    fn outcome_of_all<R: Threads + Wait + Sync>(
+    fn outcome_of_all<R: Threads + Wait + Sync, P: Program>(
         &self,
         rt: &R,
+        program: &P,
         line: &str,
         counts: &mut Counts,
         label: &str,
@@ -108,7 +114,7 @@ impl SetTrial {
         for name in NAMES {
             words.push(name)?;
         }
-        let outcome = self.outcome(rt, words.as_slice())?;
+        let outcome = self.outcome(rt, program, words.as_slice())?;
         counts.add_outcome(label, &outcome)?;
         Ok(outcome)
     }
@@ -124,32 +130,34 @@ impl SetTrial {
     }
 
     /// Runs the files as they are, which have to be accepted, and replays the run. Answers what is wrong.
-    pub fn try_files<R: Threads + Wait + Sync>(
+    pub fn try_files<R: Threads + Wait + Sync, P: Program>(
         &mut self,
         rt: &R,
+        program: &P,
         counts: &mut Counts,
     ) -> io::Result<Option<&'static str>> {
-        let verified = self.outcome_of_all(rt, "verify", counts, "verify")?;
-        if !matches!(verified.status, Status::Returned) {
+        let verified = self.outcome_of_all(rt, program, "verify", counts, "verify")?;
+        if !verified.has_returned() {
             return Ok(Some("not verified"));
         }
-        let ran = self.run(rt, counts, "run")?;
+        let ran = self.run(rt, program, counts, "run")?;
         if ran.written.is_empty() {
             return Ok(Some("not run"));
         }
         add_states(self.alloc, &ran, counts)?;
-        self.replay(rt, counts, &ran, "replay")
+        self.replay(rt, program, counts, &ran, "replay")
     }
 
     /// Runs the files, and keeps what is recorded.
-    fn run<R: Threads + Wait + Sync>(
+    fn run<R: Threads + Wait + Sync, P: Program>(
         &mut self,
         rt: &R,
+        program: &P,
         counts: &mut Counts,
         label: &str,
     ) -> io::Result<Outcome> {
         let words = self.run_words()?;
-        let mut ran = self.outcome_of_all(rt, words.as_str(), counts, label)?;
+        let mut ran = self.outcome_of_all(rt, program, words.as_str(), counts, label)?;
         if let Some(bytes) = ran.made.take() {
             self.schedule = bytes;
         }
@@ -157,15 +165,16 @@ impl SetTrial {
     }
 
     /// Replays a run. Answers what is wrong.
-    fn replay<R: Threads + Wait + Sync>(
+    fn replay<R: Threads + Wait + Sync, P: Program>(
         &self,
         rt: &R,
+        program: &P,
         counts: &mut Counts,
         ran: &Outcome,
         label: &str,
     ) -> io::Result<Option<&'static str>> {
         let words = self.replay_words()?;
-        let replayed = self.outcome_of_all(rt, words.as_str(), counts, label)?;
+        let replayed = self.outcome_of_all(rt, program, words.as_str(), counts, label)?;
         Ok(if ran.is_replayed_by(&replayed) {
             None
         } else {
@@ -175,59 +184,86 @@ impl SetTrial {
 
     /// Changes the schedule file, and replays the files under it; and then changes a file, again and again, and tries
     /// the set each time. Answers what is wrong.
-    pub fn try_changes<R: Threads + Wait + Sync>(
+    pub fn try_changes<R: Threads + Wait + Sync, P: Program>(
         &mut self,
         rt: &R,
+        program: &P,
         random: &mut Random,
         counts: &mut Counts,
     ) -> io::Result<Option<&'static str>> {
-        self.schedule = changed(self.alloc, self.schedule.as_slice(), random)?;
-        let words = self.replay_words()?;
-        self.outcome_of_all(rt, words.as_str(), counts, "replay of a changed schedule")?;
+        self.change_schedule(rt, program, random, counts)?;
         for _ in 0..CHANGES {
-            let place = random.place(self.files.len());
-            let Some(file) = self.files.get_mut(place) else {
-                return Ok(None);
-            };
-            *file = changed(self.alloc, file.as_slice(), random)?;
-            if let Some(what) = self.try_changed(rt, place, counts)? {
+            if let Some(what) = self.try_change(rt, program, random, counts)? {
                 return Ok(Some(what));
             }
         }
         Ok(None)
     }
 
-    /// Tries a set with a changed file. Answers what is wrong.
-    fn try_changed<R: Threads + Wait + Sync>(
+    /// Changes the schedule file, and replays the files under it.
+    fn change_schedule<R: Threads + Wait + Sync, P: Program>(
         &mut self,
         rt: &R,
+        program: &P,
+        random: &mut Random,
+        counts: &mut Counts,
+    ) -> io::Result<()> {
+        self.schedule = changed(self.alloc, self.schedule.as_slice(), random)?;
+        let words = self.replay_words()?;
+        let label = "replay of a changed schedule";
+        self.outcome_of_all(rt, program, words.as_str(), counts, label)?;
+        Ok(())
+    }
+
+    /// Changes a file, and tries the set. Answers what is wrong.
+    fn try_change<R: Threads + Wait + Sync, P: Program>(
+        &mut self,
+        rt: &R,
+        program: &P,
+        random: &mut Random,
+        counts: &mut Counts,
+    ) -> io::Result<Option<&'static str>> {
+        let place = random.place(self.files.len());
+        let Some(file) = self.files.get_mut(place) else {
+            return Ok(None);
+        };
+        *file = changed(self.alloc, file.as_slice(), random)?;
+        self.try_changed(rt, program, place, counts)
+    }
+
+    /// Tries a set with a changed file. Answers what is wrong.
+    fn try_changed<R: Threads + Wait + Sync, P: Program>(
+        &mut self,
+        rt: &R,
+        program: &P,
         place: usize,
         counts: &mut Counts,
     ) -> io::Result<Option<&'static str>> {
-        if let Some(what) = self.wrong_spelling(rt, place)? {
+        if let Some(what) = self.wrong_spelling(rt, program, place)? {
             return Ok(Some(what));
         }
-        let verified = self.outcome_of_all(rt, "verify", counts, "changed: verify")?;
-        let ran = self.run(rt, counts, "changed: run")?;
+        let verified = self.outcome_of_all(rt, program, "verify", counts, "changed: verify")?;
+        let ran = self.run(rt, program, counts, "changed: run")?;
         if ran.said.as_slice() != verified.said.as_slice() {
-            return Ok(Some("run otherwise than verified"));
+            Ok(Some("run otherwise than verified"))
+        } else if ran.written.is_empty() {
+            Ok(None)
+        } else {
+            self.replay(rt, program, counts, &ran, "changed: replay")
         }
-        if ran.written.is_empty() {
-            return Ok(None);
-        }
-        self.replay(rt, counts, &ran, "changed: replay")
     }
 
     /// What is wrong with the listing of a file, or with the bytes that its tree is spelled as.
-    fn wrong_spelling<R: Threads + Wait + Sync>(
+    fn wrong_spelling<R: Threads + Wait + Sync, P: Program>(
         &self,
         rt: &R,
+        program: &P,
         place: usize,
     ) -> io::Result<Option<&'static str>> {
         let (Some(name), Some(bytes)) = (NAMES.get(place), self.files.get(place)) else {
             return Ok(None);
         };
-        let listing = self.outcome(rt, &["disasm", name])?;
+        let listing = self.outcome(rt, program, &["disasm", name])?;
         Ok(wrong_spelling(self.alloc, bytes.as_slice(), &listing)?)
     }
 }

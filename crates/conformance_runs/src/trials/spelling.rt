@@ -2,7 +2,6 @@
 
 use crate::trials::outcome::Outcome;
 use classfile::{Cause, decode, encode};
-use engines::Status;
 use std::alloc::{AllocError, Global};
 
 /// What is wrong with the listing of these bytes, or with the bytes that their tree is spelled as, if anything is.
@@ -11,7 +10,7 @@ pub fn wrong_spelling(
     bytes: &[u8],
     listing: &Outcome,
 ) -> Result<Option<&'static str>, AllocError> {
-    let is_listed = matches!(listing.status, Status::Returned);
+    let is_listed = listing.has_returned();
     match decode(alloc, bytes) {
         Ok(tree) => {
             let spelled = encode(alloc, &tree)?;

@@ -7,6 +7,7 @@
 //! else. With a schedule file of another form only the replays are done.
 
 use crate::trials::form_trials::FormTrials;
+use crate::tried_program::Program;
 use anyhow::Result;
 use std::alloc::{AllocError, Global};
 use std::fmt;
@@ -48,8 +49,8 @@ impl fmt::Display for Form {
 }
 
 /// Tries each front of each file. Answers how many were wrong.
-pub fn fronts<R: Print + AllocGlobal + Threads + Wait + Sync>(
-    trials: &mut FormTrials<'_, R>,
+pub fn fronts<R: Print + AllocGlobal + Threads + Wait + Sync, P: Program>(
+    trials: &mut FormTrials<'_, R, P>,
 ) -> Result<u64> {
     for (place, file) in trials.files().iter().enumerate() {
         let mut forms = 0u64;
@@ -63,8 +64,8 @@ pub fn fronts<R: Print + AllocGlobal + Threads + Wait + Sync>(
 }
 
 /// Tries each of so many changes of a byte of each file. Answers how many were wrong.
-pub fn bytes<R: Print + AllocGlobal + Threads + Wait + Sync>(
-    trials: &mut FormTrials<'_, R>,
+pub fn bytes<R: Print + AllocGlobal + Threads + Wait + Sync, P: Program>(
+    trials: &mut FormTrials<'_, R, P>,
     every: u64,
 ) -> Result<u64> {
     for (place, file) in trials.files().iter().enumerate() {

@@ -2,7 +2,7 @@
 
 ghost use Rattle.std.specs.Prelude.{None};
 
-use engines::Folder;
+use program_files::Folder;
 use std::alloc::Global;
 use std::io;
 use std::io::ErrorKind;

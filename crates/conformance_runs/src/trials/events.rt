@@ -9,6 +9,7 @@
 use crate::trials::counts::Counts;
 use crate::trials::outcome::Outcome;
 use crate::trials::subject::{Command, Subject};
+use crate::tried_program::Program;
 use anyhow::{Context, Result, bail};
 use model::{Event, ScheduleEntry};
 use schedule::read_schedule;
@@ -119,30 +120,47 @@ fn front(alloc: Global, entries: &[ScheduleEntry], events: u64) -> Result<String
 }
 
 /// The replay under a schedule.
-fn replay<R: Print + AllocGlobal + Threads + Wait + Sync>(
+fn replay<R: Print + AllocGlobal + Threads + Wait + Sync, P: Program>(
     rt: &R,
+    program: &P,
     subject: &Subject,
     schedule: &str,
 ) -> Result<Outcome> {
-    Ok(subject.outcome(rt, Command::Replay, 0, schedule.as_bytes())?)
+    Ok(subject.outcome(rt, program, Command::Replay, 0, schedule.as_bytes())?)
+}
+
+/// What comes of an event behind a front.
+fn after_event<R: Print + AllocGlobal + Threads + Wait + Sync, P: Program>(
+    rt: &R,
+    program: &P,
+    subject: &Subject,
+    front: &str,
+    event: Event,
+) -> Result<Outcome> {
+    let mut longer = String::from_str(rt.alloc(), front)?;
+    push_entry(rt.alloc(), &mut longer, event, 1)?;
+    replay(rt, program, subject, longer.as_str())
+}
+
+/// Whether a report says that a thread can go on.
+fn can_go_on(alloc: Global, report: ReportParts<'_>, thread: u16) -> Result<bool, AllocError> {
+    let line = format!(in alloc; "thread {thread} runnable")?;
+    Ok(report.states.lines().any(|other| other == line.as_str()))
 }
 
 /// Tries one event behind a front. Answers whether something was wrong.
-fn try_event<R: Print + AllocGlobal + Threads + Wait + Sync>(
+fn try_event<R: Print + AllocGlobal + Threads + Wait + Sync, P: Program>(
     rt: &R,
+    program: &P,
     subject: &Subject,
     front: &str,
     report: ReportParts<'_>,
     event: Event,
     counts: &mut Counts,
 ) -> Result<bool> {
-    let mut longer = String::from_str(rt.alloc(), front)?;
-    push_entry(rt.alloc(), &mut longer, event, 1)?;
-    let after = replay(rt, subject, longer.as_str())?;
-    let thread = event.thread;
-    let pick = event.pick;
-    let line = format!(in rt.alloc(); "thread {thread} runnable")?;
-    let can_go_on = report.states.lines().any(|other| other == line.as_str());
+    let Event { thread, pick } = event;
+    let can_go_on = can_go_on(rt.alloc(), report, thread)?;
+    let after = after_event(rt, program, subject, front, event)?;
     match parts(&after).and_then(|after| fate_of(report, after)) {
         Some(fate) if may_be(fate, pick, can_go_on) => {
             counts.add(format!(in rt.alloc(); "pick {pick} {}", fate.word())?)?;
@@ -157,13 +175,14 @@ fn try_event<R: Print + AllocGlobal + Threads + Wait + Sync>(
 }
 
 /// Tries each event behind a front. Answers how many were wrong.
-fn try_events<R: Print + AllocGlobal + Threads + Wait + Sync>(
+fn try_events<R: Print + AllocGlobal + Threads + Wait + Sync, P: Program>(
     rt: &R,
+    program: &P,
     subject: &Subject,
     front: &str,
     counts: &mut Counts,
 ) -> Result<u64> {
-    let report = replay(rt, subject, front)?;
+    let report = replay(rt, program, subject, front)?;
     let report = parts(&report).context("a front has no report")?;
     if report.end != "quiet" && report.end != "schedule" {
         bail!("a front ends by {}", report.end);
@@ -171,7 +190,15 @@ fn try_events<R: Print + AllocGlobal + Threads + Wait + Sync>(
     let mut wrong = 0u64;
     for thread in 0..THREADS {
         for pick in PICKS {
-            if try_event(rt, subject, front, report, Event { thread, pick }, counts)? {
+            if try_event(
+                rt,
+                program,
+                subject,
+                front,
+                report,
+                Event { thread, pick },
+                counts,
+            )? {
                 wrong = wrong.saturating_add(1);
             }
         }
@@ -180,8 +207,9 @@ fn try_events<R: Print + AllocGlobal + Threads + Wait + Sync>(
 }
 
 /// Tries each event behind each front. Answers how many were wrong.
-pub fn events<R: Print + AllocGlobal + Threads + Wait + Sync>(
+pub fn events<R: Print + AllocGlobal + Threads + Wait + Sync, P: Program>(
     rt: &R,
+    program: &P,
     subject: &Subject,
     mut counts: Counts,
 ) -> Result<u64> {
@@ -192,7 +220,7 @@ pub fn events<R: Print + AllocGlobal + Threads + Wait + Sync>(
     let mut wrong = 0u64;
     for events in 0..=schedule.count() {
         let front = front(rt.alloc(), schedule.entries(), events)?;
-        let found = try_events(rt, subject, front.as_str(), &mut counts)?;
+        let found = try_events(rt, program, subject, front.as_str(), &mut counts)?;
         wrong = wrong.saturating_add(found);
     }
     println!(rt; "{}: {} events", file.path, schedule.count())?;

@@ -25,10 +25,11 @@ mod sets;
 mod spelling;
 mod subject;
 
-use crate::WORDS;
 use crate::trials::counts::Counts;
 use crate::trials::form_trials::FormTrials;
 use crate::trials::subject::read_subject;
+use crate::tried_program::Program;
+use crate::tried_words::WORDS;
 use anyhow::{Context, Result, bail};
 use std::env::Args;
 use std::rt::Files;
@@ -36,8 +37,9 @@ use std::sync::Wait;
 use std::thread::Threads;
 
 /// Tries what the words say. Answers how many forms or sets were wrong.
-fn done<R: Files + Print + AllocGlobal + Threads + Wait + Sync>(
+fn done<R: Files + Print + AllocGlobal + Threads + Wait + Sync, P: Program>(
     rt: &R,
+    program: &P,
     word: &str,
     mut args: Args,
     counts: Counts,
@@ -46,17 +48,17 @@ fn done<R: Files + Print + AllocGlobal + Threads + Wait + Sync>(
         "bytes" => {
             let every = number(args.next(), "each of how many")?;
             let subject = read_subject(rt, args)?;
-            forms::bytes(&mut FormTrials::new(rt, &subject, counts), every)
+            forms::bytes(&mut FormTrials::new(rt, program, &subject, counts), every)
         }
-        "events" => events::events(rt, &read_subject(rt, args)?, counts),
+        "events" => events::events(rt, program, &read_subject(rt, args)?, counts),
         "fronts" => {
             let subject = read_subject(rt, args)?;
-            forms::fronts(&mut FormTrials::new(rt, &subject, counts))
+            forms::fronts(&mut FormTrials::new(rt, program, &subject, counts))
         }
         "sets" => {
             let seed = number(args.next(), "which seed")?;
             let count = number(args.next(), "how many sets")?;
-            sets::sets(rt, seed, count, counts)
+            sets::sets(rt, program, seed, count, counts)
         }
         _ => bail!("{word} is none of {WORDS}"),
     }
@@ -68,14 +70,22 @@ fn number(word: Option<String>, what: &'static str) -> Result<u64> {
 }
 
 /// Tries what these words say, and tells counts where the first one asks for them.
-pub fn try_words<R: Files + Print + AllocGlobal + Threads + Wait + Sync>(
+pub fn try_words<R: Files + Print + AllocGlobal + Threads + Wait + Sync, P: Program>(
     rt: &R,
+    program: &P,
     first: String,
     mut args: Args,
 ) -> Result<u64> {
     if first.as_str() != "--counts" {
-        return done(rt, first.as_str(), args, Counts::new(rt.alloc(), false));
+        let counts = Counts::new(rt.alloc(), false);
+        return done(rt, program, first.as_str(), args, counts);
     }
     let word = args.next().context(WORDS)?;
-    done(rt, word.as_str(), args, Counts::new(rt.alloc(), true))
+    done(
+        rt,
+        program,
+        word.as_str(),
+        args,
+        Counts::new(rt.alloc(), true),
+    )
 }

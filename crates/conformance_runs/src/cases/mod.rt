@@ -25,9 +25,10 @@ mod comparison;
 mod outcome;
 
 use crate::cases::outcome::write_outcomes;
+use crate::tried_program::Program;
 use anyhow::{Context, Result, bail};
 use conformance_inputs::case_texts::{OtherFiles, read_cases};
-use engines::SystemFolder;
+use program_files::Folder;
 use std::env::Args;
 use std::io::{BufWriter, Write};
 use std::rt::Files;
@@ -48,40 +49,41 @@ impl<R: Files + AllocGlobal> OtherFiles for SystemFiles<'_, R> {
 }
 
 /// Runs the cases of each text that the words name. What each case writes, says and ends with goes to standard output.
-pub fn run_texts<R: Files + Print + AllocGlobal + Threads + Wait + Sync>(
-    rt: &R,
-    paths: Args,
-) -> Result<()> {
+pub fn run_texts<
+    R: Files + Print + AllocGlobal + Threads + Wait + Sync,
+    P: Program,
+    F: Folder + Drop,
+>(rt: &R, program: &P, folder: &F, paths: Args) -> Result<()> {
     let mut output = BufWriter::new(rt.alloc(), io::writer(rt))?;
-    let result = run_each(rt, paths, &mut output);
+    let result = run_each(rt, program, folder, paths, &mut output);
     // What came before a fault is written, too.
     output.flush()?;
     result
 }
 
-fn run_each<R: Files + Print + AllocGlobal + Threads + Wait + Sync, W: Write>(
-    rt: &R,
-    paths: Args,
-    output: &mut W,
-) -> Result<()> {
+fn run_each<
+    R: Files + Print + AllocGlobal + Threads + Wait + Sync,
+    P: Program,
+    F: Folder + Drop,
+    W: Write,
+>(rt: &R, program: &P, folder: &F, paths: Args, output: &mut W) -> Result<()> {
     for path in paths {
         let text = fs::read_to_string(rt, path.as_str()).context(format_args!("{path}"))?;
-        run_cases(rt, path.as_str(), text.as_str(), output)?;
+        run_cases(rt, program, folder, path.as_str(), text.as_str(), output)?;
     }
     Ok(())
 }
 
-/// Runs the cases of a text. Files that it doesn't give are those of the system.
-fn run_cases<R: Files + Print + AllocGlobal + Threads + Wait + Sync, W: Write>(
-    rt: &R,
-    path: &str,
-    text: &str,
-    output: &mut W,
-) -> Result<()> {
+/// Runs the cases of a text. Files that it doesn't give are those of the folder.
+fn run_cases<
+    R: Files + Print + AllocGlobal + Threads + Wait + Sync,
+    P: Program,
+    F: Folder + Drop,
+    W: Write,
+>(rt: &R, program: &P, folder: &F, path: &str, text: &str, output: &mut W) -> Result<()> {
     let text = match read_cases(rt.alloc(), &SystemFiles { rt }, path, text) {
         Ok(text) => text,
         Err(fault) => bail!("{path} {fault}"),
     };
-    let folder = SystemFolder::new(rt);
-    Ok(write_outcomes(rt, rt.alloc(), &folder, &text, output)?)
+    Ok(write_outcomes(rt, rt.alloc(), program, folder, &text, output)?)
 }

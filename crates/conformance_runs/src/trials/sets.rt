@@ -9,6 +9,7 @@
 
 use crate::trials::counts::Counts;
 use crate::trials::set_trial::SetTrial;
+use crate::tried_program::Program;
 use anyhow::Result;
 use conformance_inputs::random_programs::{NAMES, Random};
 use std::alloc::Global;
@@ -40,17 +41,18 @@ fn tell_file(rt: &impl Print, name: &str, bytes: &[u8]) -> Result<()> {
 }
 
 /// Tries the set of a seed. Answers whether something is wrong.
-fn try_seed<R: Print + Threads + Wait + Sync>(
+fn try_seed<R: Print + Threads + Wait + Sync, P: Program>(
     rt: &R,
     alloc: Global,
+    program: &P,
     seed: u64,
     counts: &mut Counts,
 ) -> Result<bool> {
     let mut random = Random::of_seed(seed);
     let mut trial = SetTrial::new(alloc, &mut random)?;
-    let wrong = match trial.try_files(rt, counts)? {
+    let wrong = match trial.try_files(rt, program, counts)? {
         Some(what) => Some(what),
-        None => trial.try_changes(rt, &mut random, counts)?,
+        None => trial.try_changes(rt, program, &mut random, counts)?,
     };
     match wrong {
         Some(what) => {
@@ -62,15 +64,22 @@ fn try_seed<R: Print + Threads + Wait + Sync>(
 }
 
 /// Tries the sets of so many seeds. Answers how many were wrong.
-pub fn sets<R: Print + AllocGlobal + Threads + Wait + Sync>(
+pub fn sets<R: Print + AllocGlobal + Threads + Wait + Sync, P: Program>(
     rt: &R,
+    program: &P,
     seed: u64,
     count: u64,
     mut counts: Counts,
 ) -> Result<u64> {
     let mut wrong = 0u64;
     for number in 0..count {
-        if try_seed(rt, rt.alloc(), seed.wrapping_add(number), &mut counts)? {
+        if try_seed(
+            rt,
+            rt.alloc(),
+            program,
+            seed.wrapping_add(number),
+            &mut counts,
+        )? {
             wrong = wrong.saturating_add(1);
         }
     }

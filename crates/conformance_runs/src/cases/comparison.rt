@@ -1,8 +1,9 @@
 //! Runs that are recorded, and their replays.
 
 use crate::cases::outcome::write_outcome;
+use crate::tried_program::Program;
 use conformance_inputs::case_texts::{RecordedRuns, Way};
-use engines::Folder;
+use program_files::Folder;
 use std::alloc::{AllocError, Global};
 use std::io::Write;
 use std::sync::Wait;
@@ -15,9 +16,10 @@ const SCHEDULE: &str = "recorded.schedule";
 /// Runs class files in each of the ways, as often as it says, and replays each time what was recorded. Writes `equal`
 /// where each replay says what its run said, which began as it may; else the first run and replay of which that is
 /// not so.
-pub fn write_comparison<R: Threads + Wait + Sync, F: Folder, W: Write>(
+pub fn write_comparison<R: Threads + Wait + Sync, P: Program, F: Folder, W: Write>(
     rt: &R,
     alloc: Global,
+    program: &P,
     folder: &mut F,
     ways: &[Way],
     runs: &RecordedRuns,
@@ -37,8 +39,8 @@ pub fn write_comparison<R: Threads + Wait + Sync, F: Folder, W: Write>(
             &runs.files,
         )?;
         for _ in 0..way.times {
-            let ran = outcome(rt, alloc, folder, &run)?;
-            let replayed = outcome(rt, alloc, folder, &replay)?;
+            let ran = outcome(rt, alloc, program, folder, &run)?;
+            let replayed = outcome(rt, alloc, program, folder, &replay)?;
             if !is_expected(&ran, &runs.beginnings) || !is_replay(&ran, &replayed) {
                 return write_difference(&run, &ran, &replayed, to);
             }
@@ -58,24 +60,30 @@ fn words_of(
     for word in first {
         words.push(String::from_str(alloc, word)?)?;
     }
-    for word in options {
-        words.push(word.clone()?)?;
-    }
-    for word in files {
-        words.push(word.clone()?)?;
-    }
+    add_words(&mut words, options)?;
+    add_words(&mut words, files)?;
     Ok(words)
 }
 
+/// Adds words behind others.
+fn add_words(words: &mut Vec<String>, more: &[String]) -> Result<(), AllocError> {
+    for word in more {
+        words.push(word.clone()?)?;
+    }
+    Ok(())
+}
+
 /// What comes of a command line, as it is shown.
-fn outcome<R: Threads + Wait + Sync, F: Folder>(
+fn outcome<R: Threads + Wait + Sync, P: Program, F: Folder>(
     rt: &R,
     alloc: Global,
+    program: &P,
     folder: &mut F,
     words: &[String],
 ) -> io::Result<Vec<u8>> {
     let mut shown = Vec::new(alloc);
-    write_outcome(rt, alloc, folder, words, b"", false, &mut shown)?;
+    let outcome = program.outcome(rt, alloc, folder, words, b"", false)?;
+    write_outcome(&outcome, &mut shown)?;
     Ok(shown)
 }
 

@@ -5,6 +5,7 @@ use crate::trials::forms::Form;
 use crate::trials::outcome::Outcome;
 use crate::trials::spelling::wrong_spelling;
 use crate::trials::subject::{Command, InputFile, Subject};
+use crate::tried_program::Program;
 use anyhow::Result;
 use std::io;
 use std::sync::Wait;
@@ -12,18 +13,25 @@ use std::thread::Threads;
 
 /// Trials of the files of a subject. What came of the last file's is counted.
 #[derive(Drop)]
-pub struct FormTrials<'a, R> {
+pub struct FormTrials<'a, R, P> {
     rt: &'a R,
+    program: &'a P,
     subject: &'a Subject,
     counts: Counts,
     /// How many forms of all files were wrong.
     wrong: u64,
 }
 
-impl<'a, R: Print + AllocGlobal + Threads + Wait + Sync> FormTrials<'a, R> {
-    pub fn new(rt: &'a R, subject: &'a Subject, counts: Counts) -> FormTrials<'a, R> {
+impl<'a, R: Print + AllocGlobal + Threads + Wait + Sync, P: Program> FormTrials<'a, R, P> {
+    pub fn new(
+        rt: &'a R,
+        program: &'a P,
+        subject: &'a Subject,
+        counts: Counts,
+    ) -> FormTrials<'a, R, P> {
         FormTrials {
             rt,
+            program,
             subject,
             counts,
             wrong: 0,
@@ -111,6 +119,7 @@ impl<'a, R: Print + AllocGlobal + Threads + Wait + Sync> FormTrials<'a, R> {
     }
 
     fn outcome(&self, command: Command, place: usize, bytes: &[u8]) -> io::Result<Outcome> {
-        self.subject.outcome(self.rt, command, place, bytes)
+        self.subject
+            .outcome(self.rt, self.program, command, place, bytes)
     }
 }
