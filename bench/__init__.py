@@ -1,1 +1,0 @@
-"""What times the built programs and weighs their memory."""

@@ -1,4 +1,0 @@
-package java.lang;
-
-/** What may be cloned. */
-public interface Cloneable {}

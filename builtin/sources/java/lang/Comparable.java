@@ -1,6 +1,0 @@
-package java.lang;
-
-/** What has an order. */
-public interface Comparable {
-    int compareTo(Object other);
-}

@@ -1,1 +1,0 @@
-"""Sweeps and fuzzing in parts, by the engines of others: Dask, and GNU parallel."""

@@ -1,7 +1,0 @@
-/*
- * Newer than Java 8: modules
- *
- * javac refuses it.
- */
-module bank {
-}

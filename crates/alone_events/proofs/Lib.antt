@@ -1,5 +1,0 @@
-pub mod Runs
-pub mod Standing
-pub mod Moves
-pub mod Told
-pub mod Releases

@@ -1,6 +1,0 @@
-mod Both
-mod Appended
-mod Fronts
-mod Stands
-mod Differ
-mod Indices

@@ -1,4 +1,0 @@
-pub mod View
-pub mod CodePlace
-pub mod Conditions
-pub mod builtin

@@ -1,3 +1,0 @@
-mod MemberLaws
-mod Whole
-mod Promises

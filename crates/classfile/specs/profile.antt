@@ -1,4 +1,0 @@
-pub mod Descriptions
-pub mod Faults
-pub mod Places
-pub mod Opcodes

@@ -1,4 +1,0 @@
-pub mod Counted
-pub mod Tables
-pub mod Numbered
-pub mod MethodPlaces

@@ -1,4 +1,0 @@
-pub mod Lines
-pub mod Points
-pub mod Methods
-pub mod There

@@ -1,9 +1,0 @@
-pub mod Choices
-pub mod CommandLine
-pub mod EscapedTexts
-pub mod Goals
-pub mod Numerals
-pub mod Paths
-pub mod Policies
-pub mod Programs
-pub mod Sweeps

@@ -1,9 +1,0 @@
-pub mod Raced
-pub mod Programs
-pub mod LostUpdate
-pub mod Flags
-pub mod Elements
-pub mod Locked
-pub mod Interrupts
-pub mod Initialised
-pub mod DoubleChecked

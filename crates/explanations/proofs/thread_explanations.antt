@@ -1,4 +1,0 @@
-mod Paths
-mod Runs
-mod Threads
-mod Waiting

@@ -1,4 +1,0 @@
-pub mod Kept
-pub mod Laid
-pub mod Sound
-pub mod Same

@@ -1,3 +1,0 @@
-pub mod Woken
-pub mod Ending
-pub mod Alive

@@ -1,2 +1,0 @@
-pub mod Locking
-pub mod Words

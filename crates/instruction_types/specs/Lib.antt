@@ -1,9 +1,0 @@
-pub mod Leads
-pub mod Means
-pub mod Answers
-pub mod Places
-pub mod Wants
-pub mod Fields
-pub mod Returns
-pub mod Successors
-pub mod operand_types

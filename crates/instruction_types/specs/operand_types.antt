@@ -1,3 +1,0 @@
-pub mod View
-pub mod RowView
-pub mod Local

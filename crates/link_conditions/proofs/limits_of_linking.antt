@@ -1,4 +1,0 @@
-pub mod TextLaws
-pub mod CellLaws
-pub mod ClimbLaws
-pub mod MainLaws

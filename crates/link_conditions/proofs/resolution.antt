@@ -1,4 +1,0 @@
-pub mod Operands
-pub mod Texts
-pub mod Rows
-pub mod Walks

@@ -1,4 +1,0 @@
-pub mod Rules
-pub mod Finding
-pub mod Declared
-pub mod Suspected

@@ -1,3 +1,0 @@
-pub mod Texts
-pub mod Climbing
-pub mod Cells

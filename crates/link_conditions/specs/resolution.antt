@@ -1,4 +1,0 @@
-pub mod Found
-pub mod Operands
-pub mod Rows
-pub mod Unresolved

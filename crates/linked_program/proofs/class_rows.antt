@@ -1,4 +1,0 @@
-pub mod Counts
-pub mod Supers
-pub mod Initialising
-pub mod Filling

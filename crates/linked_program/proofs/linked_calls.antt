@@ -1,6 +1,0 @@
-pub mod Callees
-pub mod Finding
-pub mod Specials
-pub mod Rows
-pub mod Halves
-pub mod Selecting

@@ -1,2 +1,0 @@
-pub mod PoolRows
-pub mod CaughtClasses

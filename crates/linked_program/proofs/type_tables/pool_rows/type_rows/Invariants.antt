@@ -1,8 +1,0 @@
-use Rattle.std.proofs.Common.{◌≤◌, length}
-use Rattle.model.specs.Classes.{classes_of}
-use Rattle.linked_program.specs.type_tables.Rows.{AreTypesIn}
-use Rattle.linked_program.proofs.type_tables.PoolRows.{Before, items_of}
-use Rattle.linked_program.proofs.type_tables.pool_rows.type_rows.Given as goal
-
-abbrev pub invariant-loop-class : goal.invariant-loop-class
-invariant-loop-class l = (l.class ≤ length (classes_of l.linked)) × Before l.linked (AreTypesIn l.linked) (items_of l.rows.items) l.class

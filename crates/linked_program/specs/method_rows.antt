@@ -1,2 +1,0 @@
-pub mod BuiltIns
-pub mod Rows

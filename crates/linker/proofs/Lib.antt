@@ -1,4 +1,0 @@
-pub mod Lists
-pub mod Decoded
-pub mod Stages
-pub mod Telling

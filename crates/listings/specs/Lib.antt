@@ -1,3 +1,0 @@
-pub mod class_listings
-pub mod disasm
-pub mod printed_names

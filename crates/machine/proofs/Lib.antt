@@ -1,5 +1,0 @@
-pub mod Turning
-pub mod Repeating
-pub mod Lent
-pub mod Advancing
-mod Copied

@@ -1,3 +1,0 @@
-pub mod Opened
-mod Telling
-pub mod Replayed

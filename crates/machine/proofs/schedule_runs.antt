@@ -1,2 +1,0 @@
-pub mod Repeated
-pub mod Joined

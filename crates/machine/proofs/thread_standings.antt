@@ -1,4 +1,0 @@
-mod Enabled
-pub mod Tops
-mod Statuses
-pub mod States

@@ -1,2 +1,0 @@
-pub mod Monitors
-mod Going

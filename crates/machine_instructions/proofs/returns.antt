@@ -1,4 +1,0 @@
-pub mod Going
-pub mod Exits
-pub mod Given
-pub mod Returned

@@ -1,5 +1,0 @@
-mod Events
-mod Making
-mod Testing
-mod Storing
-mod Made

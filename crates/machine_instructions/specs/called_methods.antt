@@ -1,4 +1,0 @@
-pub mod Frames
-pub mod Invoked
-pub mod Plain
-pub mod Selected

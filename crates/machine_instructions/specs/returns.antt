@@ -1,4 +1,0 @@
-pub mod Places
-pub mod Leaving
-pub mod Returned
-pub mod Unwound

@@ -1,6 +1,0 @@
-pub mod Called
-pub mod Moves
-pub mod Growth
-pub mod Texts
-pub mod Printed
-pub mod Builders

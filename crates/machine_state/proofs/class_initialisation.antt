@@ -1,9 +1,0 @@
-pub mod Named
-pub mod FileStatuses
-pub mod Setting
-pub mod Beginning
-pub mod Looking
-pub mod Failing
-pub mod Rows
-pub mod Phases
-pub mod Supers

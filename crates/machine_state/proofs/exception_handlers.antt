@@ -1,4 +1,0 @@
-pub mod Numbered
-pub mod Climbing
-pub mod Finding
-pub mod ErrorObjects

@@ -1,4 +1,0 @@
-pub mod Limits
-pub mod FatLocks
-pub mod Room
-pub mod Relocks

@@ -1,5 +1,0 @@
-mod Reading
-mod Selecting
-mod Running
-mod Objects
-mod Searching

@@ -1,4 +1,0 @@
-pub mod Constants
-pub mod Statuses
-pub mod Needed
-pub mod Steps

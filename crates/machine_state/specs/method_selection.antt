@@ -1,4 +1,0 @@
-pub mod Receivers
-pub mod Rows
-pub mod Selected
-pub mod Run

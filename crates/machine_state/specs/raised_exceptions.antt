@@ -1,2 +1,0 @@
-pub mod Raised
-pub mod Applied

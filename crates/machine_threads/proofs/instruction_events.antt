@@ -1,4 +1,0 @@
-mod Families
-mod Picks
-mod Classes
-mod Steps

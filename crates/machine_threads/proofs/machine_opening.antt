@@ -1,4 +1,0 @@
-pub mod Adding
-pub mod OpenedHeap
-pub mod OpenedClasses
-pub mod OpenedStates

@@ -1,3 +1,0 @@
-pub mod Families
-pub mod Doing
-pub mod Events

@@ -1,2 +1,0 @@
-pub mod method_links
-pub mod selection_tables

@@ -1,6 +1,0 @@
-pub mod Methods
-pub mod Numbers
-pub mod Calls
-pub mod Describing
-pub mod Named
-pub mod Selected

@@ -1,5 +1,0 @@
-//! Which methods calls run, by number.
-#![tactic(auto)]
-
-pub mod method_links;
-pub mod selection_tables;

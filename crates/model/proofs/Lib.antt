@@ -1,2 +1,0 @@
-pub mod InstructionLaws
-pub mod StartLaws

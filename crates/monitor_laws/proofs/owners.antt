@@ -1,4 +1,0 @@
-pub mod Monitors
-pub mod Worlds
-pub mod Table
-pub mod Steps

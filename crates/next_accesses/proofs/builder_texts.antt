@@ -1,2 +1,0 @@
-pub mod Accessed
-pub mod Operands

@@ -1,5 +1,0 @@
-pub mod Parts
-pub mod Stepping
-pub mod Passing
-pub mod Meant
-pub mod Called

@@ -1,4 +1,0 @@
-pub mod Parts
-pub mod Code
-pub mod Handlers
-pub mod Bodies

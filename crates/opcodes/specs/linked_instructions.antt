@@ -1,4 +1,0 @@
-pub mod Rows
-pub mod Others
-pub mod Links
-pub mod Operands

@@ -1,3 +1,0 @@
-mod Passing
-mod Turning
-mod Continuing

@@ -1,6 +1,0 @@
-mod Gathering
-mod LocalEvents
-mod Passing
-mod Runs
-mod Seen
-mod Traced

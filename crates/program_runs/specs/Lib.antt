@@ -1,6 +1,0 @@
-pub mod continued_runs
-pub mod policies
-pub mod recorded_replays
-pub mod traced_runs
-pub mod workers
-pub mod worlds

@@ -1,9 +1,0 @@
-pub mod Draws
-pub mod Drawn
-pub mod Examples
-pub mod Keeping
-pub mod Lengths
-pub mod Picks
-pub mod Policies
-pub mod PolicyTurns
-pub mod Runs

@@ -1,4 +1,0 @@
-pub mod Locals
-pub mod Telling
-pub mod Traces
-pub mod Windows

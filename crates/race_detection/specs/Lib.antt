@@ -1,4 +1,0 @@
-pub mod run_steps
-pub mod vector_clocks
-pub mod last_accesses
-pub mod race_detector

@@ -1,4 +1,0 @@
-pub mod Keys
-pub mod Renamed
-pub mod Stays
-pub mod Steps

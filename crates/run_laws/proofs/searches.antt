@@ -1,2 +1,0 @@
-mod Picks
-mod Complete

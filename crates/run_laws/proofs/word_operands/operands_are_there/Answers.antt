@@ -1,8 +1,0 @@
-use Rattle.run_laws.proofs.laws.LinkedOf.{linked_of}
-use Rattle.run_laws.proofs.word_operands.Meant.{operands_found}
-use Rattle.run_laws.proofs.word_operands.operands_are_there.Goals as goal
-
-pub returns : goal.returns
-returns c = record {
-  holds = λ files trees linkable state h t frame on. operands_found trees (linked_of files trees linkable.spelled linkable.no_refusal).rooted state h t frame on;
-}

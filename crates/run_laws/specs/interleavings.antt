@@ -1,4 +1,0 @@
-pub mod Local
-pub mod Reduced
-pub mod Ends
-pub mod Statements

@@ -1,2 +1,0 @@
-mod ThreadLines
-mod Units

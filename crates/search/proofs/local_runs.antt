@@ -1,3 +1,0 @@
-mod Rows
-mod Events
-mod Frames

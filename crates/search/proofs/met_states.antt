@@ -1,3 +1,0 @@
-mod Bridge
-mod EndlessStates
-mod KindsMet

@@ -1,3 +1,0 @@
-mod Appended
-mod OutcomeTexts
-mod Reported

@@ -1,2 +1,0 @@
-mod Switching
-mod Budgets

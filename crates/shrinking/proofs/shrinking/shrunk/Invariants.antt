@@ -1,6 +1,0 @@
-use Rattle.model.specs.Schedule.{events_of}
-use Rattle.shrinking.specs.Shrunk.{IsKept}
-use Rattle.shrinking.proofs.shrinking.shrunk.Given as goal
-
-abbrev pub invariant-rounds : goal.invariant-rounds
-invariant-rounds g l = IsKept (g.T.Tries.has l.tries) (events_of l.fn.best) (events_of l.best)

@@ -1,7 +1,0 @@
-mod Adding
-mod Places
-mod Tallying
-mod RunsSwept
-mod Counting
-mod Telling
-mod Queue

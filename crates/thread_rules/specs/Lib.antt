@@ -1,2 +1,0 @@
-pub mod needed_classes
-pub mod next_rules

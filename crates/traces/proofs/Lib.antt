@@ -1,5 +1,0 @@
-mod Counts
-mod Escapes
-mod MethodPlaces
-mod OneLine
-mod Pieces

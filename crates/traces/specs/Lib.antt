@@ -1,6 +1,0 @@
-pub mod JsonTexts
-pub mod Lines
-pub mod Methods
-pub mod Pieces
-pub mod Quotations
-pub mod traced_events

@@ -1,4 +1,0 @@
-pub mod Places
-pub mod Arrays
-pub mod Parameters
-pub mod Found

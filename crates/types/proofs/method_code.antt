@@ -1,3 +1,0 @@
-pub mod Firsts
-pub mod Rights
-pub mod Declared

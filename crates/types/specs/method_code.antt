@@ -1,4 +1,0 @@
-pub mod Linked
-pub mod Declaration
-pub mod View
-pub mod Site

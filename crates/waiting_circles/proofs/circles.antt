@@ -1,2 +1,0 @@
-pub mod Awaiting
-pub mod Turns

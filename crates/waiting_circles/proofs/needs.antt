@@ -1,9 +1,0 @@
-pub mod Begun
-pub mod Classes
-pub mod Directs
-pub mod Entered
-pub mod Framed
-pub mod Instructed
-pub mod Linked
-pub mod Receivers
-pub mod Tops

@@ -1,4 +1,0 @@
-pub mod Rounds
-pub mod Needs
-pub mod Holders
-pub mod Circles

@@ -1,5 +1,0 @@
-package java.io;
-
-/** A mark. Nothing is serialised here. */
-public interface Serializable {
-}

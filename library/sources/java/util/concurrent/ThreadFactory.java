@@ -1,6 +1,0 @@
-package java.util.concurrent;
-
-/** What makes threads. */
-public interface ThreadFactory {
-    Thread newThread(Runnable task);
-}

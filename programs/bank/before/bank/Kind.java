@@ -1,7 +1,0 @@
-package bank;
-
-/** What a customer wants. */
-public enum Kind {
-    DEPOSIT,
-    WITHDRAWAL
-}

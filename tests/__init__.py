@@ -1,1 +1,0 @@
-"""Unit tests of the scripts: of what decides."""

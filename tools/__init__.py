@@ -1,1 +1,0 @@
-"""What a contributor or the gate calls, and what all scripts share."""
