@@ -1,75 +1,132 @@
 #!/usr/bin/env python3
-"""Makes a table of how long class files that are hard to link or to verify take, by the program `bench hostile`.
+"""Makes a table of how long class files that are hard to link or to verify take, by the program `bench verify`.
 
-    bench/hostile.py [--program PROGRAM] [NAME..]
-    bench/hostile.py [--program PROGRAM] --largest [NAME..]
-    bench/hostile.py --told FILE
+    bench/hostile.py [--program PROGRAM] [--largest | --of-each N] [NAME..]
 
-PROGRAM is the built program `bench` [default: crates/bench/out/bench, which `rt run` leaves]. Each shape of files is
-run by itself, with twice as much of everything in it each time, until a run takes five seconds, the files have half a
-million bytes, or they are refused. All names are those of shapes [default: all]. A line of the table is the last run
-of a shape: what was doubled, the bytes of the files, the seconds of processor time of linking and of verification, to
-which power of the bytes the time grew in the last doubling, and the peak memory of the process.
+PROGRAM is the built program `bench` [default: crates/bench/out/bench, which `rt run` leaves]. Each shape of files that
+bench/hostile_files.py makes is run by itself, with twice as much of everything in it each time, until a run takes five
+seconds, the files have half a million bytes, or they are refused. All names are those of shapes [default: all]. A line
+of the table is the last run of a shape: what was doubled, the bytes of the files, the seconds of processor time of the
+process, those of verification by the clock, to which power of the bytes the former grew in the last doubling, and the
+peak memory of the process.
 
 With --largest there is as much of everything in the files of each shape as makes a megabyte, or as a method may have:
 it is doubled until there is more, and then sought between the last two, to an eighth. A line is the run with the most:
 what was sought, the bytes of the files, the seconds of processor time of the process, its peak memory, and `TooLarge`
-where the files were refused for their steps.
-
-With --told it makes the table of what such runs printed, for what `rt try` printed, for one.
+where the files were refused for their steps. With --of-each N there is one run of each shape, with so much of
+everything.
 """
 
 import argparse
 import dataclasses
+import math
 import pathlib
 import re
-import subprocess
+import struct
 import sys
-from typing import Dict, Iterable, Iterator, List, Match, Sequence
+import tempfile
+from typing import Iterator, Optional, Sequence
 
 sys.dont_write_bytecode = True
 sys.path.insert(0, str(pathlib.Path(__file__).resolve().parent.parent))
 
+from bench.hostile_files import SHAPES
 from bench.measures import measured
 from tools.repository import BENCH, PathLike
 
-LINE = re.compile(
-    r"([a-z-]+) (\d+): (\d+) bytes verified, link (\d+) verify (\d+) microseconds"
-    r"(?:, exponent (\d+) hundredths)?(?:, peak (\d+) kilobytes)?$"
-)
+# How much of everything there is at first.
+LEAST = 8
 
-# What a run prints that is told how much of everything there is.
-ONE = re.compile(r"[a-z-]+ (\d+): (\d+) bytes (.*)$", re.DOTALL)
+# A run that takes longer, in seconds, is the last one; and so is a run over files of more bytes.
+LONGEST, LARGEST = 5.0, 500_000
 
 MEGABYTE = 1_000_000
+
+# What a run prints of files that link, and how long it says that verification took.
+CODE = re.compile(r"\d+ bytes of code (.*)", re.DOTALL)
+TIME = re.compile(r"(\d+) microseconds")
+
+TOO_MUCH = "too much for a class file"
 
 
 @dataclasses.dataclass
 class Ran:
-    """A run of a shape: how much of everything there was, the bytes, what was said, the seconds, the peak in bytes."""
+    """A run of a shape: how much of everything there was, the bytes, what was said, seconds, the peak in bytes."""
 
     number: int
     size: int
     said: str
-    seconds: float
-    peak: int
+    seconds: float = 0.0
+    verifying: float = 0.0
+    peak: int = 0
+
+    def passes(self) -> bool:
+        return self.said == "verified"
 
     def fits(self) -> bool:
         """Whether the files are class files that link, and are no more than a megabyte."""
-        return self.size <= MEGABYTE and (self.said == "verified" or "TooLarge" in self.said)
+        return self.size <= MEGABYTE and (self.passes() or "TooLarge" in self.said)
 
 
 def run_of(program: PathLike, name: str, number: int) -> Ran:
-    ran = measured([program, "hostile", name, number])
-    found = ONE.match(ran.written.strip())
-    if ran.status or not found:
-        sys.exit(f"{name} {number}: status {ran.status}: {ran.written}")
-    return Ran(int(found[1]), int(found[2]), found[3].strip(), ran.processor, 1024 * ran.kilobytes)
+    try:
+        files = SHAPES[name](number)
+    except struct.error:
+        return Ran(number, 0, TOO_MUCH)
+    with tempfile.TemporaryDirectory() as folder:
+        names = [str(place) for place in range(len(files))]
+        for file, data in zip(names, files):
+            pathlib.Path(folder, file).write_bytes(data)
+        ran = measured([pathlib.Path(program).resolve(), "verify", *names], folder)
+    if ran.status:
+        sys.exit(f"{name} {number}: status {ran.status}: {ran.error}")
+    found, time = CODE.match(ran.written.strip()), TIME.search(ran.error)
+    said = found[1] if found else ran.written.strip()
+    verifying = int(time[1]) / 1e6 if time else 0.0
+    return Ran(number, sum(map(len, files)), said, ran.processor, verifying, 1024 * ran.kilobytes)
+
+
+def runs_of(program: PathLike, name: str) -> Iterator[Ran]:
+    """Runs of a shape, with twice the number each time."""
+    number = LEAST
+    while True:
+        ran = run_of(program, name, number)
+        if not ran.passes():
+            print(f"{name} {number}: {ran.said}", file=sys.stderr)
+            return
+        yield ran
+        if ran.seconds > LONGEST or ran.size > LARGEST:
+            return
+        number *= 2
+
+
+def exponent(before: Optional[Ran], after: Ran) -> str:
+    """The power of the bytes to which the seconds grew."""
+    if not before or not before.seconds or not after.seconds or before.size == after.size:
+        return ""
+    return f"{math.log(after.seconds / before.seconds) / math.log(after.size / before.size):.1f}"
+
+
+def memory(ran: Ran) -> str:
+    return f"{ran.peak / 2**20:.0f} MB"
+
+
+def print_runs(program: PathLike, names: Sequence[str], of_each: Optional[int] = None) -> None:
+    print("| Shape | Of each | Bytes | Seconds | Verification, s | Exponent | Peak |")
+    print("|---|---|---|---|---|---|---|")
+    for name in names:
+        before: Optional[Ran] = None
+        last: Optional[Ran] = None
+        for ran in runs_of(program, name) if of_each is None else [run_of(program, name, of_each)]:
+            before, last = last, ran
+        if last:
+            times = f"{last.seconds:.3f} | {last.verifying:.3f} | {exponent(before, last)}"
+            print(f"| `{name}` | {last.number:,} | {last.size:,} | {times} | {memory(last)} |", flush=True)
 
 
 def largest(program: PathLike, name: str) -> Ran:
     """The run of a shape with the most of everything that fits, to an eighth."""
-    last, number = run_of(program, name, 8), 16
+    last, number = run_of(program, name, LEAST), 2 * LEAST
     while (ran := run_of(program, name, number)).fits():
         last, number = ran, 2 * number
     low, high = last.number, number
@@ -88,54 +145,26 @@ def print_largest(program: PathLike, names: Sequence[str]) -> None:
     for name in names:
         ran = largest(program, name)
         what = "`TooLarge`" if "TooLarge" in ran.said else ""
-        cost = f"{ran.seconds:.1f} | {ran.peak / 2**20:.0f} MB"
+        cost = f"{ran.seconds:.1f} | {memory(ran)}"
         print(f"| `{name}` | {ran.number:,} | {ran.size:,} | {cost} | {what} |", flush=True)
-
-
-def names_of(program: PathLike) -> List[str]:
-    return subprocess.run([program, "hostile"], check=True, capture_output=True, text=True).stdout.split()
-
-
-def told_by(program: PathLike, names: Sequence[str]) -> Iterator[str]:
-    """What the program prints of each shape."""
-    for name in names or names_of(program):
-        ran = subprocess.run([program, "hostile", name], check=True, capture_output=True, text=True)
-        yield from ran.stdout.splitlines()
-
-
-def row(found: Match[str]) -> str:
-    name, number, size, link, verify, exponent, peak = found.groups()
-    power = f"{int(exponent) / 100:.1f}" if exponent else ""
-    memory = f"{int(peak) / 1024:.0f} MB" if peak else ""
-    seconds = f"{int(link) / 1e6:.3f} | {int(verify) / 1e6:.3f}"
-    return f"| `{name}` | {int(number):,} | {int(size):,} | {seconds} | {power} | {memory} |"
 
 
 def main() -> None:
     parser = argparse.ArgumentParser(description=__doc__, formatter_class=argparse.RawDescriptionHelpFormatter)
     parser.add_argument("--program", default=BENCH)
-    parser.add_argument("--largest", action="store_true")
-    parser.add_argument("--told")
-    parser.add_argument("names", nargs="*")
+    how = parser.add_mutually_exclusive_group()
+    how.add_argument("--largest", action="store_true")
+    how.add_argument("--of-each", type=int, metavar="N")
+    parser.add_argument("names", nargs="*", metavar="NAME")
     options = parser.parse_args()
+    for name in options.names:
+        if name not in SHAPES:
+            parser.error(f"{name} is none of {', '.join(SHAPES)}")
+    names = options.names or list(SHAPES)
     if options.largest:
-        print_largest(options.program, options.names or names_of(options.program))
-        return
-    if options.told:
-        lines: Iterable[str] = pathlib.Path(options.told).read_text().splitlines()
+        print_largest(options.program, names)
     else:
-        lines = told_by(options.program, options.names)
-    last: Dict[str, Match[str]] = {}
-    for line in lines:
-        found = LINE.match(line.strip())
-        if found:
-            last[found.group(1)] = found
-        elif line.strip():
-            print(line, file=sys.stderr)
-    print("| Shape | Of each | Bytes | Linking, s | Verification, s | Exponent | Peak |")
-    print("|---|---|---|---|---|---|---|")
-    for found in last.values():
-        print(row(found))
+        print_runs(options.program, names, options.of_each)
 
 
 if __name__ == "__main__":

@@ -19,9 +19,7 @@
 mod arguments;
 mod bursts_of_locals;
 mod class_files;
-mod hostile;
 mod linking;
-mod logarithm;
 mod many_threads;
 mod monitors;
 mod objects;
@@ -34,14 +32,13 @@ use std::env::Args;
 use std::{env, fs};
 
 /// The words that name them.
-const WORDS: &str = "bursts, decode, hostile, link, machine, monitors, objects, verify";
+const WORDS: &str = "bursts, decode, link, machine, monitors, objects, verify";
 
 /// Runs the program that a word names.
 fn named(rt: &HostRuntime, word: &str, args: Args) -> Result<()> {
     match word {
         "bursts" => bursts_of_locals::run(rt, args),
         "decode" => class_files::run(rt, args),
-        "hostile" => hostile::run(rt, args),
         "link" => linking::run(rt, args),
         "machine" => many_threads::run(rt, args),
         "monitors" => monitors::run(rt, args),

@@ -1,5 +1,4 @@
-//! Class files for tests: built, or hard to take.
+//! Class files for tests.
 #![tactic(auto)]
 
 pub mod class_builder;
-pub mod hostile_files;

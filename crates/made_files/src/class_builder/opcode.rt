@@ -1,7 +1,5 @@
 //! Opcodes (JVMS 6.5) by their mnemonics.
 
-pub const NOP: u8 = 0x00;
-
 pub const ACONST_NULL: u8 = 0x01;
 
 pub const ICONST_0: u8 = 0x03;
@@ -144,10 +142,6 @@ pub const MONITORENTER: u8 = 0xc2;
 
 pub const MONITOREXIT: u8 = 0xc3;
 
-pub const WIDE: u8 = 0xc4;
-
 pub const IFNULL: u8 = 0xc6;
 
 pub const IFNONNULL: u8 = 0xc7;
-
-pub const GOTO_W: u8 = 0xc8;
