@@ -1,8 +1,7 @@
 /*
  * The library: `System.arraycopy`
  *
- * ArrayCopy.java:10: java.lang.System.arraycopy(java.lang.Object, int, java.lang.Object, int, int): copy the
- *     elements in a loop
+ * It works.
  */
 class ArrayCopy {
     public static void main(String[] words) {

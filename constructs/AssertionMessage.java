@@ -1,8 +1,7 @@
 /*
  * Statements: `assert` with a message
  *
- * AssertionMessage.java:10: new java.lang.AssertionError(java.lang.Object), of an assert with a message: leave the
- *     message out
+ * It works.
  */
 class AssertionMessage {
     public static void main(String[] words) {

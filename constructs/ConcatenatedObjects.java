@@ -1,11 +1,14 @@
 /*
  * Strings and output: `+` of a string and another object
  *
- * ConcatenatedObjects.java:9: java.lang.StringBuilder.append(java.lang.Object): add a String, an int, a char, a boolean
- *     or a CharSequence
+ * It works.
  */
 class ConcatenatedObjects {
+    public String toString() {
+        return "seven";
+    }
+
     public static void main(String[] words) {
-        System.out.println("object " + new Object());
+        System.out.println("object " + new ConcatenatedObjects() + words);
     }
 }

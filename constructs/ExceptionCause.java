@@ -1,15 +1,15 @@
 /*
- * Exceptions: an exception with a cause and without a message
+ * Exceptions: an exception with a cause
  *
- * ExceptionCause.java:12: new java.lang.RuntimeException(java.lang.Throwable): take the constructor with a message,
- *     or the one without arguments
+ * It works.
  */
 class ExceptionCause {
     public static void main(String[] words) {
         try {
-            words[0] = null;
+            throw new RuntimeException(new IllegalStateException("closed"));
         } catch (RuntimeException thrown) {
-            throw new RuntimeException(thrown);
+            System.out.println(thrown.getMessage());
+            System.out.println(thrown.getCause().getMessage());
         }
     }
 }

@@ -1,19 +1,16 @@
 /*
- * Strings and output: `print` and `println` of anything else, and `printf`
+ * Strings and output: `print` and `println` of a `char[]`, and `printf`
  *
- * PrintOthers.java:15: java.io.PrintStream.print(java.lang.Object): System.out prints ints, chars, booleans and
- *     Strings, and nothing else; print these
- * PrintOthers.java:16: the class java.lang.Integer, of boxing, or of a method of it: take int, char or boolean, or a
+ * PrintOthers.java:13: java.io.PrintStream.println(char[]): System.out prints ints, chars, booleans and objects, and
+ *     nothing else; print these
+ * PrintOthers.java:14: the class java.lang.Integer, of boxing, or of a method of it: take int, char or boolean, or a
  *     class of your own
- * PrintOthers.java:16: java.io.PrintStream.printf(java.lang.String, java.lang.Object[]): System.out prints ints, chars,
- *     booleans and Strings, and nothing else; print these
- * PrintOthers.java:17: java.io.PrintStream.flush(): System.out prints ints, chars, booleans and Strings, and nothing
- *     else; print these
+ * PrintOthers.java:14: java.io.PrintStream.printf(java.lang.String, java.lang.Object[]): System.out prints ints, chars,
+ *     booleans and objects, and nothing else; print these
  */
 class PrintOthers {
     public static void main(String[] words) {
-        System.out.print(new Object());
+        System.out.println(new char[] {'7'});
         System.out.printf("%d", 7);
-        System.out.flush();
     }
 }

@@ -1,7 +1,7 @@
 /*
  * Strings and output: `toString` of an object
  *
- * ToString.java:15: java.lang.Object.toString(): declare it in your class, and call it by the type of that class
+ * It works.
  */
 class ToString {
     public String toString() {
@@ -9,9 +9,8 @@ class ToString {
     }
 
     public static void main(String[] words) {
-        ToString own = new ToString();
-        String text = own.toString();
-        Object object = own;
-        String other = object.toString();
+        Object object = new ToString();
+        System.out.println(object.toString());
+        System.out.println(object);
     }
 }

@@ -1,8 +1,6 @@
 /*
  * Statements: `try` with resources
  *
- * TryWithResources.java:16: java.lang.Throwable.addSuppressed(java.lang.Throwable), of a try with resources: write
- *     try and finally
  * TryWithResources.java: the class java.lang.AutoCloseable, of a try with resources: write try and finally
  */
 class TryWithResources {

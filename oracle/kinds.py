@@ -12,7 +12,7 @@ from oracle.calls import INVOKEINTERFACE, Called
 from oracle.classes import Class, ClassReader
 from oracle.frames import Frame, short
 from oracle.machine import ELEMENTS, Machine
-from oracle.state import BUILDER_TEXT, JavaThread, NotEnabled, Object, Refused, component
+from oracle.state import BUILDER_TEXT, NO_VARIABLES, JavaThread, NotEnabled, Object, Refused, component
 
 # The kinds, in the order in which they are told.
 KINDS = ["race", "uncaught", "deadlock", "endless"]
@@ -58,7 +58,7 @@ def of_field(machine: Machine, thread: JavaThread, frame: Frame) -> Optional[Acc
     name, field, descriptor = frame.method.owner.pool[short(frame, 1)][1]
     one = machine.found_field(name, field, descriptor)
     flags = next(declared[0] for declared in one.fields if declared[1:3] == (field, descriptor))
-    if flags & VOLATILE:
+    if flags & VOLATILE or (one.name, field, descriptor) in NO_VARIABLES:
         return None
     if opcode in (GETSTATIC, PUTSTATIC):
         is_there, of = is_ready(one, thread), 0

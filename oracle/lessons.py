@@ -5,12 +5,12 @@
 
 Each folder of `lessons/` has a page, README.md, with commands as
 
-    jvm replay --schedule NAME.schedule [--then-run] FILE.. # status N
+    $ jvm replay --schedule NAME.schedule [--then-run] FILE.. # status N
 
-each in a block of its own with the language `sh`, and behind it a block `text` with what it prints. The Java sources of
-a folder are compiled by `tools/java-classes`; what a command prints is worked out by `oracle/machine.py`, which is the
-machine once more, written by the rules alone. With --write the class files, the blocks and the cases of
-`crates/conformance` are written; without it they are compared, and the status is 1 where one differs.
+each at the head of a block `text`, and below it what it prints. The Java sources of a folder are compiled by
+`tools/java-classes`; what a command prints is worked out by `oracle/machine.py`, which is the machine once more,
+written by the rules alone. With --write the class files, the blocks and the cases of `crates/conformance` are written;
+without it they are compared, and the status is 1 where one differs.
 """
 
 import argparse
@@ -32,8 +32,8 @@ from tools.repository import CONFORMANCE, ROOT, compiled
 LESSONS = ROOT / "lessons"
 
 COMMAND = re.compile(
-    r"```sh\n(?P<words>jvm replay --schedule (?P<schedule>\S+)(?P<goes_on> --then-run)? (?P<files>[^#\n]+?))"
-    r" # status (?P<status>\d)\n```\n(?:\n```text\n(?P<shown>.*?)```\n)?",
+    r"```text\n\$ (?P<words>jvm replay --schedule (?P<schedule>\S+)(?P<goes_on> --then-run)? (?P<files>[^#\n]+?))"
+    r" # status (?P<status>\d)\n.*?```\n",
     re.DOTALL,
 )
 
@@ -102,7 +102,7 @@ class Lesson:
         words = ["replay --schedule", within[0], *(["--then-run"] if found["goes_on"] else []), *within[1:]]
         self.cases += [f"case {case}", "  " + " ".join(words)]
         self.printed.append(f"case {case}\n{report}status {status}\n")
-        return f"```sh\n{found['words']} # status {found['status']}\n```\n\n```text\n{report}```\n"
+        return f"```text\n$ {found['words']} # status {found['status']}\n{report}```\n"
 
     def text(self) -> str:
         """The text of its cases."""

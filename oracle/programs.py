@@ -59,6 +59,7 @@ TOPICS = {
     "threads": "Interrupts InterruptedJoin Holder FailingInitialisers CrossedInitialisers",
     "prints": "Hello Letters Surrogates Unfinished NoStream Quoted OneLine Words TwoVoices",
     "strings": "Answers Pieces Sought Ordered Asked TooShort Speakers Kept",
+    "telling": "Named Shown Causes Beside Copies Reports",
     "builders": "Sums Joined Truths Builds Built Edited Beyond BothStreams Reported Counted Chorus Gathered Halves",
 }
 

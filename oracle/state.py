@@ -15,8 +15,19 @@ Value = Any
 
 LIMITS = {"objects": 1_000_000, "cells": 16_000_000, "monitors": 65_536, "threads": 256, "frames": 1_024}
 
-# Of a StringBuilder its text, which is no cell.
+# The hidden fields of built-in classes: what a Thread runs, the text of a StringBuilder, and what a Throwable keeps.
+TARGET = "java/lang/Thread", "target", "Ljava/lang/Runnable;"
 BUILDER_TEXT = "java/lang/StringBuilder", "text", "Ljava/lang/String;"
+MESSAGE = "java/lang/Throwable", "message", "Ljava/lang/String;"
+CAUSE = "java/lang/Throwable", "cause", "Ljava/lang/Throwable;"
+SUPPRESSED = "java/lang/Throwable", "suppressed", "[Ljava/lang/Throwable;"
+
+# Those that are no cells, and those that are no variables of races.
+NO_CELLS = {BUILDER_TEXT, MESSAGE, CAUSE, SUPPRESSED}
+NO_VARIABLES = {TARGET, MESSAGE, CAUSE, SUPPRESSED}
+
+# Texts that the machine itself has Strings of: main's name, and what the message of a division by zero is.
+MAIN_NAME, BY_ZERO = "main", "/ by zero"
 
 # A lock keeps this many entries of one owner without a monitor.
 THIN_ENTRIES = 256
@@ -39,6 +50,10 @@ class Object:
 
     def __init__(self, kind: str) -> None:
         self.kind = kind
+        # Its reference number: how many objects there were before it.
+        self.number = 0
+        # Of a Class object its class's name.
+        self.names = ""
         self.fields: Dict[Tuple[str, str, str], Value] = {}
         self.elements: Optional[List[Value]] = None
         # Of a String its UTF-16 code units.
@@ -106,6 +121,7 @@ class State:
         self.classes.update((one.name, one) for one in read)
         for one in self.classes.values():
             one.object = Object("java/lang/Class")
+            one.object.names = one.name
             one.statics = {
                 name: None if descriptor[0] in "L[" else 0
                 for flags, name, descriptor, _ in one.fields
@@ -120,6 +136,18 @@ class State:
         self.printed: List[int] = []
         self.objects = self.cells = self.monitors = 0
         self.threads = [JavaThread(self.made("java/lang/Thread"))]
+        self.arguments = Object("[Ljava/lang/String;")
+        self.arguments.elements = []
+        self.opening = self.opened(read)
+
+    def opened(self, given: Sequence[Class]) -> int:
+        """Numbers the objects that are there before any event, and answers how many these are."""
+        streams, classes = self.classes["java/lang/System"].statics, self.classes.values()
+        things = [streams["out"], self.arguments, self.threads[0].object, *(one.object for one in classes)]
+        things += [*map(self.string, texts_of(given, [*classes])), streams["err"]]
+        for number, thing in enumerate(things):
+            thing.number = number
+        return len(things)
 
     def string(self, text: str) -> Object:
         """The String of a constant, whose bytes are characters here."""
@@ -198,7 +226,7 @@ class State:
     @staticmethod
     def cells_of(thing: Object) -> int:
         """How many cells an object takes that `new` makes."""
-        return len(thing.fields.keys() - {BUILDER_TEXT})
+        return len(thing.fields.keys() - NO_CELLS)
 
     def room(self, cells: int) -> None:
         """Refuses where a limit stands at one more object with so many cells."""
@@ -208,6 +236,7 @@ class State:
             raise Refused("cells")
 
     def allocated(self, thing: Object, cells: int) -> Object:
+        thing.number = self.opening + self.objects
         self.objects += 1
         self.cells += cells
         return thing
@@ -240,12 +269,15 @@ class State:
         if thing.entries == 0:
             thing.owner = None
 
-    def throwing(self, thread: JavaThread, name: str) -> Action:
-        """What leaves a new exception of the machine pending."""
+    def throwing(self, thread: JavaThread, name: str, cause: Optional[Object] = None) -> Action:
+        """What leaves a new exception of the machine pending, which may have a cause."""
         self.room(0)
+        made = self.made(f"java/lang/{name}")
+        made.fields[MESSAGE] = self.string(BY_ZERO) if name == "ArithmeticException" else None
+        made.fields[CAUSE] = cause
 
         def throw() -> None:
-            thread.pending = self.allocated(Object(f"java/lang/{name}"), 0)
+            thread.pending = self.allocated(made, 0)
 
         return throw
 
@@ -270,6 +302,13 @@ class State:
         if one.state == "erroneous":
             return self.throwing(thread, "NoClassDefFoundError")
         return None
+
+
+def texts_of(given: Sequence[Class], classes: Sequence[Class]) -> List[str]:
+    """The texts of which there are Strings before any event: of files, of built-in classes, and of the machine."""
+    pools = [one.pool for one in [*given, *classes]]
+    texts = [value for pool in pools for sort, value in pool.values() if sort == "string"]
+    return list(dict.fromkeys([*texts, MAIN_NAME, BY_ZERO]))
 
 
 def component(kind: str) -> str:

@@ -2,7 +2,6 @@
 
 from typing import Dict, List, NamedTuple, Optional, Sequence, Tuple, Union
 
-from oracle.classes import Class
 from oracle.frames import Frame
 from oracle.listing import Lines, instruction
 from oracle.machine import Machine
@@ -52,51 +51,25 @@ def seen_before(thread: JavaThread, pick: int, printed: int, objects: int) -> Be
     return Before(top, len(thread.entries), thread.frames(), at, stack, waiting, pick, printed, objects)
 
 
-# Texts that the machine itself has Strings of: main's name, and what the message of a division by zero is.
-MACHINE_TEXTS = ["main", "/ by zero"]
-
-
-def texts_of(given: Sequence[Class], classes: Sequence[Class]) -> List[str]:
-    """The texts of which there are Strings before any event: those of files, of built-in classes, and of the machine."""
-    pools = [one.pool for one in [*given, *classes]]
-    texts = [value for pool in pools for sort, value in pool.values() if sort == "string"]
-    return list(dict.fromkeys([*texts, *MACHINE_TEXTS]))
-
-
 class Traced(Machine):
-    """A machine whose objects have numbers, and which tells each event."""
+    """A machine which tells each event."""
 
     def __init__(self, files: Sequence[bytes]) -> None:
         super().__init__(files)
-        # What is there before any event: System.out, the arguments, main's Thread, a Class each, the strings, and
-        # System.err.
-        streams, classes = self.classes["java/lang/System"].statics, list(self.classes.values())
-        given = classes[-len(files) :]
-        things = [streams["out"], None, self.threads[0].object, *(one.object for one in classes)]
-        things += [*map(self.string, texts_of(given, classes)), streams["err"]]
-        self.numbers = {id(thing): number for number, thing in enumerate(things) if thing is not None}
-        self.next = len(things)
-        self.sources = {one.name: lines for one, lines in zip(given, map(Lines, files))}
-        self.named = {id(one.object): one.name for one in self.classes.values()}
-        self.kept: List[Object] = []
-
-    def allocated(self, thing: Object, cells: int) -> Object:
-        self.numbers[id(thing)], self.next = self.next, self.next + 1
-        self.kept.append(thing)
-        return super().allocated(thing, cells)
+        given = list(self.classes)[-len(files) :]
+        self.sources = dict(zip(given, map(Lines, files)))
 
     def thing(self, thing: Object) -> str:
         """An object by its class and its number."""
-        if id(thing) in self.named:
-            return f"{self.named[id(thing)]}.class"
-        number = self.numbers.get(id(thing), 1)
+        if thing.names:
+            return f"{thing.names}.class"
         if thing.kind == STRING:
-            return f"{spelled(quoted(thing.text))} #{number}"
+            return f"{spelled(quoted(thing.text))} #{thing.number}"
         kind, arrays = thing.kind, 0
         while kind[0] == "[":
             kind, arrays = component(kind), arrays + 1
         kind = PRIMITIVES.get(kind, kind) if arrays else kind
-        return f"{kind}{'[]' * arrays} #{number}"
+        return f"{kind}{'[]' * arrays} #{thing.number}"
 
     def value(self, value: Value, descriptor: str = "I") -> str:
         if descriptor == "Z":
@@ -250,7 +223,8 @@ class Traced(Machine):
         if name == "<init>":
             return [f"runs {self.found_method(owner, name, descriptor).owner.name}.<init>"]
         given = before.frame().stack[-1]
-        if self.objects > before.objects and given is self.kept[-1]:
+        is_made = self.objects > before.objects and isinstance(given, Object)
+        if is_made and given.number == self.opening + before.objects:
             return [f"makes {self.thing(given)}"]
         return [f"pushes {self.value(given, descriptor[descriptor.index(')') + 1 :])}"]
 

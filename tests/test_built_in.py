@@ -125,7 +125,7 @@ class InTypings(unittest.TestCase):
         told = Told(laid_out(of_javac("made")))
         method = told.methods[0]
         assert method.code is not None
-        method.code["code"] = list(b"\x2a\xbe\xac")
+        method.code["code"] = list(b"\x2a\x61\xac")
         with self.assertRaises(built_in_typings.Fault):
             built_in_typings.Search({"A": told}, told, method)
 
@@ -146,13 +146,12 @@ class InTables(unittest.TestCase):
         self.assertEqual(built_in_tables.literal(b"a\\\x80"), 'b"a\\\\\\x80"')
 
     def test_a_class_in_the_list_of_all(self) -> None:
-        names = ("java/lang/Throwable", "java/lang/ArithmeticException", "java/lang/Cloneable", "java/lang/String")
+        names = ("java/lang/ArithmeticException", "java/lang/Cloneable", "java/lang/String", "java/lang/Throwable")
         forms = [built_in_tables.form_of(read_tree(built_in_file(name).read_bytes())) for name in names]
         constructors = [built_in_tables.class_text(form).rpartition(" (")[2] for form in forms]
-        found = ["constructor ∷ with_message ∷ with_cause ∷ [])", "constructor ∷ with_message ∷ [])"]
-        self.assertEqual(constructors[:2], found)
-        self.assertTrue(built_in_tables.class_text(forms[2]).endswith(" []"))
-        self.assertEqual(constructors[3], "string_class")
+        self.assertEqual(constructors[0], "constructor ∷ with_message ∷ [])")
+        self.assertTrue(built_in_tables.class_text(forms[1]).endswith(" []"))
+        self.assertEqual(constructors[2:], ["string_class", "throwable_class"])
 
     def test_a_long_class_has_its_code_apart(self) -> None:
         forms = [built_in_tables.form_of(laid_out(of_javac(methods))) for methods in ("public", "made " * 200)]

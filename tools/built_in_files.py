@@ -14,6 +14,9 @@ Entry = Tuple[Any, ...]
 
 PRIVATE, NATIVE = 0x0002, 0x0100
 
+# Of a member that Java says this of, what it is: public, private or protected.
+ACCESS = 0x0007
+
 # The entries of a constant pool that are read: their tags, by their names in the model.
 TAGS = {"Utf8": 1, "Integer": 3, "Class": 7, "String": 8, "Field": 9, "Method": 10, "InterfaceMethod": 11}
 TAGS["NameAndType"] = 12
@@ -191,14 +194,17 @@ def puts_nulls(method: Declared) -> bool:
 
 
 def kept(methods: List[Declared]) -> List[Declared]:
-    """The methods of a built-in class. A constructor with an empty body has no code; a private one isn't there."""
+    """The methods of a built-in class.
+
+    A constructor with an empty body has no code; a private one isn't there. A method that other built-in classes call
+    alone is private."""
     found = []
     for one in methods:
         if one.name == b"<clinit>":
             if not puts_nulls(one):
                 raise BuiltInFault("an initialiser does more than to set fields to null")
         elif not is_empty(one):
-            found.append(one)
+            found.append(one if one.flags & ACCESS else one._replace(flags=one.flags | PRIVATE))
         elif not one.flags & PRIVATE:
             found.append(Declared(one.flags | NATIVE, one.name, one.descriptor, []))
     return found

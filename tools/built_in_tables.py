@@ -19,13 +19,13 @@ SPECS, TABLES = ROOT / "crates/model/specs", ROOT / "crates/class_tree/src/built
 # How long a line may be, and how many of them a module may have.
 WIDTH, LINES = 120, 450
 
-# How many classes a part of the tables has at most.
-CLASSES_OF_A_PART = 8
+# How many classes a part of the tables has at most, and how many bytes of code a class has that doesn't begin one.
+CLASSES_OF_A_PART, LITTLE_CODE = 8, 60
 
 # Flags by their names in `BuiltInForm`, and the name of a member that stands often.
 CLASS_FLAGS = {0x0021: "public_class", 0x0031: "final_class", 0x0421: "abstract_class", 0x0601: "public_interface"}
 METHOD_FLAGS = {0x0101: "native_method", 0x0111: "final_native_method", 0x0109: "static_native_method"}
-METHOD_FLAGS[0x0401] = "abstract_method"
+METHOD_FLAGS[0x0401], METHOD_FLAGS[0x010A] = "abstract_method", "hidden_native_method"
 CONSTRUCTORS = {
     (0x0101, b"<init>", b"()V"): "constructor",
     (0x0101, b"<init>", b"(Ljava/lang/String;)V"): "with_message",
@@ -441,10 +441,11 @@ def table_modules(form: Form) -> Iterator[Tuple[str, str]]:
 
 
 def parts(forms: List[Form]) -> List[List[Form]]:
-    """The classes in some parts, each of which is proved by itself: a class with code begins one."""
+    """The classes in some parts, each of which is proved by itself: a class with much code begins one."""
     found: List[List[Form]] = []
     for form in forms:
-        if not found or form.coded or len(found[-1]) == CLASSES_OF_A_PART:
+        code = sum(len(one.code["code"]) for _, _, one in form.coded if one.code)
+        if not found or code > LITTLE_CODE or len(found[-1]) == CLASSES_OF_A_PART:
             found.append([])
         found[-1].append(form)
     return found

@@ -7,7 +7,7 @@ import pathlib
 import re
 from typing import Dict, Iterable, Iterator, List, NamedTuple, Optional, Tuple
 
-from oracle.opcodes import MNEMONICS
+from oracle.opcodes import MNEMONICS, PRIMITIVES
 from tools.built_in_files import Declared, Told, Tree
 from tools.built_in_tables import MADE, WIDTH, Form, codes, defined, form_of, signed
 from tools.library_classes import length_at
@@ -20,19 +20,27 @@ ROOM, MANY = WIDTH - 11, 8
 
 OBJECT = "java/lang/Object"
 
-# The classes that have methods with code, by their names in the definitions.
-NAMES = {name: name.replace("/", "_").lower() for name in (OBJECT, "java/lang/String", "java/lang/Class")}
-NAMES["java/lang/Thread"], NAMES["java/io/PrintStream"] = "java_lang_thread", "java_io_print_stream"
-NAMES["java/lang/StringBuilder"] = "java_lang_string_builder"
+# Classes that have names in the definitions.
+SIMPLE_NAMES = ("Object", "String", "Class", "System", "Thread", "Throwable", "Error")
+NAMES = {f"java/lang/{name}": f"java_lang_{name.lower()}" for name in SIMPLE_NAMES}
+NAMES["java/io/PrintStream"], NAMES["java/lang/StringBuilder"] = "java_io_print_stream", "java_lang_string_builder"
 
 # Types by the names that the definitions have for them.
 NAMED = {OBJECT: "object", "java/lang/String": "string", "java/lang/Class": "class"}
 NAMED.update({"java/lang/Thread": "thread", "java/io/PrintStream": "stream", "java/lang/StringBuilder": "builder"})
+NAMED["java/lang/Throwable"] = "throwable"
 
 # A type: its constructor in the definitions, and what that has; `OfType` has the name of a class.
 Type = Tuple[str, str, int]
 
 UNUSABLE, INT, NULL = ("Unusable", "", 0), ("IntType", "", 0), ("NullType", "", 0)
+
+# The types of which there are arrays, by their constructors in the definitions.
+PRIMITIVE_TYPES = {letter: name.capitalize() for letter, name in PRIMITIVES.items()}
+
+# What stores an element, and behind what no instruction comes.
+STORES = {"iastore", "bastore", "castore", "sastore", "aastore"}
+ENDS = {"return", "ireturn", "areturn", "athrow"}
 
 
 class Frame(NamedTuple):
@@ -49,6 +57,11 @@ class Fault(Exception):
 
 def of(name: str) -> Type:
     return "OfType", name, 0
+
+
+def described(name: str) -> str:
+    """The descriptor of what a Class of a constant pool names."""
+    return name if name[0] == "[" else f"L{name};"
 
 
 def split(descriptor: str) -> Tuple[List[str], str]:
@@ -87,14 +100,15 @@ class Search:
         if descriptor in ("Z", "B", "S", "C", "I"):
             return INT
         if descriptor[0] == "[":
-            raise Fault(f"{self.method.name.decode()} has an array")
+            return of(descriptor)
         name = descriptor[1:-1]
         return of(OBJECT if self.classes[name].flags & 0x0200 else name)
 
     def supers(self, name: Optional[str]) -> Iterator[str]:
+        """A class and those above it. An array is below Object alone."""
         while name is not None:
             yield name
-            above = self.classes[name].superclass
+            above = b"java/lang/Object" if name[0] == "[" else self.classes[name].superclass
             name = None if above is None else above.decode()
 
     def join_types(self, one: Type, other: Type) -> Type:
@@ -136,7 +150,7 @@ class Search:
         name = MNEMONICS[self.code[offset]]
         operands = self.code[offset + 1 : offset + length_at(self.code, offset)]
         behind = offset + 1 + len(operands)
-        if name in ("return", "ireturn", "areturn", "athrow"):
+        if name in ENDS:
             return []
         after = self.after(name, operands, frame, offset)
         if name == "goto":
@@ -148,20 +162,27 @@ class Search:
     def after(self, name: str, operands: bytes, frame: Frame, offset: int) -> Frame:
         """The frame type behind an instruction."""
         stack = frame.stack
+        if name[1:] == "aload":
+            array = stack[1]
+            is_of_ints = name != "aaload"
+            return frame._replace(stack=(INT if is_of_ints else self.of_descriptor(array[1][1:]), *stack[2:]))
         if name[1:].startswith(("load", "store")):
             place = operands[0] if operands else int(name[-1])
             if "load" in name:
                 return frame._replace(stack=(frame.locals[place], *stack))
             kept = frame.locals[:place] + (stack[0],) + frame.locals[place + 1 :]
             return frame._replace(locals=kept, stack=stack[1:])
-        if name in ("getfield", "putfield") or name.startswith("invoke"):
+        if name in ("getfield", "putfield", "getstatic") or name.startswith("invoke"):
             return self.with_member(name, self.member(int.from_bytes(operands[:2], "big")), frame)
         if name == "new":
             made = "Uninitialised", self.owner.class_at(int.from_bytes(operands, "big")).decode(), offset
             return frame._replace(stack=(made, *stack))
         if name == "checkcast":
             cast = self.owner.class_at(int.from_bytes(operands, "big")).decode()
-            return frame._replace(stack=(self.of_descriptor(f"L{cast};"), *stack[1:]))
+            return frame._replace(stack=(self.of_descriptor(described(cast)), *stack[1:]))
+        if name == "anewarray":
+            component = self.owner.class_at(int.from_bytes(operands, "big")).decode()
+            return frame._replace(stack=(of(f"[{described(component)}"), *stack[1:]))
         return frame._replace(stack=self.moved(name, operands, stack))
 
     def moved(self, name: str, operands: bytes, stack: Tuple[Type, ...]) -> Tuple[Type, ...]:
@@ -171,6 +192,12 @@ class Search:
             return (INT if is_int else of("java/lang/String"), *stack)
         if name.startswith("iconst") or name in ("bipush", "sipush"):
             return (INT, *stack)
+        if name == "aconst_null":
+            return (NULL, *stack)
+        if name in ("arraylength", "instanceof"):
+            return (INT, *stack[1:])
+        if name in STORES:
+            return stack[3:]
         if name in ("goto", "iinc"):
             return stack
         if name == "dup":
@@ -184,6 +211,8 @@ class Search:
     def with_member(self, name: str, member: Tuple[str, str, str], frame: Frame) -> Frame:
         """The frame type behind an instruction that names a member."""
         descriptor = member[2]
+        if name == "getstatic":
+            return frame._replace(stack=(self.of_descriptor(descriptor), *frame.stack))
         if name == "getfield":
             return frame._replace(stack=(self.of_descriptor(descriptor), *frame.stack[1:]))
         if name == "putfield":
@@ -210,8 +239,24 @@ class Search:
 # ---- definitions
 
 
+def name_text(name: str) -> str:
+    """The name of a class."""
+    return NAMES.get(name) or codes(name.encode())
+
+
+def reference_text(name: str) -> str:
+    """A reference type, which isn't a class that has a name in the definitions."""
+    if name[0] != "[":
+        return f"ClassType {name_text(name)}"
+    if name[1] in PRIMITIVE_TYPES:
+        return f"PrimitiveArray {PRIMITIVE_TYPES[name[1]]}"
+    return f"ReferenceArray ({reference_text(name[1:] if name[1] == '[' else name[2:-1])})"
+
+
 def type_text(one: Type) -> str:
     kind, name, at = one
+    if kind == "OfType" and name[0] == "[":
+        return f"OfType ({reference_text(name)})"
     if kind == "OfType":
         return NAMED.get(name, f"of {codes(name.encode())}")
     if kind == "Uninitialised":
@@ -270,7 +315,7 @@ def definitions_of(classes: Dict[str, Told], form: Form) -> List[str]:
         full = f"{form.snake}_{name}_types"
         about = f"-- {form.pascal}.{one.name.decode()}{one.descriptor.decode()}"
         found.append(defined(full, "List (ℕ × FrameType)", typing_text(Search(classes, form.told, one).found), about))
-        member = f"member {NAMES[form.name]} {codes(one.name)} {codes(one.descriptor)}"
+        member = f"member {name_text(form.name)} {codes(one.name)} {codes(one.descriptor)}"
         rows += f"\n    {'∷ ' * bool(rows)}({member}, {full})"
     if rows:
         found.append(defined(f"{form.snake}_typings", TABLE, f"{rows}\n    ∷ []"))
@@ -284,14 +329,15 @@ IMPORTS = {
     "Rattle.std.specs.Prelude": ["◌≡◌", "ℕ", "List", "[]", "◌∷◌", "◌++◌", "Some", "IsTrue", "map", "is_some", "codes"],
     "Rattle.model.specs.Names": ["Name", "Member", *NAMES.values()],
     "Rattle.model.specs.Classes": ["Program", "Body", "class_of", "body_of"],
-    "Rattle.model.specs.ReferenceTypes": ["ClassType"],
+    "Rattle.model.specs.ReferenceTypes": ["ClassType", "PrimitiveArray", "ReferenceArray", *PRIMITIVE_TYPES.values()],
     "Rattle.model.specs.Types": ["VerificationType", "Unusable", "IntType", "NullType", "OfType", "Uninitialised"],
     "Rattle.model.specs.TypeOrder": ["FrameType"],
     "Rattle.model.specs.Typing": ["HasTyping"],
     "Rattle.run_laws.specs.examples.Typings": ["frame", "object", "stream", "thread"],
-    "Rattle.run_laws.specs.examples.FrameTypes": ["string", "class", "builder", "of", "with_locals", "before_this", "member"],
+    "Rattle.run_laws.specs.examples.FrameTypes": ["string", "class", "builder", "throwable", "of", "with_locals"],
 }
 IMPORTS["Rattle.model.specs.Types"] += ["UninitialisedThis"]
+IMPORTS["Rattle.run_laws.specs.examples.FrameTypes"] += ["before_this", "member"]
 
 HEAD = """\
 -- Typings of the methods with code of {}, each by its list of frame types.
@@ -332,7 +378,7 @@ def made(trees: List[Tree]) -> Dict[pathlib.Path, str]:
         else:
             own += texts
         names += [f"{form.snake}_typings"] * bool(texts)
-    whole = " ++ (".join(names[:-1]) + f" ++ {names[-1]}" + ")" * (len(names) - 2)
+    whole = "\n    ++ (".join(names[:-1]) + f"\n    ++ {names[-1]}" + ")" * (len(names) - 2)
     about = "-- each method with code, with its frame types"
     text = "\n".join([*own, defined("built_in_types", TABLE, f"\n    {whole}", about), LAST])
     found[EXAMPLES / "BuiltInTypings.antt"] = module("the built-in classes", text, taken)
@@ -347,5 +393,6 @@ def write(trees: List[Tree]) -> None:
 def differences(trees: List[Tree]) -> List[str]:
     """Where the typings that are there aren't those of the class files."""
     texts = made(trees)
-    names = sorted(path for path, text in texts.items() if not path.exists() or path.read_text(encoding="utf-8") != text)
+    kept = {path: path.read_text(encoding="utf-8") for path in texts if path.exists()}
+    names = sorted(path for path, text in texts.items() if kept.get(path) != text)
     return [f"{path.relative_to(ROOT)} isn't what the class files make" for path in names]

@@ -105,6 +105,12 @@ class Pool:
             self.indices[data] = len(self.entries)
         return self.indices[data]
 
+    def push(self, data: bytes) -> int:
+        """The entry behind all others, also where an equal one is there."""
+        self.entries.append(data)
+        self.indices.setdefault(data, len(self.entries))
+        return len(self.entries)
+
     def text(self, text: str) -> int:
         return self.entry(utf8(text))
 

@@ -21,7 +21,7 @@ MODULES = {
     "tools": ["__init__.py", "class_files.py", "repository.py", "set_counts.py"],
     "cluster": ["*.py"],
     "oracle": [
-        *("__init__.py", "calls.py", "classes.py", "frames.py", "machine.py"),
+        *("__init__.py", "calls.py", "classes.py", "frames.py", "machine.py", "objects.py"),
         *("opcodes.py", "schedules.py", "seeds.py", "state.py", "strings.py", "texts.py"),
     ],
 }

@@ -54,7 +54,7 @@ as_builder _ = None
 abbrev fits : Program → Member → BuilderMethod → Bool
 fits files method b = not (is_one is_static_method files method) && not (name_eq method.descriptor println_int.descriptor)
 
-all_fit : (files : Program) → list_all (passes as_builder refl (fits files)) built_in_methods ≡ true
+all_fit : (files : Program) → list_all (passes as_builder (refl, (refl, refl)) (fits files)) built_in_methods ≡ true
 unfolding built_in_classes
 all_fit files = refl
 
@@ -64,7 +64,7 @@ record Fits (files : Program) (method : Member) : Type 0 where
 
 fitting : (files : Program) (method : Member) (b : BuilderMethod) → built_in_method method ≡ StringBuilderBuilds b → Fits files method
 fitting files method b e =
-    let here = and_parts (not (is_one is_static_method files method)) (not (name_eq method.descriptor println_int.descriptor)) (passed as_builder refl (fits files) (all_fit files) method b (ap as_builder e)) in
+    let here = and_parts (not (is_one is_static_method files method)) (not (name_eq method.descriptor println_int.descriptor)) (passed as_builder (refl, (refl, refl)) (fits files) (all_fit files) method b (ap as_builder e)) in
     record { instance = not-true (is_one is_static_method files method) here.0; other = not-true (name_eq method.descriptor println_int.descriptor) here.1 }
 
 -- ---- what is found has the descriptor that is sought

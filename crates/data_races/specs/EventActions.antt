@@ -1,6 +1,6 @@
 -- Which actions an event does in a state (JLS 17.4.2). What changes is read off the state that follows; what is only found, read or
 -- written, off what the event does by the rules of `Step`.
-use Rattle.std.specs.Prelude.{ℕ, zero, suc, List, [], ◌∷◌, ◌++◌, Option, Some, None, Bool, true, false, not, ◌&&◌, ◌==◌, if◌then◌else◌, ◌-◌, length, map, slice_get}
+use Rattle.std.specs.Prelude.{ℕ, zero, suc, List, [], ◌∷◌, ◌++◌, Option, Some, None, Bool, true, false, not, ◌&&◌, ◌||◌, ◌==◌, if◌then◌else◌, ◌-◌, length, map, slice_get}
 use Rattle.std.specs.Option.{option_map, option_map_or, option_and_then}
 use Rattle.std.specs.List.{filter, list_any}
 use Rattle.model.specs.declared.event.Event.{Event}
@@ -11,7 +11,8 @@ use Rattle.model.specs.declared.instr.FieldAccess.{FieldAccess}
 use Rattle.model.specs.declared.instr.FieldAccess.TheVariants as access
 use Rattle.model.specs.declared.instr.Invocation.{Invocation}
 use Rattle.model.specs.declared.instr.Invocation.TheVariants as invocation
-use Rattle.model.specs.Names.{Name, name_eq, Member, constructor_name, builder_text}
+use Rattle.model.specs.Names.{Name, name_eq, Member, member_eq, constructor_name, builder_text}
+use Rattle.model.specs.HiddenMembers.{is_hidden}
 use Rattle.model.specs.Pool.{field_at, method_at, interface_method_at}
 use Rattle.model.specs.Classes.{Program, Body, body_of}
 use Rattle.model.specs.ReferenceTypes.{ClassType, is_subtype}
@@ -201,11 +202,18 @@ interrupts_on world object _ = []
 abbrev pub at_reference : List Value → ℕ → (ℕ → Action) → List Action
 at_reference ops k action = option_map_or (λ r. action r ∷ []) (referent values ops k) []
 
+abbrev pub named_access : List Value → FieldAccess → Member → List Action
+named_access ops access.GetStatic field = Read (StaticField field) ∷ []
+named_access ops access.PutStatic field = Write (StaticField field) ∷ []
+named_access ops access.GetField field = at_reference ops 0 (λ r. Read (InstanceField r field))
+named_access ops access.PutField field = at_reference ops 1 (λ r. Write (InstanceField r field))
+
+-- of the hidden fields a StringBuilder's text alone is a variable (own)
+abbrev pub is_variable : Member → Bool
+is_variable field = not (is_hidden field) || member_eq field builder_text
+
 abbrev pub field_access : List Value → FieldAccess → Member → List Action
-field_access ops access.GetStatic field = Read (StaticField field) ∷ []
-field_access ops access.PutStatic field = Write (StaticField field) ∷ []
-field_access ops access.GetField field = at_reference ops 0 (λ r. Read (InstanceField r field))
-field_access ops access.PutField field = at_reference ops 1 (λ r. Write (InstanceField r field))
+field_access ops how field = only_if (is_variable field) (named_access ops how field)
 
 abbrev pub access_by : Program → Site → List Value → Instr → List Action
 access_by files site ops (instr.Field access index) =

@@ -15,7 +15,9 @@ pub mod RecordLemmas
 pub mod RunLemmas
 pub mod ScheduleLemmas
 pub mod SearchLemmas
+pub mod SearchTheorem
 pub mod ShrinkLemmas
 pub mod SweepLemmas
+pub mod TheoremLemmas
 pub mod TraceLemmas
 pub mod VerificationLemmas

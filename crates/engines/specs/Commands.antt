@@ -39,12 +39,13 @@ use Rattle.engines.specs.Opening.{IsKeptBy}
 use Rattle.engines.specs.OutcomeFiles.{has_outcome, outcome_path, written_in}
 use Rattle.engines.specs.RecordForms.{record_form}
 use Rattle.engines.specs.Recordings.{conditions_of}
-use Rattle.engines.specs.Replays.{IsFaulty, Replays}
+use Rattle.engines.specs.Replays.{IsFaulty}
 use Rattle.engines.specs.Runs.{IsUnrun, Runs}
 use Rattle.engines.specs.Searches.{IsUnsearched, Searches, most_states}
 use Rattle.engines.specs.Placings.{IsPlacesDone, IsPlacesUndone}
 use Rattle.engines.specs.Shrinks.{IsShrinkDone, IsShrinkUndone}
 use Rattle.engines.specs.Sweeps.{IsUnswept, SweepsOver}
+use Rattle.engines.specs.Theorem.{Replays}
 use Rattle.engines.specs.Traces.{IsUntraced, Traces}
 use Rattle.engines.specs.Transcriptions.{IsUnprinted, IsUntranscribed, Prints, Transcribes}
 use Rattle.engines.specs.Verifications.{IsUnaccepted, Verifies}

@@ -8,7 +8,6 @@ use Rattle.model.specs.Classes.{Program}
 use Rattle.model.specs.Devices.{AppendsFront}
 use Rattle.model.specs.Schedule.{events_of}
 use Rattle.schedule.specs.Joined.{RecordedFile}
-use Rattle.machine.specs.machine_replay.Replays.{IsReplay, text_of}
 use Rattle.engines.specs.GivenPlaces.{told_status, told_text}
 use Rattle.program_runs.specs.continued_runs.Continuing.{GoesOn}
 use Rattle.program_runs.specs.declared.continued_runs.run.Continued.{Continued}
@@ -18,6 +17,7 @@ use Rattle.engines.specs.Engines.{Reads, ReadsEach}
 use Rattle.engines.specs.Opening.{IsKeptBy, IsOpened}
 use Rattle.engines.specs.RecordForms.{record_form, recorded_as}
 use Rattle.engines.specs.Statuses.{status_of}
+use Rattle.engines.specs.Theorem.{IsReplay, text_of}
 use Rattle.engines.specs.declared.fault.Fault.{Fault}
 use Rattle.engines.specs.declared.fault.Fault.TheVariants as faults
 use Rattle.engines.specs.declared.status.Status.{Status}

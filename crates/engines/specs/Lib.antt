@@ -30,3 +30,4 @@ pub mod Traces
 pub mod Transcriptions
 pub mod Verifications
 pub mod Handed
+pub mod Theorem

@@ -9,7 +9,6 @@ use Rattle.model.specs.Devices.{AppendsFront}
 use Rattle.model.specs.Classes.{Program}
 use Rattle.model.specs.Accepted.{IsAccepted}
 use Rattle.schedule.specs.Joined.{RecordedFile}
-use Rattle.program_runs.specs.worlds.Records.{IsRecorded}
 use Rattle.program_runs.specs.worlds.Worlds.{IsSpent}
 use Rattle.command_line.specs.Choices.{AreChosen}
 use Rattle.command_line.specs.declared.options.LimitOptions.{LimitOptions}
@@ -20,6 +19,7 @@ use Rattle.engines.specs.RecordForms.{recorded_as}
 use Rattle.engines.specs.Refusals.{IsRefused}
 use Rattle.engines.specs.Statuses.{status_of}
 use Rattle.engines.specs.Stopped.{run_text}
+use Rattle.engines.specs.Theorem.{IsRecordOf}
 use Rattle.engines.specs.Verifications.{IsUnread}
 use Rattle.engines.specs.declared.fault.Fault.{Fault}
 use Rattle.engines.specs.declared.fault.Fault.TheVariants as faults
@@ -43,7 +43,7 @@ pub record IsRun (form : RecordForm) (files : List (List ℕ)) (asked : LimitOpt
   pub end : End
   pub spent : ℕ
   pub of_budget : IsSpent may_stop (unwrap_or options.budget 4294967295) spent
-  pub recorded : IsRecorded trees limits spent events report end
+  pub recorded : IsRecordOf trees limits spent events report end
   pub as_asked : IsRunFor options.workers options may_stop trees limits (unwrap_or options.budget 4294967295) events end
   pub told : text ≡ run_text (unwrap_or options.budget 4294967295) report end
   pub ended : status ≡ status_of report.threads.items end

@@ -13,7 +13,6 @@ use Rattle.command_line.specs.declared.options.LimitOptions.{LimitOptions}
 use Rattle.command_line.specs.declared.options.Search.{Search}
 use Rattle.search.specs.declared.kinds.Goal.{Goal}
 use Rattle.search.specs.OwnEdges.{names_own_edges}
-use Rattle.search.specs.search_reports.Answers.{Answers}
 use Rattle.search.specs.search_reports.Reports.{search_text}
 use Rattle.search.specs.declared.search_reports.answers.Answer.{Answer}
 use Rattle.search.specs.declared.search_reports.answers.Answer.TheVariants as answers
@@ -21,6 +20,7 @@ use Rattle.engines.specs.Engines.{ReadsEach}
 use Rattle.engines.specs.RecordForms.{recorded_as}
 use Rattle.engines.specs.Refusals.{IsRefused}
 use Rattle.engines.specs.Statuses.{search_status}
+use Rattle.engines.specs.Theorem.{Says}
 use Rattle.engines.specs.Verifications.{IsUnread}
 use Rattle.engines.specs.declared.fault.Fault.{Fault}
 use Rattle.engines.specs.declared.fault.Fault.TheVariants as faults
@@ -51,7 +51,7 @@ pub record IsSearched (form : RecordForm) (files : List (List ℕ)) (asked : Lim
   pub answer : Answer
   pub states : ℕ
   pub few : 1 ≤ most → states ≤ most
-  pub answers : Answers trees limits goal may_stop most states answer
+  pub says : Says trees limits goal may_stop most states answer
   pub told : text ≡ search_text answer (names_own_edges trees) states
   pub spelled : IsFileOf (recorded_as limits form files) recorded answer file
   pub ended : status ≡ search_status answer

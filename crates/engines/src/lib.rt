@@ -42,10 +42,11 @@
 //!   proved.
 //! - `replay_engine`, over any reader and writer:
 //!   - with a status, the text and nothing else was appended, and text and status are those of the replay of these
-//!     bytes (`replayed`): of a schedule file or of a text (`GivesEvents`), or of the events that a text with places
-//!     gives over the class files (`Gives`, `GivesPlaces`, with `IsFollowed` of `place_runs`), where all of its places
-//!     are there (`AreThere`); under the limits of the recording where it says them, and those of the options else
-//!     (`HasLimits`). Where it gives up at a place, the text says `end place` (`told_text`);
+//!     bytes (`replayed`, `WritesReplay` of `Theorem`): of a schedule file or of a text (`GivesEvents`), or of the
+//!     events that a text with places gives over the class files (`Gives`, `GivesPlaces`, with `IsFollowed` of
+//!     `place_runs`), where all of its places are there (`AreThere`); under the limits of the recording where it says
+//!     them, and those of the options else (`HasLimits`). Where it gives up at a place, the text says `end place`
+//!     (`told_text`);
 //!   - with a fault, nothing was written or (`device`, `memory`) a beginning of the text; a schedule fault only where
 //!     the bytes give no events and that fault stands in them, or where they give some and the class files or the
 //!     options are not those of the recording (`Files`, `Limits`; `Disagrees`); a fault of a place only where the class
@@ -56,13 +57,16 @@
 //!   - after a schedule fault no class file was read, unless it is one that shows only beside the class files
 //!     (`schedule_first`);
 //!   - `Device` exactly with one more failure of a device (`counted`).
+//! - `records_replay` (`DoRecordsReplay` of `Theorem`): a replay of the events that a run has recorded, over the same
+//!   accepted files and within the same limits, prints the same text, and its threads end alike, after as many events,
+//!   unless it stops for want of memory.
 //! - `trace_engine`, over any readers and writer: what is proved of `replay_engine`, but that the text is that of the
 //!   lines of the events and of the report behind them (`traced`, `IsTraced`, with `IsTrace` of `traced_runs`); and
 //!   after `device` and `memory` a beginning was written, of that text, or of the lines of a beginning of the events
 //!   (`faulty`, `IsUntraced`).
 //! - `search_engine`, over any readers and writers:
 //!   - with a status, one text was appended and nothing else: what a search over all schedules of the program of these
-//!     bytes answers, within the limits of the options (`searched`, `IsSearched`, with `Answers` of `search_reports`).
+//!     bytes answers, within the limits of the options (`searched`, `IsSearched`, with `Says` of `Theorem`).
 //!     Where a run was found and its schedule is asked for, a file is made, which spells the events, the limits and
 //!     what is recorded of the class files, as far as a file of the version that is asked for tells them
 //!     (`recorded_as`); else none is;
@@ -88,10 +92,10 @@
 //!   - with a status, one text was appended to the report and nothing else, and a file was made where it is asked for
 //!     (`asked`): those of a run of these bytes (`ran`, `IsRun`). The class files are accepted; the limits are those of
 //!     the options; events, report and end are those of a record of their program with these limits and this budget
-//!     (`IsRecorded` of `worlds`), or, with `--seconds`, with what was spent of it (`IsSpent`); the text says `end seconds`
-//!     where less was (`run_text`). Without workers they are those of the policy that is asked for, by the seed or the
-//!     quantum of the options (`as_asked`, `IsRunFor`, with `IsRunBy` of `policies`): all that `events_by` says, or a
-//!     front of them where the end says that memory was wanted, or with `--seconds` where it was stopped;
+//!     (`IsRecordOf` of `Theorem`), or, with `--seconds`, with what was spent of it (`IsSpent`); the text says
+//!     `end seconds` where less was (`run_text`). Without workers they are those of the policy that is asked for, by the
+//!     seed or the quantum of the options (`as_asked`, `IsRunFor`, with `IsRunBy` of `policies`): all that `events_by`
+//!     says, or a front of them where the end says that memory was wanted, or with `--seconds` where it was stopped;
 //!   - the text is the report's, the status is its own; and the file spells the events, the limits and what is recorded
 //!     of the class files: the lengths and checksums of those that are given, and the checksum of those that the library
 //!     adds (`recording_over`), as far as a file of the version that is asked for tells them (`recorded_as`);
@@ -189,6 +193,7 @@ mod sweep_records;
 mod sweep_runs;
 mod system_folder;
 mod telling;
+mod theorem;
 mod tracing;
 mod transcribing;
 mod verification;
@@ -222,6 +227,7 @@ pub use status::Status;
 pub use sweep_runs::{MadeSweep, SweepTask, sweep_engine};
 pub use sweeps::Watch;
 pub use system_folder::SystemFolder;
+pub use theorem::records_replay;
 pub use tracing::trace_engine;
 pub use transcribing::{schedule_engine, write_schedule_engine};
 pub use verification::verify_engine;

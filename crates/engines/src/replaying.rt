@@ -1,12 +1,12 @@
 //! A replay, over any readers and writer.
 
 ghost use Rattle.std.specs.Prelude.{◌≡◌, ◌+◌, ◌⊎◌, IfOk, IfErr, map, sum_by, vec_items};
-ghost use Rattle.std.specs.Io.KnownBytes.{Appends};
 ghost use Rattle.std.specs.Arc.{arc_value};
 ghost use Rattle.model.specs.Schedule.{events_of};
 ghost use Rattle.engines.specs.Engines.{CountsFailure};
 ghost use Rattle.engines.specs.Opening.{IsAfterFiles, IsOfSchedule, IsOpened};
-ghost use Rattle.engines.specs.Replays.{IsFaulty, IsReplayed, Replays};
+ghost use Rattle.engines.specs.Replays.{IsFaulty};
+ghost use Rattle.engines.specs.Theorem.{IsReplayed, WritesReplay};
 
 use crate::fault::Fault;
 use crate::opening::{Opened, open};
@@ -35,9 +35,8 @@ pub fn replay_engine<G: Gate, S: Source, W: Sink>(
     report: &mut W,
 ) -> Result<Status, Fault>
     // What the class files do under the schedule is written, and nothing else.
-    ensures replayed { IfOk result (λ status. (text : _)
-        × Replays (S.remaining schedule.old) (map S.remaining files.old) conditions.now text status
-        × Appends (W.contents report.old) (W.contents report.new) text) }
+    ensures replayed { IfOk result (WritesReplay (S.remaining schedule.old) (map S.remaining files.old) conditions.now
+        (W.contents report.old) (W.contents report.new)) }
     ensures faulty { IfErr result (IsFaulty (S.remaining schedule.old) (map S.remaining files.old) conditions.now
         (W.contents report.old) (W.contents report.new)) }
     ensures schedule_first { IfErr result (λ fault. IsOfSchedule fault → (files.new ≡ files.old)

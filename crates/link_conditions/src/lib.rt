@@ -2,7 +2,7 @@
 #![tactic(auto)]
 
 pub mod class_rules;
-mod hidden_fields;
+mod hidden_members;
 pub mod limits_of_linking;
 pub mod refusal;
 pub mod resolution;

@@ -3,9 +3,9 @@
 //! # Proved
 //!
 //! - `linked_program`: of linked files all of `IsLinkedProgram`: classes, methods, component types, the table of
-//!   subclasses, how many static fields there are, the texts of string constants and the word of the empty one, and the
-//!   numbers of String, of main of the initial class and of the place of Thread.run. It asks for nothing but linked
-//!   files; its only error is a want of memory.
+//!   subclasses, how many static fields there are, the texts of string constants, the words of the empty one and of what
+//!   a division by zero tells, and the numbers of String, of main of the initial class and of the place of Thread.run.
+//!   It asks for nothing but linked files; its only error is a want of memory.
 //!
 //! # Not proved
 //!
@@ -14,7 +14,6 @@
 
 mod calls;
 pub mod class_rows;
-mod empty_text;
 pub mod linked_calls;
 pub mod linked_methods;
 pub mod linked_operands;
@@ -22,6 +21,7 @@ mod links;
 mod main_method;
 pub mod method_rows;
 mod program;
+mod text_words;
 pub mod type_tables;
 
 pub use program::linked_program;

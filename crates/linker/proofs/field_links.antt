@@ -4,6 +4,7 @@ pub mod Members
 pub mod StaticSlots
 pub mod Sums
 pub mod OwnNames
+pub mod Uncounted
 pub mod Bounds
 pub mod Loops
 pub mod FieldPlaces

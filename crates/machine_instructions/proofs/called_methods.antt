@@ -1,6 +1,7 @@
 pub mod RunMethods
 pub mod BuiltIns
 pub mod Calling
+pub mod MessageConstructors
 pub mod Receivers
 pub mod Selecting
 pub mod ClassObjects

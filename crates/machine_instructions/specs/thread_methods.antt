@@ -4,3 +4,5 @@ pub mod Growth
 pub mod Texts
 pub mod Printed
 pub mod Builders
+pub mod TypeNames
+pub mod NewTexts

@@ -1,2 +1,4 @@
 pub mod Numbered
 pub mod Made
+pub mod Told
+pub mod Messages

@@ -1,6 +1,6 @@
 //! What instructions and events answer.
 
-/// An exception that the machine makes itself (JVMS 2.10).
+/// An exception that the machine makes itself (JVMS 2.10), but the one in the place of an initialiser's.
 #[derive(Clone, Copy)]
 pub enum MachineException {
     NullPointer,
@@ -17,7 +17,6 @@ pub enum MachineException {
     AbstractMethod,
     StackOverflow,
     NoClassDefFound,
-    ExceptionInInitializer,
 }
 
 /// What an instruction came to. Only where it is done has it changed something.

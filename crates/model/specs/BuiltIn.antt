@@ -1,14 +1,26 @@
 -- The built-in classes (own): part of each program, and initialised from the start. Their members are those that stand here
 -- and no others. A method without code is native: what it does is a rule of the machine.
 -- Made by `tools/build-built-in` of the class files of builtin/classes. Not to be edited.
-use Rattle.std.specs.Prelude.{List, [], ◌∷◌, Some, codes}
-use Rattle.model.specs.Tree.{Entry, Utf8, FileTree}
-use Rattle.model.specs.BuiltInForm.{Declared, declared, field, tree_of, public_class, final_class, abstract_class, public_interface, abstract_method, constructor, with_message, with_cause, built_in}
+use Rattle.std.specs.Prelude.{List, [], ◌∷◌, codes}
+use Rattle.model.specs.Tree.{FileTree}
+use Rattle.model.specs.BuiltInForm.{Declared, declared, public_class, public_interface, abstract_method, constructor, with_message, with_cause, built_in}
 use Rattle.model.specs.built_in.Object.{object_class}
 use Rattle.model.specs.built_in.Thread.{thread_class}
 use Rattle.model.specs.built_in.String.{string_class}
 use Rattle.model.specs.built_in.Class.{class_class}
+use Rattle.model.specs.built_in.System.{system_class}
 use Rattle.model.specs.built_in.PrintStream.{print_stream_class}
+use Rattle.model.specs.built_in.Throwable.{throwable_class}
+use Rattle.model.specs.built_in.Error.{error_class}
+use Rattle.model.specs.built_in.Exception.{exception_class}
+use Rattle.model.specs.built_in.VirtualMachineError.{virtual_machine_error_class}
+use Rattle.model.specs.built_in.ExceptionInInitializerError.{exception_in_initializer_error_class}
+use Rattle.model.specs.built_in.RuntimeException.{runtime_exception_class}
+use Rattle.model.specs.built_in.IllegalArgumentException.{illegal_argument_exception_class}
+use Rattle.model.specs.built_in.IllegalStateException.{illegal_state_exception_class}
+use Rattle.model.specs.built_in.ArrayIndexOutOfBoundsException.{array_index_out_of_bounds_exception_class}
+use Rattle.model.specs.built_in.StringIndexOutOfBoundsException.{string_index_out_of_bounds_exception_class}
+use Rattle.model.specs.built_in.AssertionError.{assertion_error_class}
 use Rattle.model.specs.built_in.StringBuilder.{string_builder_class}
 
 abbrev pub runnable_methods : List Declared
@@ -18,23 +30,6 @@ runnable_methods =
 
 abbrev pub runnable_class : FileTree
 runnable_class = built_in public_interface (codes "java/lang/Runnable") (codes "java/lang/Object") runnable_methods
-
-abbrev pub system_operands : List Entry
-system_operands =
-    Utf8 (codes "out") ∷ Utf8 (codes "Ljava/io/PrintStream;") ∷ Utf8 (codes "err") ∷ []
-
-abbrev pub system_class : FileTree
-system_class =
-    tree_of (record {
-      flags = final_class;
-      name = codes "java/lang/System";
-      superclass = Some (codes "java/lang/Object");
-      interfaces = [];
-      operands = system_operands;
-      fields = field 0x0019 5 6 ∷ field 0x0019 7 6 ∷ [];
-      coded = [];
-      natives = [];
-    })
 
 abbrev pub comparable_methods : List Declared
 comparable_methods =
@@ -64,34 +59,34 @@ built_in_classes =
     ∷ class_class
     ∷ system_class
     ∷ print_stream_class
-    ∷ built_in public_class (codes "java/lang/Throwable") (codes "java/lang/Object") (constructor ∷ with_message ∷ with_cause ∷ [])
-    ∷ built_in public_class (codes "java/lang/Error") (codes "java/lang/Throwable") (constructor ∷ with_message ∷ with_cause ∷ [])
-    ∷ built_in public_class (codes "java/lang/Exception") (codes "java/lang/Throwable") (constructor ∷ with_message ∷ with_cause ∷ [])
+    ∷ throwable_class
+    ∷ error_class
+    ∷ exception_class
     ∷ built_in public_class (codes "java/lang/LinkageError") (codes "java/lang/Error") (constructor ∷ with_message ∷ with_cause ∷ [])
-    ∷ built_in abstract_class (codes "java/lang/VirtualMachineError") (codes "java/lang/Error") (constructor ∷ with_message ∷ with_cause ∷ [])
+    ∷ virtual_machine_error_class
     ∷ built_in public_class (codes "java/lang/IncompatibleClassChangeError") (codes "java/lang/LinkageError") (constructor ∷ with_message ∷ [])
     ∷ built_in public_class (codes "java/lang/NoClassDefFoundError") (codes "java/lang/LinkageError") (constructor ∷ with_message ∷ [])
-    ∷ built_in public_class (codes "java/lang/ExceptionInInitializerError") (codes "java/lang/LinkageError") (constructor ∷ with_message ∷ [])
+    ∷ exception_in_initializer_error_class
     ∷ built_in public_class (codes "java/lang/AbstractMethodError") (codes "java/lang/IncompatibleClassChangeError") (constructor ∷ with_message ∷ [])
     ∷ built_in public_class (codes "java/lang/StackOverflowError") (codes "java/lang/VirtualMachineError") (constructor ∷ with_message ∷ [])
-    ∷ built_in public_class (codes "java/lang/RuntimeException") (codes "java/lang/Exception") (constructor ∷ with_message ∷ with_cause ∷ [])
+    ∷ runtime_exception_class
     ∷ built_in public_class (codes "java/lang/InterruptedException") (codes "java/lang/Exception") (constructor ∷ with_message ∷ [])
     ∷ built_in public_class (codes "java/lang/ArithmeticException") (codes "java/lang/RuntimeException") (constructor ∷ with_message ∷ [])
     ∷ built_in public_class (codes "java/lang/ArrayStoreException") (codes "java/lang/RuntimeException") (constructor ∷ with_message ∷ [])
     ∷ built_in public_class (codes "java/lang/ClassCastException") (codes "java/lang/RuntimeException") (constructor ∷ with_message ∷ [])
     ∷ built_in public_class (codes "java/lang/IllegalMonitorStateException") (codes "java/lang/RuntimeException") (constructor ∷ with_message ∷ [])
-    ∷ built_in public_class (codes "java/lang/IllegalArgumentException") (codes "java/lang/RuntimeException") (constructor ∷ with_message ∷ with_cause ∷ [])
-    ∷ built_in public_class (codes "java/lang/IllegalStateException") (codes "java/lang/RuntimeException") (constructor ∷ with_message ∷ with_cause ∷ [])
+    ∷ illegal_argument_exception_class
+    ∷ illegal_state_exception_class
     ∷ built_in public_class (codes "java/lang/IndexOutOfBoundsException") (codes "java/lang/RuntimeException") (constructor ∷ with_message ∷ [])
     ∷ built_in public_class (codes "java/lang/NegativeArraySizeException") (codes "java/lang/RuntimeException") (constructor ∷ with_message ∷ [])
     ∷ built_in public_class (codes "java/lang/NullPointerException") (codes "java/lang/RuntimeException") (constructor ∷ with_message ∷ [])
     ∷ built_in public_class (codes "java/lang/IllegalThreadStateException") (codes "java/lang/IllegalArgumentException") (constructor ∷ with_message ∷ [])
-    ∷ built_in public_class (codes "java/lang/ArrayIndexOutOfBoundsException") (codes "java/lang/IndexOutOfBoundsException") (constructor ∷ with_message ∷ [])
+    ∷ array_index_out_of_bounds_exception_class
     ∷ comparable_class
     ∷ char_sequence_class
-    ∷ built_in public_class (codes "java/lang/StringIndexOutOfBoundsException") (codes "java/lang/IndexOutOfBoundsException") (constructor ∷ with_message ∷ [])
+    ∷ string_index_out_of_bounds_exception_class
     ∷ built_in public_interface (codes "java/lang/Cloneable") (codes "java/lang/Object") []
     ∷ built_in public_class (codes "java/lang/CloneNotSupportedException") (codes "java/lang/Exception") (constructor ∷ with_message ∷ [])
-    ∷ built_in public_class (codes "java/lang/AssertionError") (codes "java/lang/Error") (constructor ∷ with_cause ∷ [])
+    ∷ assertion_error_class
     ∷ string_builder_class
     ∷ []

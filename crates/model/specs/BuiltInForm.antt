@@ -58,6 +58,10 @@ final_native_method = 0x0111
 abbrev pub static_native_method : ℕ
 static_native_method = 0x0109
 
+-- ACC_PRIVATE, ACC_STATIC and ACC_NATIVE
+abbrev pub hidden_native_method : ℕ
+hidden_native_method = 0x010a
+
 -- ACC_PUBLIC and ACC_ABSTRACT
 abbrev pub abstract_method : ℕ
 abstract_method = 0x0401

@@ -3,7 +3,7 @@
 use Rattle.std.specs.Prelude.{ℕ, List, [], ◌∷◌, ◌++◌, Option, Some, None, Bool, true, false, not, ◌&&◌, ◌||◌, if◌then◌else◌, nat_lt, codes, find, is_some, length, slice_get, unwrap_or}
 use Rattle.std.specs.Option.{option_map, option_and_then}
 use Rattle.model.specs.declared.event.Event.{Event}
-use Rattle.model.specs.Names.{Name, Member, member_eq, java_lang_object, java_lang_string, java_lang_string_builder, java_lang_thread, java_io_print_stream, thread_target, println_int, constructor_name}
+use Rattle.model.specs.Names.{Name, name_eq, Member, member_eq, java_lang_class, java_lang_object, java_lang_string, java_lang_string_builder, java_lang_system, java_lang_thread, java_io_print_stream, thread_target, throwable_message, throwable_cause, string_described, println_int, constructor_name}
 use Rattle.std.specs.Fmt.{signed_decimal}
 use Rattle.model.specs.declared.print_method.PrintMethod.{PrintMethod}
 use Rattle.model.specs.declared.print_method.PrintMethod.TheVariants.{Println, PrintlnChar, PrintlnInt, PrintlnString, PrintChar, PrintInt, PrintString}
@@ -11,6 +11,8 @@ use Rattle.model.specs.declared.string_method.StringMethod.{StringMethod}
 use Rattle.model.specs.declared.string_method.StringMethod.TheVariants.{Length, CharAt, Equals, HashCode, CompareTo, Concat, Substring, IndexOf, RegionMatches, ValueOfInt, ValueOfChar}
 use Rattle.model.specs.declared.builder_method.BuilderMethod.{BuilderMethod}
 use Rattle.model.specs.declared.builder_method.BuilderMethod.TheVariants.{ConstructEmpty, ConstructOfString, AppendString, AppendInt, AppendChar, AppendBuilder, ToString}
+use Rattle.model.specs.declared.object_method.ObjectMethod.{ObjectMethod}
+use Rattle.model.specs.declared.object_method.ObjectMethod.TheVariants as object_method
 use Rattle.model.specs.StringMethods.{StringAnswer, IsNull, IsOutside, Answers, Same, Composes, string_answer}
 use Rattle.model.specs.declared.instr.Conversion.TheVariants.{ToChar}
 use Rattle.model.specs.Ints.{signed, converted}
@@ -20,18 +22,21 @@ use Rattle.model.specs.State.{Waiter, Notified, Interrupted, ThreadStatus, Runni
 use Rattle.model.specs.Outcomes.{OutcomeOf, Raises, Interrupts, Waits, NullPointer, IllegalMonitorState, IllegalThreadState, StringIndexOutOfBounds, Makes, Starts, Joins}
 use Rattle.model.specs.Monitors as monitors
 use Rattle.model.specs.Monitors.{monitor_at}
-use Rattle.model.specs.Worlds.{thread_at, with_status, with_interrupted, thread_of, is_alive, is_interrupted, allocated, object_at, with_object, with_field, is_owner, text_of, with_monitors, woken, all_woken, waiters_of}
+use Rattle.model.specs.Worlds.{thread_at, with_status, with_interrupted, thread_of, is_alive, is_interrupted, allocated, object_at, with_object, with_field, is_owner, with_monitors, woken, all_woken, waiters_of}
 use Rattle.model.specs.Sites.{picks_none, pushing, pushing_at, operand, referent, int_operand}
 pub use Rattle.model.specs.Worlds.{string_shown}
 pub use Rattle.model.specs.Sites.{object_of}
 use Rattle.model.specs.Classes.{Program}
 use Rattle.model.specs.Opening.{string_reference}
 use Rattle.model.specs.BuilderMethods.{builder_does}
+use Rattle.model.specs.ObjectMethods.{object_tells}
 
 pub data BuiltInMethod : Type 0 where
-  -- the constructors of Object and of the classes of exceptions, and Thread's without a target. A message and a cause
-  -- aren't kept (own): there is no method that gives them.
+  -- the constructors without parameters of Object, of Thread and of the classes of exceptions
   Construct : BuiltInMethod
+  -- the constructors of exceptions with a message, and with a message and a cause
+  ConstructWithMessage : BuiltInMethod
+  ConstructWithCause : BuiltInMethod
   -- Thread.<init>(Runnable)
   ConstructWithTarget : BuiltInMethod
   ObjectWait : BuiltInMethod
@@ -48,11 +53,18 @@ pub data BuiltInMethod : Type 0 where
   PrintStreamPrints : PrintMethod → BuiltInMethod
   StringAnswers : StringMethod → BuiltInMethod
   StringBuilderBuilds : BuilderMethod → BuiltInMethod
+  ObjectAnswers : ObjectMethod → BuiltInMethod
 
 -- ---- by their names
 
-abbrev pub of_object : Name → Member
-of_object name = record { class = java_lang_object; name = name; descriptor = codes "()V" }
+abbrev pub of_object : Name → Name → Member
+of_object name descriptor = record { class = java_lang_object; name = name; descriptor = descriptor }
+
+abbrev pub of_system : Name → Name → Member
+of_system name descriptor = record { class = java_lang_system; name = name; descriptor = descriptor }
+
+abbrev pub of_class_object : Name → Name → Member
+of_class_object name descriptor = record { class = java_lang_class; name = name; descriptor = descriptor }
 
 abbrev pub of_thread : Name → Name → Member
 of_thread name descriptor = record { class = java_lang_thread; name = name; descriptor = descriptor }
@@ -68,9 +80,9 @@ of_string_builder name descriptor = record { class = java_lang_string_builder; n
 
 abbrev pub built_in_methods : List (Member × BuiltInMethod)
 built_in_methods =
-    (of_object (codes "wait"), ObjectWait)
-    ∷ (of_object (codes "notify"), ObjectNotify)
-    ∷ (of_object (codes "notifyAll"), ObjectNotifyAll)
+    (of_object (codes "wait") (codes "()V"), ObjectWait)
+    ∷ (of_object (codes "notify") (codes "()V"), ObjectNotify)
+    ∷ (of_object (codes "notifyAll") (codes "()V"), ObjectNotifyAll)
     ∷ (of_thread constructor_name (codes "(Ljava/lang/Runnable;)V"), ConstructWithTarget)
     ∷ (of_thread (codes "start") (codes "()V"), ThreadStart)
     ∷ (of_thread (codes "interrupt") (codes "()V"), ThreadInterrupt)
@@ -105,14 +117,27 @@ built_in_methods =
     ∷ (of_string_builder (codes "append") (codes "(C)Ljava/lang/StringBuilder;"), StringBuilderBuilds AppendChar)
     ∷ (of_string_builder (codes "append") (codes "(Ljava/lang/StringBuilder;)Ljava/lang/StringBuilder;"), StringBuilderBuilds AppendBuilder)
     ∷ (of_string_builder (codes "toString") (codes "()Ljava/lang/String;"), StringBuilderBuilds ToString)
+    ∷ (of_object (codes "hashCode") (codes "()I"), ObjectAnswers object_method.HashCode)
+    ∷ (of_object (codes "getClass") (codes "()Ljava/lang/Class;"), ObjectAnswers object_method.GetClass)
+    ∷ (of_system (codes "identityHashCode") (codes "(Ljava/lang/Object;)I"), ObjectAnswers object_method.IdentityHashCode)
+    ∷ (of_class_object (codes "getName") (codes "()Ljava/lang/String;"), ObjectAnswers object_method.ClassName)
+    ∷ (string_described, ObjectAnswers object_method.Described)
     ∷ []
 
 abbrev pub is_row_of : Member → Member × BuiltInMethod → Bool
 is_row_of method row = member_eq row.0 method
 
+-- the constructors of exceptions, by their descriptor: with a message, with a message and a cause, or without
+abbrev pub constructor_of : Name → BuiltInMethod
+constructor_of descriptor =
+    if name_eq descriptor (codes "(Ljava/lang/String;)V") then ConstructWithMessage
+    else if name_eq descriptor (codes "(Ljava/lang/String;Ljava/lang/Throwable;)V") then ConstructWithCause
+    else Construct
+
 -- those that have no row of their own are the other constructors
 abbrev pub built_in_method : Member → BuiltInMethod
-built_in_method method = unwrap_or (option_map (λ (row : Member × BuiltInMethod). row.1) (find (is_row_of method) built_in_methods)) Construct
+built_in_method method =
+    unwrap_or (option_map (λ (row : Member × BuiltInMethod). row.1) (find (is_row_of method) built_in_methods)) (constructor_of method.descriptor)
 
 -- ---- wait, notify, notifyAll (JLS 17.2)
 
@@ -227,8 +252,17 @@ built_in_may C ThreadJoin event world ops = picks_none event world ops && may_jo
 built_in_may C method event world ops = picks_none event world ops
 
 abbrev pub built_in_does : {A : Type 0} → Carrier A → Program → BuiltInMethod → ℕ → Event → WorldOf A → Slots A → List A → List A → OutcomeOf A
--- .., objectref, [message, [cause]] -> ..
+-- .., objectref -> ..
 built_in_does C files Construct next event world slots ops rest = pushing next [] world slots rest
+-- .., objectref, message -> ..
+built_in_does C files ConstructWithMessage next event world slots ops rest =
+    pushing next [] (with_object world (object_of C ops 1) (with_field throwable_message (operand C ops 0) (object_at world (object_of C ops 1)))) slots rest
+-- .., objectref, message, cause -> ..
+built_in_does C files ConstructWithCause next event world slots ops rest =
+    pushing next []
+    (with_object world (object_of C ops 2)
+    (with_field throwable_cause (operand C ops 0) (with_field throwable_message (operand C ops 1) (object_at world (object_of C ops 2)))))
+    slots rest
 -- .., objectref, target -> ..
 built_in_does C files ConstructWithTarget next event world slots ops rest =
     pushing next [] (with_object world (object_of C ops 1) (with_field thread_target (operand C ops 0) (object_at world (object_of C ops 1)))) slots rest
@@ -262,3 +296,5 @@ built_in_does C files (StringAnswers method) next event world slots ops rest =
 -- .., [objectref], [value] -> .., [result]
 built_in_does C files (StringBuilderBuilds method) next event world slots ops rest =
     builder_does C (string_reference files []) method next world slots ops rest
+-- .., [objectref], [value] -> .., result
+built_in_does C files (ObjectAnswers method) next event world slots ops rest = object_tells C files method next world slots ops rest

@@ -77,7 +77,7 @@ string_index_out_of_bounds_exception = 32
 
 -- Thread.run among the methods of each program
 abbrev pub thread_run_number : ℕ
-thread_run_number = 6
+thread_run_number = 9
 
 -- the first of the Class objects, behind the PrintStream of System.out, the arguments and the Thread of main
 abbrev pub first_class_reference : ℕ

@@ -1,7 +1,7 @@
 pub mod Devices
 pub mod LimitRanges
 pub mod Names
-pub mod HiddenFields
+pub mod HiddenMembers
 pub mod Tree
 pub mod Spelling
 pub mod Pool
@@ -39,6 +39,7 @@ pub mod Monitors
 pub mod Opening
 pub mod Outcomes
 pub mod Worlds
+pub mod MachineExceptions
 pub mod ClassInitialisation
 pub mod Frames
 pub mod Sites
@@ -47,6 +48,7 @@ pub mod Arrays
 pub mod MonitorMeanings
 pub mod ThrowMeaning
 pub mod BuilderMethods
+pub mod ObjectMethods
 pub mod BuiltInMethods
 pub mod BuiltInNumbers
 pub mod Calls

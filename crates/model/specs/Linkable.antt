@@ -1,8 +1,9 @@
 -- When the files of a program may be linked, and which refusal they get where they may not (own).
 use Rattle.std.specs.Prelude.{◌≡◌, ℕ, List, [], ◌∷◌, Bool, true, false, not, ◌&&◌, ◌||◌, nat_lt, length}
 use Rattle.std.specs.Option.{option_map_or}
-use Rattle.std.specs.List.{list_any}
+use Rattle.std.specs.List.{filter, list_any}
 use Rattle.model.specs.Names.{main_of}
+use Rattle.model.specs.HiddenMembers.{is_cell}
 use Rattle.model.specs.Tree.{FileTree}
 use Rattle.model.specs.Spells.{Spells}
 use Rattle.model.specs.AccessFlags.{is_static_method}
@@ -23,9 +24,9 @@ too_many_files files = nat_lt 65000 (length files)
 abbrev pub too_many_strings : Program → Bool
 too_many_strings files = nat_lt 200000000 (length (file_texts files))
 
--- instance fields of a class, those of its superclasses included
+-- instance fields of a class that count as cells, those of its superclasses included
 abbrev pub too_many_fields : Program → FileTree → Bool
-too_many_fields files file = nat_lt 65535 (length (instance_fields files (name_of file)))
+too_many_fields files file = nat_lt 65535 (length (filter is_cell (instance_fields files (name_of file))))
 
 -- ---- DuplicateClass (JVMS 5.3)
 

@@ -81,6 +81,24 @@ thread_target = record { class = java_lang_thread; name = codes "target"; descri
 abbrev pub builder_text : Member
 builder_text = record { class = java_lang_string_builder; name = codes "text"; descriptor = codes "Ljava/lang/String;" }
 
+-- the fields of a Throwable that keep what its constructor was told, and the exceptions that were added to it
+abbrev pub throwable_message : Member
+throwable_message = record { class = java_lang_throwable; name = codes "message"; descriptor = codes "Ljava/lang/String;" }
+
+abbrev pub throwable_cause : Member
+throwable_cause = record { class = java_lang_throwable; name = codes "cause"; descriptor = codes "Ljava/lang/Throwable;" }
+
+abbrev pub throwable_suppressed : Member
+throwable_suppressed = record { class = java_lang_throwable; name = codes "suppressed"; descriptor = codes "[Ljava/lang/Throwable;" }
+
+-- the method that makes the text of Object.toString
+abbrev pub string_described : Member
+string_described = record { class = java_lang_string; name = codes "described"; descriptor = codes "(Ljava/lang/Object;I)Ljava/lang/String;" }
+
+-- the method that tests the bounds of System.arraycopy
+abbrev pub system_check : Member
+system_check = record { class = java_lang_system; name = codes "check"; descriptor = codes "(IIIII)V" }
+
 -- PrintStream.println of an int
 abbrev pub println_int : Member
 println_int = record { class = java_io_print_stream; name = codes "println"; descriptor = codes "(I)V" }

@@ -27,9 +27,13 @@ first_of C field = first_value C (field_declared field.descriptor)
 abbrev pub with_first : {A : Type 0} → Carrier A → Member → Member × A
 with_first C field = (field, first_of C field)
 
--- an object as `new` makes it, with the fields of its class and of its superclasses; a String is empty
+-- an object with the fields of its class and of its superclasses
+abbrev pub first_instance : {A : Type 0} → Carrier A → Program → Name → ObjectOf A
+first_instance C files class = Instance class (map (with_first C) (instance_fields files class))
+
+-- an object as `new` makes it; a String is empty
 abbrev pub new_instance : {A : Type 0} → Carrier A → Program → Name → ObjectOf A
-new_instance C files class = if name_eq class java_lang_string then Characters [] else Instance class (map (with_first C) (instance_fields files class))
+new_instance C files class = if name_eq class java_lang_string then Characters [] else first_instance C files class
 
 abbrev pub static_fields_in : FileTree → List Member
 static_fields_in file = map (field_member (name_of file) file.pool) (filter is_static_field file.fields)

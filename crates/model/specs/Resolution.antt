@@ -9,7 +9,7 @@ use Rattle.model.specs.declared.instr.FieldAccess.{FieldAccess}
 use Rattle.model.specs.declared.instr.FieldAccess.TheVariants as access
 use Rattle.model.specs.declared.instr.Invocation.TheVariants as invocation
 use Rattle.model.specs.Names.{Name, name_eq, Member, member_eq, constructor_name, system_out, system_err}
-use Rattle.model.specs.HiddenFields.{is_hidden}
+use Rattle.model.specs.HiddenMembers.{is_hidden, is_hidden_method}
 use Rattle.model.specs.Tree.{Entry, FieldTree, MethodTree, FileTree}
 use Rattle.model.specs.Pool.{class_name_at, method_at, interface_method_at, field_at}
 use Rattle.model.specs.Conditions.{text_at}
@@ -124,6 +124,9 @@ found_method files pool other = None
 abbrev pub method_missing : Program → FileTree → Instr → Bool
 method_missing files file i = is_some (method_operand file.pool i) && is_none (found_method files file.pool i)
 
+abbrev pub names_hidden_method : Program → FileTree → Instr → Bool
+names_hidden_method files file i = option_map_or is_hidden_method (found_method files file.pool i) false
+
 abbrev pub wants_static_method : Instr → Bool
 wants_static_method (Invoke invocation.Static index) = true
 wants_static_method other = false
@@ -154,8 +157,9 @@ unresolved_instruction files file i =
     || (puts_system_stream files file i
     || (names_hidden_field files file i
     || (method_missing files file i
+    || (names_hidden_method files file i
     || (method_of_other_kind files file i
-    || call_on_other_kind files file i)))))))
+    || call_on_other_kind files file i))))))))
 
 -- Unresolved: one of the conditions stands in the file
 abbrev pub is_unresolved : Program → FileTree → Bool

@@ -11,9 +11,9 @@ use Rattle.model.specs.Classes.{Program, Body, name_of, body_of, superclass_of, 
 use Rattle.model.specs.ReferenceTypes.{ReferenceType, ClassType}
 use Rattle.model.specs.Types.{is_object_of}
 use Rattle.model.specs.Operands.{Slots, Carrier, values, operands, under}
-use Rattle.model.specs.State.{Instance, types_of, Initialised, Erroneous, WakeCause, Notified, Interrupted, ThreadStatus, Running, Waiting, Relock, Ended, Thread, FrameOf, Phase, Super, End, Invocation, Initialisation, StackOf, WorldOf, StateOf, State}
+use Rattle.model.specs.State.{types_of, Initialised, Erroneous, WakeCause, Notified, Interrupted, ThreadStatus, Running, Waiting, Relock, Ended, Thread, FrameOf, Phase, Super, End, Invocation, Initialisation, StackOf, WorldOf, StateOf, State}
 use Rattle.model.specs.Opening.{arguments_reference, class_reference}
-use Rattle.model.specs.Outcomes.{MachineException, exception_class, NoClassDefFound, StackOverflow, IllegalMonitorState, InterruptedWait, AbstractMethod, ExceptionInInitializer, Cost, Free, Makes, OutcomeOf, Goes, Raises, Throws, Interrupts, Calls, Returns, Waits}
+use Rattle.model.specs.Outcomes.{MachineException, NoClassDefFound, StackOverflow, IllegalMonitorState, InterruptedWait, AbstractMethod, ExceptionInInitializer, Cost, Free, Makes, OutcomeOf, Goes, Raises, Throws, Interrupts, Calls, Returns, Waits}
 use Rattle.model.specs.Monitors as monitors
 pub use Rattle.model.specs.Worlds.{thread_at}
 use Rattle.model.specs.Worlds.{with_thread, with_begun, with_pending, with_caught, with_status, with_interrupted, allocated, object_at, class_of_object, is_owner, may_enter, with_entry, entry_cost, with_exit, with_monitors, is_done, waiters_of, all_woken}
@@ -21,6 +21,7 @@ pub use Rattle.model.specs.ClassInitialisation.{status_of}
 use Rattle.model.specs.ClassInitialisation.{with_class_status, with_class_begun, Look, IsReady, IsNew, IsHeld, HasFailed, look_by}
 use Rattle.model.specs.Frames.{frame_with, entered_by, frame_count, at_offset, at_call}
 use Rattle.model.specs.Lookup.{select}
+use Rattle.model.specs.MachineExceptions.{machine_exception}
 use Rattle.model.specs.Sites.{MeaningOf, site_at}
 use Rattle.model.specs.Meanings.{meaning_of}
 
@@ -80,13 +81,17 @@ settled t (Next cost p) = Next cost (part (end_of t p.world p.stack) p.stack)
 
 -- ---- exceptions
 
--- the machine makes an exception, with no call of a constructor (own), and it is pending
-abbrev pub raised : {A : Type 0} → ℕ → MachineException → WorldOf A → StackOf A → SteppedOf (PartOf A)
-raised t fault world stack = Next (Makes 0) (part (with_pending (allocated world (Instance (exception_class fault) [])) t (length world.heap)) stack)
+-- the machine makes an exception, which may have a cause, and it is pending
+abbrev pub raised_for : {A : Type 0} → Carrier A → Program → ℕ → MachineException → Option ℕ → WorldOf A → StackOf A → SteppedOf (PartOf A)
+raised_for C files t fault cause world stack =
+    Next (Makes 0) (part (with_pending (allocated world (machine_exception C files fault cause)) t (length world.heap)) stack)
+
+abbrev pub raised : {A : Type 0} → Carrier A → Program → ℕ → MachineException → WorldOf A → StackOf A → SteppedOf (PartOf A)
+raised C files t fault world stack = raised_for C files t fault None world stack
 
 -- a thread that waits or joins was interrupted (JLS 17.2.1, 17.2.3)
-abbrev pub raised_by_interrupt : {A : Type 0} → ℕ → WorldOf A → StackOf A → SteppedOf (PartOf A)
-raised_by_interrupt t world stack = raised t InterruptedWait (with_interrupted world t false) stack
+abbrev pub raised_by_interrupt : {A : Type 0} → Carrier A → Program → ℕ → WorldOf A → StackOf A → SteppedOf (PartOf A)
+raised_by_interrupt C files t world stack = raised C files t InterruptedWait (with_interrupted world t false) stack
 
 -- ---- what an event needs of a class first (JVMS 5.5)
 
@@ -100,7 +105,7 @@ abbrev pub needing : {A : Type 0} → Carrier A → Program → ℕ → Name →
 needing C files t class IsReady world stack rest = rest
 needing C files t class IsNew world stack rest = begun_class C files t class world stack
 needing C files t class IsHeld world stack rest = NotEnabled
-needing C files t class HasFailed world stack rest = raised t NoClassDefFound world stack
+needing C files t class HasFailed world stack rest = raised C files t NoClassDefFound world stack
 
 abbrev pub needing_class : {A : Type 0} → Carrier A → Program → ℕ → Option Name → WorldOf A → StackOf A → SteppedOf (PartOf A)
     → SteppedOf (PartOf A)
@@ -116,16 +121,16 @@ entering t world rest frame (Some object) =
     enabled_if (may_enter world t object) (Next (entry_cost world object) (part (with_entry world t object) (Invocation frame ∷ rest)))
 
 -- a call: a new frame on top of what is left, where the limit lets it, and else nothing but the exception (JVMS 2.5.2)
-abbrev pub pushed : {A : Type 0} → ℕ → ℕ → WorldOf A → WorldOf A → StackOf A → StackOf A → FrameOf A → SteppedOf (PartOf A)
-pushed frames t world after stack rest frame =
-    if nat_lt (frame_count stack) frames then entering t after rest frame frame.entered else raised t StackOverflow world stack
+abbrev pub pushed : {A : Type 0} → Carrier A → Program → ℕ → ℕ → WorldOf A → WorldOf A → StackOf A → StackOf A → FrameOf A → SteppedOf (PartOf A)
+pushed C files frames t world after stack rest frame =
+    if nat_lt (frame_count stack) frames then entering t after rest frame frame.entered else raised C files t StackOverflow world stack
 
 -- The end of an invocation leaves the monitor that it entered. Where another thread owns that, or none, an exception is pending
 -- instead, over a stack of its own.
-abbrev pub leaving : {A : Type 0} → ℕ → Option ℕ → WorldOf A → StackOf A → StackOf A → SteppedOf (PartOf A)
-leaving t None world rest stack = on_to world rest
-leaving t (Some object) world rest stack =
-    if is_owner world t object then on_to (with_exit world t object) rest else raised t IllegalMonitorState world stack
+abbrev pub leaving : {A : Type 0} → Carrier A → Program → ℕ → Option ℕ → WorldOf A → StackOf A → StackOf A → SteppedOf (PartOf A)
+leaving C files t None world rest stack = on_to world rest
+leaving C files t (Some object) world rest stack =
+    if is_owner world t object then on_to (with_exit world t object) rest else raised C files t IllegalMonitorState world stack
 
 -- the offset after the instruction of a frame
 abbrev pub next_of : {A : Type 0} → Program → FrameOf A → ℕ
@@ -140,15 +145,15 @@ returned files results (Invocation frame ∷ stack) =
 returned files results (Initialisation class phase ∷ stack) = Initialisation class phase ∷ stack
 
 -- what an instruction of the frame on top makes of the stack
-abbrev pub become : {A : Type 0} → Program → ℕ → ℕ → WorldOf A → FrameOf A → StackOf A → OutcomeOf A → SteppedOf (PartOf A)
-become files frames t world frame stack (Goes cost after slots to) = Next cost (part after (Invocation (at_offset frame to slots) ∷ stack))
-become files frames t world frame stack (Raises fault) = raised t fault world (Invocation frame ∷ stack)
-become files frames t world frame stack (Throws exception) = on_to (with_pending world t exception) (Invocation frame ∷ stack)
-become files frames t world frame stack Interrupts = raised_by_interrupt t world (Invocation frame ∷ stack)
-become files frames t world frame stack (Calls callee rest) =
-    pushed frames t world world (Invocation frame ∷ stack) (Invocation (at_call frame rest) ∷ stack) callee
-become files frames t world frame stack (Returns after results) = leaving t frame.entered after (returned files results stack) (Invocation frame ∷ stack)
-become files frames t world frame stack (Waits cost after rest) = Next cost (part after (Invocation (at_call frame rest) ∷ stack))
+abbrev pub become : {A : Type 0} → Carrier A → Program → ℕ → ℕ → WorldOf A → FrameOf A → StackOf A → OutcomeOf A → SteppedOf (PartOf A)
+become C files frames t world frame stack (Goes cost after slots to) = Next cost (part after (Invocation (at_offset frame to slots) ∷ stack))
+become C files frames t world frame stack (Raises fault) = raised C files t fault world (Invocation frame ∷ stack)
+become C files frames t world frame stack (Throws exception) = on_to (with_pending world t exception) (Invocation frame ∷ stack)
+become C files frames t world frame stack Interrupts = raised_by_interrupt C files t world (Invocation frame ∷ stack)
+become C files frames t world frame stack (Calls callee rest) =
+    pushed C files frames t world world (Invocation frame ∷ stack) (Invocation (at_call frame rest) ∷ stack) callee
+become C files frames t world frame stack (Returns after results) = leaving C files t frame.entered after (returned files results stack) (Invocation frame ∷ stack)
+become C files frames t world frame stack (Waits cost after rest) = Next cost (part after (Invocation (at_call frame rest) ∷ stack))
 
 -- ---- Bytecode: an instruction of the frame on top
 
@@ -158,7 +163,7 @@ ops_of C meaning slots = operands C.over meaning.wants slots
 -- it is done
 abbrev pub done : {A : Type 0} → Carrier A → Program → ℕ → Event → WorldOf A → FrameOf A → StackOf A → MeaningOf A → SteppedOf (PartOf A)
 done C files frames event world frame stack meaning =
-    become files frames event.thread world frame stack
+    become C files frames event.thread world frame stack
     (meaning.does event world frame.place.slots (ops_of C meaning frame.place.slots) (under meaning.wants frame.place.slots))
 
 -- The operands first. Then its pick and the other threads have to let it; then comes the class that it needs, and then the rest.
@@ -184,9 +189,9 @@ bytecode_event C files frames event world frame stack = bytecode_in C files fram
 -- ---- Initialisation: a class on top
 
 -- its initialiser, if it declares one, runs before the class is done (step 9); it enters no monitor, whatever its flags
-abbrev pub initialiser_event : {A : Type 0} → Carrier A → ℕ → ℕ → Member → WorldOf A → StackOf A → Option Body → SteppedOf (PartOf A)
-initialiser_event C frames t initialiser world stack None = on_to world stack
-initialiser_event C frames t initialiser world stack (Some body) = pushed frames t world world stack stack (frame_with C initialiser [] None body)
+abbrev pub initialiser_event : {A : Type 0} → Carrier A → Program → ℕ → ℕ → Member → WorldOf A → StackOf A → Option Body → SteppedOf (PartOf A)
+initialiser_event C files frames t initialiser world stack None = on_to world stack
+initialiser_event C files frames t initialiser world stack (Some body) = pushed C files frames t world world stack stack (frame_with C initialiser [] None body)
 
 -- the superclass of a class comes before it; an interface has none to wait for (step 7)
 abbrev pub before : Program → Name → Option Name
@@ -196,7 +201,7 @@ before files class = if is_interface files class then None else superclass_of fi
 abbrev pub initialisation_event : {A : Type 0} → Carrier A → Program → ℕ → ℕ → Name → Phase → WorldOf A → StackOf A → SteppedOf (PartOf A)
 initialisation_event C files frames t class Super world stack =
     needing_class C files t (before files class) world (Initialisation class Super ∷ stack)
-    (initialiser_event C frames t (initialiser_of class) world (Initialisation class End ∷ stack) (body_of files (initialiser_of class)))
+    (initialiser_event C files frames t (initialiser_of class) world (Initialisation class End ∷ stack) (body_of files (initialiser_of class)))
 initialisation_event C files frames t class End world stack = on_to (with_class_status world class Initialised) stack
 
 -- ---- Begin: a thread that has not begun
@@ -209,7 +214,7 @@ initial_class (file ∷ files) = name_of file
 abbrev pub main_frame : {A : Type 0} → Carrier A → Program → ℕ → WorldOf A → Member → Option Body → SteppedOf (PartOf A)
 main_frame C files frames world main None = WrongKind
 main_frame C files frames world main (Some body) =
-    pushed frames 0 world (with_begun world 0) [] []
+    pushed C files frames 0 world (with_begun world 0) [] []
     (frame_with C main (C.reference arguments_reference ∷ []) (entered_by files main (class_reference files main.class)) body)
 
 -- main is called by the rules of invokestatic (JVMS 5.2)
@@ -218,12 +223,12 @@ main_event C files frames world =
     needing_class C files 0 (Some (initial_class files)) world [] (main_frame C files frames world (main_of (initial_class files)) (body_of files (main_of (initial_class files))))
 
 abbrev pub run_frame : {A : Type 0} → Carrier A → Program → ℕ → ℕ → WorldOf A → ℕ → Member → Option Body → SteppedOf (PartOf A)
-run_frame C files frames t world object method None = raised t AbstractMethod world []
+run_frame C files frames t world object method None = raised C files t AbstractMethod world []
 run_frame C files frames t world object method (Some body) =
-    pushed frames t world (with_begun world t) [] [] (frame_with C method (C.reference object ∷ []) (entered_by files method object) body)
+    pushed C files frames t world (with_begun world t) [] [] (frame_with C method (C.reference object ∷ []) (entered_by files method object) body)
 
 abbrev pub run_of : {A : Type 0} → Carrier A → Program → ℕ → ℕ → WorldOf A → ℕ → Option Member → SteppedOf (PartOf A)
-run_of C files frames t world object None = raised t AbstractMethod world []
+run_of C files frames t world object None = raised C files t AbstractMethod world []
 run_of C files frames t world object (Some method) = run_frame C files frames t world object method (body_of files method)
 
 -- run of its Thread object is called by the rules of invokevirtual
@@ -254,34 +259,34 @@ abbrev pub handler_in : Program → ℕ → Option ReferenceType → Body → Op
 handler_in files offset thrown body = find (λ entry. covers offset entry && takes files body.pool thrown entry) body.code.exceptions
 
 -- the frame goes on at its handler, with the exception alone on its stack; without a handler it ends
-abbrev pub unwound : {A : Type 0} → Carrier A → ℕ → ℕ → WorldOf A → FrameOf A → StackOf A → Option ExceptionEntry → SteppedOf (PartOf A)
-unwound C t exception world frame stack None = leaving t frame.entered world stack stack
-unwound C t exception world frame stack (Some entry) =
+abbrev pub unwound : {A : Type 0} → Carrier A → Program → ℕ → ℕ → WorldOf A → FrameOf A → StackOf A → Option ExceptionEntry → SteppedOf (PartOf A)
+unwound C files t exception world frame stack None = leaving C files t frame.entered world stack stack
+unwound C files t exception world frame stack (Some entry) =
     on_to (with_caught world t) (Invocation (at_offset frame entry.handler (record { locals = frame.place.slots.locals; stack = C.reference exception ∷ [] })) ∷ stack)
 
--- a class is erroneous (JVMS 5.5, steps 11 and 12); what is no Error is replaced
-abbrev pub failed : {A : Type 0} → ℕ → Bool → WorldOf A → StackOf A → SteppedOf (PartOf A)
-failed t true world stack = on_to world stack
-failed t false world stack = raised t ExceptionInInitializer world stack
+-- a class is erroneous (JVMS 5.5, steps 11 and 12); what is no Error is replaced, and is the cause of what replaces it
+abbrev pub failed : {A : Type 0} → Carrier A → Program → ℕ → ℕ → Bool → WorldOf A → StackOf A → SteppedOf (PartOf A)
+failed C files t exception true world stack = on_to world stack
+failed C files t exception false world stack = raised_for C files t ExceptionInInitializer (Some exception) world stack
 
 abbrev pub pending_event : {A : Type 0} → Carrier A → Program → ℕ → ℕ → Option ReferenceType → WorldOf A → StackOf A → SteppedOf (PartOf A)
 pending_event C files t exception thrown world [] = NotEnabled
 pending_event C files t exception thrown world (Invocation frame ∷ stack) =
-    unwound C t exception world frame stack (option_and_then (handler_in files frame.place.offset thrown) (body_of files frame.method))
+    unwound C files t exception world frame stack (option_and_then (handler_in files frame.place.offset thrown) (body_of files frame.method))
 pending_event C files t exception thrown world (Initialisation class phase ∷ stack) =
-    failed t (is_object_of files (ClassType java_lang_error) thrown) (with_class_status world class Erroneous) stack
+    failed C files t exception (is_object_of files (ClassType java_lang_error) thrown) (with_class_status world class Erroneous) stack
 
 -- ---- Relock: a thread that has left a wait set (JLS 17.2.1)
 
 -- notified, the call of wait returns; interrupted, it throws
-abbrev pub after_wait : {A : Type 0} → Program → ℕ → WakeCause → WorldOf A → StackOf A → SteppedOf (PartOf A)
-after_wait files t Notified world stack = on_to world (returned files [] stack)
-after_wait files t Interrupted world stack = raised_by_interrupt t world stack
+abbrev pub after_wait : {A : Type 0} → Carrier A → Program → ℕ → WakeCause → WorldOf A → StackOf A → SteppedOf (PartOf A)
+after_wait C files t Notified world stack = on_to world (returned files [] stack)
+after_wait C files t Interrupted world stack = raised_by_interrupt C files t world stack
 
-abbrev pub relock_event : {A : Type 0} → Program → ℕ → ℕ → ℕ → WakeCause → WorldOf A → StackOf A → SteppedOf (PartOf A)
-relock_event files t object count cause world stack =
+abbrev pub relock_event : {A : Type 0} → Carrier A → Program → ℕ → ℕ → ℕ → WakeCause → WorldOf A → StackOf A → SteppedOf (PartOf A)
+relock_event C files t object count cause world stack =
     enabled_if (is_done (monitors.relock object t count world.monitors).answer)
-    (after_wait files t cause (with_status (with_monitors world (monitors.relock object t count world.monitors)) t Running) stack)
+    (after_wait C files t cause (with_status (with_monitors world (monitors.relock object t count world.monitors)) t Running) stack)
 
 -- ---- an event
 
@@ -299,7 +304,7 @@ going_event C files frames event world stack (Some exception) =
 abbrev pub thread_event : {A : Type 0} → Carrier A → Program → ℕ → Event → WorldOf A → StackOf A → ThreadStatus → SteppedOf (PartOf A)
 thread_event C files frames event world stack Running = going_event C files frames event world stack (thread_at world event.thread).pending
 thread_event C files frames event world stack (Waiting object count) = NotEnabled
-thread_event C files frames event world stack (Relock object count cause) = unpicked event (relock_event files event.thread object count cause world stack)
+thread_event C files frames event world stack (Relock object count cause) = unpicked event (relock_event C files event.thread object count cause world stack)
 thread_event C files frames event world stack (Ended exception) = NotEnabled
 
 -- the stacks after a step of a thread; a thread that it started has an empty one

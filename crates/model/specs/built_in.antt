@@ -2,5 +2,17 @@ pub mod Object
 pub mod Thread
 pub mod String
 pub mod Class
+pub mod System
 pub mod PrintStream
+pub mod Throwable
+pub mod Error
+pub mod Exception
+pub mod VirtualMachineError
+pub mod ExceptionInInitializerError
+pub mod RuntimeException
+pub mod IllegalArgumentException
+pub mod IllegalStateException
+pub mod ArrayIndexOutOfBoundsException
+pub mod StringIndexOutOfBoundsException
+pub mod AssertionError
 pub mod StringBuilder

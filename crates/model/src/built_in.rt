@@ -73,10 +73,10 @@ pub const ARRAY_INDEX_OUT_OF_BOUNDS_EXCEPTION: usize = 29;
 pub const STRING_INDEX_OUT_OF_BOUNDS_EXCEPTION: usize = 32;
 
 /// The number of `Runnable.run`, which is abstract, among the methods of each program.
-pub const RUNNABLE_RUN: usize = 5;
+pub const RUNNABLE_RUN: usize = 8;
 
 /// The number of `Thread.run` among the methods of each program.
-pub const THREAD_RUN: usize = 6;
+pub const THREAD_RUN: usize = 9;
 
 /// The PrintStream of System.out, the first object of a run.
 pub const SYSTEM_OUT: u32 = 0;

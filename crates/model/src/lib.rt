@@ -28,6 +28,7 @@ mod event;
 mod instr;
 mod limits;
 mod monitor_answer;
+mod object_method;
 mod primitive;
 mod print_method;
 mod report;
@@ -46,6 +47,7 @@ pub use instr::{
 };
 pub use limits::Limits;
 pub use monitor_answer::MonitorAnswer;
+pub use object_method::ObjectMethod;
 pub use primitive::Primitive;
 pub use print_method::PrintMethod;
 pub use report::{EndState, Report};

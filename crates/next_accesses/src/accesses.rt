@@ -87,6 +87,9 @@ pub(crate) fn write(variable: Option<Variable>, is_volatile: bool) -> Option<Act
 fn field_access(frame: &Frame<'_>, access: FieldAccess, field: NamedField) -> Option<Action>
     ensures { result ≡ field_action (shown_frame frame.now).operands access field }
 {
+    if !field.is_variable {
+        return None;
+    }
     match access {
         FieldAccess::GetStatic => read(Some(static_field(field)), field.is_volatile),
         FieldAccess::PutStatic => write(Some(static_field(field)), field.is_volatile),

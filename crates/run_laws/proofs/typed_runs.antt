@@ -8,6 +8,7 @@ pub mod WorldChanges
 pub mod WaitSets
 pub mod WaitChanges
 pub mod OpeningObjects
+pub mod Exceptions
 pub mod StepParts
 pub mod Entering
 pub mod Begun
@@ -30,4 +31,7 @@ pub mod Handlers
 pub mod Events
 pub mod Begins
 pub mod Builders
+pub mod Told
+pub mod Signatures
+pub mod StartedThreads
 pub mod BuiltIns

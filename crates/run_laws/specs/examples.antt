@@ -24,10 +24,12 @@ pub mod TypeJoins
 pub mod Typings
 pub mod FrameTypes
 pub mod StringTypings
+pub mod ThrowableTypings
 pub mod StringBuilderTypings
 pub mod BuiltInTypings
 pub mod Constructors
 pub mod StringListing
+pub mod BuiltInListings
 pub mod BuiltInMembers
 pub mod ClassFiles
 pub mod Reports
@@ -54,6 +56,7 @@ pub mod SameString
 pub mod MadeStrings
 pub mod TextMethods
 pub mod BuiltTexts
+pub mod ToldObjects
 pub mod WaiterOfAThread
 pub mod UncaughtException
 pub mod Entry257

@@ -26,7 +26,7 @@
 //!     `failing_initial_class`;
 //!   - exceptions: `handler_order`, `uncaught_exception`, `stack_overflow`, `not_a_runnable`, `array_store`;
 //!   - fields, arrays, strings and calls: `shadowed_fields`, `narrow_arrays`, `same_string`, `made_strings`,
-//!     `text_methods`, `built_texts`, `super_call`.
+//!     `text_methods`, `built_texts`, `told_objects`, `super_call`.
 //! - Programs in Java that print what `java` prints: `java_objects`, `java_calls`, `java_threads`. Threads in Java that
 //!   wait for all that there is to wait for: `threads_that_wait`.
 
@@ -80,6 +80,7 @@ ghost use Rattle.run_laws.specs.examples.StackOverflow.{StackOverflow};
 ghost use Rattle.run_laws.specs.examples.SuperCall.{SuperCall};
 ghost use Rattle.run_laws.specs.examples.SuperclassConstant.{SuperclassConstant};
 ghost use Rattle.run_laws.specs.examples.ThreadsThatWait.{ThreadsThatWait};
+ghost use Rattle.run_laws.specs.examples.ToldObjects.{ToldObjects};
 ghost use Rattle.run_laws.specs.examples.TextMethods.{TextMethods};
 ghost use Rattle.run_laws.specs.examples.TypeJoins.{TypeJoins};
 ghost use Rattle.run_laws.specs.examples.Typings.{Typings, Untypables};
@@ -368,6 +369,11 @@ pub fn text_methods()
 /// Texts that a StringBuilder builds, and one that is printed to System.err: what they cost, and what is printed.
 pub fn built_texts()
     ensures holds { BuiltTexts }
+{}
+
+/// What an exception tells of its class and its cause, what the machine's own exceptions tell, and numbers of objects.
+pub fn told_objects()
+    ensures holds { ToldObjects }
 {}
 
 /// Two String constants of one text are one object (JVMS 5.1).

@@ -14,13 +14,14 @@ use Rattle.model.specs.Monitors as monitors
 use Rattle.model.specs.Names.{Name, Member, main_of, thread_run, initialiser_of, java_lang_error, name_eq}
 use Rattle.model.specs.Opening.{arguments_reference, class_reference}
 use Rattle.model.specs.Operands.{values, under}
-use Rattle.model.specs.Outcomes.{MachineException, exception_class, OutcomeOf, Goes, Raises, Throws, Interrupts, Calls, Returns, Waits, NoClassDefFound, StackOverflow, IllegalMonitorState, InterruptedWait, AbstractMethod, ExceptionInInitializer}
+use Rattle.model.specs.Outcomes.{MachineException, OutcomeOf, Goes, Raises, Throws, Interrupts, Calls, Returns, Waits, NoClassDefFound, StackOverflow, IllegalMonitorState, InterruptedWait, AbstractMethod, ExceptionInInitializer}
 use Rattle.model.specs.ReferenceTypes.{ReferenceType, ClassType}
 use Rattle.model.specs.Sites.{MeaningOf, Site, site_at}
-use Rattle.model.specs.State.{Instance, types_of, ClassStatus, NotInitialised, InProgress, Initialised, Erroneous, WakeCause, Notified, Interrupted, ThreadStatus, Running, Waiting, Relock, Ended, Frame, Phase, Super, End, Invocation, Initialisation, StackOf, World}
+use Rattle.model.specs.State.{types_of, ClassStatus, NotInitialised, InProgress, Initialised, Erroneous, WakeCause, Notified, Interrupted, ThreadStatus, Running, Waiting, Relock, Ended, Frame, Phase, Super, End, Invocation, Initialisation, StackOf, World}
 use Rattle.model.specs.Step.{SteppedOf, NotEnabled, WrongKind, Next, PartOf, part, on_to, enabled_if, unpicked, is_over, ended, with_end, end_of, raised, needing, needing_class, entering, pushed, leaving, returned, become, ops_of, bytecode_by, bytecode_in, initialiser_event, before, initialisation_event, initial_class, main_frame, run_frame, run_of, begin_event, handler_in, unwound, failed, pending_event, after_wait, relock_event, running_event, going_event, thread_event}
 use Rattle.model.specs.Tree.{Entry, FieldTree, FileTree}
 use Rattle.model.specs.Types.{is_object_of}
+use Rattle.model.specs.MachineExceptions.{machine_exception}
 use Rattle.model.specs.Worlds.{thread_at, with_thread, with_begun, with_pending, with_caught, with_status, with_interrupted, with_static, put_value, allocated, object_at, class_of_object, is_owner, may_enter, with_entry, entry_cost, with_exit, with_monitors, is_done, value_in}
 use Rattle.run_laws.proofs.laws.Classes.{names_same}
 use Rattle.run_laws.proofs.laws.Operations.{OfMeaning}
@@ -141,10 +142,10 @@ module _ (writes : Variables → Bool) (v : ℕ) (world : World) (old : StackOf 
   pending_spares : (after : World) (exception : ℕ) → Spares writes v world after → Spares writes v world (with_pending after v exception)
   pending_spares after exception s = threads_aside writes v world after (with_pending after v exception).threads s
 
-  raised_effect : (fault : MachineException) (after : World) (stack : StackOf Value) → Spares writes v world after → Same stack
-      → Effect (raised v fault after stack)
-  raised_effect fault after stack s e =
-      let made = Instance (exception_class fault) [] in
+  raised_effect : (files : Program) (fault : MachineException) (after : World) (stack : StackOf Value) → Spares writes v world after → Same stack
+      → Effect (raised values files v fault after stack)
+  raised_effect files fault after stack s e =
+      let made = machine_exception values files fault None in
       kept (with_pending (allocated after made) v (length after.heap)) stack (pending_spares (allocated after made) (length after.heap) (with_object_made writes v world after made s)) e
 
   entering_effect : (after : World) (rest : StackOf Value) (frame : Frame) (o : Option ℕ) → Spares writes v world after → Same rest
@@ -154,18 +155,18 @@ module _ (writes : Variables → Bool) (v : ℕ) (world : World) (old : StackOf 
       enabled_effect (may_enter after v object) (Next (entry_cost after object) (part (with_entry after v object) (Invocation frame ∷ rest)))
       (kept (with_entry after v object) (Invocation frame ∷ rest) (entry_spares writes v world after object s) e)
 
-  pushed_effect : (frames : ℕ) (first after : World) (stack rest : StackOf Value) (frame : Frame) → Spares writes v world first
-      → Spares writes v world after → Same stack → Same rest → Effect (pushed frames v first after stack rest frame)
-  pushed_effect frames first after stack rest frame s k e g =
-      either_effect (nat_lt (frame_count stack) frames) (entering v after rest frame frame.entered) (raised v StackOverflow first stack)
-      (entering_effect after rest frame frame.entered k g) (raised_effect StackOverflow first stack s e)
+  pushed_effect : (files : Program) (frames : ℕ) (first after : World) (stack rest : StackOf Value) (frame : Frame) → Spares writes v world first
+      → Spares writes v world after → Same stack → Same rest → Effect (pushed values files frames v first after stack rest frame)
+  pushed_effect files frames first after stack rest frame s k e g =
+      either_effect (nat_lt (frame_count stack) frames) (entering v after rest frame frame.entered) (raised values files v StackOverflow first stack)
+      (entering_effect after rest frame frame.entered k g) (raised_effect files StackOverflow first stack s e)
 
-  leaving_effect : (o : Option ℕ) (after : World) (rest stack : StackOf Value) → Spares writes v world after → Same rest → Same stack
-      → Effect (leaving v o after rest stack)
-  leaving_effect None after rest stack s e g = kept after rest s e
-  leaving_effect (Some object) after rest stack s e g =
-      either_effect (is_owner after v object) (on_to (with_exit after v object) rest) (raised v IllegalMonitorState after stack)
-      (kept (with_exit after v object) rest (exit_spares writes v world after object s) e) (raised_effect IllegalMonitorState after stack s g)
+  leaving_effect : (files : Program) (o : Option ℕ) (after : World) (rest stack : StackOf Value) → Spares writes v world after → Same rest → Same stack
+      → Effect (leaving values files v o after rest stack)
+  leaving_effect files None after rest stack s e g = kept after rest s e
+  leaving_effect files (Some object) after rest stack s e g =
+      either_effect (is_owner after v object) (on_to (with_exit after v object) rest) (raised values files v IllegalMonitorState after stack)
+      (kept (with_exit after v object) rest (exit_spares writes v world after object s) e) (raised_effect files IllegalMonitorState after stack s g)
 
   interrupted_spares : (after : World) → Spares writes v world after → Spares writes v world (with_interrupted after v false)
   interrupted_spares after s = threads_aside writes v world after (with_interrupted after v false).threads s
@@ -198,7 +199,7 @@ module _ (writes : Variables → Bool) (v : ℕ) (world : World) (old : StackOf 
   needing_effect files class IsReady stack x q e h = h
   needing_effect files class IsNew stack x q e h = begun_effect files class stack (new_look v (status_of world class) q) e
   needing_effect files class IsHeld stack x q e h = tt
-  needing_effect files class HasFailed stack x q e h = raised_effect NoClassDefFound world stack self e
+  needing_effect files class HasFailed stack x q e h = raised_effect files NoClassDefFound world stack self e
 
   needing_class_effect : (files : Program) (class : Option Name) (stack : StackOf Value) (x : SteppedOf (PartOf Value)) → Same stack
       → Effect x → Effect (needing_class values files v class world stack x)
@@ -209,19 +210,19 @@ module _ (writes : Variables → Bool) (v : ℕ) (world : World) (files : Progra
   -- ---- an instruction
 
   become_effect : (frame : Frame) (stack : StackOf Value) (o : OutcomeOf Value) → OutcomeSpares writes v world o
-      → OnEffect writes v world (Invocation frame ∷ stack) (become files frames v world frame stack o)
+      → OnEffect writes v world (Invocation frame ∷ stack) (become values files frames v world frame stack o)
   become_effect frame stack (Goes cost after slots to) s = kept writes v world (Invocation frame ∷ stack) after _ s refl
-  become_effect frame stack (Raises fault) s = raised_effect writes v world (Invocation frame ∷ stack) fault world (Invocation frame ∷ stack) (itself writes v world) refl
+  become_effect frame stack (Raises fault) s = raised_effect writes v world (Invocation frame ∷ stack) files fault world (Invocation frame ∷ stack) (itself writes v world) refl
   become_effect frame stack (Throws exception) s =
       kept writes v world (Invocation frame ∷ stack) (with_pending world v exception) (Invocation frame ∷ stack)
       (pending_spares writes v world (Invocation frame ∷ stack) world exception (itself writes v world)) refl
   become_effect frame stack Interrupts s =
-      raised_effect writes v world (Invocation frame ∷ stack) InterruptedWait (with_interrupted world v false) (Invocation frame ∷ stack)
+      raised_effect writes v world (Invocation frame ∷ stack) files InterruptedWait (with_interrupted world v false) (Invocation frame ∷ stack)
       (interrupted_spares writes v world (Invocation frame ∷ stack) world (itself writes v world)) refl
   become_effect frame stack (Calls callee rest) s =
-      pushed_effect writes v world (Invocation frame ∷ stack) frames world world (Invocation frame ∷ stack) (Invocation (at_call frame rest) ∷ stack) callee (itself writes v world) (itself writes v world) refl refl
+      pushed_effect writes v world (Invocation frame ∷ stack) files frames world world (Invocation frame ∷ stack) (Invocation (at_call frame rest) ∷ stack) callee (itself writes v world) (itself writes v world) refl refl
   become_effect frame stack (Returns after results) s =
-      leaving_effect writes v world (Invocation frame ∷ stack) frame.entered after (returned files results stack) (Invocation frame ∷ stack) s (returned_same files results stack) refl
+      leaving_effect writes v world (Invocation frame ∷ stack) files frame.entered after (returned files results stack) (Invocation frame ∷ stack) s (returned_same files results stack) refl
   become_effect frame stack (Waits cost after rest) s = kept writes v world (Invocation frame ∷ stack) after _ s refl
 
   module _ (event : Event) (is : event.thread ≡ v) where
@@ -238,9 +239,9 @@ module _ (writes : Variables → Bool) (v : ℕ) (world : World) (files : Progra
         let slots = frame.place.slots in
         let whole : StackOf Value = Invocation frame ∷ stack in
         let does = m.does event world slots (ops_of values m slots) (under m.wants slots) in
-        let become_by = subst (λ t. OnEffect writes v world whole (become files frames t world frame stack does)) (sym is) (become_effect frame stack does (k slots (ops_of values m slots) (under m.wants slots))) in
-        let needed = subst (λ t. OnEffect writes v world whole (needing_class values files t m.looks world whole (become files frames event.thread world frame stack does))) (sym is)
-        (needing_class_effect writes v world whole files m.looks whole (become files frames event.thread world frame stack does) refl become_by) in
+        let become_by = subst (λ t. OnEffect writes v world whole (become values files frames t world frame stack does)) (sym is) (become_effect frame stack does (k slots (ops_of values m slots) (under m.wants slots))) in
+        let needed = subst (λ t. OnEffect writes v world whole (needing_class values files t m.looks world whole (become values files frames event.thread world frame stack does))) (sym is)
+        (needing_class_effect writes v world whole files m.looks whole (become values files frames event.thread world frame stack does) refl become_by) in
         either_effect writes v world whole (values.finds files (types_of world.heap) m.wants max_stack slots) _ (unpicked event WrongKind)
         (enabled_effect writes v world whole (m.may event world (ops_of values m slots)) _ needed)
         (enabled_effect writes v world whole (event.pick == 0) WrongKind tt)
@@ -260,11 +261,11 @@ module _ (writes : Variables → Bool) (v : ℕ) (world : World) (files : Progra
       needing_class_effect writes v world whole files (before files class) whole _ refl (by (body_of files (initialiser_of class)))
     where
       by : (o : Option Body)
-          → OnEffect writes v world (Initialisation class Super ∷ stack) (initialiser_event values frames v (initialiser_of class) world (Initialisation class End ∷ stack) o)
+          → OnEffect writes v world (Initialisation class Super ∷ stack) (initialiser_event values files frames v (initialiser_of class) world (Initialisation class End ∷ stack) o)
       by None = kept writes v world (Initialisation class Super ∷ stack) world (Initialisation class End ∷ stack) (itself writes v world) refl
       by (Some body) =
           let next : StackOf Value = Initialisation class End ∷ stack in
-          pushed_effect writes v world (Initialisation class Super ∷ stack) frames world world next next (frame_with values (initialiser_of class) [] None body) (itself writes v world) (itself writes v world) refl refl
+          pushed_effect writes v world (Initialisation class Super ∷ stack) files frames world world next next (frame_with values (initialiser_of class) [] None body) (itself writes v world) (itself writes v world) refl refl
   initialisation_effect class End stack =
       record { monitors = (itself writes v world).monitors; variables = (itself writes v world).variables; statics = λ field first n k. refl; change = Left class Initialised refl refl }
 
@@ -272,13 +273,13 @@ module _ (writes : Variables → Bool) (v : ℕ) (world : World) (files : Progra
   begun_spares = threads_aside writes v world world (with_begun world v).threads (itself writes v world)
 
   run_effect : (object : ℕ) (o : Option Member) → OnEffect writes v world [] (run_of values files frames v world object o)
-  run_effect object None = raised_effect writes v world [] AbstractMethod world [] (itself writes v world) refl
+  run_effect object None = raised_effect writes v world [] files AbstractMethod world [] (itself writes v world) refl
   run_effect object (Some m) = by (body_of files m)
     where
       by : (o : Option Body) → OnEffect writes v world [] (run_frame values files frames v world object m o)
-      by None = raised_effect writes v world [] AbstractMethod world [] (itself writes v world) refl
+      by None = raised_effect writes v world [] files AbstractMethod world [] (itself writes v world) refl
       by (Some body) =
-          pushed_effect writes v world [] frames world (with_begun world v) [] [] (frame_with values m (values.reference object ∷ []) (entered_by files m object) body) (itself writes v world) begun_spares refl refl
+          pushed_effect writes v world [] files frames world (with_begun world v) [] [] (frame_with values m (values.reference object ∷ []) (entered_by files m object) body) (itself writes v world) begun_spares refl refl
 
   -- ---- pending exceptions, and threads that were woken
 
@@ -286,19 +287,20 @@ module _ (writes : Variables → Bool) (v : ℕ) (world : World) (files : Progra
   caught_spares = threads_aside writes v world world (with_caught world v).threads (itself writes v world)
 
   unwound_effect : (exception : ℕ) (frame : Frame) (stack : StackOf Value) (o : Option ExceptionEntry)
-      → OnEffect writes v world (Invocation frame ∷ stack) (unwound values v exception world frame stack o)
+      → OnEffect writes v world (Invocation frame ∷ stack) (unwound values files v exception world frame stack o)
   unwound_effect exception frame stack None =
-      leaving_effect writes v world (Invocation frame ∷ stack) frame.entered world stack stack (itself writes v world) refl refl
+      leaving_effect writes v world (Invocation frame ∷ stack) files frame.entered world stack stack (itself writes v world) refl refl
   unwound_effect exception frame stack (Some entry) = kept writes v world (Invocation frame ∷ stack) (with_caught world v) _ caught_spares refl
 
-  failed_effect : (b : Bool) (class : Name) (phase : Phase) (stack : StackOf Value)
-      → OnEffect writes v world (Initialisation class phase ∷ stack) (failed v b (with_class_status world class Erroneous) stack)
-  failed_effect true class phase stack = record { monitors = (itself writes v world).monitors; variables = (itself writes v world).variables; statics = λ field first n k. refl; change = Left class Erroneous refl refl }
-  failed_effect false class phase stack =
+  failed_effect : (exception : ℕ) (b : Bool) (class : Name) (phase : Phase) (stack : StackOf Value)
+      → OnEffect writes v world (Initialisation class phase ∷ stack) (failed values files v exception b (with_class_status world class Erroneous) stack)
+  failed_effect exception true class phase stack = record { monitors = (itself writes v world).monitors; variables = (itself writes v world).variables; statics = λ field first n k. refl; change = Left class Erroneous refl refl }
+  failed_effect exception false class phase stack =
       let after = with_class_status world class Erroneous in
+      let made = machine_exception values files ExceptionInInitializer (Some exception) in
       record {
-        monitors = (with_object_made writes v after after (Instance (exception_class ExceptionInInitializer) []) (itself writes v after)).monitors;
-        variables = (with_object_made writes v after after (Instance (exception_class ExceptionInInitializer) []) (itself writes v after)).variables;
+        monitors = (with_object_made writes v after after made (itself writes v after)).monitors;
+        variables = (with_object_made writes v after after made (itself writes v after)).variables;
         statics = λ field first n k. refl;
         change = Left class Erroneous refl refl;
       }
@@ -309,27 +311,27 @@ module _ (writes : Variables → Bool) (v : ℕ) (world : World) (files : Progra
   pending_effect exception thrown (Invocation frame ∷ stack) =
       unwound_effect exception frame stack (option_and_then (handler_in files frame.place.offset thrown) (body_of files frame.method))
   pending_effect exception thrown (Initialisation class phase ∷ stack) =
-      failed_effect (is_object_of files (ClassType java_lang_error) thrown) class phase stack
+      failed_effect exception (is_object_of files (ClassType java_lang_error) thrown) class phase stack
 
   after_wait_effect : (old : StackOf Value) (after : World) (cause : WakeCause) → Spares writes v world after
-      → OnEffect writes v world old (after_wait files v cause after old)
+      → OnEffect writes v world old (after_wait values files v cause after old)
   after_wait_effect old after Notified s = kept writes v world old after (returned files [] old) s (returned_same files [] old)
   after_wait_effect old after Interrupted s =
-      raised_effect writes v world old InterruptedWait (with_interrupted after v false) old (interrupted_spares writes v world old after s) refl
+      raised_effect writes v world old files InterruptedWait (with_interrupted after v false) old (interrupted_spares writes v world old after s) refl
 
   relock_effect : (object count : ℕ) (cause : WakeCause) (stack : StackOf Value)
-      → OnEffect writes v world stack (relock_event files v object count cause world stack)
+      → OnEffect writes v world stack (relock_event values files v object count cause world stack)
   relock_effect object count cause stack =
       let locked = with_monitors world (monitors.relock object v count world.monitors) in
       let s = relock_spares writes v world world object count (itself writes v world) in
-      enabled_effect writes v world stack (is_done (monitors.relock object v count world.monitors).answer) (after_wait files v cause (with_status locked v Running) stack)
+      enabled_effect writes v world stack (is_done (monitors.relock object v count world.monitors).answer) (after_wait values files v cause (with_status locked v Running) stack)
       (after_wait_effect stack (with_status locked v Running) cause (threads_aside writes v world locked (with_status locked v Running).threads s))
 
 module _ (writes : Variables → Bool) (files : Program) (frames : ℕ) where
   main_effect : (world : World) (main : Member) (o : Option Body) → OnEffect writes 0 world [] (main_frame values files frames world main o)
   main_effect world main None = tt
   main_effect world main (Some body) =
-      pushed_effect writes 0 world [] frames world (with_begun world 0) [] [] (frame_with values main (values.reference arguments_reference ∷ []) (entered_by files main (class_reference files main.class)) body)
+      pushed_effect writes 0 world [] files frames world (with_begun world 0) [] [] (frame_with values main (values.reference arguments_reference ∷ []) (entered_by files main (class_reference files main.class)) body)
       (itself writes 0 world) (begun_spares writes 0 world files frames) refl refl
 
   begin_effect : (world : World) (v : ℕ) → OnEffect writes v world [] (begin_event values files frames world v)
@@ -364,7 +366,7 @@ module _ (writes : Variables → Bool) (files : Program) (frames : ℕ) where
     event_effect stack Running permits = going_effect stack (thread_at world v).pending permits
     event_effect stack (Waiting object count) permits = tt
     event_effect stack (Relock object count cause) permits =
-        enabled_effect writes v world stack (event.pick == 0) (relock_event files v object count cause world stack) (relock_effect writes v world files frames object count cause stack)
+        enabled_effect writes v world stack (event.pick == 0) (relock_event values files v object count cause world stack) (relock_effect writes v world files frames object count cause stack)
     event_effect stack (Ended exception) permits = tt
 
 -- the end of a thread leaves classes as they are

@@ -11,7 +11,9 @@ use Rattle.model.specs.declared.value.Value.{Value}
 use Rattle.model.specs.Arrays.{is_negative, made_array, in_range, at_index, may_stand_in, if_storable, load_of, store_of}
 use Rattle.model.specs.BuilderMethods as builder
 use Rattle.model.specs.BuilderMethods.{BuilderAnswer, KeepsEmpty, Keeps, Adds, GivesText, builds}
-use Rattle.model.specs.BuiltInMethods.{BuiltInMethod, Construct, ConstructWithTarget, ObjectWait, ObjectNotify, ObjectNotifyAll, ThreadStart, ThreadInterrupt, ThreadIsInterrupted, ThreadInterrupted, ThreadYield, ThreadCurrentThread, ThreadJoin, ThreadIsAlive, PrintStreamPrints, StringAnswers, StringBuilderBuilds, built_in_method, object_of, string_operand, answered, wait_by, if_owner, start_by, join_by, built_in_does}
+use Rattle.model.specs.ObjectMethods as telling
+use Rattle.model.specs.ObjectMethods.{ObjectAnswer, HasNoClass, IsOf, object_answer, object_place, tells, type_at}
+use Rattle.model.specs.BuiltInMethods.{BuiltInMethod, Construct, ConstructWithMessage, ConstructWithCause, ConstructWithTarget, ObjectWait, ObjectNotify, ObjectNotifyAll, ThreadStart, ThreadInterrupt, ThreadIsInterrupted, ThreadInterrupted, ThreadYield, ThreadCurrentThread, ThreadJoin, ThreadIsAlive, PrintStreamPrints, StringAnswers, StringBuilderBuilds, ObjectAnswers, built_in_method, object_of, string_operand, answered, wait_by, if_owner, start_by, join_by, built_in_does}
 use Rattle.model.specs.Calls.{Chosen, Fails, Runs, runs, invoked, return_of}
 use Rattle.model.specs.Classes.{Program, Body, body_of}
 use Rattle.model.specs.Meanings.{local_meaning, meaning_of}
@@ -114,8 +116,17 @@ module _ (files : Program) (site : Site) (t : ℕ) (world : World) (thread : Thr
   builds_told empty (Adds added) next = tt
   builds_told empty GivesText next = tt
 
+  tells_told : (answer : ObjectAnswer) (next : ℕ) → Told (tells values files answer next world slots rest)
+  tells_told telling.IsNull next = tt
+  tells_told HasNoClass next = tt
+  tells_told (telling.Answers bits) next = tt
+  tells_told (IsOf class) next = tt
+  tells_told (telling.Composes text) next = tt
+
   built_in_told : (method : BuiltInMethod) (next : ℕ) → Told (built_in_does values files method next (next_event t) world slots ops rest)
   built_in_told Construct next = tt
+  built_in_told ConstructWithMessage next = tt
+  built_in_told ConstructWithCause next = tt
   built_in_told ConstructWithTarget next = tt
   built_in_told ObjectWait next = wait_told (is_owner world t (object_of values ops 0)) (thread_at world t).interrupted (object_of values ops 0)
   built_in_told ObjectNotify next = owner_told (is_owner world t (object_of values ops 0)) _ tt
@@ -131,6 +142,7 @@ module _ (files : Program) (site : Site) (t : ℕ) (world : World) (thread : Thr
   built_in_told (PrintStreamPrints print) next = tt
   built_in_told (StringAnswers method) next = answered_told (string_answer method (int_operand values ops) (string_operand values world ops)) next
   built_in_told (StringBuilderBuilds method) next = builds_told (string_reference files []) _ next
+  built_in_told (ObjectAnswers method) next = tells_told _ next
 
   runs_told : (r : ℕ) (method : Member) (o : Option Body) → Told (runs values files site (next_event t) world slots ops rest r method o)
   runs_told r method None = built_in_told (built_in_method method) site.next

@@ -14,13 +14,14 @@ use Rattle.model.specs.Monitors as monitors
 use Rattle.model.specs.Names.{Name, Member, main_of, thread_run, initialiser_of, java_lang_error}
 use Rattle.model.specs.Opening.{arguments_reference, class_reference}
 use Rattle.model.specs.Operands.{values, under}
-use Rattle.model.specs.Outcomes.{Cost, Makes, Enters, MachineException, exception_class, OutcomeOf, Goes, Raises, Throws, Interrupts, Calls, Returns, Waits, NoClassDefFound, StackOverflow, IllegalMonitorState, InterruptedWait, AbstractMethod, ExceptionInInitializer}
+use Rattle.model.specs.Outcomes.{Cost, Makes, Enters, MachineException, OutcomeOf, Goes, Raises, Throws, Interrupts, Calls, Returns, Waits, NoClassDefFound, StackOverflow, IllegalMonitorState, InterruptedWait, AbstractMethod, ExceptionInInitializer}
 use Rattle.model.specs.ReferenceTypes.{ReferenceType, ClassType}
 use Rattle.model.specs.Sites.{MeaningOf, Site, site_at}
-use Rattle.model.specs.State.{Instance, types_of, InProgress, Initialised, Erroneous, Monitor, WakeCause, Notified, Interrupted, ThreadStatus, Running, Waiting, Relock, Ended, Frame, Phase, Super, End, Invocation, Initialisation, StackOf, World}
-use Rattle.model.specs.Step.{SteppedOf, NotEnabled, WrongKind, Next, PartOf, part, on_to, enabled_if, is_over, ended, with_end, end_of, raised, needing, needing_class, entering, pushed, leaving, returned, become, ops_of, done, bytecode_by, bytecode_in, initialiser_event, before, initialisation_event, initial_class, main_frame, run_frame, run_of, begin_event, handler_in, unwound, failed, pending_event, after_wait, relock_event, running_event, going_event, thread_event}
+use Rattle.model.specs.State.{types_of, InProgress, Initialised, Erroneous, Monitor, WakeCause, Notified, Interrupted, ThreadStatus, Running, Waiting, Relock, Ended, Frame, Phase, Super, End, Invocation, Initialisation, StackOf, World}
+use Rattle.model.specs.Step.{SteppedOf, NotEnabled, WrongKind, Next, PartOf, part, on_to, enabled_if, is_over, ended, with_end, end_of, raised_for, raised, needing, needing_class, entering, pushed, leaving, returned, become, ops_of, done, bytecode_by, bytecode_in, initialiser_event, before, initialisation_event, initial_class, main_frame, run_frame, run_of, begin_event, handler_in, unwound, failed, pending_event, after_wait, relock_event, running_event, going_event, thread_event}
 use Rattle.model.specs.Tree.{Entry, FieldTree, FileTree}
 use Rattle.model.specs.Types.{is_object_of}
+use Rattle.model.specs.MachineExceptions.{machine_exception}
 use Rattle.model.specs.Worlds.{thread_at, with_thread, with_begun, with_pending, with_status, with_interrupted, with_static, put_value, object_at, class_of_object, is_owner, may_enter, with_entry, entry_cost, with_exit, with_monitors, is_done, all_woken, waiters_of}
 use Rattle.run_laws.proofs.laws.Operations.{OfMeaning}
 use Rattle.search_laws.proofs.LockOutcomes.{outcome_in, DoesSame, meaning_same}
@@ -65,11 +66,15 @@ module _ (t r : ℕ) (change : Monitor → Monitor) (c : IsChange t change) wher
   module _ (v : ℕ) (ne : t ≡ v → ⊥) where
     -- ---- exceptions, calls and returns
 
-    raises : (fault : MachineException) (a : World) → Owned t r change c a → (stack : StackOf Value)
-        → Follows (raised v fault (f a) stack) (raised v fault a stack)
-    raises fault a own stack =
-        by_same (raised v fault (f a) stack) (raised v fault a stack)
-        (ap (λ k. Next (Makes 0) (part (with_pending k v (length a.heap)) stack)) (allocated_same t r change c v ne a own (Instance (exception_class fault) [])))
+    raises_for : (files : Program) (fault : MachineException) (cause : Option ℕ) (a : World) → Owned t r change c a → (stack : StackOf Value)
+        → Follows (raised_for values files v fault cause (f a) stack) (raised_for values files v fault cause a stack)
+    raises_for files fault cause a own stack =
+        by_same (raised_for values files v fault cause (f a) stack) (raised_for values files v fault cause a stack)
+        (ap (λ k. Next (Makes 0) (part (with_pending k v (length a.heap)) stack)) (allocated_same t r change c v ne a own (machine_exception values files fault cause)))
+
+    raises : (files : Program) (fault : MachineException) (a : World) → Owned t r change c a → (stack : StackOf Value)
+        → Follows (raised values files v fault (f a) stack) (raised values files v fault a stack)
+    raises files fault a own stack = raises_for files fault None a own stack
 
     enters : (a : World) → Owned t r change c a → (rest : StackOf Value) (frame : Frame) (o : Option ℕ)
         → Follows (entering v (f a) rest frame o) (entering v a rest frame o)
@@ -84,33 +89,33 @@ module _ (t r : ℕ) (change : Monitor → Monitor) (c : IsChange t change) wher
         (ap (λ k. Next (Enters object k) (part (with_entry (f a) v object) (Invocation frame ∷ rest))) (count_same t r change c v ne a own object n)
         ∙ ap (λ k. Next (entry_cost a object) (part k (Invocation frame ∷ rest))) (called_same t r change c v ne a own object (monitors.monitor_enter v) n)))
 
-    pushes : (frames : ℕ) (first a : World) → Owned t r change c first → Owned t r change c a → (stack rest : StackOf Value) (frame : Frame)
-        → Follows (pushed frames v (f first) (f a) stack rest frame) (pushed frames v first a stack rest frame)
-    pushes frames first a own own_a stack rest frame =
-        either (nat_lt (frame_count stack) frames) (entering v (f a) rest frame frame.entered) (entering v a rest frame frame.entered) (raised v StackOverflow (f first) stack) (raised v StackOverflow first stack)
-        (enters a own_a rest frame frame.entered) (raises StackOverflow first own stack)
+    pushes : (files : Program) (frames : ℕ) (first a : World) → Owned t r change c first → Owned t r change c a → (stack rest : StackOf Value) (frame : Frame)
+        → Follows (pushed values files frames v (f first) (f a) stack rest frame) (pushed values files frames v first a stack rest frame)
+    pushes files frames first a own own_a stack rest frame =
+        either (nat_lt (frame_count stack) frames) (entering v (f a) rest frame frame.entered) (entering v a rest frame frame.entered) (raised values files v StackOverflow (f first) stack) (raised values files v StackOverflow first stack)
+        (enters a own_a rest frame frame.entered) (raises files StackOverflow first own stack)
 
-    leaves : (o : Option ℕ) (a : World) → Owned t r change c a → (rest stack : StackOf Value)
-        → Follows (leaving v o (f a) rest stack) (leaving v o a rest stack)
-    leaves None a own rest stack = by_same (leaving v None (f a) rest stack) (leaving v None a rest stack) refl
-    leaves (Some object) a own rest stack =
+    leaves : (files : Program) (o : Option ℕ) (a : World) → Owned t r change c a → (rest stack : StackOf Value)
+        → Follows (leaving values files v o (f a) rest stack) (leaving values files v o a rest stack)
+    leaves files None a own rest stack = by_same (leaving values files v None (f a) rest stack) (leaving values files v None a rest stack) refl
+    leaves files (Some object) a own rest stack =
         by (is_owner a v object) refl (is_owner (f a) v object) (owner_same t r change c v ne a own object)
       where
         by : (b : Bool) → is_owner a v object ≡ b → (other : Bool) → other ≡ is_owner a v object
-            → Follows (if other then on_to (with_exit (f a) v object) rest else raised v IllegalMonitorState (f a) stack)
-            (if is_owner a v object then on_to (with_exit a v object) rest else raised v IllegalMonitorState a stack)
+            → Follows (if other then on_to (with_exit (f a) v object) rest else raised values files v IllegalMonitorState (f a) stack)
+            (if is_owner a v object then on_to (with_exit a v object) rest else raised values files v IllegalMonitorState a stack)
         by true h other e cost p q =
             let n = owned_apart t r change c v ne a own object h in
-            let y : SteppedOf (PartOf Value) = raised v IllegalMonitorState (f a) stack in
-            let x : SteppedOf (PartOf Value) = raised v IllegalMonitorState a stack in
+            let y : SteppedOf (PartOf Value) = raised values files v IllegalMonitorState (f a) stack in
+            let x : SteppedOf (PartOf Value) = raised values files v IllegalMonitorState a stack in
             ap (λ k. if k then on_to (with_exit (f a) v object) rest else y) (e ∙ h)
             ∙ (ap (λ k. on_to k rest) (called_same t r change c v ne a own object (monitors.monitor_exit v) n)
             ∙ ap moved (sym (ap (λ k. if k then on_to (with_exit a v object) rest else x) h) ∙ q))
         by false h other e cost p q =
-            let y : SteppedOf (PartOf Value) = raised v IllegalMonitorState (f a) stack in
-            let x : SteppedOf (PartOf Value) = raised v IllegalMonitorState a stack in
+            let y : SteppedOf (PartOf Value) = raised values files v IllegalMonitorState (f a) stack in
+            let x : SteppedOf (PartOf Value) = raised values files v IllegalMonitorState a stack in
             ap (λ k. if k then on_to (with_exit (f a) v object) rest else y) (e ∙ h)
-            ∙ raises IllegalMonitorState a own stack cost p (sym (ap (λ k. if k then on_to (with_exit a v object) rest else x) h) ∙ q)
+            ∙ raises files IllegalMonitorState a own stack cost p (sym (ap (λ k. if k then on_to (with_exit a v object) rest else x) h) ∙ q)
 
     -- ---- classes
 
@@ -144,7 +149,7 @@ module _ (t r : ℕ) (change : Monitor → Monitor) (c : IsChange t change) wher
       needs class IsNew a own stack y x h =
           by_same (needing values files v class IsNew (f a) stack y) (needing values files v class IsNew a stack x) (ap (λ k. on_to k (Initialisation class Super ∷ stack)) (begun_in_f class a))
       needs class IsHeld a own stack y x h = not_done (needing values files v class IsHeld (f a) stack y)
-      needs class HasFailed a own stack y x h = raises NoClassDefFound a own stack
+      needs class HasFailed a own stack y x h = raises files NoClassDefFound a own stack
 
       needs_class : (class : Option Name) (a : World) → Owned t r change c a → (stack : StackOf Value) (y x : SteppedOf (PartOf Value)) → Follows y x
           → Follows (needing_class values files v class (f a) stack y) (needing_class values files v class a stack x)
@@ -155,16 +160,16 @@ module _ (t r : ℕ) (change : Monitor → Monitor) (c : IsChange t change) wher
 
       module _ (frames : ℕ) (w : World) (own : Owned t r change c w) where
         becomes : (frame : Frame) (stack : StackOf Value) (o : OutcomeOf Value) → OutcomeSpares all v w o
-            → Follows (become files frames v (f w) frame stack (outcome_in t r change c o)) (become files frames v w frame stack o)
-        becomes frame stack (Goes cost after slots to) s = by_same (become files frames v (f w) frame stack (Goes cost (f after) slots to)) (become files frames v w frame stack (Goes cost after slots to)) refl
-        becomes frame stack (Raises fault) s = raises fault w own (Invocation frame ∷ stack)
+            → Follows (become values files frames v (f w) frame stack (outcome_in t r change c o)) (become values files frames v w frame stack o)
+        becomes frame stack (Goes cost after slots to) s = by_same (become values files frames v (f w) frame stack (Goes cost (f after) slots to)) (become values files frames v w frame stack (Goes cost after slots to)) refl
+        becomes frame stack (Raises fault) s = raises files fault w own (Invocation frame ∷ stack)
         becomes frame stack (Throws exception) s =
-            by_same (become files frames v (f w) frame stack (Throws exception)) (become files frames v w frame stack (Throws exception)) refl
-        becomes frame stack Interrupts s = raises InterruptedWait (with_interrupted w v false) own (Invocation frame ∷ stack)
-        becomes frame stack (Calls callee rest) s = pushes frames w w own own (Invocation frame ∷ stack) (Invocation (at_call frame rest) ∷ stack) callee
+            by_same (become values files frames v (f w) frame stack (Throws exception)) (become values files frames v w frame stack (Throws exception)) refl
+        becomes frame stack Interrupts s = raises files InterruptedWait (with_interrupted w v false) own (Invocation frame ∷ stack)
+        becomes frame stack (Calls callee rest) s = pushes files frames w w own own (Invocation frame ∷ stack) (Invocation (at_call frame rest) ∷ stack) callee
         becomes frame stack (Returns after results) s =
-            leaves frame.entered after (s.monitors t r ne own) (returned files results stack) (Invocation frame ∷ stack)
-        becomes frame stack (Waits cost after rest) s = by_same (become files frames v (f w) frame stack (Waits cost (f after) rest)) (become files frames v w frame stack (Waits cost after rest)) refl
+            leaves files frame.entered after (s.monitors t r ne own) (returned files results stack) (Invocation frame ∷ stack)
+        becomes frame stack (Waits cost after rest) s = by_same (become values files frames v (f w) frame stack (Waits cost (f after) rest)) (become values files frames v w frame stack (Waits cost after rest)) refl
 
         -- ---- classes that are initialised, and threads that begin
 
@@ -174,57 +179,57 @@ module _ (t r : ℕ) (change : Monitor → Monitor) (c : IsChange t change) wher
             needs_class (before files class) w own (Initialisation class Super ∷ stack) _ _ (by (body_of files (initialiser_of class)))
           where
             by : (o : Option Body)
-                → Follows (initialiser_event values frames v (initialiser_of class) (f w) (Initialisation class End ∷ stack) o) (initialiser_event values frames v (initialiser_of class) w (Initialisation class End ∷ stack) o)
+                → Follows (initialiser_event values files frames v (initialiser_of class) (f w) (Initialisation class End ∷ stack) o) (initialiser_event values files frames v (initialiser_of class) w (Initialisation class End ∷ stack) o)
             by None = by_same (on_to (f w) (Initialisation class End ∷ stack)) (on_to w (Initialisation class End ∷ stack)) refl
             by (Some body) =
-                pushes frames w w own own (Initialisation class End ∷ stack) (Initialisation class End ∷ stack) (frame_with values (initialiser_of class) [] None body)
+                pushes files frames w w own own (Initialisation class End ∷ stack) (Initialisation class End ∷ stack) (frame_with values (initialiser_of class) [] None body)
         initialises class End stack =
             by_same (on_to (with_class_status (f w) class Initialised) stack) (on_to (with_class_status w class Initialised) stack) refl
 
         runs_it : (object : ℕ) (o : Option Member) → Follows (run_of values files frames v (f w) object o) (run_of values files frames v w object o)
-        runs_it object None = raises AbstractMethod w own []
+        runs_it object None = raises files AbstractMethod w own []
         runs_it object (Some m) = by (body_of files m)
           where
             by : (o : Option Body) → Follows (run_frame values files frames v (f w) object m o) (run_frame values files frames v w object m o)
-            by None = raises AbstractMethod w own []
-            by (Some body) = pushes frames w (with_begun w v) own own [] [] (frame_with values m (values.reference object ∷ []) (entered_by files m object) body)
+            by None = raises files AbstractMethod w own []
+            by (Some body) = pushes files frames w (with_begun w v) own own [] [] (frame_with values m (values.reference object ∷ []) (entered_by files m object) body)
 
         -- ---- pending exceptions, and threads that were woken
 
         unwinds : (exception : ℕ) (frame : Frame) (stack : StackOf Value) (o : Option ExceptionEntry)
-            → Follows (unwound values v exception (f w) frame stack o) (unwound values v exception w frame stack o)
-        unwinds exception frame stack None = leaves frame.entered w own stack stack
-        unwinds exception frame stack (Some entry) = by_same (unwound values v exception (f w) frame stack (Some entry)) (unwound values v exception w frame stack (Some entry)) refl
+            → Follows (unwound values files v exception (f w) frame stack o) (unwound values files v exception w frame stack o)
+        unwinds exception frame stack None = leaves files frame.entered w own stack stack
+        unwinds exception frame stack (Some entry) = by_same (unwound values files v exception (f w) frame stack (Some entry)) (unwound values files v exception w frame stack (Some entry)) refl
 
-        fails : (b : Bool) (class : Name) (stack : StackOf Value)
-            → Follows (failed v b (with_class_status (f w) class Erroneous) stack) (failed v b (with_class_status w class Erroneous) stack)
-        fails true class stack = by_same (failed v true (with_class_status (f w) class Erroneous) stack) (failed v true (with_class_status w class Erroneous) stack) refl
-        fails false class stack = raises ExceptionInInitializer (with_class_status w class Erroneous) own stack
+        fails : (exception : ℕ) (b : Bool) (class : Name) (stack : StackOf Value)
+            → Follows (failed values files v exception b (with_class_status (f w) class Erroneous) stack) (failed values files v exception b (with_class_status w class Erroneous) stack)
+        fails exception true class stack = by_same (failed values files v exception true (with_class_status (f w) class Erroneous) stack) (failed values files v exception true (with_class_status w class Erroneous) stack) refl
+        fails exception false class stack = raises_for files ExceptionInInitializer (Some exception) (with_class_status w class Erroneous) own stack
 
         pends : (exception : ℕ) (thrown : Option ReferenceType) (stack : StackOf Value)
             → Follows (pending_event values files v exception thrown (f w) stack) (pending_event values files v exception thrown w stack)
         pends exception thrown [] = not_done (pending_event values files v exception thrown (f w) [])
         pends exception thrown (Invocation frame ∷ stack) =
             unwinds exception frame stack (option_and_then (handler_in files frame.place.offset thrown) (body_of files frame.method))
-        pends exception thrown (Initialisation class phase ∷ stack) = fails (is_object_of files (ClassType java_lang_error) thrown) class stack
+        pends exception thrown (Initialisation class phase ∷ stack) = fails exception (is_object_of files (ClassType java_lang_error) thrown) class stack
 
         returns : (cause : WakeCause) (a : World) → Owned t r change c a → (stack : StackOf Value)
-            → Follows (after_wait files v cause (f a) stack) (after_wait files v cause a stack)
-        returns Notified a own_a stack = by_same (after_wait files v Notified (f a) stack) (after_wait files v Notified a stack) refl
-        returns Interrupted a own_a stack = raises InterruptedWait (with_interrupted a v false) own_a stack
+            → Follows (after_wait values files v cause (f a) stack) (after_wait values files v cause a stack)
+        returns Notified a own_a stack = by_same (after_wait values files v Notified (f a) stack) (after_wait values files v Notified a stack) refl
+        returns Interrupted a own_a stack = raises files InterruptedWait (with_interrupted a v false) own_a stack
 
         relocks : (object count : ℕ) (cause : WakeCause) (stack : StackOf Value)
-            → Follows (relock_event files v object count cause (f w) stack) (relock_event files v object count cause w stack)
+            → Follows (relock_event values files v object count cause (f w) stack) (relock_event values files v object count cause w stack)
         relocks object count cause stack =
             enabled (is_done (monitors.relock object v count w.monitors).answer) (is_done (monitors.relock object v count (f w).monitors).answer)
-            (after_wait files v cause (with_status (with_monitors (f w) (monitors.relock object v count (f w).monitors)) v Running) stack)
-            (after_wait files v cause (with_status (with_monitors w (monitors.relock object v count w.monitors)) v Running) stack)
+            (after_wait values files v cause (with_status (with_monitors (f w) (monitors.relock object v count (f w).monitors)) v Running) stack)
+            (after_wait values files v cause (with_status (with_monitors w (monitors.relock object v count w.monitors)) v Running) stack)
             (λ h. ap is_done (answer_same t r change c v ne w own object (monitors.monitor_relock v count) (relocked_apart t r change c v ne w own object count h)) ∙ h)
             (λ h.
             let n = relocked_apart t r change c v ne w own object count h in
             let a = with_status (with_monitors w (monitors.relock object v count w.monitors)) v Running in
             let own_a = (relock_spares all v w w object count (itself all v w)).monitors t r ne own in
-            subst (λ k. Follows (after_wait files v cause (with_status k v Running) stack) (after_wait files v cause a stack))
+            subst (λ k. Follows (after_wait values files v cause (with_status k v Running) stack) (after_wait values files v cause a stack))
             (sym (called_same t r change c v ne w own object (monitors.monitor_relock v count) n)) (returns cause a own_a stack))
 
   -- ---- an event
@@ -249,7 +254,7 @@ module _ (t r : ℕ) (change : Monitor → Monitor) (c : IsChange t change) wher
         (needing_class values files v m.looks w whole (done values files frames event w frame stack m))
         (λ h. (k slots ops rest h).may)
         (λ h. needs_class v ne files m.looks w own whole (done values files frames event (f w) frame stack m) (done values files frames event w frame stack m)
-        (subst (λ o. Follows (become files frames v (f w) frame stack o) (done values files frames event w frame stack m)) (sym (k slots ops rest h).does)
+        (subst (λ o. Follows (become values files frames v (f w) frame stack o) (done values files frames event w frame stack m)) (sym (k slots ops rest h).does)
         (becomes v ne files frames w own frame stack (m.does event w slots ops rest) (s slots ops rest)))))
         (enabled (event.pick == 0) (event.pick == 0) WrongKind WrongKind (λ h. h) (λ h. wrong WrongKind))
 
@@ -271,7 +276,7 @@ module _ (t r : ℕ) (change : Monitor → Monitor) (c : IsChange t change) wher
     main_follows : (n : t ≡ 0 → ⊥) (main : Member) (o : Option Body) → Follows (main_frame values files frames (f w) main o) (main_frame values files frames w main o)
     main_follows n main None = wrong WrongKind
     main_follows n main (Some body) =
-        pushes 0 n frames w (with_begun w 0) own own [] [] (frame_with values main (values.reference arguments_reference ∷ []) (entered_by files main (class_reference files main.class)) body)
+        pushes 0 n files frames w (with_begun w 0) own own [] [] (frame_with values main (values.reference arguments_reference ∷ []) (entered_by files main (class_reference files main.class)) body)
 
     begins : (u : ℕ) → (t ≡ u → ⊥) → Follows (begin_event values files frames (f w) u) (begin_event values files frames w u)
     begins zero n =
@@ -301,7 +306,7 @@ module _ (t r : ℕ) (change : Monitor → Monitor) (c : IsChange t change) wher
     event_follows stack Running = going_follows stack (thread_at w v).pending
     event_follows stack (Waiting object count) = not_done NotEnabled
     event_follows stack (Relock object count cause) =
-        enabled (event.pick == 0) (event.pick == 0) (relock_event files v object count cause (f w) stack) (relock_event files v object count cause w stack) (λ h. h)
+        enabled (event.pick == 0) (event.pick == 0) (relock_event values files v object count cause (f w) stack) (relock_event values files v object count cause w stack) (λ h. h)
         (λ h. relocks v ne files frames w own object count cause stack)
     event_follows stack (Ended exception) = not_done NotEnabled
 

@@ -12,7 +12,9 @@ use Rattle.model.specs.declared.value.Value.{Value}
 use Rattle.model.specs.Arrays.{is_negative, made_array, in_range, at_index, may_stand_in, if_storable, load_of, store_of}
 use Rattle.model.specs.BuilderMethods as builder
 use Rattle.model.specs.BuilderMethods.{kept_string, text_or_empty, built_text, with_string, builder_shown, BuilderAnswer, KeepsEmpty, Keeps, Adds, GivesText, builder_answer, composed, builds, builder_does}
-use Rattle.model.specs.BuiltInMethods.{BuiltInMethod, Construct, ConstructWithTarget, ObjectWait, ObjectNotify, ObjectNotifyAll, ThreadStart, ThreadInterrupt, ThreadIsInterrupted, ThreadInterrupted, ThreadYield, ThreadCurrentThread, ThreadJoin, ThreadIsAlive, PrintStreamPrints, StringAnswers, StringBuilderBuilds, built_in_method, object_of, string_operand, answered, wait_by, notified_one, notified, notified_all, if_owner, start_by, interrupted_in, interrupted_on, join_by, built_in_may, built_in_does, printed_by, string_shown, with_printed}
+use Rattle.model.specs.ObjectMethods as telling
+use Rattle.model.specs.ObjectMethods.{ObjectAnswer, HasNoClass, IsOf, object_answer, object_place, tells, type_at}
+use Rattle.model.specs.BuiltInMethods.{BuiltInMethod, Construct, ConstructWithMessage, ConstructWithCause, ConstructWithTarget, ObjectWait, ObjectNotify, ObjectNotifyAll, ThreadStart, ThreadInterrupt, ThreadIsInterrupted, ThreadInterrupted, ThreadYield, ThreadCurrentThread, ThreadJoin, ThreadIsAlive, PrintStreamPrints, StringAnswers, StringBuilderBuilds, ObjectAnswers, built_in_method, object_of, string_operand, answered, wait_by, notified_one, notified, notified_all, if_owner, start_by, interrupted_in, interrupted_on, join_by, built_in_may, built_in_does, printed_by, string_shown, with_printed}
 use Rattle.model.specs.Calls.{Chosen, Fails, Runs, runs, invoked, may_run, may_invoke, return_of}
 use Rattle.model.specs.Classes.{Program, Body, body_of}
 use Rattle.model.specs.MonitorMeanings.{left, may_enter_object}
@@ -234,9 +236,21 @@ module _ (t r : ℕ) (change : Monitor → Monitor) (c : IsChange t change) wher
         ∙ ap (λ k. builds values empty (builder_answer method bits (is_none o) (string_shown w o) k) next (f w) slots ops rest) (builder_shown_same o)
         ∙ builds_is empty (builder_answer method bits (is_none o) (string_shown w o) (builder_shown values w o)) next slots ops rest
 
+    -- the types of objects stay
+    tells_is : (files : Program) (answer : ObjectAnswer) (next : ℕ) (slots : Slots Value) (rest : List Value)
+        → Is (tells values files answer next (f w) slots rest) (tells values files answer next w slots rest)
+    tells_is files telling.IsNull next slots rest = refl
+    tells_is files HasNoClass next slots rest = refl
+    tells_is files (telling.Answers bits) next slots rest = refl
+    tells_is files (IsOf class) next slots rest = refl
+    tells_is files (telling.Composes text) next slots rest =
+        goes_is (Makes (length text)) (Makes (length text)) (allocated w (Characters text)) (allocated (f w) (Characters text)) _ next refl (allocated_same t r change c v ne w own (Characters text))
+
     built_in_is : (files : Program) (method : BuiltInMethod) (next : ℕ) (slots : Slots Value) (ops rest : List Value)
         → Is (built_in_does values files method next event (f w) slots ops rest) (built_in_does values files method next event w slots ops rest)
     built_in_is files Construct next slots ops rest = refl
+    built_in_is files ConstructWithMessage next slots ops rest = refl
+    built_in_is files ConstructWithCause next slots ops rest = refl
     built_in_is files ConstructWithTarget next slots ops rest = refl
     built_in_is files ObjectWait next slots ops rest =
         let object = object_of values ops 0 in
@@ -264,10 +278,13 @@ module _ (t r : ℕ) (change : Monitor → Monitor) (c : IsChange t change) wher
     built_in_is files (StringAnswers method) next slots ops rest =
         answered_is (string_answer method (int_operand values ops) (string_operand values w ops)) next slots ops rest
     built_in_is files (StringBuilderBuilds method) next slots ops rest = builder_is (string_reference files []) method next slots ops rest
+    built_in_is files (ObjectAnswers method) next slots ops rest = tells_is files _ next slots rest
 
     -- an event that may be done may be done there
     built_in_may_same : (method : BuiltInMethod) (ops : List Value) → built_in_may values method event (f w) ops ≡ built_in_may values method event w ops
     built_in_may_same Construct ops = refl
+    built_in_may_same ConstructWithMessage ops = refl
+    built_in_may_same ConstructWithCause ops = refl
     built_in_may_same ConstructWithTarget ops = refl
     built_in_may_same ObjectWait ops = refl
     built_in_may_same ObjectNotify ops =
@@ -286,6 +303,7 @@ module _ (t r : ℕ) (change : Monitor → Monitor) (c : IsChange t change) wher
     built_in_may_same (PrintStreamPrints print) ops = refl
     built_in_may_same (StringAnswers method) ops = refl
     built_in_may_same (StringBuilderBuilds method) ops = refl
+    built_in_may_same (ObjectAnswers method) ops = refl
 
     -- ---- the table
 

@@ -105,9 +105,9 @@ module _ (files : Program) (frames t : ℕ) (world : World) (frame : Frame) (bel
           absurd (none-some object (sym k.1.1 ∙ (ap (λ (f : Frame). f.entered) (sym own) ∙ is)))
 
   called_by : (callee : Frame) (rest : List Value) (b : Bool) → nat_lt (frame_count whole) frames ≡ b
-      → (if b then entering t world (Invocation (at_call frame rest) ∷ below) callee callee.entered else raised t StackOverflow world whole) ≡ Next cost left
+      → (if b then entering t world (Invocation (at_call frame rest) ∷ below) callee callee.entered else raised values files t StackOverflow world whole) ≡ Next cost left
       → own_outcome files frames frame below query (Calls callee rest) ≡ Some left.stack
-  called_by callee rest false q e = stays (raised t StackOverflow world whole) _ _ refl refl e
+  called_by callee rest false q e = stays (raised values files t StackOverflow world whole) _ _ refl refl e
   called_by callee rest true q e =
       let k = entered_by callee.entered callee refl (Invocation (at_call frame rest) ∷ below) refl e in
       ap (λ b. if b && is_none callee.entered then Some (Invocation callee ∷ Invocation (at_call frame rest) ∷ below) else None) q
@@ -115,34 +115,34 @@ module _ (files : Program) (frames t : ℕ) (world : World) (frame : Frame) (bel
       ∙ ap (λ (s : StackOf Value). Some s) (sym k.1))
 
   returned_by : (after : World) (results : List Value) (o : Option ℕ) → frame.entered ≡ o
-      → leaving t o after (returned files results below) whole ≡ Next cost left
+      → leaving values files t o after (returned files results below) whole ≡ Next cost left
       → own_outcome files frames frame below query (Returns after results) ≡ Some left.stack
   returned_by after results None is e =
-      let same = left_of (leaving t None after (returned files results below) whole) _ cost _ left refl e in
+      let same = left_of (leaving values files t None after (returned files results below) whole) _ cost _ left refl e in
       let gone : returned files results below ≡ left.stack = ap (λ (p : PartOf Value). p.stack) same in
       let k = higher frame below left.stack (ap length (sym gone) ∙ returned_many files results below) moved in
       ap (λ o. if is_none o then if_left (returned files results below) else None) is ∙ (ap if_left gone ∙ k.1)
   returned_by after results (Some object) is e = by (is_owner after t object) refl e
     where
       by : (b : Bool) → is_owner after t object ≡ b
-          → (if b then on_to (with_exit after t object) (returned files results below) else raised t IllegalMonitorState after whole) ≡ Next cost left
+          → (if b then on_to (with_exit after t object) (returned files results below) else raised values files t IllegalMonitorState after whole) ≡ Next cost left
           → own_outcome files frames frame below query (Returns after results) ≡ Some left.stack
-      by false q x = stays (raised t IllegalMonitorState after whole) _ _ refl refl x
+      by false q x = stays (raised values files t IllegalMonitorState after whole) _ _ refl refl x
       by true q x =
           let same = left_of (on_to (with_exit after t object) (returned files results below)) _ cost _ left refl x in
           let gone : returned files results below ≡ left.stack = ap (λ (p : PartOf Value). p.stack) same in
           let k = higher frame below left.stack (ap length (sym gone) ∙ returned_many files results below) moved in
           absurd (none-some object (sym k.0 ∙ is))
 
-  came_to : (o : OutcomeOf Value) → become files frames t world frame below o ≡ Next cost left
+  came_to : (o : OutcomeOf Value) → become values files frames t world frame below o ≡ Next cost left
       → own_outcome files frames frame below query o ≡ Some left.stack
-  came_to (Goes some after slots to) e = stays (become files frames t world frame below (Goes some after slots to)) _ _ refl refl e
-  came_to (Raises fault) e = stays (become files frames t world frame below (Raises fault)) _ _ refl refl e
-  came_to (Throws exception) e = stays (become files frames t world frame below (Throws exception)) _ _ refl refl e
-  came_to Interrupts e = stays (become files frames t world frame below Interrupts) _ _ refl refl e
+  came_to (Goes some after slots to) e = stays (become values files frames t world frame below (Goes some after slots to)) _ _ refl refl e
+  came_to (Raises fault) e = stays (become values files frames t world frame below (Raises fault)) _ _ refl refl e
+  came_to (Throws exception) e = stays (become values files frames t world frame below (Throws exception)) _ _ refl refl e
+  came_to Interrupts e = stays (become values files frames t world frame below Interrupts) _ _ refl refl e
   came_to (Calls callee rest) e = called_by callee rest (nat_lt (frame_count whole) frames) refl e
   came_to (Returns after results) e = returned_by after results frame.entered refl e
-  came_to (Waits some after rest) e = stays (become files frames t world frame below (Waits some after rest)) _ _ refl refl e
+  came_to (Waits some after rest) e = stays (become values files frames t world frame below (Waits some after rest)) _ _ refl refl e
 
   -- the class that it needs was ready
   needed : (class : Option Name) (x : SteppedOf (PartOf Value)) → needing_class values files t class world whole x ≡ Next cost left
@@ -158,7 +158,7 @@ module _ (files : Program) (frames t : ℕ) (world : World) (frame : Frame) (bel
           let k = deeper frame below left.stack (Initialisation class Super) whole (ap (λ (p : PartOf Value). p.stack) (sym same)) refl moved in
           absurd (no_class class Super k.0 k.1.0)
       by IsHeld q y = none_left NotEnabled cost left refl y
-      by HasFailed q y = stays (raised t NoClassDefFound world whole) _ _ refl refl y
+      by HasFailed q y = stays (raised values files t NoClassDefFound world whole) _ _ refl refl y
 
 -- ---- what its frame and its thread came to
 

@@ -187,15 +187,15 @@ module _ (files : Program) (rooted : Rooted files) (frames : ℕ) (state : State
           may_zero later pick = ap (λ (m : MeaningOf Value). m.may (record { thread = t; pick = pick }) later.world (ops_of values at.meaning at.frame.place.slots)) is
 
           does : (later : State) → is_owner later.world t r ≡ true
-              → become files frames t later.world at.frame at.stack (at.meaning.does (record { thread = t; pick = 0 }) later.world at.frame.place.slots (ops_of values at.meaning at.frame.place.slots) (under at.meaning.wants at.frame.place.slots))
+              → become values files frames t later.world at.frame at.stack (at.meaning.does (record { thread = t; pick = 0 }) later.world at.frame.place.slots (ops_of values at.meaning at.frame.place.slots) (under at.meaning.wants at.frame.place.slots))
               ≡ Next Free (part (with_exit later.world t r) (Invocation (at_offset at.frame at.site.next (record { locals = at.frame.place.slots.locals; stack = under at.meaning.wants at.frame.place.slots })) ∷ at.stack))
           does later owned =
               let slots = at.frame.place.slots in
               let ops = ops_of values at.meaning slots in
               let rest = under at.meaning.wants slots in
-              ap (λ (m : MeaningOf Value). become files frames t later.world at.frame at.stack (m.does (record { thread = t; pick = 0 }) later.world slots ops rest)) is
-              ∙ (ap (λ o. become files frames t later.world at.frame at.stack (not_null o (λ x. left (is_owner later.world t x) at.site.next t x later.world slots rest))) of
-              ∙ ap (λ b. become files frames t later.world at.frame at.stack (left b at.site.next t r later.world slots rest)) owned)
+              ap (λ (m : MeaningOf Value). become values files frames t later.world at.frame at.stack (m.does (record { thread = t; pick = 0 }) later.world slots ops rest)) is
+              ∙ (ap (λ o. become values files frames t later.world at.frame at.stack (not_null o (λ x. left (is_owner later.world t x) at.site.next t x later.world slots rest))) of
+              ∙ ap (λ b. become values files frames t later.world at.frame at.stack (left b at.site.next t r later.world slots rest)) owned)
 
       enter_moves : at.meaning ≡ monitor_enter_meaning values at.site → IsMoving t r (enter_change t) (enters t) own files frames state
       enter_moves is =
@@ -222,14 +222,14 @@ module _ (files : Program) (rooted : Rooted files) (frames : ℕ) (state : State
               may_picked later 0 ∙ (ap (λ o. may_enter_object later.world t o) of ∙ enters_again t (monitor_at later.world.monitors r) owned)
 
           does : (later : State)
-              → become files frames t later.world at.frame at.stack (at.meaning.does (record { thread = t; pick = 0 }) later.world at.frame.place.slots (ops_of values at.meaning at.frame.place.slots) (under at.meaning.wants at.frame.place.slots))
+              → become values files frames t later.world at.frame at.stack (at.meaning.does (record { thread = t; pick = 0 }) later.world at.frame.place.slots (ops_of values at.meaning at.frame.place.slots) (under at.meaning.wants at.frame.place.slots))
               ≡ Next (entry_cost later.world r) (part (with_entry later.world t r) (Invocation (at_offset at.frame at.site.next (record { locals = at.frame.place.slots.locals; stack = under at.meaning.wants at.frame.place.slots })) ∷ at.stack))
           does later =
               let slots = at.frame.place.slots in
               let ops = ops_of values at.meaning slots in
               let rest = under at.meaning.wants slots in
-              ap (λ (m : MeaningOf Value). become files frames t later.world at.frame at.stack (m.does (record { thread = t; pick = 0 }) later.world slots ops rest)) is
-              ∙ ap (λ o. become files frames t later.world at.frame at.stack (not_null o (λ x. pushing_at (entry_cost later.world x) at.site.next [] (with_entry later.world t x) slots rest))) of
+              ap (λ (m : MeaningOf Value). become values files frames t later.world at.frame at.stack (m.does (record { thread = t; pick = 0 }) later.world slots ops rest)) is
+              ∙ ap (λ o. become values files frames t later.world at.frame at.stack (not_null o (λ x. pushing_at (entry_cost later.world x) at.site.next [] (with_entry later.world t x) slots rest))) of
 
     -- ---- returns
 
@@ -277,14 +277,14 @@ module _ (files : Program) (rooted : Rooted files) (frames : ℕ) (state : State
           outcome returned.Reference q later = ap (λ (m : MeaningOf Value). m.does (record { thread = t; pick = 0 }) later.world at.frame.place.slots (ops_of values at.meaning at.frame.place.slots) (under at.meaning.wants at.frame.place.slots)) q
 
           does : (k : Returned) → at.meaning ≡ return_of values files at.site.method.descriptor k → (later : State) → is_owner later.world t r ≡ true
-              → become files frames t later.world at.frame at.stack (at.meaning.does (record { thread = t; pick = 0 }) later.world at.frame.place.slots (ops_of values at.meaning at.frame.place.slots) (under at.meaning.wants at.frame.place.slots))
+              → become values files frames t later.world at.frame at.stack (at.meaning.does (record { thread = t; pick = 0 }) later.world at.frame.place.slots (ops_of values at.meaning at.frame.place.slots) (under at.meaning.wants at.frame.place.slots))
               ≡ Next Free (part (with_exit later.world t r) (returned_to files (results_of k (ops_of values at.meaning at.frame.place.slots)) at.stack))
           does k q later owned =
               let gone = returned_to files (results_of k (ops_of values at.meaning at.frame.place.slots)) at.stack in
               let all : StackOf Value = Invocation at.frame ∷ at.stack in
-              let x : SteppedOf (PartOf Value) = raised t IllegalMonitorState later.world all in
-              ap (become files frames t later.world at.frame at.stack) (outcome k q later)
-              ∙ (ap (λ o. leaving t o later.world gone all) entered
+              let x : SteppedOf (PartOf Value) = raised values files t IllegalMonitorState later.world all in
+              ap (become values files frames t later.world at.frame at.stack) (outcome k q later)
+              ∙ (ap (λ o. leaving values files t o later.world gone all) entered
               ∙ ap (λ b. if b then on_to (with_exit later.world t r) gone else x) owned)
 
 module _ (files : List (List ℕ)) (trees : Program) (accepted : IsAccepted files trees) (frames : ℕ) (conflict : State → ℕ → ℕ → Bool)

@@ -8,7 +8,9 @@ use Rattle.model.specs.declared.value.Value.{Value}
 use Rattle.model.specs.Arrays.{made_array, in_range, at_index, may_stand_in, if_storable, load_of, store_of}
 use Rattle.model.specs.BuilderMethods as builder
 use Rattle.model.specs.BuilderMethods.{BuilderAnswer, KeepsEmpty, Keeps, Adds, GivesText, builds}
-use Rattle.model.specs.BuiltInMethods.{BuiltInMethod, Construct, ConstructWithTarget, ObjectWait, ObjectNotify, ObjectNotifyAll, ThreadStart, ThreadInterrupt, ThreadIsInterrupted, ThreadInterrupted, ThreadYield, ThreadCurrentThread, ThreadJoin, ThreadIsAlive, PrintStreamPrints, StringAnswers, StringBuilderBuilds, object_of, string_operand, answered, wait_by, if_owner, start_by, join_by, built_in_does}
+use Rattle.model.specs.ObjectMethods as telling
+use Rattle.model.specs.ObjectMethods.{ObjectAnswer, HasNoClass, IsOf, object_answer, object_place, tells, type_at}
+use Rattle.model.specs.BuiltInMethods.{BuiltInMethod, Construct, ConstructWithMessage, ConstructWithCause, ConstructWithTarget, ObjectWait, ObjectNotify, ObjectNotifyAll, ThreadStart, ThreadInterrupt, ThreadIsInterrupted, ThreadInterrupted, ThreadYield, ThreadCurrentThread, ThreadJoin, ThreadIsAlive, PrintStreamPrints, StringAnswers, StringBuilderBuilds, ObjectAnswers, object_of, string_operand, answered, wait_by, if_owner, start_by, join_by, built_in_does}
 use Rattle.model.specs.Classes.{Program}
 use Rattle.model.specs.MonitorMeanings.{left}
 use Rattle.model.specs.Meanings.{local_meaning}
@@ -95,9 +97,19 @@ builds_plain empty Keeps next world slots ops rest = tt
 builds_plain empty (Adds added) next world slots ops rest = tt
 builds_plain empty GivesText next world slots ops rest = tt
 
+tells_plain : (files : Program) (answer : ObjectAnswer) (next : ℕ) (world : World) (slots : Slots Value) (rest : List Value)
+    → IsPlain (tells values files answer next world slots rest)
+tells_plain files telling.IsNull next world slots rest = tt
+tells_plain files HasNoClass next world slots rest = tt
+tells_plain files (telling.Answers bits) next world slots rest = tt
+tells_plain files (IsOf class) next world slots rest = tt
+tells_plain files (telling.Composes text) next world slots rest = tt
+
 pub built_in_plain : (files : Program) (method : BuiltInMethod) (next : ℕ) (event : Event) (world : World) (slots : Slots Value) (ops rest : List Value)
     → IsPlain (built_in_does values files method next event world slots ops rest)
 built_in_plain files Construct next event world slots ops rest = tt
+built_in_plain files ConstructWithMessage next event world slots ops rest = tt
+built_in_plain files ConstructWithCause next event world slots ops rest = tt
 built_in_plain files ConstructWithTarget next event world slots ops rest = tt
 built_in_plain files ObjectWait next event world slots ops rest =
     wait_plain (is_owner world event.thread (object_of values ops 0)) (thread_at world event.thread).interrupted event.thread (object_of values ops 0) world rest
@@ -115,6 +127,7 @@ built_in_plain files (PrintStreamPrints print) next event world slots ops rest =
 built_in_plain files (StringAnswers method) next event world slots ops rest =
     answered_plain (string_answer method (int_operand values ops) (string_operand values world ops)) next world slots ops rest
 built_in_plain files (StringBuilderBuilds method) next event world slots ops rest = builds_plain (string_reference files []) _ next world slots ops rest
+built_in_plain files (ObjectAnswers method) next event world slots ops rest = tells_plain files _ next world slots rest
 
 module _ (files : Program) (site : Site) (event : Event) (world : World) (slots : Slots Value) (ops rest : List Value) where
   pub load_plain : (kind : ArrayKind) → IsPlain ((load_of values files site kind).does event world slots ops rest)

@@ -20,6 +20,7 @@ use Rattle.model.specs.Sites.{MeaningOf, Site, site_at}
 use Rattle.model.specs.State.{types_of, Instance, Thread, Running, Frame, StackEntryOf, Invocation, StackOf, World, State}
 use Rattle.model.specs.Step.{SteppedOf, NotEnabled, WrongKind, Next, PartOf, on_to, raised, end_of, next_by, enabled_if, unpicked, ops_of, done, needing, needing_class, returned, leaving, become, bytecode_by, bytecode_in, going_event, thread_event, stepped, step}
 use Rattle.model.specs.Outcomes.{exception_class}
+use Rattle.model.specs.MachineExceptions.{machine_exception}
 use Rattle.model.specs.Worlds.{thread_at, is_owner, with_exit, allocated}
 use Rattle.model.specs.WellTyped.{IsWellTyped}
 use Rattle.run_laws.proofs.typed_runs.Settled.{thread_there}
@@ -90,8 +91,8 @@ module _ (files : Program) (frames t : ℕ) (state : State) (thread : Thread) (i
           absurd (omega (arith, many, no_deeper))
       by IsHeld y = none_left NotEnabled cost left refl y
       by HasFailed y =
-          let same = left_of (raised t NoClassDefFound world whole) _ cost _ left refl y in
-          let more : World = allocated world (Instance (exception_class NoClassDefFound) []) in
+          let same = left_of (raised values files t NoClassDefFound world whole) _ cost _ left refl y in
+          let more : World = allocated world (machine_exception values files NoClassDefFound None) in
           let now : Thread = record (thread_at more t) { pending = Some (length world.heap) } in
           not_raised now (length world.heap) (ap (λ (p : PartOf Value). thread_at p.world t) (sym same) ∙ thread_set more t thread now is_thread) refl
 
@@ -100,36 +101,36 @@ module _ (files : Program) (frames t : ℕ) (state : State) (thread : Thread) (i
     does = meaning.does (next_event t) world frame.place.slots (ops_of values meaning frame.place.slots) (under meaning.wants frame.place.slots)
 
     by_may : (b : Bool) → enabled_if b (needing_class values files t meaning.looks world whole (done values files frames (next_event t) world frame below meaning)) ≡ Next cost left
-        → become files frames t world frame below does ≡ Next cost left
+        → become values files frames t world frame below does ≡ Next cost left
     by_may false x = none_left NotEnabled cost left refl x
     by_may true x = needed meaning.looks (done values files frames (next_event t) world frame below meaning) x
 
     by_found : (b : Bool)
         → (if b then enabled_if (meaning.may (next_event t) world (ops_of values meaning frame.place.slots)) (needing_class values files t meaning.looks world whole (done values files frames (next_event t) world frame below meaning)) else unpicked (next_event t) WrongKind) ≡ Next cost left
-        → become files frames t world frame below does ≡ Next cost left
+        → become values files frames t world frame below does ≡ Next cost left
     by_found false x = none_left WrongKind cost left refl x
     by_found true x = by_may (meaning.may (next_event t) world (ops_of values meaning frame.place.slots)) x
 
-    pub became : become files frames t world frame below does ≡ Next cost left
+    pub became : become values files frames t world frame below does ≡ Next cost left
     became = by_found (values.finds files (types_of world.heap) meaning.wants max_stack frame.place.slots) came
 
   -- a thread that waits runs no more
-  pub not_waiting : {X : Type 0} (some : Cost) (after : World) (others : List Value) → become files frames t world frame below (Waits some after others) ≡ Next cost left
+  pub not_waiting : {X : Type 0} (some : Cost) (after : World) (others : List Value) → become values files frames t world frame below (Waits some after others) ≡ Next cost left
       → ((thread_at after t).status ≡ Running → ⊥) → X
   not_waiting some after others e waits =
-      let same = left_of (become files frames t world frame below (Waits some after others)) _ cost _ left refl e in
+      let same = left_of (become values files frames t world frame below (Waits some after others)) _ cost _ left refl e in
       absurd (waits (ap (λ (p : PartOf Value). (thread_at p.world t).status) same ∙ runs))
 
   -- a frame that returns has one below it
   pub returns_below : (results : List Value) (r : ℕ) (after : World) → after ≡ world → is_owner world t r ≡ true → (stack : StackOf Value) → below ≡ stack → frame.entered ≡ Some r
-      → become files frames t world frame below (ReturnsTo after results) ≡ Next cost left → (one : StackEntryOf Value) × (others : StackOf Value) × (below ≡ one ∷ others)
+      → become values files frames t world frame below (ReturnsTo after results) ≡ Next cost left → (one : StackEntryOf Value) × (others : StackOf Value) × (below ≡ one ∷ others)
   returns_below results r after unchanged owned (one ∷ others) is entered e = (one, others, is)
   returns_below results r after unchanged owned [] is entered e =
       let gone = returned files results below in
       let out = on_to (with_exit after t r) gone in
-      let fault = raised t IllegalMonitorState after whole in
+      let fault = raised values files t IllegalMonitorState after whole in
       let owner : is_owner after t r ≡ true = ap (λ (w : World). is_owner w t r) unchanged ∙ owned in
-      let x : out ≡ Next cost left = sym (ap (λ b. if b then out else fault) owner) ∙ (sym (ap (λ o. leaving t o after gone whole) entered) ∙ e) in
+      let x : out ≡ Next cost left = sym (ap (λ b. if b then out else fault) owner) ∙ (sym (ap (λ o. leaving values files t o after gone whole) entered) ∙ e) in
       let same = ap (λ (p : PartOf Value). p.stack) (left_of out _ cost _ left refl x) in
       let none : [] ≡ entry ∷ rest = sym (ap (λ s. returned files results s) is) ∙ (same ∙ left_is) in
       absurd cc
@@ -215,7 +216,7 @@ module _ (owners : AreOwnersKeptBy values) (files : List (List ℕ)) (trees : Pr
     abbrev does_now : OutcomeOf Value
     does_now = meaning.does (next_event t) state.world m.frame.place.slots ops_now rest_now
 
-    became_now : become trees frames t state.world m.frame m.below does_now ≡ Next d.cost d.left
+    became_now : become values trees frames t state.world m.frame m.below does_now ≡ Next d.cost d.left
     became_now =
         became trees frames t state there_now.0 there_now.1 m.frame m.below d.cost d.left m.entry m.rest left_is m.no_deeper
         (ap (λ (w : World). (thread_at w t).status) (sym world_is) ∙ m.runs) (ap (λ (w : World). (thread_at w t).pending) (sym world_is) ∙ m.calm) site meaning body.code.max_stack came_by
@@ -260,7 +261,7 @@ module _ (owners : AreOwnersKeptBy values) (files : List (List ℕ)) (trees : Pr
     by_instr (instr.CheckCast index) is q = not_some r q
     by_instr (instr.InstanceOf index) is q = not_some r q
 
-    by_outcome : (o : OutcomeOf Value) → become trees frames t state.world m.frame m.below o ≡ Next d.cost d.left
+    by_outcome : (o : OutcomeOf Value) → become values trees frames t state.world m.frame m.below o ≡ Next d.cost d.left
         → Told trees site t state.world there_now.0 there_now.1 m.frame.place.slots ops_now rest_now o
         → meant_by values site.instr m.frame ops_now o ≡ Some r → IsToUse trees state t r
     by_outcome (Goes some after slots to) b told q = by_instr site.instr refl q

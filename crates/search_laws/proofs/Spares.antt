@@ -14,7 +14,9 @@ use Rattle.model.specs.declared.value.Value.{Value}
 use Rattle.model.specs.Arrays.{is_negative, made_array, in_range, at_index, element_at, load_of, stored, kept_by, may_stand_in, if_storable, store_of, store_reference_meaning}
 use Rattle.model.specs.BuilderMethods as builder
 use Rattle.model.specs.BuilderMethods.{built_text, with_string, BuilderAnswer, KeepsEmpty, Keeps, Adds, GivesText, builds}
-use Rattle.model.specs.BuiltInMethods.{BuiltInMethod, Construct, ConstructWithTarget, ObjectWait, ObjectNotify, ObjectNotifyAll, ThreadStart, ThreadInterrupt, ThreadIsInterrupted, ThreadInterrupted, ThreadYield, ThreadCurrentThread, ThreadJoin, ThreadIsAlive, PrintStreamPrints, StringAnswers, StringBuilderBuilds, built_in_method, object_of, string_operand, answered, wait_by, notified_one, notified, notified_all, if_owner, start_by, interrupted_in, interrupted_on, join_by, built_in_does}
+use Rattle.model.specs.ObjectMethods as telling
+use Rattle.model.specs.ObjectMethods.{ObjectAnswer, HasNoClass, IsOf, object_answer, object_place, tells, type_at}
+use Rattle.model.specs.BuiltInMethods.{BuiltInMethod, Construct, ConstructWithMessage, ConstructWithCause, ConstructWithTarget, ObjectWait, ObjectNotify, ObjectNotifyAll, ThreadStart, ThreadInterrupt, ThreadIsInterrupted, ThreadInterrupted, ThreadYield, ThreadCurrentThread, ThreadJoin, ThreadIsAlive, PrintStreamPrints, StringAnswers, StringBuilderBuilds, ObjectAnswers, built_in_method, object_of, string_operand, answered, wait_by, notified_one, notified, notified_all, if_owner, start_by, interrupted_in, interrupted_on, join_by, built_in_does}
 use Rattle.model.specs.Calls.{Chosen, Fails, Runs, runs, invoked, of_receiver, parameter_count, return_of}
 use Rattle.model.specs.Classes.{Program, Body, body_of}
 use Rattle.model.specs.Lookup.{find_field, is_instance_field, is_static_field}
@@ -22,8 +24,8 @@ use Rattle.model.specs.MonitorMeanings.{left, monitor_exit_meaning}
 use Rattle.model.specs.Meanings.{local_meaning, meaning_of}
 use Rattle.model.specs.Monitors as monitors
 use Rattle.model.specs.Monitors.{Answered, unlocked, owns, monitor_at, as_owner, as_entrant, owned, answers_done, at_object, released, relock_from}
-use Rattle.model.specs.HiddenFields.{is_hidden}
-use Rattle.model.specs.Names.{Member, member_eq, thread_target, builder_text}
+use Rattle.model.specs.HiddenMembers.{is_hidden}
+use Rattle.model.specs.Names.{Member, member_eq, thread_target, throwable_message, throwable_cause, builder_text}
 use Rattle.model.specs.Objects.{cast}
 use Rattle.model.specs.Opening.{class_reference, string_reference}
 use Rattle.model.specs.Operands.{Slots, values}
@@ -38,7 +40,7 @@ use Rattle.run_laws.proofs.laws.Classes.{members_same}
 use Rattle.run_laws.proofs.laws.Operations.{NamedField, Operation, OfRow, GetSystemStream, GetStatic, PutStatic, GetField, PutField, Println, CallVirtual, CallConstructor, CallSpecial, CallStatic, CallInterface, Return, LoadClass, LoadString, New, NewArray, NewReferenceArray, ArrayLength, LoadElement, StoreElement, CheckCast, InstanceOf, Throw, MonitorEnter, MonitorExit, operation, OfMeaning, each_meaning}
 use Rattle.search_laws.specs.Writes.{Variables, Fields, Statics, Elements, site_written, written_by, put_by, IsUnchanged, KeepsVariables}
 use Rattle.search_laws.proofs.Owners.{owner_is, differs}
-use Rattle.search_laws.proofs.Variables.{keeps_same, keeps_on, keeps_more, keeps_set, field_put, hidden_put, element_put, value_other}
+use Rattle.search_laws.proofs.Variables.{unchanged_on, keeps_same, keeps_on, keeps_more, keeps_set, field_put, hidden_put, element_put, value_other}
 
 -- whoever else owns a monitor owns it still
 abbrev pub SparesMonitors : ℕ → List Monitor → List Monitor → Type 0
@@ -302,13 +304,29 @@ module _ (writes : Variables → Bool) (v : ℕ) where
         with_string_put world (allocated world made) (object_of values ops 1) (values.reference (length world.heap)) (with_object_made world world made same_ok)
     builds_ok empty GivesText next slots ops rest = same_ok
 
+    tells_ok : (files : Program) (answer : ObjectAnswer) (next : ℕ) (slots : Slots Value) (rest : List Value)
+        → Ok (tells values files answer next world slots rest)
+    tells_ok files telling.IsNull next slots rest = tt
+    tells_ok files HasNoClass next slots rest = tt
+    tells_ok files (telling.Answers bits) next slots rest = same_ok
+    tells_ok files (IsOf class) next slots rest = same_ok
+    tells_ok files (telling.Composes text) next slots rest = with_object_made world world _ same_ok
+
+    -- a hidden field of an object is set
+    sets_ok : (field : Member) (value : Value) (r : ℕ) → is_hidden field ≡ true → Spares writes v world (with_object world r (with_field field value (object_at world r)))
+    sets_ok field value r hidden = with_object_set world r (with_field field value (object_at world r)) (hidden_put writes field value (object_at world r) hidden)
+
     module _ (event : Event) (is : event.thread ≡ v) where
       built_in_ok : (files : Program) (method : BuiltInMethod) (next : ℕ) (slots : Slots Value) (ops rest : List Value)
           → Ok (built_in_does values files method next event world slots ops rest)
       built_in_ok files Construct next slots ops rest = same_ok
-      built_in_ok files ConstructWithTarget next slots ops rest =
-          let object = object_at world (object_of values ops 1) in
-          with_object_set world (object_of values ops 1) (with_field thread_target (operand values ops 0) object) (hidden_put writes thread_target (operand values ops 0) object refl)
+      built_in_ok files ConstructWithMessage next slots ops rest = sets_ok throwable_message (operand values ops 0) (object_of values ops 1) refl
+      built_in_ok files ConstructWithCause next slots ops rest =
+          let object = object_at world (object_of values ops 2) in
+          let told = with_field throwable_message (operand values ops 1) object in
+          with_object_set world (object_of values ops 2) (with_field throwable_cause (operand values ops 0) told)
+          (unchanged_on writes object told (with_field throwable_cause (operand values ops 0) told) (hidden_put writes throwable_message (operand values ops 1) object refl) (hidden_put writes throwable_cause (operand values ops 0) told refl))
+      built_in_ok files ConstructWithTarget next slots ops rest = sets_ok thread_target (operand values ops 0) (object_of values ops 1) refl
       built_in_ok files ObjectWait next slots ops rest =
           let object = object_of values ops 0 in
           subst (λ t. Ok (wait_by (is_owner world t object) (thread_at world t).interrupted t object world rest)) (sym is)
@@ -332,6 +350,7 @@ module _ (writes : Variables → Bool) (v : ℕ) where
       built_in_ok files (StringAnswers method) next slots ops rest =
           answered_ok (string_answer method (int_operand values ops) (string_operand values world ops)) next slots ops rest
       built_in_ok files (StringBuilderBuilds method) next slots ops rest = builds_ok (string_reference files []) _ next slots ops rest
+      built_in_ok files (ObjectAnswers method) next slots ops rest = tells_ok files _ next slots rest
 
       -- ---- the table
 

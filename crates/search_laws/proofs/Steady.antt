@@ -24,7 +24,7 @@ use Rattle.model.specs.DescribedTypes.{declared_want, made_type, parameters_decl
 use Rattle.model.specs.Frames.{frame_count, frame_with, entered_by, at_offset, at_call}
 use Rattle.model.specs.Lookup.{find_field, is_instance_field, is_static_field}
 use Rattle.model.specs.Meanings.{meaning_of}
-use Rattle.model.specs.HiddenFields.{is_hidden}
+use Rattle.model.specs.HiddenMembers.{is_hidden}
 use Rattle.model.specs.Names.{Name, Member}
 use Rattle.model.specs.Objects.{any_object, cast, instance_bit}
 use Rattle.model.specs.Opening.{class_reference, first_of}
@@ -108,7 +108,7 @@ module _ (files : Program) (frames t : ℕ) (frame : Frame) (stack own : StackOf
 
   -- what it becomes in a world
   pub record Becomes (world : World) (o : OutcomeOf Value) : Type 0 where
-    pub becomes : become files frames t world frame stack o ≡ Next Free (part world own)
+    pub becomes : become values files frames t world frame stack o ≡ Next Free (part world own)
     pub left : IsLeft own
 
   calls_own : (is : Bool) (world : World) (callee : Frame) (rest : List Value) → Own is (Calls callee rest) → Becomes world (Calls callee rest)
@@ -116,7 +116,7 @@ module _ (files : Program) (frames t : ℕ) (frame : Frame) (stack own : StackOf
       let x = by (nat_lt (frame_count whole) frames) callee.entered e in record { becomes = x.0; left = x.1 }
     where
       by : (b : Bool) (o : Option ℕ) → (if b && is_none o then Some (Invocation callee ∷ Invocation (at_call frame rest) ∷ stack) else None) ≡ Some own
-          → ((if b then entering t world (Invocation (at_call frame rest) ∷ stack) callee o else raised t StackOverflow world whole) ≡ Next Free (part world own))
+          → ((if b then entering t world (Invocation (at_call frame rest) ∷ stack) callee o else raised values files t StackOverflow world whole) ≡ Next Free (part world own))
           × IsLeft own
       by true None e =
           let same = same_Some (Invocation callee ∷ Invocation (at_call frame rest) ∷ stack) own e in
@@ -128,7 +128,7 @@ module _ (files : Program) (frames t : ℕ) (frame : Frame) (stack own : StackOf
   returns_own is world before results e = let x = by frame.entered e in record { becomes = x.0; left = x.1 }
     where
       by : (o : Option ℕ) → (if is_none o then if_left (returned files results stack) else None) ≡ Some own
-          → (leaving t o world (returned files results stack) whole ≡ Next Free (part world own)) × IsLeft own
+          → (leaving values files t o world (returned files results stack) whole ≡ Next Free (part world own)) × IsLeft own
       by None e = let x = left_of (returned files results stack) own e in (ap (λ k. Next Free (part world k)) x.0, x.1)
       by (Some object) e = not_some own e
 

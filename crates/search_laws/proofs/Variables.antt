@@ -5,7 +5,7 @@ use Rattle.std.proofs.lemmas.Bool.{false≢true, true≢false, eqb-true, eq-eqb}
 use Rattle.std.proofs.lemmas.List.{length-set}
 use Rattle.std.proofs.lemmas.Option.{get_or_from_slice_get}
 use Rattle.model.specs.declared.value.Value.{Value}
-use Rattle.model.specs.HiddenFields.{is_hidden}
+use Rattle.model.specs.HiddenMembers.{is_hidden}
 use Rattle.model.specs.Names.{Member, member_eq}
 use Rattle.model.specs.State.{ObjectOf, Instance, Primitives, References, Characters}
 use Rattle.model.specs.Worlds.{no_object, value_in, with_element, with_field, with_value}

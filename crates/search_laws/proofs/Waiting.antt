@@ -99,11 +99,11 @@ module _ (files : Program) (frames t u : ℕ) (ne : t ≡ u → ⊥) (world : Wo
       (cannot_enter after object same (sym (same_Some (MonitorOf object) need e)))
 
   pushed_nowhere : (after : World) (stack rest : StackOf Value) (frame : Frame) → after.monitors ≡ world.monitors
-      → frame_need values files frames t world stack frame.entered ≡ Some need → LeadsNowhere (pushed frames t world after stack rest frame)
+      → frame_need values files frames t world stack frame.entered ≡ Some need → LeadsNowhere (pushed values files frames t world after stack rest frame)
   pushed_nowhere after stack rest frame same e = by (nat_lt (frame_count stack) frames) e
     where
       by : (b : Bool) → (if b then option_map MonitorOf frame.entered else None) ≡ Some need
-          → LeadsNowhere (if b then entering t after rest frame frame.entered else raised t StackOverflow world stack)
+          → LeadsNowhere (if b then entering t after rest frame frame.entered else raised values files t StackOverflow world stack)
       by true q = entering_nowhere after rest frame frame.entered same q
       by false q = no_need need q
 
@@ -148,7 +148,7 @@ module _ (files : Program) (frames t u : ℕ) (ne : t ≡ u → ⊥) (world : Wo
     fits = nat_lt (frame_count whole) frames
 
     become_nowhere : (o : OutcomeOf Value) → frame_need values files frames t world whole (callee_entered o) ≡ Some need
-        → LeadsNowhere (become files frames t world frame stack o)
+        → LeadsNowhere (become values files frames t world frame stack o)
     become_nowhere (Goes cost after slots to) e = none_framed fits e
     become_nowhere (Calls callee rest) e = pushed_nowhere world whole (Invocation (at_call frame rest) ∷ stack) callee refl e
     become_nowhere (Raises fault) e = none_framed fits e
@@ -219,7 +219,7 @@ module _ (files : Program) (frames t u : ℕ) (ne : t ≡ u → ⊥) (world : Wo
       → LeadsNowhere (initialisation_event values files frames t class Super world stack)
   initialisation_nowhere class stack e =
       needed_nowhere (before files class) (Initialisation class Super ∷ stack) None
-      (initialiser_event values frames t (initialiser_of class) world (Initialisation class End ∷ stack) (body_of files (initialiser_of class)))
+      (initialiser_event values files frames t (initialiser_of class) world (Initialisation class End ∷ stack) (body_of files (initialiser_of class)))
       (λ q. no_need need q) e
 
   run_nowhere : (object : ℕ) (o : Option Member)
@@ -235,9 +235,9 @@ module _ (files : Program) (frames t u : ℕ) (ne : t ≡ u → ⊥) (world : Wo
           pushed_nowhere (with_begun world t) [] [] (frame_with values method (values.reference object ∷ []) (entered_by files method object) body) refl q
 
   relock_nowhere : (object count : ℕ) (cause : _) (stack : StackOf Value) → need ≡ MonitorOf object
-      → LeadsNowhere (relock_event files t object count cause world stack)
+      → LeadsNowhere (relock_event values files t object count cause world stack)
   relock_nowhere object count cause stack e =
-      not_enabled (is_done (monitors.relock object t count world.monitors).answer) (after_wait files t cause (with_status (with_monitors world (monitors.relock object t count world.monitors)) t Running) stack)
+      not_enabled (is_done (monitors.relock object t count world.monitors).answer) (after_wait values files t cause (with_status (with_monitors world (monitors.relock object t count world.monitors)) t Running) stack)
       (cannot_relock object count e)
 
 module _ (files : Program) (frames u : ℕ) (world : World) (need : Need) (held : IsHeldBy world u need) where
@@ -282,6 +282,6 @@ module _ (files : Program) (frames u : ℕ) (world : World) (need : Need) (held 
     status_nowhere stack Running e = going_nowhere stack (thread_at world t).pending e
     status_nowhere stack (Waiting object count) e = no_need need e
     status_nowhere stack (Relock object count cause) e =
-        enabled_nowhere (pick == 0) (relock_event files t object count cause world stack)
+        enabled_nowhere (pick == 0) (relock_event values files t object count cause world stack)
         (relock_nowhere files frames t u ne world need held object count cause stack (sym (same_Some (MonitorOf object) need e)))
     status_nowhere stack (Ended exception) e = no_need need e

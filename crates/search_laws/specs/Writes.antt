@@ -10,7 +10,7 @@ use Rattle.model.specs.declared.value.Value.{Value}
 use Rattle.model.specs.Classes.{Program, Body, body_of}
 use Rattle.model.specs.ClassInitialisation.{status_of}
 use Rattle.model.specs.Lookup.{find_field}
-use Rattle.model.specs.HiddenFields.{is_hidden}
+use Rattle.model.specs.HiddenMembers.{is_hidden}
 use Rattle.model.specs.Names.{Member}
 use Rattle.model.specs.Pool.{field_at}
 use Rattle.model.specs.Run.{run_from}

@@ -21,8 +21,8 @@
 //!   String its text (`strings_keep_their_texts`). So in each state of a run the String of a constant has the text of
 //!   the constant (`constants_keep_their_texts`).
 //!   Fields that the instruction of the thread doesn't put keep their values, and elements do where it stores none.
-//!   Left out are hidden fields (`is_hidden`), which methods without code put: the target of a Thread and the text of a
-//!   StringBuilder; and static fields of a class whose initialisation hasn't begun
+//!   Left out are hidden fields (`is_hidden`), which methods without code put: the target of a Thread, the text of a
+//!   StringBuilder, and what a Throwable keeps; and static fields of a class whose initialisation hasn't begun
 //!   (`variables_that_are_not_written_are_kept`).
 //! - An event is its thread's own (`IsOwnEvent`) where it changes the thread's stack alone, to the same one wherever
 //!   the thread stands as here, may use the classes that it may use here, and finds as here the variables of the kinds

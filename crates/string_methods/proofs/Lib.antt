@@ -1,1 +1,2 @@
 mod AlongTexts
+pub mod Zeros

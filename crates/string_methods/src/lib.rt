@@ -10,6 +10,8 @@
 //!   (`valueOf`). Only where the answer is a new text may it be refused, for want of memory (`IsAnswer`).
 //! - What a StringBuilder makes is its text with more behind it: `appended` (the units of a text), `appended_int` (an
 //!   int in decimal), `appended_char` (one unit) and `appended_null` (`null`). They err for want of memory alone.
+//! - What an object tells of itself is a name with `@` and an int in hexadecimal behind it (`described`);
+//!   `appended_units` is a text with units behind it.
 //!
 //! # Not proved
 //!
@@ -20,11 +22,13 @@
 mod answer;
 mod builders;
 mod composed;
+mod descriptions;
 mod questions;
 mod regions;
 
 pub use answer::StringAnswer;
 pub use builders::{appended, appended_char, appended_int, appended_null};
 pub use composed::{joined, part_of, text_of_char, text_of_int};
+pub use descriptions::{appended_units, described};
 pub use questions::{compared, hash_code, index_of, is_same_text, length, unit_at};
 pub use regions::regions_match;

@@ -22,7 +22,18 @@ public class PrintStream {
         println(String.valueOf(value));
     }
 
+    public void println(Object object) {
+        println(String.valueOf(object));
+    }
+
     public void print(boolean value) {
         print(String.valueOf(value));
     }
+
+    public void print(Object object) {
+        print(String.valueOf(object));
+    }
+
+    /** What is printed stands in the text at once. */
+    public void flush() {}
 }

@@ -5,4 +5,8 @@ public class ArrayIndexOutOfBoundsException extends IndexOutOfBoundsException {
     public ArrayIndexOutOfBoundsException() {}
 
     public ArrayIndexOutOfBoundsException(String message) {}
+
+    public ArrayIndexOutOfBoundsException(int index) {
+        super("Array index out of range: ".concat(String.valueOf(index)));
+    }
 }

@@ -7,4 +7,8 @@ public class Error extends Throwable {
     public Error(String message) {}
 
     public Error(String message, Throwable cause) {}
+
+    public Error(Throwable cause) {
+        super(cause);
+    }
 }

@@ -7,4 +7,8 @@ public class Exception extends Throwable {
     public Exception(String message) {}
 
     public Exception(String message, Throwable cause) {}
+
+    public Exception(Throwable cause) {
+        super(cause);
+    }
 }

@@ -5,4 +5,12 @@ public class ExceptionInInitializerError extends LinkageError {
     public ExceptionInInitializerError() {}
 
     public ExceptionInInitializerError(String message) {}
+
+    public ExceptionInInitializerError(Throwable exception) {
+        super(null, exception);
+    }
+
+    public Throwable getException() {
+        return super.getCause();
+    }
 }

@@ -7,4 +7,8 @@ public class IllegalArgumentException extends RuntimeException {
     public IllegalArgumentException(String message) {}
 
     public IllegalArgumentException(String message, Throwable cause) {}
+
+    public IllegalArgumentException(Throwable cause) {
+        super(cause);
+    }
 }

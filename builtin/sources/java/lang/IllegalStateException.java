@@ -7,4 +7,8 @@ public class IllegalStateException extends RuntimeException {
     public IllegalStateException(String message) {}
 
     public IllegalStateException(String message, Throwable cause) {}
+
+    public IllegalStateException(Throwable cause) {
+        super(cause);
+    }
 }

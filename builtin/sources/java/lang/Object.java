@@ -4,6 +4,10 @@ package java.lang;
 public class Object {
     public Object() {}
 
+    public native int hashCode();
+
+    public final native Class getClass();
+
     public final native void wait() throws InterruptedException;
 
     public final native void notify();
@@ -12,5 +16,9 @@ public class Object {
 
     public boolean equals(Object other) {
         return this == other;
+    }
+
+    public String toString() {
+        return String.described(this, hashCode());
     }
 }

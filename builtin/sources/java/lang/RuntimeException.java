@@ -7,4 +7,8 @@ public class RuntimeException extends Exception {
     public RuntimeException(String message) {}
 
     public RuntimeException(String message, Throwable cause) {}
+
+    public RuntimeException(Throwable cause) {
+        super(cause);
+    }
 }

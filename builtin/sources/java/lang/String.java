@@ -26,6 +26,13 @@ public final class String implements Comparable, CharSequence {
 
     public static native String valueOf(char unit);
 
+    /** The name of an object's class, `@`, and a number in hexadecimal. Not for other classes than the built-in ones. */
+    static native String described(Object object, int number);
+
+    public static String valueOf(Object object) {
+        return object == null ? "null" : object.toString();
+    }
+
     public static String valueOf(boolean value) {
         return value ? "true" : "false";
     }

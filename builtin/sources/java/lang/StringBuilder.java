@@ -29,6 +29,10 @@ public final class StringBuilder implements CharSequence {
 
     public native String toString();
 
+    public StringBuilder append(Object object) {
+        return append(String.valueOf(object));
+    }
+
     public StringBuilder append(boolean value) {
         return append(String.valueOf(value));
     }
@@ -102,6 +106,10 @@ public final class StringBuilder implements CharSequence {
 
     public StringBuilder insert(int at, String other) {
         return replace(at, at, other == null ? "null" : other);
+    }
+
+    public StringBuilder insert(int at, Object object) {
+        return insert(at, String.valueOf(object));
     }
 
     public StringBuilder insert(int at, CharSequence other) {

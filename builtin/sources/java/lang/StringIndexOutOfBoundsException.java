@@ -5,4 +5,8 @@ public class StringIndexOutOfBoundsException extends IndexOutOfBoundsException {
     public StringIndexOutOfBoundsException() {}
 
     public StringIndexOutOfBoundsException(String message) {}
+
+    public StringIndexOutOfBoundsException(int index) {
+        super("String index out of range: ".concat(String.valueOf(index)));
+    }
 }

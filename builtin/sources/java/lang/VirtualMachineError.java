@@ -7,4 +7,8 @@ public abstract class VirtualMachineError extends Error {
     public VirtualMachineError(String message) {}
 
     public VirtualMachineError(String message, Throwable cause) {}
+
+    public VirtualMachineError(Throwable cause) {
+        super(cause);
+    }
 }

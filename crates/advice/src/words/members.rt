@@ -35,17 +35,15 @@ const NO_REFLECTION: &str = ": there is no reflection; leave it out";
 
 const CATCH: &str = ": catch the exception in run()";
 
-const APPENDED: &str = ": add a String, an int, a char, a boolean or a CharSequence";
-
-const DECLARE: &str = ": declare it in your class, and call it by the type of that class";
+const APPENDED: &str = ": add a String, an int, a char, a boolean or an object";
 
 /// The cures of a class stand together, and those of all other members last.
-static MEMBERS: [Cure; 44] = [
+static MEMBERS: [Cure; 38] = [
     (STRING, "<init>", ": take a StringBuilder"),
     (
         STRING,
         "valueOf",
-        ": take valueOf of an int, a char or a boolean",
+        ": take valueOf of an int, a char, a boolean or an object",
     ),
     (STRING, "", ": write it by charAt, substring and concat"),
     (BUILDER, "append", APPENDED),
@@ -54,7 +52,7 @@ static MEMBERS: [Cure; 44] = [
     (
         "java/io/PrintStream",
         "",
-        ": System.out prints ints, chars, booleans and Strings, and nothing else; print these",
+        ": System.out prints ints, chars, booleans and objects, and nothing else; print these",
     ),
     (
         SYSTEM,
@@ -66,13 +64,12 @@ static MEMBERS: [Cure; 44] = [
         "exit",
         ": a run ends with its threads; return from main",
     ),
-    (SYSTEM, "arraycopy", ": copy the elements in a loop"),
     (SYSTEM, "currentTimeMillis", NO_CLOCK),
     (SYSTEM, "nanoTime", NO_CLOCK),
     (
         SYSTEM,
         "",
-        ": System has out and err, and nothing else; leave it out",
+        ": System has out, err, arraycopy, identityHashCode and lineSeparator; leave it out",
     ),
     (
         THREAD,
@@ -115,29 +112,16 @@ static MEMBERS: [Cure; 44] = [
         ": jvm trace tells who owns a monitor; leave it out",
     ),
     (
-        "java/lang/AssertionError",
-        "<init>",
-        ", of an assert with a message: leave the message out",
-    ),
-    (
         THROWABLE,
         "<init>",
-        ": take the constructor with a message, or the one without arguments",
-    ),
-    (
-        THROWABLE,
-        "addSuppressed",
-        ", of a try with resources: write try and finally",
+        ": take the constructor with a message, or with a message and a cause",
     ),
     (
         THROWABLE,
         "",
-        ": an exception has no methods, and jvm --explain tells where it was thrown; leave it out",
+        ": an exception has no stack trace, and jvm --explain tells where it was thrown; leave it out",
     ),
     (CLASS, "", NO_REFLECTION),
-    (OBJECT, "hashCode", DECLARE),
-    (OBJECT, "toString", DECLARE),
-    (OBJECT, "getClass", NO_REFLECTION),
     (OBJECT, "wait", ": there is no clock; take wait()"),
     (OBJECT, "clone", ": write a method that makes the copy"),
     (OBJECT, "finalize", ": nothing calls it; leave it out"),

@@ -8,9 +8,8 @@ ghost use Rattle.class_tree.specs.builtin.View.{all_fit, built_in_from, trees_of
 use crate::ClassFile;
 use crate::builtin::form::{BuiltInClass, class_file};
 use crate::builtin::tables::{
-    FROM_CLASS, FROM_COMPARABLE, FROM_EXCEPTION_IN_INITIALIZER_ERROR,
-    FROM_ILLEGAL_MONITOR_STATE_EXCEPTION, FROM_OBJECT, FROM_PRINT_STREAM, FROM_STRING,
-    FROM_STRING_BUILDER, FROM_THREAD,
+    FROM_ABSTRACT_METHOD_ERROR, FROM_CHAR_SEQUENCE, FROM_CLASS, FROM_ILLEGAL_ARGUMENT_EXCEPTION,
+    FROM_OBJECT, FROM_STRING, FROM_STRING_BUILDER, FROM_SYSTEM, FROM_THROWABLE,
 };
 use std::alloc::{AllocError, Global};
 
@@ -29,18 +28,11 @@ fn push_classes(
     Ok(())
 }
 
-/// The built-in classes 0 to 1.
+/// The built-in classes 0 to 2.
 fn from_object() -> &'static [BuiltInClass]
-    ensures { (all_fit result.now ≡ true) × (trees_of result.now ≡ built_in_from 0 2) }
+    ensures { (all_fit result.now ≡ true) × (trees_of result.now ≡ built_in_from 0 3) }
 {
     &FROM_OBJECT
-}
-
-/// The built-in class 2.
-fn from_thread() -> &'static [BuiltInClass]
-    ensures { (all_fit result.now ≡ true) × (trees_of result.now ≡ built_in_from 2 1) }
-{
-    &FROM_THREAD
 }
 
 /// The built-in class 3.
@@ -50,39 +42,46 @@ fn from_string() -> &'static [BuiltInClass]
     &FROM_STRING
 }
 
-/// The built-in classes 4 to 5.
+/// The built-in class 4.
 fn from_class() -> &'static [BuiltInClass]
-    ensures { (all_fit result.now ≡ true) × (trees_of result.now ≡ built_in_from 4 2) }
+    ensures { (all_fit result.now ≡ true) × (trees_of result.now ≡ built_in_from 4 1) }
 {
     &FROM_CLASS
 }
 
-/// The built-in classes 6 to 13.
-fn from_print_stream() -> &'static [BuiltInClass]
-    ensures { (all_fit result.now ≡ true) × (trees_of result.now ≡ built_in_from 6 8) }
+/// The built-in classes 5 to 6.
+fn from_system() -> &'static [BuiltInClass]
+    ensures { (all_fit result.now ≡ true) × (trees_of result.now ≡ built_in_from 5 2) }
 {
-    &FROM_PRINT_STREAM
+    &FROM_SYSTEM
 }
 
-/// The built-in classes 14 to 21.
-fn from_exception_in_initializer_error() -> &'static [BuiltInClass]
-    ensures { (all_fit result.now ≡ true) × (trees_of result.now ≡ built_in_from 14 8) }
+/// The built-in classes 7 to 14.
+fn from_throwable() -> &'static [BuiltInClass]
+    ensures { (all_fit result.now ≡ true) × (trees_of result.now ≡ built_in_from 7 8) }
 {
-    &FROM_EXCEPTION_IN_INITIALIZER_ERROR
+    &FROM_THROWABLE
 }
 
-/// The built-in classes 22 to 29.
-fn from_illegal_monitor_state_exception() -> &'static [BuiltInClass]
-    ensures { (all_fit result.now ≡ true) × (trees_of result.now ≡ built_in_from 22 8) }
+/// The built-in classes 15 to 22.
+fn from_abstract_method_error() -> &'static [BuiltInClass]
+    ensures { (all_fit result.now ≡ true) × (trees_of result.now ≡ built_in_from 15 8) }
 {
-    &FROM_ILLEGAL_MONITOR_STATE_EXCEPTION
+    &FROM_ABSTRACT_METHOD_ERROR
 }
 
-/// The built-in classes 30 to 35.
-fn from_comparable() -> &'static [BuiltInClass]
-    ensures { (all_fit result.now ≡ true) × (trees_of result.now ≡ built_in_from 30 6) }
+/// The built-in classes 23 to 30.
+fn from_illegal_argument_exception() -> &'static [BuiltInClass]
+    ensures { (all_fit result.now ≡ true) × (trees_of result.now ≡ built_in_from 23 8) }
 {
-    &FROM_COMPARABLE
+    &FROM_ILLEGAL_ARGUMENT_EXCEPTION
+}
+
+/// The built-in classes 31 to 35.
+fn from_char_sequence() -> &'static [BuiltInClass]
+    ensures { (all_fit result.now ≡ true) × (trees_of result.now ≡ built_in_from 31 5) }
+{
+    &FROM_CHAR_SEQUENCE
 }
 
 /// The built-in class 36.
@@ -98,13 +97,13 @@ pub fn built_in_classes(alloc: Global) -> Result<Vec<ClassFile>, AllocError>
 {
     let mut classes = Vec::new(alloc);
     push_classes(&mut classes, alloc, from_object())?;
-    push_classes(&mut classes, alloc, from_thread())?;
     push_classes(&mut classes, alloc, from_string())?;
     push_classes(&mut classes, alloc, from_class())?;
-    push_classes(&mut classes, alloc, from_print_stream())?;
-    push_classes(&mut classes, alloc, from_exception_in_initializer_error())?;
-    push_classes(&mut classes, alloc, from_illegal_monitor_state_exception())?;
-    push_classes(&mut classes, alloc, from_comparable())?;
+    push_classes(&mut classes, alloc, from_system())?;
+    push_classes(&mut classes, alloc, from_throwable())?;
+    push_classes(&mut classes, alloc, from_abstract_method_error())?;
+    push_classes(&mut classes, alloc, from_illegal_argument_exception())?;
+    push_classes(&mut classes, alloc, from_char_sequence())?;
     push_classes(&mut classes, alloc, from_string_builder())?;
     Ok(classes)
 }

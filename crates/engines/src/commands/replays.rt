@@ -9,7 +9,8 @@ ghost use Rattle.engines.specs.Devices.{IsUnable};
 ghost use Rattle.engines.specs.Files.{OfSchedule, known};
 ghost use Rattle.engines.specs.Recordings.{conditions_of};
 ghost use Rattle.engines.specs.Failures.{FolderMayFail, TellsFailures};
-ghost use Rattle.engines.specs.Replays.{IsFaulty, Replays};
+ghost use Rattle.engines.specs.Replays.{IsFaulty};
+ghost use Rattle.engines.specs.Theorem.{Replays};
 
 use crate::commands::storing::{recorded, try_record};
 use crate::continuing::continue_engine;

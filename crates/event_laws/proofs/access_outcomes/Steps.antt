@@ -12,7 +12,8 @@ use Rattle.model.specs.Opening.{string_reference}
 use Rattle.model.specs.Operands.{Slots, values, under}
 use Rattle.model.specs.State as state
 use Rattle.model.specs.State.{Instance, types_of, Thread, Running, Frame, StackOf, World, State}
-use Rattle.model.specs.Outcomes.{exception_class, Cost, OutcomeOf, Goes, Raises, Throws, Interrupts, Calls, Returns, Waits}
+use Rattle.model.specs.Outcomes.{Cost, OutcomeOf, Goes, Raises, Throws, Interrupts, Calls, Returns, Waits}
+use Rattle.model.specs.MachineExceptions.{machine_exception}
 use Rattle.model.specs.Worlds.{no_thread, thread_at, with_pending, allocated}
 use Rattle.model.specs.ClassInitialisation.{Look, IsReady, IsNew, IsHeld, HasFailed, look_by, look_at, status_of}
 use Rattle.model.specs.Sites.{MeaningOf}
@@ -90,7 +91,7 @@ module _ (files : Program) (frames : ℕ) (s : State) (event : Event) (instructi
   ready (Some class) p r = ready_look (look_by t (status_of s.world class)) class p r
 
   done_so : is_done t s.world instruction ≡ true → stepped values files frames s event ≡ Next cost next
-      → whole (become files frames t s.world h.frame h.rest outcome) ≡ Next cost next
+      → whole (become values files frames t s.world h.frame h.rest outcome) ≡ Next cost next
   done_so r e =
       ap whole (sym (ready meaning.looks (done values files frames event s.world h.frame h.rest meaning) r))
       ∙ by_tests (values.finds files (types_of s.world.heap) meaning.wants h.body.code.max_stack h.frame.place.slots)
@@ -109,14 +110,14 @@ module _ (files : Program) (frames : ℕ) (s : State) (event : Event) (instructi
       let same : after ≡ next = cc in
       ap (λ (n : State). n.world) same
 
-  by_outcome : (o : OutcomeOf Value) → IsPlain o → OutcomeLeaves s.world o → whole (become files frames t s.world h.frame h.rest o) ≡ Next cost next
+  by_outcome : (o : OutcomeOf Value) → IsPlain o → OutcomeLeaves s.world o → whole (become values files frames t s.world h.frame h.rest o) ≡ Next cost next
       → goes_on o ≡ not (is_some (thread_at next.world t).pending)
   by_outcome (Goes spent after slots to) plain left e =
       let is : after ≡ next.world = after_is spent after _ e in
       let none : (thread_at next.world t).pending ≡ None = subst (λ (w : World). (thread_at w t).pending ≡ None) is (left.pending t ∙ h.quiet) in
       ap (λ o. not (is_some o)) (sym none)
   by_outcome (Raises fault) plain left e =
-      let made = allocated s.world (Instance (exception_class fault) []) in
+      let made = allocated s.world (machine_exception values files fault None) in
       let is : with_pending made t (length s.world.heap) ≡ next.world = after_is _ (with_pending made t (length s.world.heap)) _ e in
       let set : (thread_at next.world t).pending ≡ Some (length s.world.heap) =
       subst (λ (w : World). (thread_at w t).pending ≡ Some (length s.world.heap)) is (pending_set made (length s.world.heap) refl) in

@@ -16,6 +16,7 @@ use Rattle.model.specs.Outcomes.{Cost, MachineException, exception_class, Outcom
 use Rattle.model.specs.Monitors as monitors
 use Rattle.model.specs.Monitors.{monitor_at, owns}
 use Rattle.model.specs.Worlds.{thread_at, with_begun, with_pending, with_caught, with_status, allocated, object_at, class_of_object, is_owner, may_enter, with_entry, entry_cost, with_exit, with_interrupted, with_monitors, is_done}
+use Rattle.model.specs.MachineExceptions.{machine_exception}
 use Rattle.model.specs.ClassInitialisation.{status_of, with_class_status, with_class_begun, Look, IsReady, IsNew, IsHeld, HasFailed, look_by}
 use Rattle.model.specs.Frames.{frame_with, entered_by, frame_count, at_call, at_offset}
 use Rattle.model.specs.Sites.{MeaningOf, site_at}
@@ -46,8 +47,8 @@ module _ {A : Type 0} (fat : ℕ → Bool) (t : ℕ) (own : StackOf A) (base : W
   either_tells true x y h g = h
   either_tells false x y h g = g
 
-  raised_tells : (fault : MachineException) (world : WorldOf A) (stack : StackOf A) → nat_lt (length own) (length stack) ≡ false → Tells (raised t fault world stack)
-  raised_tells fault world stack e = as_deep stack (with_pending (allocated world (Instance (exception_class fault) [])) t (length world.heap)) e
+  raised_tells : (C : Carrier A) (files : Program) (fault : MachineException) (world : WorldOf A) (stack : StackOf A) → nat_lt (length own) (length stack) ≡ false → Tells (raised C files t fault world stack)
+  raised_tells C files fault world stack e = as_deep stack (with_pending (allocated world (machine_exception C files fault None)) t (length world.heap)) e
 
   -- the monitor that a new invocation enters
   entry_told : (world : WorldOf A) (rest : StackOf A) (frame : FrameOf A) (object : ℕ) → frame.entered ≡ Some object → world.monitors ≡ base.monitors
@@ -67,18 +68,18 @@ module _ {A : Type 0} (fat : ℕ → Bool) (t : ℕ) (own : StackOf A) (base : W
       enabled_tells (may_enter world t object) (Next (entry_cost world object) (part (with_entry world t object) (Invocation frame ∷ rest)))
       (λ may. entry_told world rest frame object e same may)
 
-  pushed_tells : (frames : ℕ) (world after : WorldOf A) (stack rest : StackOf A) (frame : FrameOf A) → after.monitors ≡ base.monitors
-      → nat_lt (length own) (length stack) ≡ false → Tells (pushed frames t world after stack rest frame)
-  pushed_tells frames world after stack rest frame same e =
-      either_tells (nat_lt (frame_count stack) frames) (entering t after rest frame frame.entered) (raised t StackOverflow world stack)
-      (entering_tells after rest frame frame.entered refl same) (raised_tells StackOverflow world stack e)
+  pushed_tells : (C : Carrier A) (files : Program) (frames : ℕ) (world after : WorldOf A) (stack rest : StackOf A) (frame : FrameOf A) → after.monitors ≡ base.monitors
+      → nat_lt (length own) (length stack) ≡ false → Tells (pushed C files frames t world after stack rest frame)
+  pushed_tells C files frames world after stack rest frame same e =
+      either_tells (nat_lt (frame_count stack) frames) (entering t after rest frame frame.entered) (raised C files t StackOverflow world stack)
+      (entering_tells after rest frame frame.entered refl same) (raised_tells C files StackOverflow world stack e)
 
-  leaving_tells : (o : Option ℕ) (world : WorldOf A) (rest stack : StackOf A) → nat_lt (length own) (length rest) ≡ false → nat_lt (length own) (length stack) ≡ false
-      → Tells (leaving t o world rest stack)
-  leaving_tells None world rest stack r s = as_deep rest world r
-  leaving_tells (Some object) world rest stack r s =
-      either_tells (is_owner world t object) (on_to (with_exit world t object) rest) (raised t IllegalMonitorState world stack)
-      (as_deep rest (with_exit world t object) r) (raised_tells IllegalMonitorState world stack s)
+  leaving_tells : (C : Carrier A) (files : Program) (o : Option ℕ) (world : WorldOf A) (rest stack : StackOf A) → nat_lt (length own) (length rest) ≡ false → nat_lt (length own) (length stack) ≡ false
+      → Tells (leaving C files t o world rest stack)
+  leaving_tells C files None world rest stack r s = as_deep rest world r
+  leaving_tells C files (Some object) world rest stack r s =
+      either_tells (is_owner world t object) (on_to (with_exit world t object) rest) (raised C files t IllegalMonitorState world stack)
+      (as_deep rest (with_exit world t object) r) (raised_tells C files IllegalMonitorState world stack s)
 
   -- ---- classes
 
@@ -88,7 +89,7 @@ module _ {A : Type 0} (fat : ℕ → Bool) (t : ℕ) (own : StackOf A) (base : W
     needing_tells class IsReady world stack x e k = k
     needing_tells class IsNew world stack x e k = with_class class Super stack (with_class_begun C files t class world)
     needing_tells class IsHeld world stack x e k = tt
-    needing_tells class HasFailed world stack x e k = raised_tells NoClassDefFound world stack e
+    needing_tells class HasFailed world stack x e k = raised_tells C files NoClassDefFound world stack e
 
     needing_class_tells : (class : Option Name) (world : WorldOf A) (stack : StackOf A) (x : SteppedOf (PartOf A)) → nat_lt (length own) (length stack) ≡ false → Tells x
         → Tells (needing_class C files t class world stack x)
@@ -110,20 +111,20 @@ module _ {A : Type 0} (C : Carrier A) (files : Program) (frames : ℕ) (world : 
   -- ---- an instruction
 
   module _ (event : Event) where
-    become_tells : (frame : FrameOf A) (stack : StackOf A) (o : OutcomeOf A) → tells event.thread (Invocation frame ∷ stack) (become files frames event.thread world frame stack o)
+    become_tells : (frame : FrameOf A) (stack : StackOf A) (o : OutcomeOf A) → tells event.thread (Invocation frame ∷ stack) (become C files frames event.thread world frame stack o)
     become_tells frame stack (Goes cost after slots to) =
         as_deep fat event.thread (Invocation frame ∷ stack) world counted (Invocation (at_offset frame to slots) ∷ stack) after (no_longer (suc (length stack)))
     become_tells frame stack (Raises fault) =
-        raised_tells fat event.thread (Invocation frame ∷ stack) world counted fault world (Invocation frame ∷ stack) (no_longer (suc (length stack)))
+        raised_tells fat event.thread (Invocation frame ∷ stack) world counted C files fault world (Invocation frame ∷ stack) (no_longer (suc (length stack)))
     become_tells frame stack (Throws exception) =
         as_deep fat event.thread (Invocation frame ∷ stack) world counted (Invocation frame ∷ stack) (with_pending world event.thread exception) (no_longer (suc (length stack)))
     become_tells frame stack Interrupts =
-        raised_tells fat event.thread (Invocation frame ∷ stack) world counted InterruptedWait (with_interrupted world event.thread false) (Invocation frame ∷ stack) (no_longer (suc (length stack)))
+        raised_tells fat event.thread (Invocation frame ∷ stack) world counted C files InterruptedWait (with_interrupted world event.thread false) (Invocation frame ∷ stack) (no_longer (suc (length stack)))
     become_tells frame stack (Calls callee rest) =
-        pushed_tells fat event.thread (Invocation frame ∷ stack) world counted frames world world (Invocation frame ∷ stack) (Invocation (at_call frame rest) ∷ stack) callee refl
+        pushed_tells fat event.thread (Invocation frame ∷ stack) world counted C files frames world world (Invocation frame ∷ stack) (Invocation (at_call frame rest) ∷ stack) callee refl
         (no_longer (suc (length stack)))
     become_tells frame stack (Returns after results) =
-        leaving_tells fat event.thread (Invocation frame ∷ stack) world counted frame.entered after (returned files results stack) (Invocation frame ∷ stack)
+        leaving_tells fat event.thread (Invocation frame ∷ stack) world counted C files frame.entered after (returned files results stack) (Invocation frame ∷ stack)
         (returned_deep (suc (length stack)) results stack (shorter (length stack))) (no_longer (suc (length stack)))
     become_tells frame stack (Waits cost after rest) =
         as_deep fat event.thread (Invocation frame ∷ stack) world counted (Invocation (at_call frame rest) ∷ stack) after (no_longer (suc (length stack)))
@@ -149,10 +150,10 @@ module _ {A : Type 0} (C : Carrier A) (files : Program) (frames : ℕ) (world : 
   -- ---- classes that are initialised, and threads that begin
 
   initialiser_tells : (t : ℕ) (own : StackOf A) (m : Member) (stack : StackOf A) (o : Option Body) → nat_lt (length own) (length stack) ≡ false
-      → tells t own (initialiser_event C frames t m world stack o)
+      → tells t own (initialiser_event C files frames t m world stack o)
   initialiser_tells t own m stack None e = as_deep fat t own world counted stack world e
   initialiser_tells t own m stack (Some body) e =
-      pushed_tells fat t own world counted frames world world stack stack (frame_with C m [] None body) refl e
+      pushed_tells fat t own world counted C files frames world world stack stack (frame_with C m [] None body) refl e
 
   initialisation_tells : (t : ℕ) (class : Name) (phase : Phase) (stack : StackOf A)
       → tells t (Initialisation class phase ∷ stack) (initialisation_event C files frames t class phase world stack)
@@ -164,16 +165,16 @@ module _ {A : Type 0} (C : Carrier A) (files : Program) (frames : ℕ) (world : 
   main_tells : (main : Member) (o : Option Body) → tells 0 [] (main_frame C files frames world main o)
   main_tells main None = tt
   main_tells main (Some body) =
-      pushed_tells fat 0 [] world counted frames world (with_begun world 0) [] []
+      pushed_tells fat 0 [] world counted C files frames world (with_begun world 0) [] []
       (frame_with C main (C.reference arguments_reference ∷ []) (entered_by files main (class_reference files main.class)) body) refl refl
 
   run_frame_tells : (t object : ℕ) (m : Member) (o : Option Body) → tells t [] (run_frame C files frames t world object m o)
-  run_frame_tells t object m None = raised_tells fat t [] world counted AbstractMethod world [] refl
+  run_frame_tells t object m None = raised_tells fat t [] world counted C files AbstractMethod world [] refl
   run_frame_tells t object m (Some body) =
-      pushed_tells fat t [] world counted frames world (with_begun world t) [] [] (frame_with C m (C.reference object ∷ []) (entered_by files m object) body) refl refl
+      pushed_tells fat t [] world counted C files frames world (with_begun world t) [] [] (frame_with C m (C.reference object ∷ []) (entered_by files m object) body) refl refl
 
   run_tells : (t object : ℕ) (o : Option Member) → tells t [] (run_of C files frames t world object o)
-  run_tells t object None = raised_tells fat t [] world counted AbstractMethod world [] refl
+  run_tells t object None = raised_tells fat t [] world counted C files AbstractMethod world [] refl
   run_tells t object (Some m) = run_frame_tells t object m (body_of files m)
 
   begin_tells : (t : ℕ) → tells t [] (begin_event C files frames world t)
@@ -188,30 +189,31 @@ module _ {A : Type 0} (C : Carrier A) (files : Program) (frames : ℕ) (world : 
   -- ---- pending exceptions, and threads that were woken
 
   unwound_tells : (t exception : ℕ) (frame : FrameOf A) (stack : StackOf A) (o : Option ExceptionEntry)
-      → tells t (Invocation frame ∷ stack) (unwound C t exception world frame stack o)
+      → tells t (Invocation frame ∷ stack) (unwound C files t exception world frame stack o)
   unwound_tells t exception frame stack None =
-      leaving_tells fat t (Invocation frame ∷ stack) world counted frame.entered world stack stack (shorter (length stack)) (shorter (length stack))
+      leaving_tells fat t (Invocation frame ∷ stack) world counted C files frame.entered world stack stack (shorter (length stack)) (shorter (length stack))
   unwound_tells t exception frame stack (Some entry) = as_deep fat t (Invocation frame ∷ stack) world counted
       (Invocation (at_offset frame entry.handler (record { locals = frame.place.slots.locals; stack = C.reference exception ∷ [] })) ∷ stack) (with_caught world t) (no_longer (suc (length stack)))
 
-  failed_tells : (t : ℕ) (b : Bool) (class : Name) (phase : Phase) (stack : StackOf A)
-      → tells t (Initialisation class phase ∷ stack) (failed t b (with_class_status world class Erroneous) stack)
-  failed_tells t true class phase stack = as_deep fat t (Initialisation class phase ∷ stack) world counted stack (with_class_status world class Erroneous) (shorter (length stack))
-  failed_tells t false class phase stack =
-      raised_tells fat t (Initialisation class phase ∷ stack) world counted ExceptionInInitializer (with_class_status world class Erroneous) stack (shorter (length stack))
+  failed_tells : (t exception : ℕ) (b : Bool) (class : Name) (phase : Phase) (stack : StackOf A)
+      → tells t (Initialisation class phase ∷ stack) (failed C files t exception b (with_class_status world class Erroneous) stack)
+  failed_tells t exception true class phase stack = as_deep fat t (Initialisation class phase ∷ stack) world counted stack (with_class_status world class Erroneous) (shorter (length stack))
+  failed_tells t exception false class phase stack =
+      let erroneous = with_class_status world class Erroneous in
+      as_deep fat t (Initialisation class phase ∷ stack) world counted stack (with_pending (allocated erroneous (machine_exception C files ExceptionInInitializer (Some exception))) t (length erroneous.heap)) (shorter (length stack))
 
   pending_tells : (t exception : ℕ) (thrown : Option ReferenceType) (stack : StackOf A) → tells t stack (pending_event C files t exception thrown world stack)
   pending_tells t exception thrown [] = tt
   pending_tells t exception thrown (Invocation frame ∷ stack) =
       unwound_tells t exception frame stack (option_and_then (handler_in files frame.place.offset thrown) (body_of files frame.method))
   pending_tells t exception thrown (Initialisation class phase ∷ stack) =
-      failed_tells t (is_object_of files (ClassType java_lang_error) thrown) class phase stack
+      failed_tells t exception (is_object_of files (ClassType java_lang_error) thrown) class phase stack
 
-  after_wait_tells : (t : ℕ) (cause : WakeCause) (after : WorldOf A) (stack : StackOf A) → tells t stack (after_wait files t cause after stack)
+  after_wait_tells : (t : ℕ) (cause : WakeCause) (after : WorldOf A) (stack : StackOf A) → tells t stack (after_wait C files t cause after stack)
   after_wait_tells t Notified after stack =
       as_deep fat t stack world counted (returned files [] stack) after (returned_deep (length stack) [] stack (no_longer (length stack)))
   after_wait_tells t Interrupted after stack =
-      raised_tells fat t stack world counted InterruptedWait (with_interrupted after t false) stack (no_longer (length stack))
+      raised_tells fat t stack world counted C files InterruptedWait (with_interrupted after t false) stack (no_longer (length stack))
 
   -- ---- an event
 
@@ -237,8 +239,8 @@ module _ {A : Type 0} (C : Carrier A) (files : Program) (frames : ℕ) (world : 
     event_tells stack (Waiting object count) = tt
     event_tells stack (Relock object count cause) =
         let after = with_status (with_monitors world (monitors.relock object n count world.monitors)) n Running in
-        enabled_tells fat n stack world counted (event.pick == 0) (relock_event files n object count cause world stack)
-        (λ e. enabled_tells fat n stack world counted (is_done (monitors.relock object n count world.monitors).answer) (after_wait files n cause after stack)
+        enabled_tells fat n stack world counted (event.pick == 0) (relock_event C files n object count cause world stack)
+        (λ e. enabled_tells fat n stack world counted (is_done (monitors.relock object n count world.monitors).answer) (after_wait C files n cause after stack)
         (λ f. after_wait_tells n cause after stack))
     event_tells stack (Ended exception) = tt
 

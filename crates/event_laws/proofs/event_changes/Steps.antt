@@ -18,11 +18,12 @@ use Rattle.model.specs.State.{Monitor, Waiter, Instance, types_of, ClassStatus, 
 use Rattle.model.specs.Outcomes.{Cost, Free, Makes, MachineException, exception_class, OutcomeOf, Goes, Raises, Throws, Interrupts, Calls, Returns, Waits, NoClassDefFound, StackOverflow, IllegalMonitorState, InterruptedWait, AbstractMethod, ExceptionInInitializer}
 use Rattle.model.specs.Monitors as monitors
 use Rattle.model.specs.Worlds.{no_thread, thread_at, with_thread, with_begun, with_pending, with_caught, with_status, with_static, put_value, allocated, object_at, class_of_object, has_ended, is_owner, may_enter, with_entry, entry_cost, with_exit, with_monitors, with_interrupted, is_done, woken, all_woken, waiters_of}
+use Rattle.model.specs.MachineExceptions.{machine_exception}
 use Rattle.model.specs.ClassInitialisation.{status_in, status_of, with_class_status, with_class_begun, constant_value, with_constant, with_constants, Look, IsReady, IsNew, IsHeld, HasFailed, look_by}
 use Rattle.model.specs.Frames.{frame_with, entered_by, frame_count, at_call}
 use Rattle.model.specs.Sites.{MeaningOf, Site, site_at}
 use Rattle.model.specs.Meanings.{meaning_of}
-use Rattle.model.specs.Step.{SteppedOf, NotEnabled, WrongKind, Next, PartOf, part, on_to, enabled_if, unpicked, is_over, ended, with_end, end_of, settled, raised, needing, needing_class, entering, pushed, leaving, returned, become, ops_of, done, bytecode_by, bytecode_in, initialiser_event, before, initialisation_event, initial_class, main_frame, run_frame, run_of, begin_event, handler_in, unwound, failed, pending_event, after_wait, relock_event, running_event, going_event, thread_event, with_part, event_of}
+use Rattle.model.specs.Step.{SteppedOf, NotEnabled, WrongKind, Next, PartOf, part, on_to, enabled_if, unpicked, is_over, ended, with_end, end_of, settled, raised_for, raised, needing, needing_class, entering, pushed, leaving, returned, become, ops_of, done, bytecode_by, bytecode_in, initialiser_event, before, initialisation_event, initial_class, main_frame, run_frame, run_of, begin_event, handler_in, unwound, failed, pending_event, after_wait, relock_event, running_event, going_event, thread_event, with_part, event_of}
 use Rattle.data_races.specs.EventActions.{is_finished, is_waiting}
 use Rattle.run_laws.proofs.laws.Operations.{OfMeaning}
 use Rattle.event_laws.specs.event_changes.Changes.{class_on, class_names, KeepsClasses, AddsThread, is_in_set, WakesWaiters, OfEvents, AreClassesKept, AreThreadsAdded, DoEndsWake}
@@ -109,11 +110,17 @@ module _ {A : Type 0} where
     interrupted_steady : (world : WorldOf A) (b : Bool) → Steady t world (with_interrupted world t b)
     interrupted_steady world b = steady_thread t world (record (thread_at world t) { interrupted = b }) (λ e. e) refl refl
 
-    raised_stays : (fault : MachineException) (world : WorldOf A) (stack : StackOf A) → Reached world → stays (raised t fault world stack)
-    raised_stays fault world stack h =
-        let made = allocated world (Instance (exception_class fault) []) in
+    raised_for_stays : (C : Carrier A) (files : Program) (fault : MachineException) (cause : Option ℕ) (world : WorldOf A) (stack : StackOf A)
+        → Reached world → stays (raised_for C files t fault cause world stack)
+    raised_for_stays C files fault cause world stack h =
+        let o = machine_exception C files fault cause in
+        let made = allocated world o in
         let after = with_pending made t (length world.heap) in
-        reached_stays (Makes 0) after stack (reached_then made after (reached_then world made h (steady_allocated t world (Instance (exception_class fault) []))) (pending_steady made (length world.heap)))
+        reached_stays (Makes 0) after stack (reached_then made after (reached_then world made h (steady_allocated t world o)) (pending_steady made (length world.heap)))
+
+    raised_stays : (C : Carrier A) (files : Program) (fault : MachineException) (world : WorldOf A) (stack : StackOf A) → Reached world
+        → stays (raised C files t fault world stack)
+    raised_stays C files fault world stack h = raised_for_stays C files fault None world stack h
 
     entry_steady : (world : WorldOf A) (object : ℕ) → Steady t world (with_entry world t object)
     entry_steady world object = steady_call t world object (monitors.monitor_enter t) (enter_waiters t)
@@ -127,18 +134,18 @@ module _ {A : Type 0} where
         enabled_stays (may_enter world t object) (Next (entry_cost world object) (part (with_entry world t object) (Invocation frame ∷ rest)))
         (reached_stays (entry_cost world object) (with_entry world t object) (Invocation frame ∷ rest) (reached_then world (with_entry world t object) h (entry_steady world object)))
 
-    pushed_stays : (frames : ℕ) (world after : WorldOf A) (stack rest : StackOf A) (frame : FrameOf A) → Reached world → Reached after
-        → stays (pushed frames t world after stack rest frame)
-    pushed_stays frames world after stack rest frame h g =
-        either_stays (nat_lt (frame_count stack) frames) (entering t after rest frame frame.entered) (raised t StackOverflow world stack)
-        (entering_stays after rest frame frame.entered g) (raised_stays StackOverflow world stack h)
+    pushed_stays : (C : Carrier A) (files : Program) (frames : ℕ) (world after : WorldOf A) (stack rest : StackOf A) (frame : FrameOf A) → Reached world → Reached after
+        → stays (pushed C files frames t world after stack rest frame)
+    pushed_stays C files frames world after stack rest frame h g =
+        either_stays (nat_lt (frame_count stack) frames) (entering t after rest frame frame.entered) (raised C files t StackOverflow world stack)
+        (entering_stays after rest frame frame.entered g) (raised_stays C files StackOverflow world stack h)
 
-    leaving_stays : (o : Option ℕ) (world : WorldOf A) (rest stack : StackOf A) → Reached world → stays (leaving t o world rest stack)
-    leaving_stays None world rest stack h = reached_stays Free world rest h
-    leaving_stays (Some object) world rest stack h =
-        either_stays (is_owner world t object) (on_to (with_exit world t object) rest) (raised t IllegalMonitorState world stack)
+    leaving_stays : (C : Carrier A) (files : Program) (o : Option ℕ) (world : WorldOf A) (rest stack : StackOf A) → Reached world → stays (leaving C files t o world rest stack)
+    leaving_stays C files None world rest stack h = reached_stays Free world rest h
+    leaving_stays C files (Some object) world rest stack h =
+        either_stays (is_owner world t object) (on_to (with_exit world t object) rest) (raised C files t IllegalMonitorState world stack)
         (reached_stays Free (with_exit world t object) rest (reached_then world (with_exit world t object) h (exit_steady world object)))
-        (raised_stays IllegalMonitorState world stack h)
+        (raised_stays C files IllegalMonitorState world stack h)
 
   -- ---- classes
 
@@ -209,7 +216,7 @@ module _ {A : Type 0} where
       needing_stays class IsReady stack x e k = k
       needing_stays class IsNew stack x e k = begun_stays class stack (new_unfinished (status_of base class) e)
       needing_stays class IsHeld stack x e k = tt
-      needing_stays class HasFailed stack x e k = raised_stays t on base NoClassDefFound base stack here
+      needing_stays class HasFailed stack x e k = raised_stays t on base C files NoClassDefFound base stack here
 
       needing_class_stays : (class : Option Name) (stack : StackOf A) (x : SteppedOf (PartOf A)) → Stays t on base x
           → Stays t on base (needing_class C files t class base stack x)
@@ -228,17 +235,17 @@ module _ {A : Type 0} where
     at_first : (on : Option Name) → Reached t on world world
     at_first on = record { kept = kept_self t on world; quiet = quiet_self t world }
 
-    become_stays : (frame : FrameOf A) (stack : StackOf A) (o : OutcomeOf A) → OutcomeLeaves world o → keeps None (become files frames t world frame stack o)
+    become_stays : (frame : FrameOf A) (stack : StackOf A) (o : OutcomeOf A) → OutcomeLeaves world o → keeps None (become C files frames t world frame stack o)
     become_stays frame stack (Goes cost after slots to) k = (kept_left t None world after k, tt)
-    become_stays frame stack (Raises fault) k = raised_stays t None world fault world (Invocation frame ∷ stack) (at_first None)
+    become_stays frame stack (Raises fault) k = raised_stays t None world C files fault world (Invocation frame ∷ stack) (at_first None)
     become_stays frame stack (Throws exception) k = (kept_steady t None world (with_pending world t exception) (pending_steady t None world world exception), tt)
     become_stays frame stack Interrupts k =
-        raised_stays t None world InterruptedWait (with_interrupted world t false) (Invocation frame ∷ stack)
+        raised_stays t None world C files InterruptedWait (with_interrupted world t false) (Invocation frame ∷ stack)
         (reached_then t None world world (with_interrupted world t false) (at_first None) (interrupted_steady t None world world false))
     become_stays frame stack (Calls callee rest) k =
-        pushed_stays t None world frames world world (Invocation frame ∷ stack) (Invocation (at_call frame rest) ∷ stack) callee (at_first None) (at_first None)
+        pushed_stays t None world C files frames world world (Invocation frame ∷ stack) (Invocation (at_call frame rest) ∷ stack) callee (at_first None) (at_first None)
     become_stays frame stack (Returns after results) k =
-        leaving_stays t None world frame.entered after (returned files results stack) (Invocation frame ∷ stack)
+        leaving_stays t None world C files frame.entered after (returned files results stack) (Invocation frame ∷ stack)
         (subst (λ (w : WorldOf A). Reached t None world w) (sym k) (at_first None))
     become_stays frame stack (Waits cost after rest) k = (kept_left t None world after k, tt)
 
@@ -267,10 +274,10 @@ module _ {A : Type 0} where
 
     -- ---- classes that are initialised
 
-    initialiser_stays : (on : Option Name) (m : Member) (stack : StackOf A) (o : Option Body) → Stays t on world (initialiser_event C frames t m world stack o)
+    initialiser_stays : (on : Option Name) (m : Member) (stack : StackOf A) (o : Option Body) → Stays t on world (initialiser_event C files frames t m world stack o)
     initialiser_stays on m stack None = reached_stays t on world Free world stack (at_start on)
     initialiser_stays on m stack (Some body) =
-        pushed_stays t on world frames world world stack stack (frame_with C m [] None body) (at_start on) (at_start on)
+        pushed_stays t on world C files frames world world stack stack (frame_with C m [] None body) (at_start on) (at_start on)
 
     -- the class on top has a status since
     marked : (class : Name) (status : ClassStatus) → Reached t (Some class) world (with_class_status world class status)
@@ -289,37 +296,38 @@ module _ {A : Type 0} where
     has_begun = reached_then t None world world (with_begun world t) (at_start None) (begun_steady t None world world)
 
     run_frame_stays : (object : ℕ) (m : Member) (o : Option Body) → Stays t None world (run_frame C files frames t world object m o)
-    run_frame_stays object m None = raised_stays t None world AbstractMethod world [] (at_start None)
+    run_frame_stays object m None = raised_stays t None world C files AbstractMethod world [] (at_start None)
     run_frame_stays object m (Some body) =
-        pushed_stays t None world frames world (with_begun world t) [] []
+        pushed_stays t None world C files frames world (with_begun world t) [] []
         (frame_with C m (C.reference object ∷ []) (entered_by files m object) body) (at_start None) has_begun
 
     run_stays : (object : ℕ) (o : Option Member) → Stays t None world (run_of C files frames t world object o)
-    run_stays object None = raised_stays t None world AbstractMethod world [] (at_start None)
+    run_stays object None = raised_stays t None world C files AbstractMethod world [] (at_start None)
     run_stays object (Some m) = run_frame_stays object m (body_of files m)
 
     -- ---- pending exceptions, and threads that were woken
 
-    unwound_stays : (exception : ℕ) (frame : FrameOf A) (stack : StackOf A) (o : Option ExceptionEntry) → Stays t None world (unwound C t exception world frame stack o)
-    unwound_stays exception frame stack None = leaving_stays t None world frame.entered world stack stack (at_start None)
+    unwound_stays : (exception : ℕ) (frame : FrameOf A) (stack : StackOf A) (o : Option ExceptionEntry) → Stays t None world (unwound C files t exception world frame stack o)
+    unwound_stays exception frame stack None = leaving_stays t None world C files frame.entered world stack stack (at_start None)
     unwound_stays exception frame stack (Some entry) = (kept_steady t None world (with_caught world t) (caught_steady t None world world), tt)
 
-    failed_stays : (b : Bool) (class : Name) (stack : StackOf A) → Stays t (Some class) world (failed t b (with_class_status world class Erroneous) stack)
-    failed_stays true class stack = reached_stays t (Some class) world Free (with_class_status world class Erroneous) stack (marked class Erroneous)
-    failed_stays false class stack = raised_stays t (Some class) world ExceptionInInitializer (with_class_status world class Erroneous) stack (marked class Erroneous)
+    failed_stays : (exception : ℕ) (b : Bool) (class : Name) (stack : StackOf A) → Stays t (Some class) world (failed C files t exception b (with_class_status world class Erroneous) stack)
+    failed_stays exception true class stack = reached_stays t (Some class) world Free (with_class_status world class Erroneous) stack (marked class Erroneous)
+    failed_stays exception false class stack =
+        raised_for_stays t (Some class) world C files ExceptionInInitializer (Some exception) (with_class_status world class Erroneous) stack (marked class Erroneous)
 
     pending_stays : (exception : ℕ) (thrown : Option ReferenceType) (stack : StackOf A) → Stays t (class_on stack) world (pending_event C files t exception thrown world stack)
     pending_stays exception thrown [] = tt
     pending_stays exception thrown (Invocation frame ∷ stack) =
         unwound_stays exception frame stack (option_and_then (handler_in files frame.place.offset thrown) (body_of files frame.method))
     pending_stays exception thrown (Initialisation class phase ∷ stack) =
-        failed_stays (is_object_of files (ClassType java_lang_error) thrown) class stack
+        failed_stays exception (is_object_of files (ClassType java_lang_error) thrown) class stack
 
     after_wait_stays : (on : Option Name) (cause : WakeCause) (after : WorldOf A) (stack : StackOf A) → Reached t on world after
-        → Stays t on world (after_wait files t cause after stack)
+        → Stays t on world (after_wait C files t cause after stack)
     after_wait_stays on Notified after stack h = reached_stays t on world Free after (returned files [] stack) h
     after_wait_stays on Interrupted after stack h =
-        raised_stays t on world InterruptedWait (with_interrupted after t false) stack
+        raised_stays t on world C files InterruptedWait (with_interrupted after t false) stack
         (reached_then t on world after (with_interrupted after t false) h (interrupted_steady t on world after false))
 
     relocked : (on : Option Name) (object count : ℕ) (cause : WakeCause) → (thread_at world t).status ≡ Relock object count cause
@@ -339,7 +347,7 @@ module _ {A : Type 0} where
       main_stays : (main : Member) (o : Option Body) → Stays 0 None world (main_frame C files frames world main o)
       main_stays main None = tt
       main_stays main (Some body) =
-          pushed_stays 0 None world frames world (with_begun world 0) [] []
+          pushed_stays 0 None world C files frames world (with_begun world 0) [] []
           (frame_with C main (C.reference arguments_reference ∷ []) (entered_by files main (class_reference files main.class)) body)
           (at_start C files frames 0 world None) (has_begun C files frames 0 world)
   begin_stays C files frames world (suc t) =
@@ -373,8 +381,8 @@ module _ {A : Type 0} where
     event_stays stack (Relock object count cause) e =
         let on = class_on stack in
         let after = with_status (with_monitors world (monitors.relock object n count world.monitors)) n Running in
-        enabled_stays n on world (event.pick == 0) (relock_event files n object count cause world stack)
-        (enabled_stays n on world (is_done (monitors.relock object n count world.monitors).answer) (after_wait files n cause after stack)
+        enabled_stays n on world (event.pick == 0) (relock_event C files n object count cause world stack)
+        (enabled_stays n on world (is_done (monitors.relock object n count world.monitors).answer) (after_wait C files n cause after stack)
         (after_wait_stays C files frames n world on cause after stack (relocked C files frames n world on object count cause e)))
     event_stays stack (Ended exception) e = tt
 

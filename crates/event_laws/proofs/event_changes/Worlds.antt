@@ -13,7 +13,9 @@ use Rattle.model.specs.Sites.{pushing, int_operand}
 use Rattle.model.specs.StringMethods.{StringAnswer, IsNull, IsOutside, Answers, Same, Composes, string_answer}
 use Rattle.model.specs.BuilderMethods as builder
 use Rattle.model.specs.BuilderMethods.{BuilderAnswer, KeepsEmpty, Adds, GivesText, builds}
-use Rattle.model.specs.BuiltInMethods.{BuiltInMethod, Construct, ConstructWithTarget, ObjectWait, ObjectNotify, ObjectNotifyAll, ThreadStart, ThreadInterrupt, ThreadIsInterrupted, ThreadInterrupted, ThreadYield, ThreadCurrentThread, ThreadJoin, ThreadIsAlive, PrintStreamPrints, StringAnswers, StringBuilderBuilds, object_of, string_operand, answered, waiting, wait_by, notified_one, notified, notified_all, if_owner, start_by, interrupted_in, interrupted_on, join_by, built_in_does}
+use Rattle.model.specs.ObjectMethods as telling
+use Rattle.model.specs.ObjectMethods.{ObjectAnswer, HasNoClass, IsOf, object_answer, object_place, tells, type_at}
+use Rattle.model.specs.BuiltInMethods.{BuiltInMethod, Construct, ConstructWithMessage, ConstructWithCause, ConstructWithTarget, ObjectWait, ObjectNotify, ObjectNotifyAll, ThreadStart, ThreadInterrupt, ThreadIsInterrupted, ThreadInterrupted, ThreadYield, ThreadCurrentThread, ThreadJoin, ThreadIsAlive, PrintStreamPrints, StringAnswers, StringBuilderBuilds, ObjectAnswers, object_of, string_operand, answered, waiting, wait_by, notified_one, notified, notified_all, if_owner, start_by, interrupted_in, interrupted_on, join_by, built_in_does}
 use Rattle.event_laws.proofs.event_changes.Changed.{Keeps, Leaves, keeps_same, keeps_then, keeps_thread, keeps_status, leaves_of, leaves_started}
 
 -- what an instruction leaves of a world
@@ -127,9 +129,19 @@ module _ {A : Type 0} where
     builds_leaves C empty (Adds added) next slots ops rest = leaves_same world _ refl refl
     builds_leaves C empty GivesText next slots ops rest = leaves_it world
 
+    tells_leaves : (C : Carrier A) (files : Program) (answer : ObjectAnswer) (next : ℕ) (slots : Slots A) (rest : List A)
+        → leaves (tells C files answer next world slots rest)
+    tells_leaves C files telling.IsNull next slots rest = tt
+    tells_leaves C files HasNoClass next slots rest = tt
+    tells_leaves C files (telling.Answers bits) next slots rest = leaves_it world
+    tells_leaves C files (IsOf class) next slots rest = leaves_it world
+    tells_leaves C files (telling.Composes text) next slots rest = leaves_same world _ refl refl
+
     pub built_in_leaves : (C : Carrier A) (files : Program) (method : BuiltInMethod) (next : ℕ) (event : Event) (slots : Slots A) (ops rest : List A)
         → leaves (built_in_does C files method next event world slots ops rest)
     built_in_leaves C files Construct next event slots ops rest = leaves_it world
+    built_in_leaves C files ConstructWithMessage next event slots ops rest = leaves_same world _ refl refl
+    built_in_leaves C files ConstructWithCause next event slots ops rest = leaves_same world _ refl refl
     built_in_leaves C files ConstructWithTarget next event slots ops rest = leaves_same world _ refl refl
     built_in_leaves C files ObjectWait next event slots ops rest =
         wait_by_leaves (is_owner world event.thread (object_of C ops 0)) (thread_at world event.thread).interrupted event.thread (object_of C ops 0) rest
@@ -154,3 +166,4 @@ module _ {A : Type 0} where
         answered_leaves C (string_answer called (int_operand C ops) (string_operand C world ops)) next slots ops rest
     built_in_leaves C files (StringBuilderBuilds called) next event slots ops rest =
         builds_leaves C (string_reference files []) _ next slots ops rest
+    built_in_leaves C files (ObjectAnswers called) next event slots ops rest = tells_leaves C files _ next slots rest

@@ -57,15 +57,15 @@ module _ {A : Type 0} (before : Option ℕ) (own : StackOf A) where
   either_means true x y h g = h
   either_means false x y h g = g
 
-  raised_means : (t : ℕ) (fault : MachineException) (world : WorldOf A) (stack : StackOf A) → nat_lt (length own) (length stack) ≡ false → Means (raised t fault world stack)
-  raised_means t fault world stack l = as_deep stack l
+  raised_means : (C : Carrier A) (files : Program) (t : ℕ) (fault : MachineException) (world : WorldOf A) (stack : StackOf A) → nat_lt (length own) (length stack) ≡ false → Means (raised C files t fault world stack)
+  raised_means C files t fault world stack l = as_deep stack l
 
-  leaving_means : (t : ℕ) (o : Option ℕ) (world : WorldOf A) (rest stack : StackOf A) → nat_lt (length own) (length rest) ≡ false → nat_lt (length own) (length stack) ≡ false
-      → Means (leaving t o world rest stack)
-  leaving_means t None world rest stack r s = as_deep rest r
-  leaving_means t (Some object) world rest stack r s =
-      either_means (is_owner world t object) (on_to (with_exit world t object) rest) (raised t IllegalMonitorState world stack) (as_deep rest r)
-      (raised_means t IllegalMonitorState world stack s)
+  leaving_means : (C : Carrier A) (files : Program) (t : ℕ) (o : Option ℕ) (world : WorldOf A) (rest stack : StackOf A) → nat_lt (length own) (length rest) ≡ false → nat_lt (length own) (length stack) ≡ false
+      → Means (leaving C files t o world rest stack)
+  leaving_means C files t None world rest stack r s = as_deep rest r
+  leaving_means C files t (Some object) world rest stack r s =
+      either_means (is_owner world t object) (on_to (with_exit world t object) rest) (raised C files t IllegalMonitorState world stack) (as_deep rest r)
+      (raised_means C files t IllegalMonitorState world stack s)
 
   module _ (C : Carrier A) (files : Program) (t : ℕ) where
     needing_means : (class : Name) (look : Look) (world : WorldOf A) (stack : StackOf A) (x : SteppedOf (PartOf A)) → nat_lt (length own) (length stack) ≡ false → Means x
@@ -73,7 +73,7 @@ module _ {A : Type 0} (before : Option ℕ) (own : StackOf A) where
     needing_means class IsReady world stack x l k = k
     needing_means class IsNew world stack x l k = with_class class Super stack
     needing_means class IsHeld world stack x l k = tt
-    needing_means class HasFailed world stack x l k = raised_means t NoClassDefFound world stack l
+    needing_means class HasFailed world stack x l k = raised_means C files t NoClassDefFound world stack l
 
     needing_class_means : (class : Option Name) (world : WorldOf A) (stack : StackOf A) (x : SteppedOf (PartOf A)) → nat_lt (length own) (length stack) ≡ false → Means x
         → Means (needing_class C files t class world stack x)
@@ -92,15 +92,15 @@ module _ {A : Type 0} (C : Carrier A) (files : Program) (frames : ℕ) (event : 
   -- ---- an instruction
 
   become_means : (instr : Instr) (ops : List A) (frame : FrameOf A) (stack : StackOf A) (o : OutcomeOf A)
-      → Means (meant_by C instr frame ops o) (Invocation frame ∷ stack) (become files frames n world frame stack o)
+      → Means (meant_by C instr frame ops o) (Invocation frame ∷ stack) (become C files frames n world frame stack o)
   become_means instr ops frame stack (Goes cost after slots to) =
       as_deep (meant_by C instr frame ops (Goes cost after slots to)) (Invocation frame ∷ stack) (Invocation (at_offset frame to slots) ∷ stack) (no_longer (suc (length stack)))
-  become_means instr ops frame stack (Raises fault) = if_none None (Invocation frame ∷ stack) (become files frames n world frame stack (Raises fault)) refl
-  become_means instr ops frame stack (Throws exception) = if_none None (Invocation frame ∷ stack) (become files frames n world frame stack (Throws exception)) refl
-  become_means instr ops frame stack Interrupts = if_none None (Invocation frame ∷ stack) (become files frames n world frame stack Interrupts) refl
-  become_means instr ops frame stack (Calls callee rest) = if_none None (Invocation frame ∷ stack) (become files frames n world frame stack (Calls callee rest)) refl
+  become_means instr ops frame stack (Raises fault) = if_none None (Invocation frame ∷ stack) (become C files frames n world frame stack (Raises fault)) refl
+  become_means instr ops frame stack (Throws exception) = if_none None (Invocation frame ∷ stack) (become C files frames n world frame stack (Throws exception)) refl
+  become_means instr ops frame stack Interrupts = if_none None (Invocation frame ∷ stack) (become C files frames n world frame stack Interrupts) refl
+  become_means instr ops frame stack (Calls callee rest) = if_none None (Invocation frame ∷ stack) (become C files frames n world frame stack (Calls callee rest)) refl
   become_means instr ops frame stack (Returns after results) =
-      leaving_means frame.entered (Invocation frame ∷ stack) n frame.entered after (returned files results stack) (Invocation frame ∷ stack)
+      leaving_means frame.entered (Invocation frame ∷ stack) C files n frame.entered after (returned files results stack) (Invocation frame ∷ stack)
       (returned_deep (suc (length stack)) results stack (shorter (length stack))) (no_longer (suc (length stack)))
   become_means instr ops frame stack (Waits cost after rest) =
       as_deep (meant_by C instr frame ops (Waits cost after rest)) (Invocation frame ∷ stack) (Invocation (at_call frame rest) ∷ stack) (no_longer (suc (length stack)))
@@ -133,9 +133,9 @@ module _ {A : Type 0} (C : Carrier A) (files : Program) (frames : ℕ) (event : 
   -- ---- pending exceptions, and threads that were woken
 
   unwound_means : (b : Option ℕ) (exception : ℕ) (frame : FrameOf A) (stack : StackOf A) (o : Option ExceptionEntry)
-      → Means b (Invocation frame ∷ stack) (unwound C n exception world frame stack o)
+      → Means b (Invocation frame ∷ stack) (unwound C files n exception world frame stack o)
   unwound_means b exception frame stack None =
-      leaving_means b (Invocation frame ∷ stack) n frame.entered world stack stack (shorter (length stack)) (shorter (length stack))
+      leaving_means b (Invocation frame ∷ stack) C files n frame.entered world stack stack (shorter (length stack)) (shorter (length stack))
   unwound_means b exception frame stack (Some entry) =
       as_deep b (Invocation frame ∷ stack)
       (Invocation (at_offset frame entry.handler (record { locals = frame.place.slots.locals; stack = C.reference exception ∷ [] })) ∷ stack) (no_longer (suc (length stack)))
@@ -147,9 +147,9 @@ module _ {A : Type 0} (C : Carrier A) (files : Program) (frames : ℕ) (event : 
   pending_means exception thrown (Initialisation class phase ∷ stack) =
       if_none None (Initialisation class phase ∷ stack) (pending_event C files n exception thrown world (Initialisation class phase ∷ stack)) refl
 
-  after_wait_means : (b : Option ℕ) (cause : WakeCause) (after : WorldOf A) (stack : StackOf A) → Means b stack (after_wait files n cause after stack)
+  after_wait_means : (b : Option ℕ) (cause : WakeCause) (after : WorldOf A) (stack : StackOf A) → Means b stack (after_wait C files n cause after stack)
   after_wait_means b Notified after stack = as_deep b stack (returned files [] stack) (returned_deep (length stack) [] stack (no_longer (length stack)))
-  after_wait_means b Interrupted after stack = raised_means b stack n InterruptedWait (with_interrupted after n false) stack (no_longer (length stack))
+  after_wait_means b Interrupted after stack = raised_means b stack C files n InterruptedWait (with_interrupted after n false) stack (no_longer (length stack))
 
   -- ---- an event
 
@@ -168,8 +168,8 @@ module _ {A : Type 0} (C : Carrier A) (files : Program) (frames : ℕ) (event : 
   event_means stack (Waiting object count) = tt
   event_means stack (Relock object count cause) =
       let after = with_status (with_monitors world (monitors.relock object n count world.monitors)) n Running in
-      enabled_means (Some object) stack (event.pick == 0) (relock_event files n object count cause world stack)
-      (enabled_means (Some object) stack (is_done (monitors.relock object n count world.monitors).answer) (after_wait files n cause after stack)
+      enabled_means (Some object) stack (event.pick == 0) (relock_event C files n object count cause world stack)
+      (enabled_means (Some object) stack (is_done (monitors.relock object n count world.monitors).answer) (after_wait C files n cause after stack)
       (after_wait_means (Some object) cause after stack))
   event_means stack (Ended exception) = tt
 

@@ -2,7 +2,7 @@
 
 use crate::thread_explanations::awaited::Awaited;
 use crate::thread_explanations::stacks::{FramePlace, StackPlaces};
-use crate::thread_explanations::throws::{Cause, Thrown};
+use crate::thread_explanations::throws::{Cause, Thrown, exception_of};
 use crate::thread_explanations::waits::Wait;
 use machine_state::Shared;
 use machine_state::method_selection::class_of_kind;
@@ -196,14 +196,20 @@ impl Facts<'_> {
         Ok(())
     }
 
-    /// What is told of a thread: where its frames stand, or stood when it threw, and what it waits for.
+    /// What is told of a thread: the exception that ended it, where its frames stand, or stood when it threw, and what
+    /// it waits for.
     pub(crate) fn lines(&self, thread: u16) -> Result<Vec<Vec<u8>>, AllocError> {
         let mut lines = Vec::new(self.alloc);
         let Some(facts) = self.thread(thread) else {
             return Ok(lines);
         };
         match &facts.thrown {
-            Some(thrown) => self.push_thrown(&mut lines, thrown)?,
+            Some(thrown) => {
+                if let Some(exception) = exception_of(self.shared, thread) {
+                    self.push_exception(&mut lines, exception)?;
+                }
+                self.push_thrown(&mut lines, thrown)?;
+            }
             None => {
                 self.push_stack(&mut lines, &facts.stack)?;
                 self.push_runnable(&mut lines, thread)?;

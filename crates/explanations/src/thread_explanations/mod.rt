@@ -29,6 +29,7 @@ mod details;
 mod explain;
 mod following;
 mod lines;
+mod messages;
 mod stacks;
 mod throws;
 mod waits;

@@ -34,7 +34,7 @@ pub(crate) struct Thrown {
 }
 
 /// The exception that ended a thread, if one did.
-fn exception_of(shared: &Shared, thread: u16) -> Option<u32> {
+pub(crate) fn exception_of(shared: &Shared, thread: u16) -> Option<u32> {
     match shared.threads.status(thread) {
         ThreadStatus::Ended(exception) => exception,
         _ => None,

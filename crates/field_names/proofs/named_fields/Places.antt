@@ -26,6 +26,7 @@ use Rattle.hierarchy.proofs.Finding.{find_passes, passes_at, position_within}
 use Rattle.hierarchy.proofs.SetLaws.{no_item}
 use Rattle.linker.proofs.linked_types.Types.{few_classes}
 use Rattle.types.specs.method_code.Linked.{IsLinked}
+use Rattle.data_races.specs.EventActions.{is_variable}
 use Rattle.data_races.specs.Variables.{declares_volatile}
 use Rattle.field_names.specs.declared.named_fields.NamedField.{NamedField}
 use Rattle.field_names.specs.named_fields.Fields.{IsFieldIf, field_named, field_referred, member_at, reference_in}
@@ -108,12 +109,14 @@ module _ (files : Program) (linked : IsLinked files) (m : Member) (p : MemberPla
 
   pub field_told : (found : Option Member) → option_map (λ (q : MemberPlace). member_in files m q) (Some p) ≡ found
       → (told : NamedField) → told.class ≡ p.class → told.field ≡ p.member → told.is_volatile ≡ declares_volatile files (member_in files m p)
+      → told.is_variable ≡ is_variable (member_in files m p)
       → IsFieldIf files found (Some told)
-  field_told found is told c k v =
+  field_told found is told c k v w =
       subst (λ o. IsFieldIf files o (Some told)) is (
       record {
         at = ap (λ (class : ℕ). member_at files class told.field) c ∙ ap (member_at files p.class) k ∙ member_there standing;
         is_volatile = v;
+        is_variable = w;
       }
       )
 

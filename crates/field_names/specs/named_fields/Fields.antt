@@ -11,6 +11,7 @@ use Rattle.model.specs.Classes.{Program, Body, name_of, body_of}
 use Rattle.model.specs.Lookup.{find_field, field_member}
 use Rattle.linked_code.specs.Numbers.{IsMethodAt}
 use Rattle.hierarchy.specs.Places.{class_at, name_at}
+use Rattle.data_races.specs.EventActions.{is_variable}
 use Rattle.data_races.specs.Variables.{declares_volatile}
 use Rattle.race_places.specs.named_actions.Names.{Names}
 use Rattle.field_names.specs.declared.named_fields.NamedField.{NamedField}
@@ -50,10 +51,11 @@ field_named files body offset = option_and_then (find_field files) (field_referr
 
 -- ---- what is told of it
 
--- its class and place, and whether it is volatile
+-- its class and place, whether it is volatile, and whether it is a variable
 pub record IsField (files : Program) (field : Member) (told : NamedField) : Type 0 where
   pub at : member_at files told.class told.field ≡ Some field
   pub is_volatile : told.is_volatile ≡ declares_volatile files field
+  pub is_variable : told.is_variable ≡ is_variable field
 
 -- of a field, or there is neither
 abbrev pub IsFieldIf : Program → Option Member → Option NamedField → Type 0

@@ -1,12 +1,14 @@
 -- Cells among the fields that a class declares.
-use Rattle.std.proofs.Common.{◌≡◌, suc, Bool, true, false, not, ◌&&◌, ◌||◌, cond, List, [], ◌∷◌, length, map, refl, ap}
+use Rattle.std.proofs.Common.{◌≡◌, suc, ◌+◌, Bool, true, false, ◌&&◌, cond, List, [], ◌∷◌, ◌++◌, length, map, refl, sym, ap, ◌∙◌, arith, Option, Some}
+use Rattle.std.specs.Option.{option_map_or}
 use Rattle.std.specs.List.{filter}
-use Rattle.model.specs.Names.{Member, member_eq, thread_target, builder_text}
+use Rattle.model.specs.Names.{Name}
 use Rattle.model.specs.Tree.{FileTree}
 use Rattle.model.specs.AccessFlags.{is_instance_field}
-use Rattle.model.specs.Classes.{name_of}
-use Rattle.model.specs.HiddenFields.{is_cell}
-use Rattle.model.specs.Lookup.{field_member}
+use Rattle.model.specs.Classes.{Program, name_of, class_of}
+use Rattle.model.specs.HiddenMembers.{is_cell}
+use Rattle.model.specs.Lookup.{field_member, own_instance_fields}
+use Rattle.hierarchy.proofs.SetLaws.{named_so}
 use Rattle.link_conditions.specs.limits_of_linking.Cells.{own_cells}
 
 -- a test of what a first test lets through
@@ -25,12 +27,20 @@ pub own_cells_are : (file : FileTree)
     → length (filter is_cell (map (field_member (name_of file) file.pool) (filter is_instance_field file.fields))) ≡ own_cells file
 own_cells_are file = filtered is_instance_field (field_member (name_of file) file.pool) is_cell file.fields
 
--- the two hidden fields are two
-pub cell_is : (m : Member) → (member_eq m thread_target || not (member_eq m builder_text)) ≡ is_cell m
-cell_is m = by (member_eq m thread_target) (member_eq m builder_text)
+-- by the name of the class
+pub own_within : (files : Program) (class : Name) (file : FileTree) → class_of files class ≡ Some file
+    → length (filter is_cell (own_instance_fields files class)) ≡ own_cells file
+own_within files class file e =
+    ap (λ (o : Option FileTree). length (filter is_cell (option_map_or (λ (of : FileTree). map (field_member class of.pool) (filter is_instance_field of.fields)) o []))) e
+    ∙ ap (λ name. length (filter is_cell (map (field_member name file.pool) (filter is_instance_field file.fields)))) (sym (named_so files class file e))
+    ∙ own_cells_are file
+
+pub filter_append : {A : Type 0} (p : A → Bool) (xs ys : List A)
+    → length (filter p (xs ++ ys)) ≡ length (filter p xs) + length (filter p ys)
+filter_append p [] ys = omega arith
+filter_append p (x ∷ xs) ys = by (p x) (filter_append p xs ys)
   where
-    by : (a b : Bool) → (a || not b) ≡ (not (a || (b || false)) || a)
-    by true true = refl
-    by true false = refl
-    by false true = refl
-    by false false = refl
+    by : (b : Bool) → length (filter p (xs ++ ys)) ≡ length (filter p xs) + length (filter p ys)
+        → length (cond b (x ∷ filter p (xs ++ ys)) (filter p (xs ++ ys))) ≡ length (cond b (x ∷ filter p xs) (filter p xs)) + length (filter p ys)
+    by true h = omega (arith, h)
+    by false h = h

@@ -1,5 +1,5 @@
 -- What an instruction asks for, by what its operand names.
-use Rattle.std.proofs.Common.{◌≡◌, ℕ, List, [], ◌∷◌, ◌++◌, Option, Some, None, Bool, true, false, ◌&&◌, ◌||◌, refl, ap, ◌∙◌}
+use Rattle.std.proofs.Common.{◌≡◌, ℕ, List, [], ◌∷◌, ◌++◌, Option, Some, None, Bool, true, false, ◌&&◌, ◌||◌, refl, sym, ap, ◌∙◌}
 use Rattle.std.specs.Prelude.{is_some}
 use Rattle.std.specs.List.{list_any, flat_map}
 use Rattle.std.specs.Option.{option_and_then, option_map_or, option_to_list, is_none}
@@ -10,9 +10,8 @@ use Rattle.model.specs.declared.instr.FieldAccess.{FieldAccess}
 use Rattle.model.specs.declared.instr.FieldAccess.TheVariants as access
 use Rattle.model.specs.declared.instr.Invocation.{Invocation}
 use Rattle.model.specs.declared.instr.Invocation.TheVariants as invocation
-use Rattle.model.specs.Names.{Name, Member, member_eq, thread_target, builder_text}
-use Rattle.hierarchy.proofs.Names.{name_eq_sym}
-use Rattle.model.specs.HiddenFields.{is_hidden}
+use Rattle.model.specs.Names.{Name, Member}
+use Rattle.model.specs.HiddenMembers.{is_hidden, is_hidden_method}
 use Rattle.model.specs.Tree.{FieldTree, MethodTree, FileTree}
 use Rattle.model.specs.Pool.{class_name_at, field_at, method_at, interface_method_at}
 use Rattle.model.specs.AccessFlags.{is_interface_class, is_static_field, is_static_method}
@@ -20,7 +19,7 @@ use Rattle.model.specs.Classes.{Program, class_of, is_interface}
 use Rattle.model.specs.Lookup.{field_of, method_of, find_field, find_interface_method}
 use Rattle.model.specs.DescriptorParts.{classes_in, classes_named}
 use Rattle.model.specs.Resolution.{is_missing, member_classes, is_uninstantiable, differs, is_system_stream, found_in_class, unresolved_instruction}
-use Rattle.link_conditions.specs.resolution.Operands.{fails_access}
+use Rattle.link_conditions.specs.resolution.Operands.{fails_access, fails_call}
 
 -- the class of a member is not found, or one of its descriptor
 abbrev pub member_lacks_class : Program → Member → Bool
@@ -30,16 +29,12 @@ member_lacks_class files m = list_any (is_missing files) (m.class ∷ classes_in
 abbrev pub field_fails : Program → FieldAccess → Member → Bool
 field_fails files how m = member_lacks_class files m || option_map_or (fails_access files how) (find_field files m) true
 
--- a method that is found is static where an instance method is wanted, or the reverse
-abbrev pub method_fails : Program → Bool → Member → Bool
-method_fails files wants_static m = option_map_or (λ (m : MethodTree). differs wants_static (is_static_method m)) (method_of files m) false
-
 -- the method that is named is not found, or not as is wanted: by kind, and in an interface or a class
 abbrev pub call_fails : Program → (Member → Option Member) → Bool → Bool → Member → Bool
 call_fails files found wants_static wants_interface m =
     member_lacks_class files m
     || (differs wants_interface (is_interface files m.class)
-    || option_map_or (method_fails files wants_static) (found m) true)
+    || option_map_or (fails_call files wants_static) (found m) true)
 
 -- ---- classes
 
@@ -58,15 +53,6 @@ module _ (files : Program) (file : FileTree) (k : ℕ) where
       ∙ ap (λ (b : Bool). needs (class_name_at file.pool k) || b) (or-false _)
 
 -- ---- fields
-
-member_eq_sym : (a b : Member) → member_eq a b ≡ member_eq b a
-member_eq_sym a b = rw (name_eq_sym a.class b.class, name_eq_sym a.name b.name, name_eq_sym a.descriptor b.descriptor) refl
-
-pub hidden_is : (m : Member) → is_hidden m ≡ (member_eq thread_target m || member_eq builder_text m)
-hidden_is m =
-    ap (λ b. member_eq m thread_target || b) (or-false (member_eq m builder_text))
-    ∙ (ap (λ b. b || member_eq m builder_text) (member_eq_sym m thread_target)
-    ∙ ap (λ b. member_eq thread_target m || b) (member_eq_sym m builder_text))
 
 module _ (files : Program) where
   abbrev is_other_field : Bool → Option Member → Bool
@@ -119,16 +105,21 @@ module _ (files : Program) (found : Member → Option Member) (wants_static want
   asked_of_method o =
       list_any (is_missing files) (member_classes o)
       || ((is_some o && is_none (option_and_then found o))
+      || (option_map_or is_hidden_method (option_and_then found o) false
       || (is_other_method (option_and_then found o)
-      || is_other_class (option_and_then (λ (m : Member). class_of files m.class) o)))
+      || is_other_class (option_and_then (λ (m : Member). class_of files m.class) o))))
+
+  last_first : (a b c : Bool) → (a || (b || c)) ≡ (c || (a || b))
+  last_first true b c = sym (or-true c)
+  last_first false b c = or_comm b c
 
   both : (c : Option FileTree) (f : Option Member) (more : Bool)
-      → ((is_none c || more) || (is_none f || (is_other_method f || is_other_class c)))
+      → ((is_none c || more) || (is_none f || (option_map_or is_hidden_method f false || (is_other_method f || is_other_class c))))
       ≡ ((is_none c || more) || (differs wants_interface (option_map_or is_interface_class c false) ||
-      option_map_or (method_fails files wants_static) f true))
+      option_map_or (fails_call files wants_static) f true))
   both None f more = refl
   both (Some c) None more = rw (or-true (differs wants_interface (is_interface_class c))) refl
-  both (Some c) (Some g) more = ap (λ (b : Bool). more || b) (or_comm (is_other_method (Some g)) (is_other_class (Some c)))
+  both (Some c) (Some g) more = ap (λ (b : Bool). more || b) (last_first (is_hidden_method g) (is_other_method (Some g)) (is_other_class (Some c)))
 
   pub call_so : (o : Option Member) → asked_of_method o ≡ option_map_or (call_fails files found wants_static wants_interface) o false
   call_so None = refl

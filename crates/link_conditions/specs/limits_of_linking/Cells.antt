@@ -4,7 +4,7 @@ use Rattle.std.specs.List.{filter}
 use Rattle.model.specs.Tree.{FieldTree, FileTree}
 use Rattle.model.specs.AccessFlags.{is_instance_field}
 use Rattle.model.specs.Classes.{name_of}
-use Rattle.model.specs.HiddenFields.{is_cell}
+use Rattle.model.specs.HiddenMembers.{is_cell}
 use Rattle.model.specs.Lookup.{field_member}
 
 abbrev pub is_own_cell : FileTree → FieldTree → Bool

@@ -1,43 +1,23 @@
-//! What classes and their superclasses have, so many steps up from each class.
+//! How many cells classes and their superclasses have, so many steps up from each class.
 
 ghost use Rattle.std.specs.Prelude.{◌≡◌, ◌+◌, ◌<◌, ℕ, length, map, IfOk};
-ghost use Rattle.std.specs.List.{filter};
-ghost use Rattle.model.specs.AccessFlags.{is_instance_field};
 ghost use Rattle.model.specs.Classes.{Program, classes_of};
-ghost use Rattle.classfile.specs.View.{file_of, field_of};
 ghost use Rattle.link_conditions.specs.limits_of_linking.Climbing.{climb, climbs, onward};
 
-use classfile::{ClassFile, Field, class_name};
+use crate::limits_of_linking::cells::own_cells;
+use classfile::class_name;
 use hierarchy::ClassSet;
 use std::alloc::{AllocError, Global};
 
-/// One more instance field than a class may have. What is more is counted as this.
+/// One more cell than a class may have. What is more is counted as this.
 const TOO_MANY: usize = 65_536;
 
-/// Some steps up from a class: where they lead, and how many instance fields the classes declare that they leave.
+/// Some steps up from a class: where they lead, and how many instance fields that count as cells the classes declare
+/// that they leave.
 #[derive(Clone, Copy)]
 pub(crate) struct Climb {
     pub next: Option<usize>,
-    pub fields: usize,
-}
-
-fn is_instance(field: &Field) -> bool
-    ensures { result ≡ is_instance_field (field_of field.now) }
-{
-    !field.is_static()
-}
-
-/// How many instance fields a class itself declares.
-fn own_fields(file: &ClassFile) -> usize
-    ensures { result ≡ length (filter is_instance_field (file_of file.now).fields) }
-{
-    let mut count = 0usize;
-    for field in &file.fields {
-        if is_instance(field) {
-            count += 1;
-        }
-    }
-    count
+    pub cells: usize,
 }
 
 /// One step up from the class of a name.
@@ -47,16 +27,16 @@ fn one_step(set: &ClassSet, class: &[u8]) -> Climb
     let Some(file) = set.class_of(class) else {
         return Climb {
             next: None,
-            fields: 0,
+            cells: 0,
         };
     };
-    let fields = own_fields(file).min(TOO_MANY);
+    let cells = own_cells(file).min(TOO_MANY);
     match set.superclass_of(class) {
         Some(superclass) => Climb {
             next: set.place_of(superclass),
-            fields,
+            cells,
         },
-        None => Climb { next: None, fields },
+        None => Climb { next: None, cells },
     }
 }
 
@@ -86,7 +66,7 @@ fn onward(climb: Climb, rows: &[Climb]) -> Climb
     };
     Climb {
         next: above.next,
-        fields: climb.fields.saturating_add(above.fields).min(TOO_MANY),
+        cells: climb.cells.saturating_add(above.cells).min(TOO_MANY),
     }
 }
 
@@ -117,7 +97,7 @@ fn steps_each(alloc: Global, one: &[Climb], steps: usize) -> Result<Vec<Climb>, 
     both(alloc, &even, one)
 }
 
-/// For each class how many instance fields it has, with those of its superclasses, or one more than are allowed.
+/// For each class how many cells it has, with those of its superclasses, or one more than are allowed.
 pub(crate) fn climb_all(alloc: Global, set: &ClassSet) -> Result<Vec<Climb>, AllocError>
     ensures { IfOk result (λ rows. rows.items ≡ climbs set.now (length (classes_of set.now))) }
 {

@@ -1,4 +1,4 @@
-//! How many instance fields a class may have (own).
+//! How many instance fields of a class may count as cells (own).
 
 ghost use Rattle.std.specs.Prelude.{◌≡◌, position, nat_lt, IfOk};
 ghost use Rattle.model.specs.Linkable.{too_many_fields};
@@ -8,19 +8,19 @@ use hierarchy::ClassSet;
 use model::BUILT_IN_CLASSES;
 use std::alloc::{AllocError, Global};
 
-/// How many instance fields a class may have, with those of its superclasses.
-const MAX_FIELDS: usize = 65_535;
+/// How many cells a class may have, with those of its superclasses.
+const MAX_CELLS: usize = 65_535;
 
 /// The first class that has more.
 fn first_above_limit(classes: &[Climb]) -> Option<usize>
-    ensures { result ≡ position (λ row. nat_lt MAX_FIELDS row.fields) classes.now }
+    ensures { result ≡ position (λ row. nat_lt MAX_CELLS row.cells) classes.now }
 {
-    classes.iter().position(|row| row.fields > MAX_FIELDS)
+    classes.iter().position(|row| row.cells > MAX_CELLS)
 }
 
-/// The first file whose class has more than 65,535 instance fields, with those of its superclasses. Files count from 0.
-/// Takes the time of n steps for each doubling of n, where n is the number of classes, however long a chain of
-/// superclasses is.
+/// The first file whose class has more than 65,535 instance fields that count as cells, with those of its superclasses.
+/// Files count from 0. Takes the time of n steps for each doubling of n, where n is the number of classes, however long
+/// a chain of superclasses is.
 pub fn first_with_too_many_fields(
     alloc: Global,
     set: &ClassSet,

@@ -1,8 +1,10 @@
 //! The field or the method at a place.
 
-ghost use Rattle.std.specs.Prelude.{◌≡◌, IsFalse, false};
+ghost use Rattle.std.specs.Prelude.{◌≡◌, IsFalse, false, map};
+ghost use Rattle.std.specs.List.{list_any};
 ghost use Rattle.std.specs.Option.{option_map_or};
 ghost use Rattle.model.specs.Names.{member_eq};
+ghost use Rattle.model.specs.HiddenMembers.{is_hidden, is_hidden_method};
 ghost use Rattle.model.specs.AccessFlags.{is_static_field, is_static_method};
 ghost use Rattle.model.specs.Tree.{FieldTree, MethodTree};
 ghost use Rattle.model.specs.Lookup.{field_of, method_of};
@@ -11,6 +13,7 @@ ghost use Rattle.model.specs.Resolution.{differs};
 ghost use Rattle.constant_pool.specs.View.{reference_of};
 ghost use Rattle.hierarchy.specs.Places.{member_in, IsFieldAt, IsMethodAt};
 
+use crate::hidden_members::{HIDDEN_FIELDS, HIDDEN_METHODS};
 use classfile::Reference;
 use hierarchy::{ClassSet, MemberPlace};
 
@@ -75,4 +78,50 @@ pub(crate) fn is_field(
     wanted.class == set.name_at(place.class)
         && wanted.name == field.name
         && wanted.descriptor == field.descriptor
+}
+
+/// Whether a member of a built-in class is the one that is found at a place.
+fn is_found(
+    set: &ClassSet,
+    member: Reference<'_>,
+    place: MemberPlace,
+    wanted: Reference<'_>,
+) -> bool
+    ensures { result ≡ member_eq (member_in set.now (reference_of member.entry) place) (reference_of wanted.entry) }
+{
+    set.name_at(place.class) == wanted.class
+        && member.name == wanted.name
+        && member.descriptor == wanted.descriptor
+}
+
+/// Whether one of some members is the one that is found at a place.
+fn is_among(
+    set: &ClassSet,
+    member: Reference<'_>,
+    place: MemberPlace,
+    all: &[Reference<'static>],
+) -> bool
+    ensures { result ≡ list_any (member_eq (member_in set.now (reference_of member.entry) place))
+        (map reference_of all.now) }
+{
+    for wanted in all {
+        if is_found(set, member, place, *wanted) {
+            return true;
+        }
+    }
+    false
+}
+
+/// Whether the field that is found at a place is hidden.
+pub(crate) fn is_hidden_field(set: &ClassSet, field: Reference<'_>, place: MemberPlace) -> bool
+    ensures { result ≡ is_hidden (member_in set.now (reference_of field.entry) place) }
+{
+    is_among(set, field, place, &HIDDEN_FIELDS)
+}
+
+/// Whether the method that is found at a place is hidden.
+pub(crate) fn is_hidden_method(set: &ClassSet, method: Reference<'_>, place: MemberPlace) -> bool
+    ensures { result ≡ is_hidden_method (member_in set.now (reference_of method.entry) place) }
+{
+    is_among(set, method, place, &HIDDEN_METHODS)
 }

@@ -9,18 +9,18 @@ ghost use Rattle.model.specs.Pool.{class_name_at, reference_at, field_at, method
 ghost use Rattle.model.specs.Classes.{class_of};
 ghost use Rattle.model.specs.Linkable.{stands, DuplicateClass};
 ghost use Rattle.model.specs.DescriptorParts.{is_array_class};
-ghost use Rattle.model.specs.HiddenFields.{is_hidden};
 ghost use Rattle.model.specs.Resolution.{is_missing, is_missing_catch, member_classes, is_uninstantiable, wants_static_field, is_system_stream, unresolved_instruction};
 ghost use Rattle.constant_pool.specs.View.{reference_of};
 ghost use Rattle.classfile.specs.View.{file_of};
-ghost use Rattle.hierarchy.specs.Places.{member_in, IsFieldAt};
+ghost use Rattle.hierarchy.specs.Places.{member_in, IsFieldAt, IsMethodAt};
 ghost use Rattle.link_conditions.specs.resolution.Rows.{lacking_texts};
-ghost use Rattle.link_conditions.specs.resolution.Operands.{is_put_static, fails_access};
+ghost use Rattle.link_conditions.specs.resolution.Operands.{is_put_static, fails_access, fails_call};
 
-use crate::hidden_fields::{BUILDER_TEXT, THREAD_TARGET};
 use crate::resolution::descriptor::{descriptor_lacks_class, text_lacks_class};
 use crate::resolution::found::found_in_class;
-use crate::resolution::member::{is_field, is_field_of_other_kind, is_method_of_other_kind};
+use crate::resolution::member::{
+    is_field, is_field_of_other_kind, is_hidden_field, is_hidden_method, is_method_of_other_kind,
+};
 use classfile::access_flags::{ABSTRACT, INTERFACE, has};
 use classfile::{ClassFile, Constant, Reference};
 use hierarchy::{ClassSet, Hierarchy, MemberPlace};
@@ -215,13 +215,6 @@ fn puts_stream(
     }
 }
 
-/// Whether the field that is found at a place is hidden.
-fn is_hidden(set: &ClassSet, field: Reference<'_>, place: MemberPlace) -> bool
-    ensures { result ≡ is_hidden (member_in set.now (reference_of field.entry) place) }
-{
-    is_field(set, field, place, THREAD_TARGET) || is_field(set, field, place, BUILDER_TEXT)
-}
-
 /// Whether an instruction may not access the field that it finds at a place: it is static where an instance field is
 /// wanted or the reverse, it is put and is System.out or System.err, or it is hidden.
 fn fails_access(
@@ -237,7 +230,18 @@ fn fails_access(
     if is_field_of_other_kind(set, field, place, wants_static_field(access)) {
         return true;
     }
-    puts_stream(set, access, field, place) || is_hidden(set, field, place)
+    puts_stream(set, access, field, place) || is_hidden_field(set, field, place)
+}
+
+/// Whether a call may not have the method that it finds at a place: it is hidden, or is static where an instance
+/// method is wanted or the reverse.
+fn fails_call(set: &ClassSet, method: Reference<'_>, place: MemberPlace, wants_static: bool) -> bool
+    requires differ { IsFalse (stands set.now DuplicateClass) }
+    requires at { IsMethodAt set.now (reference_of method) place }
+    ensures { result ≡ fails_call set.now wants_static (member_in set.now (reference_of method.entry) place) }
+{
+    is_hidden_method(set, method, place)
+        || is_method_of_other_kind(set, method, place, wants_static)
 }
 
 /// Whether the field of an index is not found, or not as an instruction wants it that accesses it.
@@ -286,7 +290,7 @@ pub(crate) fn is_method_unresolved(
     }
     let wants_static = matches!(invocation, Invocation::Static);
     match found_in_class(hierarchy, method) {
-        Some(place) => is_method_of_other_kind(set, method, place, wants_static),
+        Some(place) => fails_call(set, method, place, wants_static),
         None => true,
     }
 }
@@ -310,7 +314,7 @@ pub(crate) fn is_interface_method_unresolved(
         return true;
     }
     match hierarchy.find_interface_method(method) {
-        Some(place) => is_method_of_other_kind(set, method, place, false),
+        Some(place) => fails_call(set, method, place, false),
         None => true,
     }
 }

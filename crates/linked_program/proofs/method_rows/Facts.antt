@@ -211,12 +211,12 @@ told_there files class k file m c s call told = subst (λ o. IsTold files o (Som
 
 -- ---- methods of the machine
 
-pub or_constructs : (o : Option BuiltInMethod) (q : Option model.BuiltInMethod) → option_map built_in_of o ≡ q → built_in_of (unwrap_or o method.Construct) ≡ unwrap_or q model.Construct
-or_constructs o q e = by o ∙ ap (λ x. unwrap_or x model.Construct) e
-  where
-    by : (o : Option BuiltInMethod) → built_in_of (unwrap_or o method.Construct) ≡ unwrap_or (option_map built_in_of o) model.Construct
-    by None = refl
-    by (Some b) = refl
+-- what has a row is told by it, and what has none by a default
+pub with_row : (b : BuiltInMethod) (q : Option model.BuiltInMethod) (d : model.BuiltInMethod) → Some (built_in_of b) ≡ q → built_in_of b ≡ unwrap_or q d
+with_row b q d e = ap (λ x. unwrap_or x d) e
+
+pub without_row : (b : BuiltInMethod) (q : Option model.BuiltInMethod) (d : model.BuiltInMethod) → None ≡ q → built_in_of b ≡ d → built_in_of b ≡ unwrap_or q d
+without_row b q d e h = h ∙ ap (λ x. unwrap_or x d) e
 
 -- ---- rows of all methods
 

@@ -63,14 +63,14 @@ pub(crate) fn field_count(
     fields: &FieldLinks,
     class: usize,
     file: &ClassFile,
-) -> u16
+) -> u32
     requires linked { IsLinked set.now }
     requires fields { AreFieldLinks set.now fields.now }
     requires stands { class_at set.now class ≡ Some (file_of file.now) }
     ensures { result ≡ length (instance_fields set.now (name_of (file_of file.now))) }
 {
     match fields.slot_count(class) {
-        Some(count) => count as u16,
+        Some(count) => count as u32,
         None => 0,
     }
 }

@@ -8,6 +8,7 @@ ghost use Rattle.linker.specs.class_constants.Constants.{slots_before};
 ghost use Rattle.linked_program.specs.class_rows.Sources.{AreSources, selections_of};
 
 use crate::class_rows::initialiser::initialiser_of;
+use crate::class_rows::name::dotted_name;
 use crate::class_rows::numbers::{field_count, superclass_number};
 use crate::class_rows::sources::{RowSources, Selections};
 use classfile::{ClassFile, class_name};
@@ -33,6 +34,7 @@ pub(crate) fn row_of(
 {
     let set = sources.set;
     Ok(LinkedClass {
+        name: dotted_name(alloc, file)?,
         superclass: superclass_number(set, file),
         is_interface: set.is_interface(class_name(file)),
         fields: field_count(set, sources.fields, class, file),

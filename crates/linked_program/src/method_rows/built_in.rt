@@ -3,13 +3,13 @@
 ghost use Rattle.std.specs.Prelude.{◌≡◌, find, map, option_map};
 ghost use Rattle.constant_pool.specs.View.{reference_of};
 ghost use Rattle.model.specs.Names.{member_eq};
-ghost use Rattle.model.specs.BuiltInMethods.{built_in_method, is_row_of};
+ghost use Rattle.model.specs.BuiltInMethods.{built_in_method, constructor_of, is_row_of};
 ghost use Rattle.linked_code.specs.Methods.{built_in_of};
 ghost use Rattle.linked_program.specs.method_rows.BuiltIns.{declared_member, entry_of};
 
 use classfile::Reference;
 use linked_code::BuiltInMethod;
-use model::{BuilderMethod, PrintMethod, StringMethod};
+use model::{BuilderMethod, ObjectMethod, PrintMethod, StringMethod};
 
 /// A method of a built-in class that has no code.
 #[derive(Clone, Copy)]
@@ -20,8 +20,8 @@ struct Declared {
     method: BuiltInMethod,
 }
 
-/// All but the constructors that only take their operands.
-const DECLARED: [Declared; 37] = [
+/// All but the constructors of exceptions, and those that only take their operands.
+const DECLARED: [Declared; 42] = [
     Declared {
         class: b"java/lang/Object",
         name: b"wait",
@@ -244,6 +244,36 @@ const DECLARED: [Declared; 37] = [
         descriptor: b"()Ljava/lang/String;",
         method: BuiltInMethod::StringBuilderBuilds(BuilderMethod::ToString),
     },
+    Declared {
+        class: b"java/lang/Object",
+        name: b"hashCode",
+        descriptor: b"()I",
+        method: BuiltInMethod::ObjectAnswers(ObjectMethod::HashCode),
+    },
+    Declared {
+        class: b"java/lang/Object",
+        name: b"getClass",
+        descriptor: b"()Ljava/lang/Class;",
+        method: BuiltInMethod::ObjectAnswers(ObjectMethod::GetClass),
+    },
+    Declared {
+        class: b"java/lang/System",
+        name: b"identityHashCode",
+        descriptor: b"(Ljava/lang/Object;)I",
+        method: BuiltInMethod::ObjectAnswers(ObjectMethod::IdentityHashCode),
+    },
+    Declared {
+        class: b"java/lang/Class",
+        name: b"getName",
+        descriptor: b"()Ljava/lang/String;",
+        method: BuiltInMethod::ObjectAnswers(ObjectMethod::ClassName),
+    },
+    Declared {
+        class: b"java/lang/String",
+        name: b"described",
+        descriptor: b"(Ljava/lang/Object;I)Ljava/lang/String;",
+        method: BuiltInMethod::ObjectAnswers(ObjectMethod::Described),
+    },
 ];
 
 fn is_declared(declared: &Declared, method: Reference<'_>) -> bool
@@ -267,9 +297,26 @@ fn declared_among(all: &[Declared], method: Reference<'_>) -> Option<BuiltInMeth
     None
 }
 
-/// Which of them a method without code is: the constructors that only take their operands have no row of their own.
+/// Which method a constructor is that has no row of its own, by its descriptor.
+fn constructor(descriptor: &[u8]) -> BuiltInMethod
+    ensures { built_in_of result ≡ constructor_of descriptor.now }
+{
+    if descriptor == b"(Ljava/lang/String;)V".as_slice() {
+        return BuiltInMethod::ConstructWithMessage;
+    }
+    if descriptor == b"(Ljava/lang/String;Ljava/lang/Throwable;)V".as_slice() {
+        return BuiltInMethod::ConstructWithCause;
+    }
+    BuiltInMethod::Construct
+}
+
+/// Which of them a method without code is: the constructors of exceptions and those that only take their operands have
+/// no row of their own.
 pub(crate) fn built_in_method(method: Reference<'_>) -> BuiltInMethod
     ensures { built_in_of result ≡ built_in_method (reference_of method.entry) }
 {
-    declared_among(&DECLARED, method).unwrap_or(BuiltInMethod::Construct)
+    match declared_among(&DECLARED, method) {
+        Some(declared) => declared,
+        None => constructor(method.descriptor),
+    }
 }

@@ -6,7 +6,7 @@ use Rattle.std.proofs.lemmas.List.{length-map}
 use Rattle.model.specs.Tree.{FileTree}
 use Rattle.model.specs.AccessFlags.{is_static_field}
 use Rattle.model.specs.Classes.{Program, name_of, classes_of}
-use Rattle.model.specs.HiddenFields.{is_cell}
+use Rattle.model.specs.HiddenMembers.{is_cell}
 use Rattle.model.specs.Lookup.{instance_fields, field_member}
 use Rattle.model.specs.Names.{Member}
 use Rattle.model.specs.Opening.{static_fields_in}
@@ -55,7 +55,7 @@ shapes_length : (what : Counted) (files : Program) → length (shapes what files
 unfolding shapes
 shapes_length what files = length-map (classes_of files) (shape_of what files)
 
-count_fits : (what : Counted) (fields : List Member) → length fields ≤ 65535 → count_in what fields ≤ 65535
+count_fits : (what : Counted) (fields : List Member) → length fields ≤ 65538 → count_in what fields ≤ 65538
 count_fits counted.Fields fields h = h
 count_fits counted.Cells fields h = omega (arith, h, length-filter-le is_cell fields)
 

@@ -8,7 +8,7 @@ use Rattle.model.specs.Names.{Name, Member}
 use Rattle.model.specs.Tree.{FileTree}
 use Rattle.model.specs.AccessFlags.{is_instance_field}
 use Rattle.model.specs.Classes.{Program, name_of, super_name_of, is_named, class_of, classes_of, superclass_of}
-use Rattle.model.specs.HiddenFields.{is_cell}
+use Rattle.model.specs.HiddenMembers.{is_cell}
 use Rattle.model.specs.Lookup.{own_instance_fields, field_member}
 use Rattle.run_laws.proofs.laws.Homes.{class_named}
 use Rattle.link_conditions.proofs.limits_of_linking.CellLaws.{own_cells_are}

@@ -6,7 +6,7 @@ use Rattle.model.specs.Names.{Member}
 use Rattle.model.specs.Tree.{FileTree}
 use Rattle.model.specs.AccessFlags.{is_instance_field}
 use Rattle.model.specs.Classes.{Program, super_name_of, classes_of}
-use Rattle.model.specs.HiddenFields.{is_cell}
+use Rattle.model.specs.HiddenMembers.{is_cell}
 use Rattle.hierarchy.specs.Places.{place_of}
 use Rattle.link_conditions.specs.limits_of_linking.Cells.{own_cells}
 use Rattle.linker.specs.declared.field_links.chain.Counted.{Counted}

@@ -4,7 +4,7 @@ use Rattle.std.specs.Option.{option_and_then}
 use Rattle.std.specs.List.{filter}
 use Rattle.model.specs.Names.{Name, Member, member_eq, system_out, system_err}
 use Rattle.model.specs.Tree.{FieldTree, FileTree}
-use Rattle.model.specs.HiddenFields.{is_cell}
+use Rattle.model.specs.HiddenMembers.{is_cell}
 use Rattle.model.specs.Pool.{field_at}
 use Rattle.model.specs.Classes.{Program, name_of, is_subclass}
 use Rattle.model.specs.Lookup.{is_static_field, field_of, find_field, instance_fields}

@@ -10,8 +10,8 @@
 //!   many of the slots count for the limit on cells (`is_cell`).
 //! - `ClassNumbers` and `StringNumbers`: a Class entry by the place of its class, a String entry by the place of its
 //!   text among all texts (`string_texts`): those of the files, of the built-in classes and of the machine, each once.
-//!   `into_texts` gives these in UTF-16 code units (`decoded`), `empty_text` the place of the empty one. - The getters
-//!   take no memory.
+//!   `into_texts` gives these in UTF-16 code units (`decoded`), `empty_text` and `division_text` the places of the empty
+//!   one and of `/ by zero`. The getters take no memory.
 //!
 //! # Wrong bodies
 //!

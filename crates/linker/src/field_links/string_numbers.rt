@@ -7,7 +7,7 @@ ghost use Rattle.model.specs.BuiltIn.{built_in_classes};
 ghost use Rattle.model.specs.Classes.{Program};
 ghost use Rattle.model.specs.Names.{name_eq};
 ghost use Rattle.model.specs.Pool.{string_at};
-ghost use Rattle.model.specs.StringConstants.{texts_in, file_texts, machine_texts, string_texts};
+ghost use Rattle.model.specs.StringConstants.{division_text, texts_in, file_texts, machine_texts, string_texts};
 ghost use Rattle.model.specs.Texts.{decoded};
 ghost use Rattle.classfile.specs.View.{file_of};
 ghost use Rattle.link_conditions.specs.limits_of_linking.Texts.{with_texts};
@@ -32,6 +32,8 @@ pub struct StringNumbers {
     texts: Vec<Vec<u16>>,
     /// The number of the empty text.
     empty: usize,
+    /// The number of what a division by zero tells.
+    division: usize,
 }
 
 impl Model for StringNumbers {
@@ -44,6 +46,7 @@ impl Model for StringNumbers {
       rows = map (λ row. row.items) s.rows.items;
       texts = map (λ text. text.items) s.texts.items;
       empty = s.empty;
+      division = s.division;
     } };
 }
 
@@ -107,11 +110,11 @@ fn decoded_texts(alloc: Global, texts: &TextSet) -> Result<Vec<Vec<u16>>, AllocE
     Ok(all)
 }
 
-/// The number of the empty text, or how many texts there are.
-fn number_of_empty(texts: &TextSet) -> usize
-    ensures { result ≡ position_or_len (name_eq []) texts.now }
+/// The number of a text, or how many texts there are.
+fn number_or_count(texts: &TextSet, text: &[u8]) -> usize
+    ensures { result ≡ position_or_len (name_eq text.now) texts.now }
 {
-    match texts.number_of(b"") {
+    match texts.number_of(text) {
         Some(number) => number,
         None => texts.count(),
     }
@@ -178,7 +181,8 @@ impl StringNumbers {
         Ok(StringNumbers {
             rows: number_rows(alloc, set, &texts)?,
             texts: decoded_texts(alloc, &texts)?,
-            empty: number_of_empty(&texts),
+            empty: number_or_count(&texts, b""),
+            division: number_or_count(&texts, b"/ by zero"),
         })
     }
 
@@ -206,6 +210,14 @@ impl StringNumbers {
             → result ≡ position_or_len (name_eq []) (string_texts files) }
     {
         self.empty
+    }
+
+    /// The number of what a division by zero tells.
+    pub fn division_text(&self) -> usize
+        ensures { (files : Program) → AreStringNumbers files self.now
+            → result ≡ position_or_len (name_eq division_text) (string_texts files) }
+    {
+        self.division
     }
 
     /// The texts in their order, in UTF-16 code units.

@@ -83,19 +83,19 @@ needed_class trees t None world stack rest e = e
 needed_class trees t (Some class) world stack rest e = needed trees t class (look_by t (status_of world class)) world stack rest e
 
 -- the initialiser enters no monitor
-unentered : (frames t : ℕ) (world : WorldOf ℕ) (stack : StackOf ℕ) (frame : FrameOf ℕ) → frame.entered ≡ None
-    → is_enabled_by (pushed frames t world world stack stack frame) ≡ true
-unentered frames t world stack frame none = by (nat_lt (frame_count stack) frames)
+unentered : (trees : Program) (frames t : ℕ) (world : WorldOf ℕ) (stack : StackOf ℕ) (frame : FrameOf ℕ) → frame.entered ≡ None
+    → is_enabled_by (pushed words trees frames t world world stack stack frame) ≡ true
+unentered trees frames t world stack frame none = by (nat_lt (frame_count stack) frames)
   where
-    by : (b : Bool) → is_enabled_by (if b then entering t world stack frame frame.entered else step.raised t StackOverflow world stack)
+    by : (b : Bool) → is_enabled_by (if b then entering t world stack frame frame.entered else step.raised words trees t StackOverflow world stack)
         ≡ true
     by true = ap (λ (o : Option ℕ). is_enabled_by (entering t world stack frame o)) none
     by false = refl
 
 initialiser_enabled : (trees : Program) (frames t : ℕ) (class : Name) (world : WorldOf ℕ) (stack : StackOf ℕ) (o : Option Body)
-    → is_enabled_by (initialiser_event words frames t (initialiser_of class) world stack o) ≡ true
+    → is_enabled_by (initialiser_event words trees frames t (initialiser_of class) world stack o) ≡ true
 initialiser_enabled trees frames t class world stack None = refl
-initialiser_enabled trees frames t class world stack (Some body) = unentered frames t world stack _ refl
+initialiser_enabled trees frames t class world stack (Some body) = unentered trees frames t world stack _ refl
 
 pub super_enabled : (trees : Program) (frames t : ℕ) (class : Name) (world : WorldOf ℕ) (rest : StackOf ℕ) (o : Option Name)
     → before trees class ≡ o
@@ -107,12 +107,12 @@ super_enabled trees frames t class world rest o e =
 
 -- ---- the first call of a thread
 
-pub push_enabled : (frames t : ℕ) (world after : WorldOf ℕ) (frame : FrameOf ℕ) (locks : List Monitor) → locks ≡ after.monitors
-    → call_may_begin locks t frames frame.entered ≡ is_enabled_by (pushed frames t world after [] [] frame)
-push_enabled zero t world after frame locks e = refl
-push_enabled (suc n) t world after frame locks e =
+pub push_enabled : (trees : Program) (frames t : ℕ) (world after : WorldOf ℕ) (frame : FrameOf ℕ) (locks : List Monitor) → locks ≡ after.monitors
+    → call_may_begin locks t frames frame.entered ≡ is_enabled_by (pushed words trees frames t world after [] [] frame)
+push_enabled trees zero t world after frame locks e = refl
+push_enabled trees (suc n) t world after frame locks e =
     let room : nat_lt 0 (suc n) ≡ true = lt-ltb 0 (suc n) (omega arith) in
-    by frame.entered ∙ sym (ap (λ b. is_enabled_by (if b then entering t after [] frame frame.entered else step.raised t StackOverflow world [])) room)
+    by frame.entered ∙ sym (ap (λ b. is_enabled_by (if b then entering t after [] frame frame.entered else step.raised words trees t StackOverflow world [])) room)
   where
     by : (o : Option ℕ) → call_may_begin locks t (suc n) o ≡ is_enabled_by (entering t after [] frame o)
     by None = refl
@@ -122,43 +122,44 @@ push_enabled (suc n) t world after frame locks e =
 
 -- ---- a pending exception
 
-left : (t : ℕ) (o : Option ℕ) (world : WorldOf ℕ) (rest stack : StackOf ℕ) → is_enabled_by (leaving t o world rest stack) ≡ true
-left t None world rest stack = refl
-left t (Some object) world rest stack = by (is_owner world t object)
+left : (trees : Program) (t : ℕ) (o : Option ℕ) (world : WorldOf ℕ) (rest stack : StackOf ℕ) → is_enabled_by (leaving words trees t o world rest stack) ≡ true
+left trees t None world rest stack = refl
+left trees t (Some object) world rest stack = by (is_owner world t object)
   where
-    by : (b : Bool) → is_enabled_by (if b then step.on_to (with_exit world t object) rest else step.raised t IllegalMonitorState world
+    by : (b : Bool) → is_enabled_by (if b then step.on_to (with_exit world t object) rest else step.raised words trees t IllegalMonitorState world
         stack) ≡ true
     by true = refl
     by false = refl
 
-unwinds : (t exception : ℕ) (world : WorldOf ℕ) (frame : FrameOf ℕ) (stack : StackOf ℕ) (o : Option ExceptionEntry)
-    → is_enabled_by (unwound words t exception world frame stack o) ≡ true
-unwinds t exception world frame stack None = left t frame.entered world stack stack
-unwinds t exception world frame stack (Some entry) = refl
+unwinds : (trees : Program) (t exception : ℕ) (world : WorldOf ℕ) (frame : FrameOf ℕ) (stack : StackOf ℕ) (o : Option ExceptionEntry)
+    → is_enabled_by (unwound words trees t exception world frame stack o) ≡ true
+unwinds trees t exception world frame stack None = left trees t frame.entered world stack stack
+unwinds trees t exception world frame stack (Some entry) = refl
 
-fails : (t : ℕ) (b : Bool) (world : WorldOf ℕ) (stack : StackOf ℕ) → is_enabled_by (failed t b world stack) ≡ true
-fails t true world stack = refl
-fails t false world stack = refl
+fails : (trees : Program) (t exception : ℕ) (b : Bool) (world : WorldOf ℕ) (stack : StackOf ℕ)
+    → is_enabled_by (failed words trees t exception b world stack) ≡ true
+fails trees t exception true world stack = refl
+fails trees t exception false world stack = refl
 
 pub pending_enabled : (trees : Program) (t exception : ℕ) (thrown : Option ReferenceType) (world : WorldOf ℕ) (entry : StackEntryOf ℕ)
     (stack : StackOf ℕ)
     → is_enabled_by (pending_event words trees t exception thrown world (entry ∷ stack)) ≡ true
 pending_enabled trees t exception thrown world (Invocation frame) stack =
-    unwinds t exception world frame stack (option_and_then (handler_in trees frame.place.offset thrown) (body_of trees frame.method))
+    unwinds trees t exception world frame stack (option_and_then (handler_in trees frame.place.offset thrown) (body_of trees frame.method))
 pending_enabled trees t exception thrown world (Initialisation class phase) stack =
-    fails t (is_object_of trees (ClassType java_lang_error) thrown) (initialisation.with_class_status world class Erroneous) stack
+    fails trees t exception (is_object_of trees (ClassType java_lang_error) thrown) (initialisation.with_class_status world class Erroneous) stack
 
 -- ---- a thread that has left a wait set
 
 goes_on : (trees : Program) (t : ℕ) (cause : WakeCause) (b : Bool) (world : WorldOf ℕ) (stack : StackOf ℕ)
-    → is_enabled_by (enabled_if b (after_wait trees t cause world stack)) ≡ b
+    → is_enabled_by (enabled_if b (after_wait words trees t cause world stack)) ≡ b
 goes_on trees t Notified true world stack = refl
 goes_on trees t Interrupted true world stack = refl
 goes_on trees t cause false world stack = refl
 
 pub relock_enabled : (trees : Program) (t object count : ℕ) (cause : WakeCause) (world : WorldOf ℕ) (stack : StackOf ℕ)
     (locks : List Monitor) → locks ≡ world.monitors
-    → is_done (monitors.relock object t count locks).answer ≡ is_enabled_by (relock_event trees t object count cause world stack)
+    → is_done (monitors.relock object t count locks).answer ≡ is_enabled_by (relock_event words trees t object count cause world stack)
 relock_enabled trees t object count cause world stack locks e =
     ap (λ (ms : List Monitor). is_done (monitors.relock object t count ms).answer) e
     ∙ sym (goes_on trees t cause (is_done (monitors.relock object t count world.monitors).answer) (with_status (with_monitors world (monitors.relock object t count world.monitors)) t Running) stack)

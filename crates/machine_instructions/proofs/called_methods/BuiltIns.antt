@@ -1,21 +1,25 @@
 -- Which members some of the built-in methods are.
-use Rattle.std.proofs.Common.{◌≡◌, ◌+◌, ◌==◌, ◌&&◌, ℕ, not, if◌then◌else◌, eqb-true, Bool, true, false, Option, Some, None, refl}
-use Rattle.std.specs.Prelude.{codes}
+use Rattle.std.proofs.Common.{◌≡◌, ◌+◌, ◌==◌, ◌&&◌, ℕ, not, if◌then◌else◌, eqb-true, Bool, true, false, Option, Some, None, refl, sym, ap, subst, ◌∙◌}
+use Rattle.std.specs.Prelude.{codes, find, length, unwrap_or}
+use Rattle.std.specs.Option.{option_map, option_map_or}
 use Rattle.std.specs.List.{list_all}
-use Rattle.std.proofs.lemmas.Bool.{and_parts, not-true}
+use Rattle.std.proofs.lemmas.Bool.{and_parts, cond_both, eq-eqb, not-true}
 use Rattle.model.specs.declared.print_method.PrintMethod.{PrintMethod}
 use Rattle.model.specs.declared.print_method.PrintMethod.TheVariants.{Println}
 use Rattle.model.specs.declared.builder_method.BuilderMethod.{BuilderMethod}
 use Rattle.model.specs.declared.string_method.StringMethod.{StringMethod}
-use Rattle.model.specs.Names.{Member, member_eq, constructor_name}
+use Rattle.model.specs.declared.object_method.ObjectMethod.TheVariants as asked
+use Rattle.model.specs.Names.{Name, name_eq, Member, member_eq, constructor_name}
 use Rattle.model.specs.AccessFlags.{is_private_method}
 use Rattle.model.specs.BuiltIn.{built_in_classes}
 use Rattle.model.specs.DescriptorScan.{element_at, field_at, field_type, parameters_at, method_type}
 use Rattle.model.specs.Classes.{Program}
 use Rattle.model.specs.Calls.{is_one, parameter_count}
+use Rattle.model.specs.DescribedTypes.{parameters_declared}
 use Rattle.model.specs.Lookup.{is_static_method}
-use Rattle.model.specs.BuiltInMethods.{BuiltInMethod, Construct, ConstructWithTarget, ObjectWait, ObjectNotify, ObjectNotifyAll, ThreadStart, ThreadInterrupt, ThreadIsInterrupted, ThreadInterrupted, ThreadYield, ThreadCurrentThread, ThreadJoin, ThreadIsAlive, PrintStreamPrints, StringAnswers, StringBuilderBuilds, of_thread, built_in_methods, built_in_method}
-use Rattle.run_laws.proofs.laws.Classes.{members_same}
+use Rattle.model.specs.BuiltInMethods.{BuiltInMethod, Construct, ConstructWithMessage, ConstructWithCause, ConstructWithTarget, ObjectWait, ObjectNotify, ObjectNotifyAll, ThreadStart, ThreadInterrupt, ThreadIsInterrupted, ThreadInterrupted, ThreadYield, ThreadCurrentThread, ThreadJoin, ThreadIsAlive, PrintStreamPrints, StringAnswers, StringBuilderBuilds, ObjectAnswers, of_thread, built_in_methods, built_in_method, constructor_of, is_row_of}
+use Rattle.run_laws.proofs.laws.Classes.{members_same, names_same}
+use Rattle.run_laws.proofs.laws.Found.{found_passes, found_has, every_all}
 use Rattle.run_laws.proofs.word_runs.WordBuiltIns.{passes, passed}
 use Rattle.machine_instructions.specs.thread_methods.Called.{string_operands, builder_operands}
 
@@ -27,11 +31,11 @@ abbrev pub member_for : BuiltInMethod → Option Member
 member_for ConstructWithTarget = Some target_constructor
 member_for _ = None
 
-all_known : list_all (passes member_for refl member_eq) built_in_methods ≡ true
+all_known : list_all (passes member_for (refl, (refl, refl)) member_eq) built_in_methods ≡ true
 all_known = refl
 
 pub known : (method is : Member) → member_for (built_in_method method) ≡ Some is → method ≡ is
-known method is e = members_same method is (passed member_for refl member_eq all_known method is e)
+known method is e = members_same method is (passed member_for (refl, (refl, refl)) member_eq all_known method is e)
 
 pub target_is_public : (files : Program) → is_one is_private_method files target_constructor ≡ false
 unfolding built_in_classes
@@ -46,6 +50,8 @@ print_place _ = 1
 
 abbrev pub receiver_place : BuiltInMethod → Option ℕ
 receiver_place Construct = None
+receiver_place ConstructWithMessage = None
+receiver_place ConstructWithCause = None
 receiver_place ConstructWithTarget = Some 1
 receiver_place ObjectWait = Some 0
 receiver_place ObjectNotify = Some 0
@@ -61,12 +67,17 @@ receiver_place ThreadIsAlive = Some 0
 receiver_place (PrintStreamPrints print) = Some (print_place print)
 receiver_place (StringAnswers string) = None
 receiver_place (StringBuilderBuilds builds) = None
+receiver_place (ObjectAnswers asked.HashCode) = Some 0
+receiver_place (ObjectAnswers asked.IdentityHashCode) = None
+receiver_place (ObjectAnswers asked.GetClass) = Some 0
+receiver_place (ObjectAnswers asked.ClassName) = Some 0
+receiver_place (ObjectAnswers asked.Described) = None
 
 -- it is under the parameters, and the method is not static
 abbrev is_placed : Program → Member → ℕ → Bool
 is_placed files method k = (parameter_count method == k) && not (is_one is_static_method files method)
 
-all_placed : (files : Program) → list_all (passes receiver_place refl (is_placed files)) built_in_methods ≡ true
+all_placed : (files : Program) → list_all (passes receiver_place (refl, (refl, refl)) (is_placed files)) built_in_methods ≡ true
 unfolding built_in_classes method_type parameters_at field_at field_type element_at
 all_placed files = refl
 
@@ -76,7 +87,7 @@ pub record Placed (files : Program) (method : Member) (k : ℕ) : Type 0 where
 
 pub placed : (files : Program) (method : Member) (k : ℕ) → receiver_place (built_in_method method) ≡ Some k → Placed files method k
 placed files method k e =
-    let here = and_parts (parameter_count method == k) _ (passed receiver_place refl (is_placed files) (all_placed files) method k e) in
+    let here = and_parts (parameter_count method == k) _ (passed receiver_place (refl, (refl, refl)) (is_placed files) (all_placed files) method k e) in
     record { place = eqb-true (parameter_count method) k here.0; instance = not-true (is_one is_static_method files method) here.1 }
 
 -- ---- the operands of a method of String
@@ -92,14 +103,14 @@ operands_of files method = parameter_count method + (if is_one is_static_method 
 abbrev is_counted : Program → Member → StringMethod → Bool
 is_counted files method string = string_operands string == operands_of files method
 
-all_counted : (files : Program) → list_all (passes string_of refl (is_counted files)) built_in_methods ≡ true
+all_counted : (files : Program) → list_all (passes string_of (refl, (refl, refl)) (is_counted files)) built_in_methods ≡ true
 unfolding built_in_classes method_type parameters_at field_at field_type element_at
 all_counted files = refl
 
 pub string_counted : (files : Program) (method : Member) (string : StringMethod) → string_of (built_in_method method) ≡ Some string
     → string_operands string ≡ operands_of files method
 string_counted files method string e =
-    eqb-true (string_operands string) (operands_of files method) (passed string_of refl (is_counted files) (all_counted files) method string e)
+    eqb-true (string_operands string) (operands_of files method) (passed string_of (refl, (refl, refl)) (is_counted files) (all_counted files) method string e)
 
 -- ---- of a method of StringBuilder
 
@@ -110,11 +121,88 @@ builder_of _ = None
 abbrev is_builder_counted : Program → Member → BuilderMethod → Bool
 is_builder_counted files method builds = builder_operands builds == operands_of files method
 
-all_builders_counted : (files : Program) → list_all (passes builder_of refl (is_builder_counted files)) built_in_methods ≡ true
+all_builders_counted : (files : Program) → list_all (passes builder_of (refl, (refl, refl)) (is_builder_counted files)) built_in_methods ≡ true
 unfolding built_in_classes method_type parameters_at field_at field_type element_at
 all_builders_counted files = refl
 
 pub builder_counted : (files : Program) (method : Member) (builds : BuilderMethod) → builder_of (built_in_method method) ≡ Some builds
     → builder_operands builds ≡ operands_of files method
 builder_counted files method builds e =
-    eqb-true (builder_operands builds) (operands_of files method) (passed builder_of refl (is_builder_counted files) (all_builders_counted files) method builds e)
+    eqb-true (builder_operands builds) (operands_of files method) (passed builder_of (refl, (refl, refl)) (is_builder_counted files) (all_builders_counted files) method builds e)
+
+-- ---- of `described`, and of what an object of a system is asked
+
+-- how many operands a method that is static has
+abbrev pub static_of : BuiltInMethod → Option ℕ
+static_of (ObjectAnswers asked.IdentityHashCode) = Some 1
+static_of (ObjectAnswers asked.Described) = Some 2
+static_of _ = None
+
+abbrev is_static_counted : Program → Member → ℕ → Bool
+is_static_counted files method count = count == operands_of files method
+
+all_static_counted : (files : Program) → list_all (passes static_of (refl, (refl, refl)) (is_static_counted files)) built_in_methods ≡ true
+unfolding built_in_classes method_type parameters_at field_at field_type element_at
+all_static_counted files = refl
+
+pub static_counted : (files : Program) (method : Member) (count : ℕ) → static_of (built_in_method method) ≡ Some count → count ≡ operands_of files method
+static_counted files method count e =
+    eqb-true count (operands_of files method) (passed static_of (refl, (refl, refl)) (is_static_counted files) (all_static_counted files) method count e)
+
+pub described_counted : (files : Program) (method : Member) → built_in_method method ≡ ObjectAnswers asked.Described → 2 ≡ operands_of files method
+described_counted files method e = static_counted files method 2 (ap static_of e)
+
+pub identity_counted : (files : Program) (method : Member) → built_in_method method ≡ ObjectAnswers asked.IdentityHashCode → 1 ≡ operands_of files method
+identity_counted files method e = static_counted files method 1 (ap static_of e)
+
+-- ---- the parameters of the constructors that keep a message
+
+abbrev message_of : BuiltInMethod → Option ℕ
+message_of ConstructWithMessage = Some 1
+message_of ConstructWithCause = Some 2
+message_of _ = None
+
+-- what holds of each row, and of a constructor of its descriptor, holds of a method
+module _ (test : Member → BuiltInMethod → Bool) where
+  abbrev on_row : Member × BuiltInMethod → Bool
+  on_row row = test row.0 row.1
+
+  on_method : list_all on_row built_in_methods ≡ true → (method : Member) → test method (constructor_of method.descriptor) ≡ true
+      → test method (built_in_method method) ≡ true
+  on_method all method construct = by (find (is_row_of method) built_in_methods) refl
+    where
+      by : (o : Option (Member × BuiltInMethod)) → find (is_row_of method) built_in_methods ≡ o
+          → test method (unwrap_or (option_map (λ (row : Member × BuiltInMethod). row.1) o) (constructor_of method.descriptor)) ≡ true
+      by None f = construct
+      by (Some row) f =
+          subst (λ m. test m row.1 ≡ true) (members_same row.0 method (found_passes (is_row_of method) built_in_methods row f))
+          (found_has (λ r. on_row r ≡ true) (is_row_of method) built_in_methods row (every_all on_row built_in_methods all) f)
+
+abbrev has_count : Member → BuiltInMethod → Bool
+has_count method built_in = option_map_or (λ k. parameter_count method == k) (message_of built_in) true
+
+all_have_counts : list_all (on_row has_count) built_in_methods ≡ true
+all_have_counts = refl
+
+of_descriptor : (descriptor other : Name) (count : ℕ) → length (parameters_declared other) ≡ count → name_eq descriptor other ≡ true
+    → (length (parameters_declared descriptor) == count) ≡ true
+of_descriptor descriptor other count is q = eq-eqb _ _ (ap (λ d. length (parameters_declared d)) (names_same descriptor other q) ∙ is)
+
+constructed_count : (method : Member) → has_count method (constructor_of method.descriptor) ≡ true
+unfolding method_type parameters_at field_at field_type element_at
+constructed_count method =
+    let one = codes "(Ljava/lang/String;)V" in
+    let two = codes "(Ljava/lang/String;Ljava/lang/Throwable;)V" in
+    cond_both (name_eq method.descriptor one) _ _ (λ b. has_count method b ≡ true) (λ q. of_descriptor method.descriptor one 1 refl q)
+    (λ q. cond_both (name_eq method.descriptor two) _ _ (λ b. has_count method b ≡ true) (λ r. of_descriptor method.descriptor two 2 refl r) (λ r. refl))
+
+counted : (method : Member) (k : ℕ) → message_of (built_in_method method) ≡ Some k → parameter_count method ≡ k
+counted method k e =
+    eqb-true (parameter_count method) k
+    (sym (ap (λ o. option_map_or (λ n. parameter_count method == n) o true) e) ∙ on_method has_count all_have_counts method (constructed_count method))
+
+pub message_count : (method : Member) → built_in_method method ≡ ConstructWithMessage → parameter_count method ≡ 1
+message_count method e = counted method 1 (ap message_of e)
+
+pub cause_count : (method : Member) → built_in_method method ≡ ConstructWithCause → parameter_count method ≡ 2
+cause_count method e = counted method 2 (ap message_of e)

@@ -5,8 +5,9 @@ use Rattle.std.specs.Option.{option_map_or}
 use Rattle.std.proofs.lemmas.Bool.{false≢true, and_parts}
 use Rattle.std.proofs.lemmas.List.{length-map, length-reverse}
 use Rattle.std.proofs.lemmas.Option.{slice_get_within, same_Some}
-use Rattle.model.specs.Names.{Member, java_lang_thread}
-use Rattle.model.specs.Classes.{Program}
+use Rattle.model.specs.declared.object_method.ObjectMethod.TheVariants as asked
+use Rattle.model.specs.Names.{Member, java_lang_thread, java_lang_throwable}
+use Rattle.model.specs.Classes.{Program, body_of}
 use Rattle.model.specs.LimitStands.{Bounds}
 use Rattle.model.specs.Types.{Want}
 use Rattle.model.specs.DescribedTypes.{parameters_declared, declared_want}
@@ -15,7 +16,7 @@ use Rattle.model.specs.Sites.{Leads, MeaningOf, Site}
 use Rattle.model.specs.Meanings.{meaning_of}
 use Rattle.model.specs.State as model
 use Rattle.model.specs.State.{ObjectOf, types_of, FrameOf, StackOf, WorldOf, StateOf}
-use Rattle.model.specs.Lookup.{is_static_method}
+use Rattle.model.specs.Lookup.{is_static_method, is_abstract_method}
 use Rattle.model.specs.Calls.{Chosen, Runs, is_one, parameter_count, argument_wants, of_receiver, call_on}
 use Rattle.model.specs.BuiltInMethods.{built_in_method}
 use Rattle.model.specs.Step.{SteppedOf, PartOf}
@@ -42,7 +43,8 @@ use Rattle.machine_state.proofs.linked_frames.Frames.{top_shown, finds, meaning_
 use Rattle.machine_instructions.specs.thread_methods.Called.{RefersTo, AreArguments}
 use Rattle.machine_instructions.specs.called_methods.Frames.{object_under, raised_by}
 use Rattle.machine_instructions.specs.called_methods.Invoked.{IsInvoking, invoked_event}
-use Rattle.machine_instructions.proofs.called_methods.BuiltIns.{target_constructor, member_for, known, receiver_place, placed, string_of, string_counted, builder_of, builder_counted}
+use Rattle.machine_instructions.proofs.called_methods.MessageConstructors.{keeps_message}
+use Rattle.machine_instructions.proofs.called_methods.BuiltIns.{message_count, cause_count, described_counted, target_constructor, member_for, known, receiver_place, placed, string_of, string_counted, builder_of, builder_counted}
 use Rattle.machine_instructions.proofs.called_methods.RunMethods.{raises}
 
 -- ---- lists and words
@@ -98,7 +100,8 @@ at_most_one false = omega arith
 
 module _ (trees : Program) (heap : List (ObjectOf ℕ)) (stack : List ℕ) (n r : ℕ) (word : slice_get (take (n + 1) stack) n ≡ Some (suc r))
     (object : ObjectOf ℕ) (there : slice_get heap r ≡ Some object)
-    (m : Member) (same_count : parameter_count m ≡ n) (target : m ≡ target_constructor → has_class_below trees java_lang_thread object ≡ true) where
+    (m : Member) (same_count : parameter_count m ≡ n) (target : m ≡ target_constructor → has_class_below trees java_lang_thread object ≡ true)
+    (throwable : keeps_message (built_in_method m) ≡ true → has_class_below trees java_lang_throwable object ≡ true) where
   refers : (of : BuiltInMethod) → built_in_of of ≡ built_in_method m → (k : ℕ) → receiver_place (built_in_of of) ≡ Some k
       → (test : ObjectOf ℕ → Bool) → test object ≡ true → RefersTo heap (take (n + 1) stack) k test
   refers of e k place test fits =
@@ -111,9 +114,23 @@ module _ (trees : Program) (heap : List (ObjectOf ℕ)) (stack : List ℕ) (n r 
         fits = fits;
       }
 
+  -- of a constructor that keeps a message, and has so many parameters
+  kept : (of : BuiltInMethod) → built_in_of of ≡ built_in_method m → keeps_message (built_in_of of) ≡ true → (k : ℕ) → parameter_count m ≡ k
+      → RefersTo heap (take (n + 1) stack) k (has_class_below trees java_lang_throwable)
+  kept of e keeps k count =
+      record {
+        reference = r;
+        word = subst (λ j. slice_get (take (n + 1) stack) j ≡ Some (suc r)) (sym same_count ∙ count) word;
+        object = object;
+        there = there;
+        fits = throwable (ap keeps_message (sym e) ∙ keeps);
+      }
+
   pub arguments_of : (of : BuiltInMethod) → built_in_of of ≡ built_in_method m → AreArguments trees heap (take (n + 1) stack) of
   arguments_of method.Construct e = tt
   arguments_of method.ConstructWithTarget e = refers method.ConstructWithTarget e 1 refl (has_class_below trees java_lang_thread) (target (known m target_constructor (ap member_for (sym e))))
+  arguments_of method.ConstructWithMessage e = kept method.ConstructWithMessage e refl 1 (message_count m (sym e))
+  arguments_of method.ConstructWithCause e = kept method.ConstructWithCause e refl 2 (cause_count m (sym e))
   arguments_of method.ObjectWait e = refers method.ObjectWait e 0 refl is_any refl
   arguments_of method.ObjectNotify e = refers method.ObjectNotify e 0 refl is_any refl
   arguments_of method.ObjectNotifyAll e = refers method.ObjectNotifyAll e 0 refl is_any refl
@@ -135,6 +152,15 @@ module _ (trees : Program) (heap : List (ObjectOf ℕ)) (stack : List ℕ) (n r 
       let within = slice_get_within (take (n + 1) stack) n (suc r) word in
       let most = at_most_one (is_one is_static_method trees m) in
       let count = builder_counted trees m builds (ap builder_of (sym e)) in
+      omega (arith, within, most, count, same_count)
+  arguments_of (method.ObjectAnswers asked.HashCode) e = refers (method.ObjectAnswers asked.HashCode) e 0 refl is_any refl
+  arguments_of (method.ObjectAnswers asked.IdentityHashCode) e = let within = slice_get_within (take (n + 1) stack) n (suc r) word in omega (arith, within)
+  arguments_of (method.ObjectAnswers asked.GetClass) e = refers (method.ObjectAnswers asked.GetClass) e 0 refl is_any refl
+  arguments_of (method.ObjectAnswers asked.ClassName) e = refers (method.ObjectAnswers asked.ClassName) e 0 refl is_any refl
+  arguments_of (method.ObjectAnswers asked.Described) e =
+      let within = slice_get_within (take (n + 1) stack) n (suc r) word in
+      let most = at_most_one (is_one is_static_method trees m) in
+      let count = described_counted trees m (sym e) in
       omega (arith, within, most, count, same_count)
 
 -- ---- an instruction where a thread runs
@@ -248,7 +274,9 @@ module _ (trees : Program) (p : LinkedProgram) (bounds : Bounds) (inflated : Lis
             → site.next ≡ offset_in code.starts.items (is.shown.place + 1)
             → ((m : Member) → choose world r ≡ Runs m
             → (parameter_count m ≡ parameter_count callee)
-            × (m ≡ target_constructor → has_class_below trees java_lang_thread (there test each).object ≡ true))
+            × ((m ≡ target_constructor → has_class_below trees java_lang_thread (there test each).object ≡ true)
+            × (is_one is_abstract_method trees m ≡ false → body_of trees m ≡ None → keeps_message (built_in_method m) ≡ true
+            → has_class_below trees java_lang_throwable (there test each).object ≡ true)))
             → (operands : ℕ) → operands ≡ parameters + 1
             → IsInvoking trees p bounds inflated t old from state frame rest
             site (record { method = number; object = r; operands = operands }) (choose world r)
@@ -265,5 +293,7 @@ module _ (trees : Program) (p : LinkedProgram) (bounds : Bounds) (inflated : Lis
               goes_on = next_offset site.next next;
               chooses = chosen;
               monitor = has_monitor r (slice_get_within world.heap r o.object o.is);
-              arguments = λ m of runs e. arguments_of trees world.heap stack parameters r word_taken o.object o.is m ((fits m runs).0 ∙ sym counted) (fits m runs).1 of e;
+              arguments = λ m of runs concrete none e.
+                  let f = fits m runs in
+                  arguments_of trees world.heap stack parameters r word_taken o.object o.is m (f.0 ∙ sym counted) f.1.0 (f.1.1 concrete none) of e;
             })

@@ -74,7 +74,7 @@ module _ (trees : Program) (p : LinkedProgram) (bounds : Bounds) (inflated : Lis
   abbrev event_with : (frames pick : ℕ) → Option ℕ → SteppedOf (PartOf ℕ)
   event_with frames pick o =
       enabled_if (pick == 0)
-      (become trees frames t state.world frame rest
+      (become words trees frames t state.world frame rest
       (not_null o (λ r. pushing behind [] (with_printed state.world (int_line (int_operand words (take 2 stack) 0))) frame.place.slots (drop 2 stack))))
 
   printing_event : (frames pick : ℕ) → instruction_event trees frames (record { thread = t; pick = pick }) state.world frame rest meaning

@@ -6,7 +6,7 @@ use Rattle.std.proofs.lemmas.Bool.{eqb-true}
 use Rattle.std.proofs.lemmas.Option.{same_Some}
 use Rattle.model.specs.declared.event.Event.{Event}
 use Rattle.model.specs.Names.{Member}
-use Rattle.model.specs.Classes.{Program, Body}
+use Rattle.model.specs.Classes.{Program, Body, body_of}
 use Rattle.model.specs.Frames.{frame_with, at_call, entered_by}
 use Rattle.model.specs.Lookup.{is_abstract_method}
 use Rattle.model.specs.LimitStands.{Bounds}
@@ -26,7 +26,7 @@ use Rattle.linked_code.specs.declared.method.MethodBody.{MethodBody}
 use Rattle.linked_code.specs.declared.method.MethodBody.TheVariants as body
 use Rattle.linked_code.specs.declared.program.LinkedProgram.{LinkedProgram}
 use Rattle.linked_code.specs.Linked.{no_offset, offset_in}
-use Rattle.linked_code.specs.Methods.{IsLinkedMethod}
+use Rattle.linked_code.specs.Methods.{IsLinkedMethod, IsMethodBody}
 use Rattle.linked_code.specs.Numbers.{IsMethodAt}
 use Rattle.thread_stacks.specs.declared.entry.Callee.{Callee}
 use Rattle.thread_stacks.specs.Stacks.{ShownEntry}
@@ -49,13 +49,13 @@ use Rattle.machine_instructions.specs.called_methods.Invoked.{IsInvoking, invoke
 pub raises : (trees : Program) (p : LinkedProgram) (bounds : Bounds) (inflated : List ℕ) (t pick : ℕ) (world : WorldOf ℕ) (own : StackOf ℕ)
     (fault : MachineException) (told : Effect) → told ≡ raised_by pick fault
     → (old : Shared) (from : List ShownEntry)
-    → Does trees p bounds inflated t world own (enabled_if (pick == 0) (raised t (shown_exception fault) world own)) (Ok told) old old from
+    → Does trees p bounds inflated t world own (enabled_if (pick == 0) (raised words trees t (shown_exception fault) world own)) (Ok told) old old from
     from
 raises trees p bounds inflated t pick world own fault told e old from =
-    subst (λ (x : Effect). Does trees p bounds inflated t world own (enabled_if (pick == 0) (raised t (shown_exception fault) world own)) (Ok x) old old from from) (sym e) (by (pick == 0))
+    subst (λ (x : Effect). Does trees p bounds inflated t world own (enabled_if (pick == 0) (raised words trees t (shown_exception fault) world own)) (Ok x) old old from from) (sym e) (by (pick == 0))
   where
     by : (b : Bool) → Does trees p bounds inflated t world
-        own (enabled_if b (raised t (shown_exception fault) world own)) (Ok (if b then effect.Raises fault else effect.NotEnabled)) old old
+        own (enabled_if b (raised words trees t (shown_exception fault) world own)) (Ok (if b then effect.Raises fault else effect.NotEnabled)) old old
         from from
     by true = (refl, record { shared = refl; stack = refl })
     by false = (refl, record { shared = refl; stack = refl })
@@ -105,6 +105,11 @@ module _ (run : AreMethodsRun) (trees : Program) (p : LinkedProgram) (bounds : B
     -- ---- a built-in method
 
     module _ (of : BuiltInMethod) (e : row.body ≡ body.BuiltIn of) where
+      -- what has no code and is a method of the machine is not abstract
+      concrete : body_of trees found.method ≡ None → is_one is_abstract_method trees found.method ≡ false
+      concrete none =
+          (subst (λ b. IsMethodBody trees p found.method None b) e (subst (λ o. IsMethodBody trees p found.method o row.body) none linked.runs)).0
+
       next_is : (next : ℕ) → IsPlaceBehind from next → next ≡ is.shown.place + 1
       next_is next behind = subst (λ s. IsPlaceBehind s next) is.is_stack behind is.small
 
@@ -119,7 +124,7 @@ module _ (run : AreMethodsRun) (trees : Program) (p : LinkedProgram) (bounds : B
             others = is.others;
             is_stack = is.is_stack;
             goes_on = ap (λ n. offset_at p is.shown.method n) (next_is next behind) ∙ is.goes_on;
-            arguments = is.arguments found.method of h.0 h.2;
+            arguments = is.arguments found.method of h.0 (concrete h.1) h.1 h.2;
           }
 
       pub built_in_done : (frames pick : ℕ) → call_event trees frames (record { thread = t; pick = pick }) state.world frame rest of
@@ -129,8 +134,8 @@ module _ (run : AreMethodsRun) (trees : Program) (p : LinkedProgram) (bounds : B
           let event : Event = record { thread = t; pick = pick } in
           let ops = take call.operands frame.place.slots.stack in
           let under = drop call.operands frame.place.slots.stack in
-          ap (λ (x : built_in.BuiltInMethod). enabled_if (built_in_may words x event state.world ops) (become trees frames t state.world frame rest (built_in_does words trees x site.next event state.world frame.place.slots ops under))) h.2
-          ∙ ap (λ (o : Option Body). enabled_if (may_run words event state.world ops found.method o) (become trees frames t state.world frame rest (runs words trees site event state.world frame.place.slots ops under call.object found.method o))) (sym h.1)
+          ap (λ (x : built_in.BuiltInMethod). enabled_if (built_in_may words x event state.world ops) (become words trees frames t state.world frame rest (built_in_does words trees x site.next event state.world frame.place.slots ops under))) h.2
+          ∙ ap (λ (o : Option Body). enabled_if (may_run words event state.world ops found.method o) (become words trees frames t state.world frame rest (runs words trees site event state.world frame.place.slots ops under call.object found.method o))) (sym h.1)
           ∙ ap (event_of frames pick) (sym h.0)
 
     -- ---- a method with code
@@ -176,7 +181,7 @@ module _ (run : AreMethodsRun) (trees : Program) (p : LinkedProgram) (bounds : B
 
         abbrev pub pushes : (frames : ℕ) → SteppedOf (PartOf ℕ)
         pushes frames =
-            pushed frames t state.world state.world (model.Invocation frame ∷ rest) (model.Invocation (at_call frame (drop call.operands frame.place.slots.stack)) ∷ rest)
+            pushed words trees frames t state.world state.world (model.Invocation frame ∷ rest) (model.Invocation (at_call frame (drop call.operands frame.place.slots.stack)) ∷ rest)
             (frame_with words found.method (reverse (take call.operands frame.place.slots.stack)) entered the_body)
 
         coded : (frames pick : ℕ) → event_of frames pick chosen ≡ enabled_if (pick == 0) (pushes frames)
@@ -186,9 +191,9 @@ module _ (run : AreMethodsRun) (trees : Program) (p : LinkedProgram) (bounds : B
             let ops = take call.operands frame.place.slots.stack in
             let under = drop call.operands frame.place.slots.stack in
             ap (event_of frames pick) h.0
-            ∙ ap (λ (o : Option Body). enabled_if (may_run words event state.world ops found.method o) (become trees frames t state.world frame rest (runs words trees site event state.world frame.place.slots ops under call.object found.method o))) h.1.1
+            ∙ ap (λ (o : Option Body). enabled_if (may_run words event state.world ops found.method o) (become words trees frames t state.world frame rest (runs words trees site event state.world frame.place.slots ops under call.object found.method o))) h.1.1
             ∙ ap (λ (x : Option ℕ). enabled_if (pick == 0)
-            (pushed frames t state.world state.world (model.Invocation frame ∷ rest) (model.Invocation (at_call frame under) ∷ rest) (frame_with words found.method (reverse ops) x the_body))) entered_is
+            (pushed words trees frames t state.world state.world (model.Invocation frame ∷ rest) (model.Invocation (at_call frame under) ∷ rest) (frame_with words found.method (reverse ops) x the_body))) entered_is
 
         pub not_picked : (frames pick : ℕ) → (pick ≡ 0 → ⊥) → event_of frames pick chosen ≡ NotEnabled
         not_picked frames pick h = coded frames pick ∙ picked pick h (pushes frames)

@@ -153,7 +153,7 @@ module _ (trees : Program) (p : LinkedProgram) (bounds : Bounds) (inflated : Lis
     event_as m means = event_is trees p bounds inflated t old stack state frame rest code site meaning instruction is frames (event_of t) m means
 
     abbrev becomes : OutcomeOf ℕ → SteppedOf (PartOf ℕ)
-    becomes outcome = become trees frames t state.world frame rest outcome
+    becomes outcome = become words trees frames t state.world frame rest outcome
 
     abbrev own : StackOf ℕ
     own = model.Invocation frame ∷ rest
@@ -194,13 +194,13 @@ module _ (trees : Program) (p : LinkedProgram) (bounds : Bounds) (inflated : Lis
           ∙ ap (λ x. becomes (load_with x (slice_index_or (take 2 frame.place.slots.stack) 0 0))) (operand 2 1 w (omega arith) is_w)
           ∙ ap (λ x. becomes (load_with w x)) (operand 2 0 i (omega arith) is_i)
 
-      pub load_of_null : slice_index_or found.operands 1 0 ≡ 0 → event ≡ raised t NullPointer state.world own
+      pub load_of_null : slice_index_or found.operands 1 0 ≡ 0 → event ≡ raised words trees t NullPointer state.world own
       load_of_null e = load_by 0 (slice_index_or found.operands 0 0) e refl
 
       loaded : (r : ℕ) → slice_index_or found.operands 1 0 ≡ suc r → Held r
       loaded r e = l.held_by r (subst (λ x. accepts l.want x ≡ true) (shown_operand 1 (suc r) e) (meets_second accepts AnInt l.want [] is.shown.operands (pops (load_meaning words site l.want 0 l.type) l.means)))
 
-      pub load_outside : (r i : ℕ) → slice_index_or found.operands 1 0 ≡ suc r → slice_index_or found.operands 0 0 ≡ i → length (words_at old.heap.objects r) ≤ i → event ≡ raised t ArrayIndexOutOfBounds state.world own
+      pub load_outside : (r i : ℕ) → slice_index_or found.operands 1 0 ≡ suc r → slice_index_or found.operands 0 0 ≡ i → length (words_at old.heap.objects r) ≤ i → event ≡ raised words trees t ArrayIndexOutOfBounds state.world own
       load_outside r i is_r is_i e =
           load_by (suc r) i is_r is_i
           ∙ ap (λ b. becomes (at_index b (pushing site.next (element_at 0 state.world r i ∷ []) state.world frame.place.slots (drop 2 frame.place.slots.stack)))) (outside r i (loaded r is_r) e)
@@ -231,13 +231,13 @@ module _ (trees : Program) (p : LinkedProgram) (bounds : Bounds) (inflated : Lis
           ∙ ap (λ x. becomes (store_with w x (slice_index_or (take 3 frame.place.slots.stack) 0 0))) (operand 3 1 i (omega arith) is_i)
           ∙ ap (λ x. becomes (store_with w i x)) (operand 3 0 v (omega arith) is_v)
 
-      pub store_of_null : slice_index_or found.operands 2 0 ≡ 0 → event ≡ raised t NullPointer state.world own
+      pub store_of_null : slice_index_or found.operands 2 0 ≡ 0 → event ≡ raised words trees t NullPointer state.world own
       store_of_null e = store_by 0 (slice_index_or found.operands 1 0) (slice_index_or found.operands 0 0) e refl refl
 
       storable : (r : ℕ) → slice_index_or found.operands 2 0 ≡ suc r → Held r
       storable r e = s.held_by r (subst (λ x. accepts s.want x ≡ true) (shown_operand 2 (suc r) e) (meets_third accepts AnInt AnInt s.want [] is.shown.operands (pops (store_int_meaning words site s.want) s.means)))
 
-      pub store_outside : (r i : ℕ) → slice_index_or found.operands 2 0 ≡ suc r → slice_index_or found.operands 1 0 ≡ i → length (words_at old.heap.objects r) ≤ i → event ≡ raised t ArrayIndexOutOfBounds state.world own
+      pub store_outside : (r i : ℕ) → slice_index_or found.operands 2 0 ≡ suc r → slice_index_or found.operands 1 0 ≡ i → length (words_at old.heap.objects r) ≤ i → event ≡ raised words trees t ArrayIndexOutOfBounds state.world own
       store_outside r i is_r is_i e =
           store_by (suc r) i (slice_index_or found.operands 0 0) is_r is_i refl
           ∙ ap (λ b. becomes (at_index b (stored_in r i (slice_index_or found.operands 0 0)))) (outside r i (storable r is_r) e)
@@ -281,7 +281,7 @@ module _ (trees : Program) (p : LinkedProgram) (bounds : Bounds) (inflated : Lis
       measure_by : (w : ℕ) → slice_index_or found.operands 0 0 ≡ w → event ≡ becomes (measure_with w)
       measure_by w is_w = event_as (array_length_meaning words site) means ∙ ap (λ x. becomes (measure_with x)) (operand 1 0 w (omega arith) is_w)
 
-      pub length_of_null : slice_index_or found.operands 0 0 ≡ 0 → event ≡ raised t NullPointer state.world own
+      pub length_of_null : slice_index_or found.operands 0 0 ≡ 0 → event ≡ raised words trees t NullPointer state.world own
       length_of_null e = measure_by 0 e
 
       pub length_done : (r word : ℕ) → slice_index_or found.operands 0 0 ≡ suc r → word ≡ length (words_at old.heap.objects r)

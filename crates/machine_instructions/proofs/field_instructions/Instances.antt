@@ -80,17 +80,17 @@ module _ (trees : Program) (p : LinkedProgram) (bounds : Bounds) (inflated : Lis
     -- by the word of the object
     event_by : (w : ℕ) → slice_index_or found.operands 0 0 ≡ w
         → instruction_event trees frames (event_of t) state.world frame rest meaning
-        ≡ become trees frames t state.world frame rest
+        ≡ become words trees frames t state.world frame rest
         (not_null (word_reference w) (λ r. pushing (offset_in code.starts.items (is.shown.place + 1)) (value_in (first_of words l.field) l.field (fields_of (object_at state.world r)) ∷ []) state.world frame.place.slots (drop 1 frame.place.slots.stack)))
     event_by w e =
         event_is trees p bounds inflated t old stack state frame rest code site meaning (linked.GetField slot) is frames (event_of t) got l.is
-        ∙ ap (λ x. become trees frames t state.world frame rest
+        ∙ ap (λ x. become words trees frames t state.world frame rest
         (not_null (word_reference x) (λ r. pushing (offset_in code.starts.items (is.shown.place + 1)) (value_in (first_of words l.field) l.field (fields_of (object_at state.world r)) ∷ []) state.world frame.place.slots (drop 1 frame.place.slots.stack))))
         (operand_is trees p bounds inflated t old stack state frame rest code site meaning (linked.GetField slot) is found lent 1 0 w (omega arith) e)
 
     pub get_field_of_null : slice_index_or found.operands 0 0 ≡ 0
         → instruction_event trees frames (event_of t) state.world frame rest meaning
-        ≡ raised t NullPointer state.world (model.Invocation frame ∷ rest)
+        ≡ raised words trees t NullPointer state.world (model.Invocation frame ∷ rest)
     get_field_of_null e = event_by 0 e
 
     meets : (w : ℕ) → slice_index_or found.operands 0 0 ≡ w → word_meets trees (types_of state.world.heap) (of_class trees l.named) w ≡ true
@@ -134,7 +134,7 @@ module _ (trees : Program) (p : LinkedProgram) (bounds : Bounds) (inflated : Lis
     -- by the words of the object and of the value
     abbrev put_with : ℕ → ℕ → SteppedOf (PartOf ℕ)
     put_with w v =
-        become trees frames t state.world frame rest
+        become words trees frames t state.world frame rest
         (not_null (word_reference w) (λ r. pushing (offset_in code.starts.items (is.shown.place + 1)) [] (with_object state.world r (with_field put.field (put_value words put.field v) (object_at state.world r))) frame.place.slots (drop 2 frame.place.slots.stack)))
 
     put_by : (w v : ℕ) → slice_index_or found.operands 1 0 ≡ w → slice_index_or found.operands 0 0 ≡ v
@@ -146,7 +146,7 @@ module _ (trees : Program) (p : LinkedProgram) (bounds : Bounds) (inflated : Lis
 
     pub put_field_of_null : slice_index_or found.operands 1 0 ≡ 0
         → instruction_event trees frames (event_of t) state.world frame rest meaning
-        ≡ raised t NullPointer state.world (model.Invocation frame ∷ rest)
+        ≡ raised words trees t NullPointer state.world (model.Invocation frame ∷ rest)
     put_field_of_null e = put_by 0 (slice_index_or found.operands 0 0) e refl
 
     meets_owner : (w : ℕ) → slice_index_or found.operands 1 0 ≡ w

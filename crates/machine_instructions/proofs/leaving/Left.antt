@@ -1,5 +1,5 @@
 -- A frame on top that an instruction has left, and the stack then.
-use Rattle.std.proofs.Common.{◌≡◌, ◌<◌, ◌^◌, ◌+◌, ℕ, suc, List, [], ◌∷◌, ◌++◌, Some, None, Result, Ok, Err, length, drop, refl, sym, ap, subst, ◌∙◌}
+use Rattle.std.proofs.Common.{◌≡◌, ◌<◌, ◌^◌, ◌+◌, ℕ, suc, List, [], ◌∷◌, ◌++◌, Some, Result, Ok, Err, length, drop, refl, sym, ap, subst, ◌∙◌}
 use Rattle.std.proofs.lemmas.Option.{same_Some}
 use Rattle.std.specs.Result.{IsErrAnd}
 use Rattle.model.specs.Classes.{Program}
@@ -19,7 +19,7 @@ use Rattle.machine_state.specs.declared.refusals.EventRefusal.TheVariants as ref
 use Rattle.machine_state.specs.declared.state.Shared.{Shared}
 use Rattle.machine_state.specs.Instructions.{Does, instruction_event}
 use Rattle.machine_state.specs.linked_frames.Frames.{IsRunning, event_of}
-use Rattle.machine_instructions.specs.Leaving.{gone_on, Leaves, LeftAs, LeavesTop}
+use Rattle.machine_instructions.specs.Leaving.{LeavesTop}
 
 -- ---- it is left
 

@@ -131,7 +131,7 @@ module _ (trees : Program) (p : LinkedProgram) (bounds : Bounds) (inflated : Lis
     abbrev pub entering : Option ℕ → SteppedOf (PartOf ℕ)
     entering found =
         enabled_if (may_enter_object world t found)
-        (become trees frames t world frame rest (not_null found (λ r. pushing_at (entry_cost world r) site.next [] (with_entry world t r) frame.place.slots (drop 1 frame.place.slots.stack))))
+        (become words trees frames t world frame rest (not_null found (λ r. pushing_at (entry_cost world r) site.next [] (with_entry world t r) frame.place.slots (drop 1 frame.place.slots.stack))))
 
     pub enters : meaning_of words trees site ≡ Some (monitor_enter_meaning words site) → (found : Option ℕ) → found ≡ object_on from
         → instruction_event trees frames (event_of t) world frame rest meaning ≡ entering found
@@ -143,7 +143,7 @@ module _ (trees : Program) (p : LinkedProgram) (bounds : Bounds) (inflated : Lis
 
     abbrev pub exiting : Option ℕ → SteppedOf (PartOf ℕ)
     exiting found =
-        become trees frames t world frame rest (not_null found (λ r. left (is_owner world t r) site.next t r world frame.place.slots (drop 1 frame.place.slots.stack)))
+        become words trees frames t world frame rest (not_null found (λ r. left (is_owner world t r) site.next t r world frame.place.slots (drop 1 frame.place.slots.stack)))
 
     pub exits : meaning_of words trees site ≡ Some (monitor_exit_meaning words site) → (found : Option ℕ) → found ≡ object_on from
         → instruction_event trees frames (event_of t) world frame rest meaning ≡ exiting found

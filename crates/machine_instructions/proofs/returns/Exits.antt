@@ -1,6 +1,7 @@
 -- What the end of an invocation makes of its monitor.
 use Rattle.std.proofs.Common.{◌≡◌, ℕ, List, [], ◌∷◌, Option, Some, None, Bool, true, false, if◌then◌else◌, Result, Ok, Err, length, drop, refl, sym, ap, subst, ◌∙◌}
 use Rattle.std.specs.Result.{IsErrAnd}
+use Rattle.model.specs.Operands.{words}
 use Rattle.model.specs.Classes.{Program}
 use Rattle.model.specs.State as model
 use Rattle.model.specs.State.{FrameOf, StackEntryOf, StackOf, WorldOf}
@@ -53,27 +54,27 @@ under_shown trees p (shown ∷ others) entry rest s = s.1
 
 -- ---- the event
 
-leaving_is : (t : ℕ) (entered : Option ℕ) (world : WorldOf ℕ) (rest own : StackOf ℕ)
-    → leaving t entered world rest own ≡ (if may_leave world t entered then on_to (with_leave world t entered) rest else raised t
-    IllegalMonitorState world own)
-leaving_is t None world rest own = refl
-leaving_is t (Some object) world rest own = refl
+leaving_is : (trees : Program) (t : ℕ) (entered : Option ℕ) (world : WorldOf ℕ) (rest own : StackOf ℕ)
+    → leaving words trees t entered world rest own ≡ (if may_leave world t entered then on_to (with_leave world t entered) rest
+    else raised words trees t IllegalMonitorState world own)
+leaving_is trees t None world rest own = refl
+leaving_is trees t (Some object) world rest own = refl
 
 module _ (trees : Program) (p : LinkedProgram) (bounds : Bounds) (inflated : List ℕ) (world : WorldOf ℕ) (old : Shared)
     (r : Represents trees p bounds old world)
     (t : ℕ) (entered : Option ℕ) (rest own : StackOf ℕ) where
   abbrev pub stepped : SteppedOf (PartOf ℕ)
-  stepped = leaving t entered world rest own
+  stepped = leaving words trees t entered world rest own
 
   by_owner : (owner : Bool) → SaysMayLeave owner t entered old.heap
-      → stepped ≡ (if owner then on_to (with_leave world t entered) rest else raised t IllegalMonitorState world own)
+      → stepped ≡ (if owner then on_to (with_leave world t entered) rest else raised words trees t IllegalMonitorState world own)
   by_owner owner says =
-      leaving_is t entered world rest own
-      ∙ ap (λ b. if b then on_to (with_leave world t entered) rest else raised t IllegalMonitorState world own)
+      leaving_is trees t entered world rest own
+      ∙ ap (λ b. if b then on_to (with_leave world t entered) rest else raised words trees t IllegalMonitorState world own)
       ((λ i. may_leave (record world { monitors = sym r.world_is.monitors i }) t entered) ∙ sym (says world))
 
   -- another thread owns it, or none
-  pub not_owned : SaysMayLeave false t entered old.heap → stepped ≡ raised t IllegalMonitorState world own
+  pub not_owned : SaysMayLeave false t entered old.heap → stepped ≡ raised words trees t IllegalMonitorState world own
   not_owned says = by_owner false says
 
   pub goes_on : SaysMayLeave true t entered old.heap → stepped ≡ on_to (with_leave world t entered) rest
@@ -92,14 +93,14 @@ module _ (trees : Program) (p : LinkedProgram) (bounds : Bounds) (inflated : Lis
     (r : Represents trees p bounds old world)
     (t : ℕ) (from : List ShownEntry) (frame : FrameOf ℕ) (rest : StackOf ℕ) (shows : ShowsStack trees p from (model.Invocation frame ∷ rest)) (entered : Option ℕ) (has : HasEntered from entered) where
   pub top_not_owned : SaysMayLeave false t entered old.heap
-      → leaving t frame.entered world rest rest ≡ raised t IllegalMonitorState world rest
-  top_not_owned says = ap (λ o. leaving t o world rest rest) (entered_is trees p from frame rest shows entered has) ∙ not_owned trees p bounds inflated world old r t entered rest rest says
+      → leaving words trees t frame.entered world rest rest ≡ raised words trees t IllegalMonitorState world rest
+  top_not_owned says = ap (λ o. leaving words trees t o world rest rest) (entered_is trees p from frame rest shows entered has) ∙ not_owned trees p bounds inflated world old r t entered rest rest says
 
   pub top_ends : SaysMayLeave true t entered old.heap → (new : Shared) → Leaves t entered old new → (to : List ShownEntry)
       → to ≡ drop 1 from
-      → IsDone trees p bounds inflated world (leaving t frame.entered world rest rest) old new to
+      → IsDone trees p bounds inflated world (leaving words trees t frame.entered world rest rest) old new to
   top_ends says new l to same =
-      subst (λ o. IsDone trees p bounds inflated world (leaving t o world rest rest) old new to) (sym (entered_is trees p from frame rest shows entered has))
+      subst (λ o. IsDone trees p bounds inflated world (leaving words trees t o world rest rest) old new to) (sym (entered_is trees p from frame rest shows entered has))
       (done trees p bounds inflated world old r t entered rest rest says new l to
       (subst (λ (st : List ShownEntry). ShowsStack trees p st rest) (sym same) (under_shown trees p from (model.Invocation frame) rest shows)))
 
@@ -107,18 +108,18 @@ module _ (trees : Program) (p : LinkedProgram) (bounds : Bounds) (inflated : Lis
 
 module _ (trees : Program) (p : LinkedProgram) (bounds : Bounds) (inflated : List ℕ) (world : WorldOf ℕ) (old new : Shared) (t : ℕ)
     (rest : StackOf ℕ) (under : List ShownEntry) (stepped : SteppedOf (PartOf ℕ))
-    (is : stepped ≡ raised t IllegalMonitorState world rest) where
+    (is : stepped ≡ raised words trees t IllegalMonitorState world rest) where
   -- it is pending over the stack without the frame
-  pub raised_done : (told : Answer) → Becomes trees p bounds inflated world (raised t IllegalMonitorState world rest) (Ok told) old new
+  pub raised_done : (told : Answer) → Becomes trees p bounds inflated world (raised words trees t IllegalMonitorState world rest) (Ok told) old new
       under under
       → (to : List ShownEntry) → to ≡ under → IsDone trees p bounds inflated world stepped old new to
   raised_done answer.Done b to same =
       subst (λ s. IsDone trees p bounds inflated world s old new to) (sym is)
-      (subst (λ (st : List ShownEntry). IsDone trees p bounds inflated world (raised t IllegalMonitorState world rest) old new st) (sym same) b)
+      (subst (λ (st : List ShownEntry). IsDone trees p bounds inflated world (raised words trees t IllegalMonitorState world rest) old new st) (sym same) b)
   raised_done answer.NotEnabled b to same = let never = b.0 in absurd cc
 
   -- or it can't be made
-  pub raise_refused : (why : EventRefusal) → Becomes trees p bounds inflated world (raised t IllegalMonitorState world rest) (Err why) old new
+  pub raise_refused : (why : EventRefusal) → Becomes trees p bounds inflated world (raised words trees t IllegalMonitorState world rest) (Err why) old new
       under under
       → (from : List ShownEntry) (result : Result Answer EventRefusal) → IsErrAnd result (λ told. told ≡ why)
       → Becomes trees p bounds inflated world stepped result old new from from

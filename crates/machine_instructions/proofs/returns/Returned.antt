@@ -73,7 +73,7 @@ first_taken trees (type ∷ types) reference stack = top_taken (length (map (dec
 
 module _ (trees : Program) (t : ℕ) (world : WorldOf ℕ) (frame : FrameOf ℕ) (rest : StackOf ℕ) where
   abbrev pub returns_to : Option ℕ → SteppedOf (PartOf ℕ)
-  returns_to result = leaving t frame.entered world (step.returned trees (option_to_list result) rest) (model.Invocation frame ∷ rest)
+  returns_to result = leaving words trees t frame.entered world (step.returned trees (option_to_list result) rest) (model.Invocation frame ∷ rest)
 
 module _ (trees : Program) (frames t : ℕ) (world : WorldOf ℕ) (frame : FrameOf ℕ) (rest : StackOf ℕ) (descriptor : Name) where
   by_kind : (value : Bool) (kind : Returned) → is_nothing kind ≡ not value → (return_of words trees descriptor kind).wants.allowed ≡ true
@@ -144,10 +144,10 @@ module _ (trees : Program) (p : LinkedProgram) (bounds : Bounds) (inflated : Lis
     abbrev results : List ℕ
     results = option_to_list (result_in value stack)
 
-    stepped_is : stepped ≡ leaving t entered state.world (step.returned trees results rest) (model.Invocation frame ∷ rest)
+    stepped_is : stepped ≡ leaving words trees t entered state.world (step.returned trees results rest) (model.Invocation frame ∷ rest)
     stepped_is =
         event_returns frames
-        ∙ ap (λ o. leaving t o state.world (step.returned trees results rest) (model.Invocation frame ∷ rest)) (entered_is trees p stack frame rest is.lent.shows_stack entered has)
+        ∙ ap (λ o. leaving words trees t o state.world (step.returned trees results rest) (model.Invocation frame ∷ rest)) (entered_is trees p stack frame rest is.lent.shows_stack entered has)
 
     pub not_owner : SaysMayLeave false t entered shared.heap
         → Does trees p bounds inflated t state.world (model.Invocation frame

@@ -1,5 +1,5 @@
 -- A call of a method of StringBuilder: what becomes of the event by it.
-use Rattle.std.proofs.Common.{◌≡◌, ◌<◌, ◌≤◌, ◌+◌, ◌-◌, ◌^◌, ℕ, zero, suc, List, [], ◌∷◌, ◌++◌, Bool, true, false, Some, None, Result, Ok, Err, length, length-append, take, drop, rules, refl, sym, ap, subst, inl, arith, ◌∙◌}
+use Rattle.std.proofs.Common.{◌≡◌, ◌<◌, ◌≤◌, ◌+◌, ◌-◌, ◌^◌, ℕ, zero, suc, List, [], ◌∷◌, ◌++◌, true, Some, None, Result, Ok, Err, length, length-append, take, drop, refl, sym, ap, subst, inl, arith, ◌∙◌}
 use Rattle.std.specs.Prelude.{Option, codes, if◌then◌else◌, slice_index_or, unwrap_or}
 use Rattle.std.specs.Fmt.{signed_decimal}
 use Rattle.std.specs.Option.{is_none}
@@ -10,25 +10,24 @@ use Rattle.std.proofs.lemmas.List.Elements.{All-append, All-cons, All-nil}
 use Rattle.model.specs.declared.builder_method.BuilderMethod.{BuilderMethod}
 use Rattle.model.specs.declared.builder_method.BuilderMethod.TheVariants.{ConstructEmpty, ConstructOfString, AppendString, AppendInt, AppendChar, AppendBuilder, ToString}
 use Rattle.model.specs.declared.instr.Conversion.TheVariants.{ToChar}
-use Rattle.model.specs.BuilderMethods.{BuilderAnswer, IsNull, KeepsEmpty, Keeps, Adds, GivesText, kept_string, text_or_empty, built_text, with_string, builder_shown, composed, builds, builder_does}
+use Rattle.model.specs.BuilderMethods.{IsNull, Keeps, kept_string, text_or_empty, built_text, with_string, builder_shown, composed, builds, builder_does}
 use Rattle.model.specs.Classes.{Program}
 use Rattle.model.specs.Ints.{signed, converted}
 use Rattle.model.specs.LimitStands.{Bounds}
 use Rattle.model.specs.Opening.{string_reference}
 use Rattle.model.specs.Operands.{words, word_reference}
-use Rattle.model.specs.Outcomes.{Makes, Free, Raises, NullPointer}
-use Rattle.model.specs.Sites.{int_operand, object_of}
+use Rattle.model.specs.Outcomes.{Makes, Raises, NullPointer}
+use Rattle.model.specs.Sites.{object_of}
 use Rattle.model.specs.State as model
 use Rattle.model.specs.State.{Characters, FrameOf, StackOf, WorldOf, StateOf}
 use Rattle.model.specs.Step.{SteppedOf, PartOf, part, become}
 use Rattle.model.specs.Texts.{Text}
 use Rattle.model.specs.Worlds.{allocated, object_at, string_shown}
 use Rattle.heap.specs.declared.refusal.AllocRefusal.{AllocRefusal}
-use Rattle.heap.specs.Heap.{Heap, Object, made, with_object, IsRefused as IsHeapRefused}
-use Rattle.linked_code.specs.declared.method.BuiltInMethod.{BuiltInMethod}
+use Rattle.heap.specs.Heap.{Heap, made, with_object, IsRefused as IsHeapRefused}
 use Rattle.linked_code.specs.declared.method.BuiltInMethod.TheVariants as method
 use Rattle.linked_code.specs.declared.program.LinkedProgram.{LinkedProgram}
-use Rattle.thread_stacks.specs.Stacks.{ShownEntry, Invocation, on_top}
+use Rattle.thread_stacks.specs.Stacks.{ShownEntry, on_top}
 use Rattle.machine_state.specs.shown_objects.Shown.{AreUnits}
 use Rattle.machine_state.specs.shown_stacks.Shown.{ShowsFrame, ShowsStack}
 use Rattle.machine_state.specs.allocations.Allocated.{IsMade, string_of}
@@ -47,7 +46,7 @@ use Rattle.machine_instructions.specs.thread_methods.Builders.{kept_word, kept_t
 use Rattle.machine_instructions.specs.thread_methods.Called.{IsCalling, builder_operands}
 use Rattle.machine_instructions.specs.thread_methods.Moves.{operand_of, went_on, Grows, Answers as AnswersBy}
 use Rattle.machine_instructions.proofs.thread_methods.BuilderObjects.{word_is, kept_text_is, string_is, builder_is, text_shown, keeps}
-use Rattle.machine_instructions.proofs.thread_methods.Calls.{represented, operand_is, gone_on, went, free, answered as answered_by, refused}
+use Rattle.machine_instructions.proofs.thread_methods.Calls.{operand_is, gone_on, went, free, answered as answered_by, refused}
 use Rattle.machine_instructions.proofs.thread_methods.ShownTexts.{units_by_word}
 use Rattle.machine_instructions.proofs.thread_methods.StringCalls.{taken, no_growth}
 use Rattle.machine_instructions.proofs.thread_methods.TextAnswers.{AreUnitsOf, signed_units}
@@ -87,7 +86,7 @@ module _ (trees : Program) (p : LinkedProgram) (bounds : Bounds) (inflated : Lis
 
   abbrev pub event : BuilderMethod → SteppedOf (PartOf ℕ)
   event asked =
-      become trees frames t world frame rest (builder_does words (string_reference trees []) asked offset world frame.place.slots ops (drop count frame.place.slots.stack))
+      become words trees frames t world frame rest (builder_does words (string_reference trees []) asked offset world frame.place.slots ops (drop count frame.place.slots.stack))
 
   abbrev pub DoesBy : Result Effect EventRefusal → (new : Shared) → (to : List ShownEntry) → Type 0
   DoesBy result new to = Does trees p bounds inflated t world (model.Invocation frame ∷ rest) (event m) result old new from to
@@ -120,8 +119,8 @@ module _ (trees : Program) (p : LinkedProgram) (bounds : Bounds) (inflated : Lis
         record { shared = refl; stack = refl },
       )
     where
-      null_raises : slice_index_or ops 0 0 ≡ 0 → event ConstructOfString ≡ become trees frames t world frame rest (Raises NullPointer)
-      null_raises e = ap (λ w. become trees frames t world frame rest (builds words (string_reference trees []) (if is_none (word_reference w) then IsNull else Keeps) offset world frame.place.slots ops (drop count frame.place.slots.stack))) e
+      null_raises : slice_index_or ops 0 0 ≡ 0 → event ConstructOfString ≡ become words trees frames t world frame rest (Raises NullPointer)
+      null_raises e = ap (λ w. become words trees frames t world frame rest (builds words (string_reference trees []) (if is_none (word_reference w) then IsNull else Keeps) offset world frame.place.slots ops (drop count frame.place.slots.stack))) e
 
   pub constructs_of : (r word : ℕ) → m ≡ ConstructOfString → r ≡ operand_of 1 from - 1 → word ≡ operand_of 0 from → (word ≡ 0 → ⊥)
       → (heap : Heap) → heap ≡ record old.heap { objects = with_kept old.heap.objects r word }
@@ -141,9 +140,9 @@ module _ (trees : Program) (p : LinkedProgram) (bounds : Bounds) (inflated : Lis
     where
       keeps_it : (w : ℕ) → slice_index_or ops 0 0 ≡ w → (w ≡ 0 → ⊥)
           → event ConstructOfString
-          ≡ become trees frames t world frame rest (builds words (string_reference trees []) Keeps offset world frame.place.slots ops (drop count frame.place.slots.stack))
+          ≡ become words trees frames t world frame rest (builds words (string_reference trees []) Keeps offset world frame.place.slots ops (drop count frame.place.slots.stack))
       keeps_it zero e some = absurd (some refl)
-      keeps_it (suc w) e some = ap (λ v. become trees frames t world frame rest (builds words (string_reference trees []) (if is_none (word_reference v) then IsNull else Keeps) offset world frame.place.slots ops (drop count frame.place.slots.stack))) e
+      keeps_it (suc w) e some = ap (λ v. become words trees frames t world frame rest (builds words (string_reference trees []) (if is_none (word_reference v) then IsNull else Keeps) offset world frame.place.slots ops (drop count frame.place.slots.stack))) e
 
   -- ---- toString
 
@@ -175,7 +174,7 @@ module _ (trees : Program) (p : LinkedProgram) (bounds : Bounds) (inflated : Lis
   text = built_text words world (object_of words ops 1) ++ added m
 
   appended : (asked : BuilderMethod) → appends asked ≡ true
-      → event asked ≡ become trees frames t world frame rest (composed words (built_text words world (object_of words ops 1) ++ added asked) offset world frame.place.slots ops (drop count frame.place.slots.stack))
+      → event asked ≡ become words trees frames t world frame rest (composed words (built_text words world (object_of words ops 1) ++ added asked) offset world frame.place.slots ops (drop count frame.place.slots.stack))
   appended ConstructEmpty h = absurd (false≢true h)
   appended ConstructOfString h = absurd (false≢true h)
   appended AppendString h = refl
@@ -274,7 +273,7 @@ module _ (trees : Program) (p : LinkedProgram) (bounds : Bounds) (inflated : Lis
     abbrev after : PartOf ℕ
     after = part (with_string grown receiver (suc (length world.heap))) own
 
-    event_is : event m ≡ become trees frames t world frame rest (composed words text offset world frame.place.slots ops (drop count frame.place.slots.stack))
+    event_is : event m ≡ become words trees frames t world frame rest (composed words text offset world frame.place.slots ops (drop count frame.place.slots.stack))
     event_is = appended m some
 
     -- a new String is there, and becomes the text

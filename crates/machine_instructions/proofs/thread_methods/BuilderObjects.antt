@@ -1,30 +1,28 @@
 -- The StringBuilders of a heap, and their texts, are those of the objects that it shows.
-use Rattle.std.proofs.Common.{◌≡◌, ◌<◌, ◌==◌, ◌++◌, ℕ, zero, suc, List, [], ◌∷◌, length, take, drop, Bool, true, false, if◌then◌else◌, Option, Some, None, eqb-true, refl, sym, ap, subst, ◌∙◌}
-use Rattle.std.specs.Prelude.{slice_get, slice_index, slice_index_or, slice_set, option_and_then, unwrap_or, codes, sum_by, is_some, find}
+use Rattle.std.proofs.Common.{◌≡◌, ◌==◌, ◌++◌, ℕ, zero, suc, List, [], ◌∷◌, length, take, drop, Bool, true, false, if◌then◌else◌, Option, Some, None, eqb-true, refl, sym, ap, subst, ◌∙◌}
+use Rattle.std.specs.Prelude.{slice_get, slice_index, slice_index_or, slice_set, option_and_then, unwrap_or, sum_by}
 use Rattle.std.specs.List.{AllByRecursion, list_any}
 use Rattle.std.proofs.lemmas.Bool.{true≢false, or_parts, or_from}
 use Rattle.std.proofs.lemmas.List.{set-get_or}
 use Rattle.std.proofs.lemmas.Option.{get_or_from_slice_get, same_Some}
 use Rattle.model.specs.BuiltIn.{built_in_classes}
-use Rattle.model.specs.BuiltInNumbers.{string_number, string_builder_number}
+use Rattle.model.specs.BuiltInNumbers.{string_builder_number}
 use Rattle.model.specs.BuilderMethods.{kept_string, text_or_empty, built_text, with_string, builder_shown}
 use Rattle.model.specs.BuiltInMethods.{string_text}
 use Rattle.model.specs.Classes.{Program, name_of, is_named, is_built_in, classes_of}
 use Rattle.model.specs.Linkable.{IsLinkable, has_built_in_name, two_of_one_name}
-use Rattle.model.specs.LimitStands.{Bounds, opening_count}
+use Rattle.model.specs.LimitStands.{Bounds}
 use Rattle.model.specs.Lookup.{instance_fields}
 use Rattle.model.specs.Names.{Name, Member, name_eq, member_eq, java_lang_string, java_lang_string_builder, builder_text}
 use Rattle.model.specs.Operands.{words, word_reference}
 use Rattle.model.specs.State.{ObjectOf, Instance, Primitives, References, Characters, WorldOf}
-use Rattle.model.specs.Texts.{Text}
 use Rattle.model.specs.Tree.{FileTree}
-use Rattle.model.specs.Worlds.{no_object, object_at, with_object, value_in, with_value, with_field, fields_of, text_of, string_shown, cells_of}
-use Rattle.run_laws.proofs.laws.Classes.{name_self, names_same}
+use Rattle.model.specs.Worlds.{no_object, object_at, value_in, with_value, with_field, text_of, string_shown, cells_of}
+use Rattle.run_laws.proofs.laws.Classes.{names_same}
 use Rattle.run_laws.proofs.laws.Unrefused.{names_differ}
 use Rattle.heap.specs.declared.kind.ObjectKind.{ObjectKind}
 use Rattle.heap.specs.declared.kind.ObjectKind.TheVariants as kind
-use Rattle.heap.specs.Heap.{Object, Heap, put_field, words_at, word_at}
-use Rattle.heap.specs.monitor.Locks.{Locks}
+use Rattle.heap.specs.Heap.{Object, Heap, put_field}
 use Rattle.linked_code.specs.declared.program.LinkedProgram.{LinkedProgram}
 use Rattle.linked_code.specs.declared.types.LinkedType.{LinkedType}
 use Rattle.linked_code.specs.Numbers.{IsClassAt, slot_in}
@@ -32,10 +30,9 @@ use Rattle.machine_state.specs.shown_objects.Shown as machine
 use Rattle.machine_state.specs.shown_objects.Shown.{names_of, words_in, IsKindOf, ShowsObject, ShowsObjects}
 use Rattle.machine_state.specs.declared.state.Shared.{Shared}
 use Rattle.machine_state.specs.Shown.{Represents}
-use Rattle.machine_state.proofs.shown_objects.Objects.{are_fields, counted, shown_at}
+use Rattle.machine_state.proofs.shown_objects.Objects.{are_fields, shown_at}
 use Rattle.machine_state.proofs.type_tests.Numbered.{string_numbered}
 use Rattle.machine_instructions.specs.thread_methods.Builders.{is_builder, is_builder_if, kept_in, kept_word, units_by, kept_text, with_kept, added_string, added_builder}
-use Rattle.machine_instructions.specs.thread_methods.Texts.{text_by}
 use Rattle.machine_instructions.proofs.field_instructions.Referred.{with_objects}
 use Rattle.machine_instructions.proofs.thread_methods.BuilderFields.{builder_fields, other_fields}
 use Rattle.machine_instructions.proofs.thread_methods.ShownTexts.{by_word}

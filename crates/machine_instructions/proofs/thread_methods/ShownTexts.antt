@@ -1,5 +1,5 @@
 -- The texts of the Strings of a heap are those of the objects that it shows.
-use Rattle.std.proofs.Common.{◌≡◌, ◌==◌, ℕ, zero, suc, List, [], ◌∷◌, Bool, true, false, if◌then◌else◌, Option, Some, None, eqb-true, refl, sym, ap, ◌∙◌}
+use Rattle.std.proofs.Common.{◌≡◌, ◌==◌, ℕ, zero, suc, List, [], ◌∷◌, Bool, true, false, if◌then◌else◌, Some, None, eqb-true, refl, sym, ap, ◌∙◌}
 use Rattle.std.specs.Prelude.{slice_get, slice_index_or, option_and_then}
 use Rattle.std.proofs.lemmas.Bool.{true≢false}
 use Rattle.std.proofs.lemmas.Option.{same_Some}
@@ -9,7 +9,6 @@ use Rattle.model.specs.Names.{Name, name_eq, java_lang_string}
 use Rattle.model.specs.Classes.{Program, name_of}
 use Rattle.model.specs.Linkable.{IsLinkable}
 use Rattle.model.specs.Operands.{words, word_reference}
-use Rattle.model.specs.Texts.{Text}
 use Rattle.model.specs.State.{ObjectOf, Instance, Primitives, References, Characters, WorldOf}
 use Rattle.model.specs.Worlds.{no_object, object_at}
 use Rattle.heap.specs.declared.kind.ObjectKind.{ObjectKind}

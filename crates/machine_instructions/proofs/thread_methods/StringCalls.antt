@@ -1,5 +1,5 @@
 -- A call of a method of String: what its answer makes of the event.
-use Rattle.std.proofs.Common.{◌≡◌, ◌<◌, ◌≤◌, ◌+◌, ◌-◌, ◌^◌, ℕ, zero, suc, List, [], ◌∷◌, ◌++◌, Some, None, Result, Ok, Err, true, length, length-append, length-drop, take, drop, refl, sym, ap, subst, inl, arith, ◌∙◌}
+use Rattle.std.proofs.Common.{◌≡◌, ◌<◌, ◌≤◌, ◌+◌, ◌-◌, ◌^◌, ℕ, zero, suc, List, [], ◌∷◌, Result, Ok, Err, true, length, length-append, length-drop, take, drop, refl, sym, ap, subst, inl, arith, ◌∙◌}
 use Rattle.std.specs.Prelude.{slice_index_or}
 use Rattle.std.specs.Result.{IsErrAnd}
 use Rattle.std.specs.declared.alloc.AllocError.{AllocError}
@@ -16,13 +16,12 @@ use Rattle.model.specs.Step.{SteppedOf, PartOf, part, become}
 use Rattle.model.specs.StringMethods.{StringAnswer, IsNull, IsOutside, Answers, Same, Composes, string_answer}
 use Rattle.model.specs.Texts.{Text}
 use Rattle.model.specs.Worlds.{allocated}
-use Rattle.heap.specs.declared.kind.ObjectKind.TheVariants as kind
 use Rattle.heap.specs.declared.refusal.AllocRefusal.{AllocRefusal}
-use Rattle.heap.specs.Heap.{Heap, Object, made, with_object, IsRefused as IsHeapRefused}
+use Rattle.heap.specs.Heap.{Heap, made, with_object, IsRefused as IsHeapRefused}
 use Rattle.linked_code.specs.declared.method.BuiltInMethod.TheVariants as method
 use Rattle.linked_code.specs.declared.program.LinkedProgram.{LinkedProgram}
 use Rattle.string_methods.specs.Answers.{IsAnswer}
-use Rattle.thread_stacks.specs.Stacks.{ShownEntry, Invocation, on_top}
+use Rattle.thread_stacks.specs.Stacks.{ShownEntry, on_top}
 use Rattle.machine_state.specs.shown_stacks.Shown.{ShowsFrame, ShowsStack}
 use Rattle.machine_state.specs.allocations.Allocated.{IsMade, string_of}
 use Rattle.machine_state.specs.declared.answers.Effect.{Effect}
@@ -33,13 +32,12 @@ use Rattle.machine_state.specs.declared.refusals.EventRefusal.TheVariants as ref
 use Rattle.machine_state.specs.declared.state.Shared.{Shared}
 use Rattle.machine_state.specs.Events.{MayBeRefused}
 use Rattle.machine_state.specs.Refusals.{of_heap}
-use Rattle.machine_state.specs.Shown.{Represents}
 use Rattle.machine_state.specs.Instructions.{Does}
 use Rattle.machine_state.proofs.allocations.Allocating.{texts_made, refused as heap_refused}
 use Rattle.machine_instructions.specs.thread_methods.Called.{IsCalling, string_operands}
 use Rattle.machine_instructions.specs.thread_methods.Moves.{operand_of, went_on, Grows, Answers as AnswersBy}
 use Rattle.machine_instructions.specs.thread_methods.Texts.{text_by, answer_by}
-use Rattle.machine_instructions.proofs.thread_methods.Calls.{represented, operand_is, gone_on, went, answered as answered_by, refused}
+use Rattle.machine_instructions.proofs.thread_methods.Calls.{operand_is, gone_on, went, answered as answered_by, refused}
 use Rattle.machine_instructions.proofs.thread_methods.TextAnswers.{IsRight, same_answer, some_operands, right}
 use Rattle.machine_instructions.proofs.thread_methods.ShownTexts.{text_is, units_are}
 
@@ -95,7 +93,7 @@ module _ (trees : Program) (p : LinkedProgram) (bounds : Bounds) (inflated : Lis
   -- ---- the event
 
   abbrev pub event : StringAnswer → SteppedOf (PartOf ℕ)
-  event answer = become trees frames t world frame rest (answered words answer offset world frame.place.slots ops (drop count frame.place.slots.stack))
+  event answer = become words trees frames t world frame rest (answered words answer offset world frame.place.slots ops (drop count frame.place.slots.stack))
 
   abbrev pub DoesBy : StringAnswer → Result Effect EventRefusal → (new : Shared) → (to : List ShownEntry) → Type 0
   DoesBy answer result new to = Does trees p bounds inflated t world (model.Invocation frame ∷ rest) (event answer) result old new from to

@@ -19,6 +19,8 @@ pub not_notify : (called : BuiltInMethod) → (called ≡ method.ObjectNotify �
     → (world : WorldOf ℕ) (ops : List ℕ) → built_in_may words (built_in_of called) event world ops ≡ false
 not_notify method.Construct other event some world ops = picks_some event.pick some
 not_notify method.ConstructWithTarget other event some world ops = picks_some event.pick some
+not_notify method.ConstructWithMessage other event some world ops = picks_some event.pick some
+not_notify method.ConstructWithCause other event some world ops = picks_some event.pick some
 not_notify method.ObjectWait other event some world ops = picks_some event.pick some
 not_notify method.ObjectNotify other event some world ops = absurd (other refl)
 not_notify method.ObjectNotifyAll other event some world ops = picks_some event.pick some
@@ -34,3 +36,4 @@ not_notify method.ThreadIsAlive other event some world ops = picks_some event.pi
 not_notify (method.PrintStreamPrints print) other event some world ops = picks_some event.pick some
 not_notify (method.StringAnswers string) other event some world ops = picks_some event.pick some
 not_notify (method.StringBuilderBuilds builds) other event some world ops = picks_some event.pick some
+not_notify (method.ObjectAnswers builds) other event some world ops = picks_some event.pick some

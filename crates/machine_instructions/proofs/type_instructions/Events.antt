@@ -95,11 +95,11 @@ module _ {trees : Program} {p : LinkedProgram} {bounds : Bounds} {inflated : Lis
       → m.may (event_of t) state.world (ops_of words m frame.place.slots) ≡ true
       → (outcome : OutcomeOf ℕ) → m.does (event_of t) state.world
       frame.place.slots (ops_of words m frame.place.slots) (under m.wants frame.place.slots) ≡ outcome
-      → instruction_event trees frames (event_of t) state.world frame rest meaning ≡ become trees frames t state.world frame rest outcome
+      → instruction_event trees frames (event_of t) state.world frame rest meaning ≡ become words trees frames t state.world frame rest outcome
   event_by frames m e may outcome does =
       event_is trees p bounds inflated t shared stack state frame rest code site meaning instruction is frames (event_of t) m e
       ∙ ap (λ b. enabled_if b (done words trees frames (event_of t) state.world frame rest m)) may
-      ∙ ap (become trees frames t state.world frame rest) does
+      ∙ ap (become words trees frames t state.world frame rest) does
 
   -- the slots after it, with these words in the place of so many operands
   abbrev pub slots_after : (count : ℕ) → List ℕ → Slots ℕ
@@ -111,7 +111,7 @@ module _ {trees : Program} {p : LinkedProgram} {bounds : Bounds} {inflated : Lis
   -- it goes on at the next place
   pub goes_on : (frames : ℕ) (cost : Cost) (after : WorldOf ℕ) (count : ℕ) (results : List ℕ)
       → site.next ≡ offset_in code.starts.items (is.shown.place + 1)
-      → become trees frames t state.world frame rest (Goes cost after (slots_after count results) site.next)
+      → become words trees frames t state.world frame rest (Goes cost after (slots_after count results) site.next)
       ≡ Next cost (part after (own_after count results))
   goes_on frames cost after count results next = ap (λ o. Next cost (part after (model.Invocation (at_offset frame o (slots_after count results)) ∷ rest))) next
 

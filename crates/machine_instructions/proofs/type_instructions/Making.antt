@@ -19,7 +19,6 @@ use Rattle.model.specs.Worlds.{allocated, cells_of}
 use Rattle.heap.specs.declared.kind.ObjectKind.{ObjectKind}
 use Rattle.heap.specs.declared.kind.ObjectKind.TheVariants as kind
 use Rattle.heap.specs.declared.refusal.AllocRefusal.{AllocRefusal}
-use Rattle.heap.specs.declared.refusal.AllocRefusal.TheVariants as heap
 use Rattle.heap.specs.Heap.{Heap, IsRefused, fresh}
 use Rattle.linked_code.specs.declared.instruction.LinkedInstruction.{LinkedInstruction}
 use Rattle.linked_code.specs.declared.method.LinkedCode.{LinkedCode}
@@ -44,7 +43,7 @@ use Rattle.machine_state.specs.allocations.Allocated.{IsMade}
 use Rattle.machine_state.proofs.allocations.Allocating.{made, refused}
 use Rattle.machine_state.specs.linked_frames.Frames.{IsRunning}
 use Rattle.machine_instructions.specs.Leaving.{gone_on}
-use Rattle.machine_instructions.specs.type_instructions.Leaving.{IsUnmade, LeavesNew}
+use Rattle.machine_instructions.specs.type_instructions.Leaving.{LeavesNew}
 use Rattle.machine_instructions.specs.type_instructions.Arrays.{kind_of_array, AreArrays}
 use Rattle.machine_instructions.proofs.type_instructions.Events.{IsEvent, DoesSo, own_after, slots_after, place_small, operand_is, operands_there, unchanged, event_by, goes_on, shows_after, stays}
 
@@ -105,15 +104,16 @@ module _ {trees : Program} {p : LinkedProgram} {bounds : Bounds} {inflated : Lis
 
   -- ---- new
 
-  pub makes_object : (class fields cells : ℕ) → IsNew trees site (offset_in code.starts.items (is.shown.place + 1)) class fields cells
+  pub makes_object : (class cells uncounted : ℕ) → IsNew trees site (offset_in code.starts.items (is.shown.place + 1)) class cells uncounted
+      → (fields : ℕ) → fields ≡ cells + uncounted
       → (frames : ℕ) (after : Heap) (from to : ShownFrame) → from ≡ is.shown
       → (result : Result Effect EventRefusal) → LeavesNew result (kind.Instance class) fields cells 0 shared.heap after from to
       → DoesSo is frames result (with_heap after) (with_top to stack)
-  makes_object class fields cells new frames after from to top result left =
+  makes_object class cells uncounted new fields all frames after from to top result left =
       let object = new_instance words trees new.named in
       let count : cells_of object ≡ cells = new_cells trees new.named ∙ sym new.costs in
       let shows : ShowsObject trees p.components.items (fresh (kind.Instance class) fields) object =
-      new_shown trees new.named p.components.items class fields new.numbered new.counted
+      new_shown trees new.named p.components.items class fields new.numbered (all ∙ new.counted)
       in
       let results = suc (length state.world.heap) ∷ [] in
       makes frames (kind.Instance class) fields cells 0 object shows (sym count)
@@ -128,7 +128,7 @@ module _ {trees : Program} {p : LinkedProgram} {bounds : Bounds} {inflated : Lis
       (w : ℕ) (from : ShownFrame) (top : from ≡ is.shown) (read : w ≡ slice_index_or from.operands 0 0) where
     -- by the word of the count
     array_event : (negative : Bool) → is_negative w ≡ negative
-        → IsEvent is frames (become trees frames t state.world frame
+        → IsEvent is frames (become words trees frames t state.world frame
         rest (made_array words negative site.next w array 0 state.world frame.place.slots (drop 1 frame.place.slots.stack)))
     array_event negative e =
         event_by is frames (array_meaning words trees site type array 0) means refl _

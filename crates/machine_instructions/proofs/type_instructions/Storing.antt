@@ -133,7 +133,7 @@ module _ {trees : Program} {p : LinkedProgram} {bounds : Bounds} {inflated : Lis
       if_storable (may_stand_in words trees state.world (object_at state.world r) word) (stored site.next state.world r index word frame.place.slots (drop 3 frame.place.slots.stack))
 
   store_event : (outcome : OutcomeOf ℕ) → storing word index r ≡ outcome
-      → IsEvent is frames (become trees frames t state.world frame rest outcome)
+      → IsEvent is frames (become words trees frames t state.world frame rest outcome)
   store_event outcome e =
       event_by is frames (store_reference_meaning words trees site) means refl outcome
       ((λ i. not_null (word_reference (operand_is is from top 3 2 (omega arith) (suc r) array_read i))

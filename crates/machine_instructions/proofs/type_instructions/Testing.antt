@@ -41,7 +41,7 @@ module _ {trees : Program} {p : LinkedProgram} {bounds : Bounds} {inflated : Lis
 
   module _ (next : ℕ) (type : LinkedType) (check : IsCheckCast trees site next type) (tested : IsTested p.subclasses type) where
     cast_event : (answer : Bool) → TestsWord p shared.heap.objects w type answer
-        → IsEvent is frames (become trees frames t state.world frame
+        → IsEvent is frames (become words trees frames t state.world frame
         rest (cast answer site.next w state.world frame.place.slots (drop 1 frame.place.slots.stack)))
     cast_event answer tests =
         event_by is frames (check_cast_meaning words trees site check.named) check.is refl _
@@ -62,7 +62,7 @@ module _ {trees : Program} {p : LinkedProgram} {bounds : Bounds} {inflated : Lis
         in
         done_free is frames state.world shared 0 [] from to told left top
         (cast_event true tests
-        ∙ ap (λ ss. become trees frames t state.world frame rest (Goes Free state.world (record { locals = frame.place.slots.locals; stack = ss }) site.next)) whole
+        ∙ ap (λ ss. become words trees frames t state.world frame rest (Goes Free state.world (record { locals = frame.place.slots.locals; stack = ss }) site.next)) whole
         ∙ goes_on is frames Free state.world 0 [] (check.to ∙ behind))
         is.lent.represents refl refl refl
 
@@ -89,6 +89,6 @@ module _ {trees : Program} {p : LinkedProgram} {bounds : Bounds} {inflated : Lis
     instruction) where
   pub throws : (frames r : ℕ) (from : ShownFrame) → from ≡ is.shown → suc r ≡ slice_index_or from.operands 0 0
       → meaning_of words trees site ≡ Some (throw_meaning words)
-      → IsEvent is frames (become trees frames t state.world frame rest (Throws r))
+      → IsEvent is frames (become words trees frames t state.world frame rest (Throws r))
   throws frames r from top read means =
       event_by is frames (throw_meaning words) means refl (Throws r) (ap (λ w. not_null (word_reference w) (λ x. Throws x)) (operand_is is from top 1 0 (omega arith) (suc r) read))

@@ -1,14 +1,9 @@
 -- Instructions that put into fields of each primitive type (JVMS 6.5).
-use Rattle.std.specs.Prelude.{◌≡◌, ℕ, ◌+◌, ◌<◌, ◌^◌, List, ◌++◌, length, drop, Result, Ok, Err}
+use Rattle.std.specs.Prelude.{ℕ}
 use Rattle.linked_code.specs.declared.instruction.LinkedInstruction.{LinkedInstruction}
 use Rattle.linked_code.specs.declared.instruction.LinkedInstruction.TheVariants as linked
 use Rattle.model.specs.declared.primitive.Primitive.{Primitive}
 use Rattle.model.specs.declared.primitive.Primitive.TheVariants as primitive
-use Rattle.thread_stacks.specs.Stacks.{ShownFrame, at_place, replaced}
-use Rattle.machine_state.specs.declared.answers.Effect.{Effect}
-use Rattle.machine_state.specs.declared.answers.Effect.TheVariants as effect
-use Rattle.machine_state.specs.declared.refusals.EventRefusal.{EventRefusal}
-use Rattle.machine_state.specs.declared.refusals.EventRefusal.TheVariants as refusal
 
 -- putfield of a field of the type; a reference is put as an int is
 abbrev pub put_field_instruction : Primitive → (slot : ℕ) → LinkedInstruction

@@ -3,6 +3,7 @@ use Rattle.std.specs.Prelude.{ℕ, List, ◌∷◌, Result}
 use Rattle.model.specs.Classes.{Program}
 use Rattle.model.specs.State.{FrameOf, Invocation, StackOf, WorldOf}
 use Rattle.model.specs.LimitStands.{Bounds}
+use Rattle.model.specs.Operands.{words}
 use Rattle.model.specs.Step.{leaving}
 use Rattle.linked_code.specs.declared.program.LinkedProgram.{LinkedProgram}
 use Rattle.thread_stacks.specs.Stacks.{ShownEntry}
@@ -17,4 +18,4 @@ abbrev pub Unwinds : Result Answer EventRefusal → (t : ℕ) → (old new : Sha
 Unwinds result t old new from to =
     (trees : Program) (p : LinkedProgram) (bounds : Bounds) (inflated : List ℕ) (world : WorldOf ℕ) → Represents trees p bounds old world
     → (frame : FrameOf ℕ) (rest : StackOf ℕ) → ShowsStack trees p from (Invocation frame ∷ rest)
-    → Becomes trees p bounds inflated world (leaving t frame.entered world rest rest) result old new from to
+    → Becomes trees p bounds inflated world (leaving words trees t frame.entered world rest rest) result old new from to

@@ -5,7 +5,9 @@ use Rattle.model.specs.declared.string_method.StringMethod.{StringMethod}
 use Rattle.model.specs.declared.string_method.StringMethod.TheVariants.{Length, CharAt, Equals, HashCode, CompareTo, Concat, Substring, IndexOf, RegionMatches, ValueOfInt, ValueOfChar}
 use Rattle.model.specs.declared.builder_method.BuilderMethod.{BuilderMethod}
 use Rattle.model.specs.declared.builder_method.BuilderMethod.TheVariants.{ConstructEmpty, ConstructOfString, AppendString, AppendInt, AppendChar, AppendBuilder, ToString}
-use Rattle.model.specs.Names.{java_lang_thread}
+use Rattle.model.specs.declared.object_method.ObjectMethod.{ObjectMethod}
+use Rattle.model.specs.declared.object_method.ObjectMethod.TheVariants as asked
+use Rattle.model.specs.Names.{java_lang_thread, java_lang_throwable}
 use Rattle.model.specs.Classes.{Program}
 use Rattle.model.specs.Operands.{words}
 use Rattle.model.specs.State as model
@@ -60,11 +62,21 @@ builder_operands AppendChar = 2
 builder_operands AppendBuilder = 2
 builder_operands ToString = 1
 
--- The operands of a call, the top first: a receiver is not null, and where a field of a Thread is written it is one. What a method of
+-- What an object tells of itself is told of one that is there; of null `identityHashCode` and `described` are asked, too.
+abbrev pub AreTold : List (ObjectOf ℕ) → List ℕ → ObjectMethod → Type 0
+AreTold heap operands asked.HashCode = RefersTo heap operands 0 is_any
+AreTold heap operands asked.IdentityHashCode = 0 < length operands
+AreTold heap operands asked.GetClass = RefersTo heap operands 0 is_any
+AreTold heap operands asked.ClassName = RefersTo heap operands 0 is_any
+AreTold heap operands asked.Described = 1 < length operands
+
+-- The operands of a call, the top first: a receiver is not null, and where a field of a Thread or a Throwable is written it is one. What a method of
 -- String or StringBuilder reads is there.
 abbrev pub AreArguments : Program → List (ObjectOf ℕ) → List ℕ → BuiltInMethod → Type 0
 AreArguments trees heap operands method.Construct = Unit {0}
 AreArguments trees heap operands method.ConstructWithTarget = RefersTo heap operands 1 (has_class_below trees java_lang_thread)
+AreArguments trees heap operands method.ConstructWithMessage = RefersTo heap operands 1 (has_class_below trees java_lang_throwable)
+AreArguments trees heap operands method.ConstructWithCause = RefersTo heap operands 2 (has_class_below trees java_lang_throwable)
 AreArguments trees heap operands method.ObjectWait = RefersTo heap operands 0 is_any
 AreArguments trees heap operands method.ObjectNotify = RefersTo heap operands 0 is_any
 AreArguments trees heap operands method.ObjectNotifyAll = RefersTo heap operands 0 is_any
@@ -79,6 +91,7 @@ AreArguments trees heap operands method.ThreadIsAlive = RefersTo heap operands 0
 AreArguments trees heap operands (method.PrintStreamPrints print) = 0 < length operands
 AreArguments trees heap operands (method.StringAnswers string) = string_operands string ≤ length operands
 AreArguments trees heap operands (method.StringBuilderBuilds builds) = builder_operands builds ≤ length operands
+AreArguments trees heap operands (method.ObjectAnswers asked) = AreTold heap operands asked
 
 -- The frame on top of a thread, whose stack is lent, calls a method that takes so many words. The place behind the call has this
 -- offset.
@@ -111,7 +124,7 @@ pub record CanCall (t : ℕ) (shared : Shared) (stack : List ShownEntry) (called
 abbrev pub call_event : Program → ℕ → Event → WorldOf ℕ → FrameOf ℕ → StackOf ℕ → BuiltInMethod → (count offset : ℕ) → SteppedOf (PartOf ℕ)
 call_event trees frames event world frame rest called count offset =
     enabled_if (built_in_may words (built_in_of called) event world (take count frame.place.slots.stack))
-    (become trees frames event.thread world frame rest
+    (become words trees frames event.thread world frame rest
     (built_in_does words trees (built_in_of called) offset event world frame.place.slots (take count frame.place.slots.stack) (drop count frame.place.slots.stack)))
 
 -- In whatever state a thread of a program calls the method, the result says what becomes of the event by it.

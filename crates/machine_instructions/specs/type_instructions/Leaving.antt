@@ -1,6 +1,6 @@
 -- How an instruction that makes an object leaves its frame (JVMS 2.6, 6.5).
 use Rattle.machine_instructions.specs.Leaving.{gone_on}
-use Rattle.std.specs.Prelude.{◌≡◌, ℕ, suc, ◌+◌, ◌<◌, ◌≤◌, ◌^◌, List, [], ◌∷◌, ◌++◌, drop, Some, Result, Ok, Err, length}
+use Rattle.std.specs.Prelude.{◌≡◌, ℕ, suc, ◌<◌, ◌≤◌, ◌^◌, List, [], ◌∷◌, Some, Result, Ok, Err, length}
 use Rattle.heap.specs.declared.kind.ObjectKind.{ObjectKind}
 use Rattle.heap.specs.declared.refusal.AllocRefusal.{AllocRefusal}
 use Rattle.heap.specs.Heap.{Heap, IsAllocated, IsRefused}

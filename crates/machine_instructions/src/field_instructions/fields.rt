@@ -21,7 +21,7 @@ use thread_stacks::ThreadStack;
 pub fn get_field(
     shared: &Shared,
     stack: &mut ThreadStack,
-    slot: u16,
+    slot: u32,
 ) -> Result<Effect, EventRefusal>
     ensures { (p : LinkedProgram) (t : ℕ)
         → DoesOwn p (linked.GetField slot) t result shared.now shared.now stack.old stack.new }
@@ -31,14 +31,14 @@ pub fn get_field(
     };
     match frame.operand(0).checked_sub(1) {
         None => Ok(Effect::Raises(MachineException::NullPointer)),
-        Some(object) => leave(stack, 1, shared.heap.get_field(object, u32::from(slot))),
+        Some(object) => leave(stack, 1, shared.heap.get_field(object, slot)),
     }
 }
 
 /// `putfield` of a field of a type, of a reference as of an int: the operand on top goes into the field in a slot of
 /// the object of the operand under it, narrowed to the type.
 #[inline]
-pub fn put_field(shared: &mut Shared, stack: &mut ThreadStack, of: Primitive, slot: u16) -> Effect
+pub fn put_field(shared: &mut Shared, stack: &mut ThreadStack, of: Primitive, slot: u32) -> Effect
     ensures { (p : LinkedProgram) (t : ℕ)
         → DoesOwn p (put_field_instruction of slot) t (Ok result) shared.old shared.new stack.old
         stack.new }
@@ -50,7 +50,7 @@ pub fn put_field(shared: &mut Shared, stack: &mut ThreadStack, of: Primitive, sl
         None => Effect::Raises(MachineException::NullPointer),
         Some(object) => {
             let word = kept(of, frame.operand(0));
-            shared.heap.put_field(object, u32::from(slot), word);
+            shared.heap.put_field(object, slot, word);
             leave_nothing(stack, 2)
         }
     }

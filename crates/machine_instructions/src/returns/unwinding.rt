@@ -24,7 +24,7 @@ pub fn unwind(
 {
     let entered = entered_by_top(stack);
     if !may_leave(&shared.heap, thread, entered) {
-        raise(shared, thread, MachineException::IllegalMonitorState)?;
+        raise(shared, thread, MachineException::IllegalMonitorState, 0)?;
         stack.drop_top();
         return Ok(Answer::Done);
     }

@@ -2,7 +2,9 @@
 
 ghost use Rattle.machine_instructions.specs.thread_methods.Called.{CanCall, DoesCall};
 
-use crate::thread_methods::{builders, lives, printing, strings, targets, waiting};
+use crate::thread_methods::{
+    builders, lives, messages, objects, printing, strings, targets, waiting,
+};
 use linked_code::{BuiltInMethod, LinkedProgram};
 use machine_state::{Effect, EventRefusal, Shared};
 use model::Event;
@@ -27,6 +29,10 @@ fn run_unpicked(
             targets::pass(stack, operands, next)
         }
         BuiltInMethod::ConstructWithTarget => targets::set_target(shared, stack, operands, next),
+        BuiltInMethod::ConstructWithMessage => {
+            messages::set_message(shared, stack, operands, next)
+        }
+        BuiltInMethod::ConstructWithCause => messages::set_cause(shared, stack, operands, next),
         BuiltInMethod::ObjectWait => waiting::wait(shared, stack, thread, operands, next),
         BuiltInMethod::ObjectNotify => waiting::notify(shared, stack, thread, 0, operands, next),
         BuiltInMethod::ObjectNotifyAll => {
@@ -53,6 +59,9 @@ fn run_unpicked(
         }
         BuiltInMethod::StringBuilderBuilds(method) => {
             builders::build(shared, stack, program, method, operands, next)
+        }
+        BuiltInMethod::ObjectAnswers(method) => {
+            objects::answer_call(shared, stack, program, method, operands, next)
         }
     }
 }

@@ -1,5 +1,5 @@
 //! What calls of built-in methods do, which have no code: waiting and notifying, threads, printing, what Strings
-//! answer, and what StringBuilders do.
+//! answer, what StringBuilders do, what objects tell of themselves, and messages and causes of exceptions.
 //!
 //! # Proved
 //!
@@ -27,12 +27,15 @@ mod builders;
 mod called;
 mod growth;
 mod lives;
+mod messages;
 mod moves;
 mod new_strings;
+mod objects;
 mod printing;
 mod strings;
 mod targets;
 mod texts;
+mod type_names;
 mod waiting;
 
 pub use called::run_built_in;

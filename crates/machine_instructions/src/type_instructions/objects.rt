@@ -27,8 +27,8 @@ pub fn load_object(stack: &mut ThreadStack, word: u32) -> Result<Effect, EventRe
     }
 }
 
-/// `new`: an object of a class, whose fields are 0 or null; so many of them count as cells. That the class is
-/// initialised is asked before.
+/// `new`: an object of a class, whose fields are 0 or null; so many of them count as cells, and so many don't. That the
+/// class is initialised is asked before.
 ///
 /// # Errors
 ///
@@ -39,22 +39,18 @@ pub fn new_object(
     shared: &mut Shared,
     stack: &mut ThreadStack,
     class: u16,
-    fields: u16,
     cells: u16,
+    uncounted: u8,
 ) -> Result<Effect, EventRefusal>
     ensures { (p : LinkedProgram) (t : ℕ)
-        → DoesOwn p (linked.New class fields cells) t result shared.old shared.new stack.old stack.new }
+        → DoesOwn p (linked.New class cells uncounted) t result shared.old shared.new stack.old stack.new }
 {
     let Some(_frame) = stack.frame() else {
         return Ok(Effect::NotEnabled);
     };
-    leave_new(
-        &mut shared.heap,
-        stack,
-        u32::from(class),
-        u32::from(fields),
-        u32::from(cells),
-    )
+    let cells = u32::from(cells);
+    let fields = cells + u32::from(uncounted);
+    leave_new(&mut shared.heap, stack, u32::from(class), fields, cells)
 }
 
 /// `athrow`: the object of the operand on top is thrown, or a NullPointerException where that is null. The stack

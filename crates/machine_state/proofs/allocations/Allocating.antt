@@ -93,7 +93,7 @@ module _ (trees : Program) (p : LinkedProgram) (bounds : Bounds) (world : WorldO
       }
 
 -- whatever object is shown by what is allocated
-made_one : (trees : Program) (p : LinkedProgram) (bounds : Bounds) (inflated : List ℕ) (world : WorldOf ℕ) (old new : Shared)
+pub made_one : (trees : Program) (p : LinkedProgram) (bounds : Bounds) (inflated : List ℕ) (world : WorldOf ℕ) (old new : Shared)
     → Represents trees p bounds old world → (one : Object) (reference cells : ℕ)
     → reference ≡ length old.heap.objects → reference + 1 < 2 ^ 32
     → old.heap.opening ≤ length old.heap.objects

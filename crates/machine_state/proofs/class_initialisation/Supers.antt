@@ -37,7 +37,7 @@ module _ (trees : Program) (p : LinkedProgram) (bounds : Bounds) (inflated : Lis
   Steps first =
       Becomes trees p bounds inflated world
       (needing_class words trees t first world (model.Initialisation class model.Super ∷ rest)
-      (initialiser_event words frames t (initialiser_of class) world (model.Initialisation class model.End ∷ rest) (body_of trees (initialiser_of class))))
+      (initialiser_event words trees frames t (initialiser_of class) world (model.Initialisation class model.End ∷ rest) (body_of trees (initialiser_of class))))
       result old new from to
 
   pub with_none : IsClassIf trees None (before trees class) → Steps None → Steps (before trees class)
@@ -46,7 +46,7 @@ module _ (trees : Program) (p : LinkedProgram) (bounds : Bounds) (inflated : Lis
   abbrev Runs : Shared → List ShownEntry → Type 0
   Runs m l =
       Becomes trees p bounds inflated world
-      (initialiser_event words frames t (initialiser_of class) world (model.Initialisation class model.End ∷ rest) (body_of trees (initialiser_of class)))
+      (initialiser_event words trees frames t (initialiser_of class) world (model.Initialisation class model.End ∷ rest) (body_of trees (initialiser_of class)))
       result m new l to
 
   -- the superclass is ready, and nothing has changed
@@ -62,7 +62,7 @@ module _ (trees : Program) (p : LinkedProgram) (bounds : Bounds) (inflated : Lis
       (subst (λ (l : Look).
       Becomes trees p bounds inflated world
       (needing words trees t superclass l world (model.Initialisation class model.Super ∷ rest)
-      (initialiser_event words frames t (initialiser_of class) world (model.Initialisation class model.End ∷ rest) (body_of trees (initialiser_of class))))
+      (initialiser_event words trees frames t (initialiser_of class) world (model.Initialisation class model.End ∷ rest) (body_of trees (initialiser_of class))))
       result old new from to) (sym ready)
       (subst (λ (l : List ShownEntry). Runs old l) same.stack (subst (λ (m : Shared). Runs m between) same.shared
       (runs trees bounds inflated world program (subst (λ (m : Shared). IsShared trees p bounds inflated m world) (sym same.shared) is) class rest at

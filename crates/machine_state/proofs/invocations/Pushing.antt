@@ -67,7 +67,7 @@ module _ (trees : Program) (p : LinkedProgram) (bounds : Bounds) (inflated : Lis
     (s : IsShared trees p bounds inflated old world)
     (t limit : ℕ) (from : List ShownEntry) (own rest : StackOf ℕ) (shows : ShowsStack trees p from own) (frame : FrameOf ℕ) where
   abbrev stepped : SteppedOf (PartOf ℕ)
-  stepped = pushed limit t world world own rest frame
+  stepped = pushed words trees limit t world world own rest frame
 
   abbrev after : PartOf ℕ
   after = part (with_begin world t frame.entered) (Invocation frame ∷ rest)
@@ -84,7 +84,7 @@ module _ (trees : Program) (p : LinkedProgram) (bounds : Bounds) (inflated : Lis
   -- there are as many frames as may be
   pub overflows : (count : ℕ) → count ≡ frame_count from → limit ≤ count → Comes (Ok (effect.Raises exception.StackOverflow)) old from
   overflows count is full = (
-    ap (λ b. if b then entering t world rest frame frame.entered else raised t StackOverflow world own)
+    ap (λ b. if b then entering t world rest frame frame.entered else raised words trees t StackOverflow world own)
         (le-ltb (frames.frame_count own) limit (subst (λ n. limit ≤ n) (is ∙ counted trees p from own shows) full)),
     record { shared = refl; stack = refl },
   )
@@ -93,7 +93,7 @@ module _ (trees : Program) (p : LinkedProgram) (bounds : Bounds) (inflated : Lis
   module _ (count : ℕ) (is : count ≡ frame_count from) (room : count < limit) where
     pushes : stepped ≡ enabled_if (may_begin world t frame.entered) next
     pushes =
-        ap (λ b. if b then entering t world rest frame frame.entered else raised t StackOverflow world own)
+        ap (λ b. if b then entering t world rest frame frame.entered else raised words trees t StackOverflow world own)
         (lt-ltb (frames.frame_count own) limit (subst (λ n. n < limit) (is ∙ counted trees p from own shows) room))
         ∙ entering_is t world rest frame frame.entered
 

@@ -2,35 +2,29 @@
 use Rattle.std.proofs.Common.{◌≡◌, ℕ, List, [], Some, true, Result, Ok, Err, slice_index_or, slice_set, length, refl, sym, ap, subst, ◌∙◌, inl}
 use Rattle.std.specs.Result.{IsErrAnd}
 use Rattle.std.proofs.lemmas.List.{length-set}
-use Rattle.model.specs.Names.{Name}
 use Rattle.model.specs.Classes.{Program}
-use Rattle.model.specs.State.{Instance, Thread, StackOf, WorldOf, new_thread}
-use Rattle.model.specs.Outcomes.{Makes, exception_class}
+use Rattle.model.specs.State.{ObjectOf, Thread, StackOf, WorldOf, new_thread}
+use Rattle.model.specs.Outcomes.{Makes}
 use Rattle.model.specs.LimitStands.{Bounds}
-use Rattle.model.specs.Worlds.{allocated, with_pending}
+use Rattle.model.specs.Worlds.{allocated, cells_of, with_pending}
 use Rattle.model.specs.Step.{PartOf, part, Next}
-use Rattle.heap.specs.declared.kind.ObjectKind.TheVariants as kind
 use Rattle.heap.specs.declared.refusal.AllocRefusal.{AllocRefusal}
 use Rattle.heap.specs.Heap as heap
-use Rattle.heap.specs.Heap.{Heap, Allocates, fresh}
+use Rattle.heap.specs.Heap.{Heap}
 use Rattle.heap.specs.java_threads.Table.{ThreadTable}
 use Rattle.linked_code.specs.declared.program.LinkedProgram.{LinkedProgram}
-use Rattle.linked_code.specs.Numbers.{IsClassAt}
 use Rattle.thread_stacks.specs.Stacks.{ShownEntry}
 use Rattle.machine_state.specs.shown_objects.Shown.{ShowsObject}
 use Rattle.machine_state.specs.shown_stacks.Shown.{ShowsStack}
 use Rattle.machine_state.specs.declared.answers.Answer.{Answer}
-use Rattle.machine_state.specs.declared.answers.MachineException.{MachineException}
 use Rattle.machine_state.specs.declared.refusals.EventRefusal.{EventRefusal}
 use Rattle.machine_state.specs.declared.state.Shared.{Shared}
 use Rattle.machine_state.specs.Refusals.{of_heap}
-use Rattle.machine_state.specs.Instructions.{shown_exception}
 use Rattle.machine_state.specs.Shown.{Represents}
 use Rattle.machine_state.specs.Events.{Becomes, IsDone, MayBeRefused}
 use Rattle.machine_state.specs.allocations.Allocated.{IsMade}
-use Rattle.machine_state.proofs.allocations.Allocating.{made, refused}
-use Rattle.machine_state.specs.raised_exceptions.Raised.{class_number}
-use Rattle.machine_state.proofs.raised_exceptions.Numbered.{numbered}
+use Rattle.machine_state.proofs.allocations.Allocating.{made_one, refused}
+use Rattle.machine_state.specs.raised_exceptions.Raised.{IsMadeWith, telling_object}
 
 module _ (trees : Program) (p : LinkedProgram) (bounds : Bounds) (inflated : List ℕ) (world : WorldOf ℕ) (old : Shared)
     (r : Represents trees p bounds old world)
@@ -49,25 +43,20 @@ module _ (trees : Program) (p : LinkedProgram) (bounds : Bounds) (inflated : Lis
 
   -- ---- done
 
-  module _ (fault : MachineException) (number : ℕ) (number_is : number ≡ class_number fault) where
-    abbrev pub class : Name
-    class = exception_class (shown_exception fault)
+  -- the threads with the exception pending in one, after another change of them
+  abbrev pub pending_in : (change : List Thread → List Thread) (t : ℕ) → List Thread → ℕ → List Thread
+  pending_in change t threads exception = slice_set (change threads) t (record (slice_index_or (change threads) t (new_thread 0)) { pending = Some exception })
 
-    shows : ShowsObject trees p.components.items (fresh (kind.Instance number) 0) (Instance class [])
-    shows = record { kind = (subst (λ n. IsClassAt trees n class) (sym number_is) (numbered trees fault).class, sym (numbered trees fault).fields, (numbered trees fault).other); words = refl }
-
-    -- the threads with the exception pending in one, after another change of them
-    abbrev pub pending_in : (change : List Thread → List Thread) (t : ℕ) → List Thread → ℕ → List Thread
-    pending_in change t threads exception = slice_set (change threads) t (record (slice_index_or (change threads) t (new_thread 0)) { pending = Some exception })
-
+  module _ (object : ObjectOf ℕ) (class message cause : ℕ)
+      (shows : ShowsObject trees p.components.items (telling_object class message cause) object) (none : 0 ≡ cells_of object) where
     pub is_pending : (change : List Thread → List Thread) → ((threads : List Thread) → length (change threads) ≡ length threads)
         → (t reference : ℕ) (after : Heap) (table : ThreadTable)
-        → Allocates (Ok reference) (kind.Instance number) 0 0 old.heap after
+        → IsMadeWith reference class message cause old.heap after
         → table.threads ≡ pending_in change t old.threads.threads reference → table.limit ≡ old.threads.limit
         → IsDone trees p bounds inflated world
-        (Next (Makes 0) (part (with_pending (allocated (record world { threads = change world.threads }) (Instance class [])) t (length world.heap)) own))
+        (Next (Makes 0) (part (with_pending (allocated (record world { threads = change world.threads }) object) t (length world.heap)) own))
         old (record old { heap = after; threads = table }) shown
-    is_pending change same t reference after table allocates threads_are limit_is =
+    is_pending change same t reference after table makes threads_are limit_is =
         record {
           cost = Makes 0;
           next = _;
@@ -100,5 +89,6 @@ module _ (trees : Program) (p : LinkedProgram) (bounds : Bounds) (inflated : Lis
           };
         }
       where
-        m : IsMade trees p bounds inflated world (Instance class []) reference 0 old (record old { heap = after })
-        m = made trees p bounds inflated world old (record old { heap = after }) r (kind.Instance number) reference 0 0 allocates refl (Instance class []) shows refl
+        m : IsMade trees p bounds inflated world object reference 0 old (record old { heap = after })
+        m = made_one trees p bounds inflated world old (record old { heap = after }) r (telling_object class message cause)
+            reference 0 makes.answer makes.fits makes.opened makes.objects makes.cells (ap (λ (h : Heap). record old { heap = h }) makes.after) object shows none

@@ -5,7 +5,7 @@ use Rattle.std.specs.List.{filter}
 use Rattle.std.proofs.lemmas.List.{length-map, length-set}
 use Rattle.std.proofs.lemmas.List.Sums.{sum_by-cons}
 use Rattle.model.specs.Names.{Name, Member}
-use Rattle.model.specs.HiddenFields.{is_cell}
+use Rattle.model.specs.HiddenMembers.{is_cell}
 use Rattle.model.specs.State.{ObjectOf, Instance, Primitives, References, Characters}
 use Rattle.model.specs.Worlds.{is_cell_field, cells_of, with_value, with_field, with_element}
 use Rattle.model.specs.Words.{map_field, map_object}

@@ -3,7 +3,7 @@ use Rattle.std.proofs.Common.{◌≡◌, ℕ, List, [], ◌∷◌, Bool, true, f
 use Rattle.std.specs.List.{filter}
 use Rattle.std.proofs.lemmas.List.{length-map}
 use Rattle.std.proofs.lemmas.List.Elements.{All-nil}
-use Rattle.model.specs.HiddenFields.{is_cell}
+use Rattle.model.specs.HiddenMembers.{is_cell}
 use Rattle.model.specs.Names.{Name, Member, name_eq, java_lang_string}
 use Rattle.model.specs.Classes.{Program}
 use Rattle.model.specs.DescribedTypes.{DeclaredType, DeclaredInt, DeclaredReference, field_declared}

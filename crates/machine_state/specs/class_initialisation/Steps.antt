@@ -1,5 +1,5 @@
 -- The steps of a thread that initialises a class (JVMS 5.5, steps 7 to 12).
-use Rattle.std.specs.Prelude.{◌≡◌, ℕ, List, [], ◌∷◌, Option, Some, None, Bool, Result}
+use Rattle.std.specs.Prelude.{◌≡◌, ◌<◌, ◌^◌, ℕ, length, List, [], ◌∷◌, Option, Some, None, Bool, Result}
 use Rattle.model.specs.Names.{Name, Member, initialiser_of}
 use Rattle.model.specs.Classes.{Program, Body, body_of}
 use Rattle.model.specs.Frames.{frame_with}
@@ -24,12 +24,13 @@ use Rattle.machine_state.specs.Events.{Becomes}
 use Rattle.machine_state.specs.entries.Entered.{IsShared}
 
 -- an exception comes to the class on top, by its number: it is erroneous (steps 11 and 12)
-abbrev pub Fails : Result Answer EventRefusal → (t number : ℕ) → (is_error : Bool) → (old new : Shared) (from to : List ShownEntry) → Type 0
-Fails result t number is_error old new from to =
+abbrev pub Fails : Result Answer EventRefusal → (t number exception : ℕ) → (is_error : Bool) → (old new : Shared) (from to : List ShownEntry) → Type 0
+Fails result t number exception is_error old new from to =
     (trees : Program) (p : LinkedProgram) (bounds : Bounds) (inflated : List ℕ) (world : WorldOf ℕ) → IsProgram trees p → Represents trees p bounds old world
+    → (length old.heap.objects < 2 ^ 32 → exception < length old.heap.objects)
     → (class : Name) (phase : Phase) (rest : StackOf ℕ) → IsClassAt trees number class
     → ShowsStack trees p from (model.Initialisation class phase ∷ rest)
-    → Becomes trees p bounds inflated world (failed t is_error (with_class_status world class Erroneous) rest) result old new from to
+    → Becomes trees p bounds inflated world (failed words trees t exception is_error (with_class_status world class Erroneous) rest) result old new from to
 
 -- ---- what comes next of a class
 
@@ -66,22 +67,22 @@ IsInitialiserBy p number found =
 -- ---- its steps, in each world that is shown
 
 -- a method is called with no arguments, over whatever stands on the stack
-abbrev pub Calls : Result Answer EventRefusal → (t : ℕ) → Callee → (frames : ℕ) → (old new : Shared) (from to : List ShownEntry) → Type 0
-Calls result t callee frames old new from to =
-    (trees : Program) (p : LinkedProgram) (bounds : Bounds) (inflated : List ℕ) (world : WorldOf ℕ) → IsShared trees p bounds inflated old world
+abbrev pub Calls : LinkedProgram → Result Answer EventRefusal → (t : ℕ) → Callee → (frames : ℕ) → (old new : Shared) (from to : List ShownEntry) → Type 0
+Calls p result t callee frames old new from to =
+    (trees : Program) (bounds : Bounds) (inflated : List ℕ) (world : WorldOf ℕ) → IsProgram trees p → IsShared trees p bounds inflated old world
     → (own : StackOf ℕ) → ShowsStack trees p from own
     → (method : Member) (body : Body) → IsCallee trees p callee method body
-    → Becomes trees p bounds inflated world (pushed frames t world world own own (frame_with words method [] callee.entered body)) result
+    → Becomes trees p bounds inflated world (pushed words trees frames t world world own own (frame_with words method [] callee.entered body)) result
     old new from to
 
 -- so over the class on top, which is done after that
-abbrev pub CallsOver : Result Answer EventRefusal → (t : ℕ) → Callee → (frames : ℕ) → (old new : Shared) (from to : List ShownEntry) → Type 0
-CallsOver result t callee frames old new from to =
-    (trees : Program) (p : LinkedProgram) (bounds : Bounds) (inflated : List ℕ) (world : WorldOf ℕ) → IsShared trees p bounds inflated old world
+abbrev pub CallsOver : LinkedProgram → Result Answer EventRefusal → (t : ℕ) → Callee → (frames : ℕ) → (old new : Shared) (from to : List ShownEntry) → Type 0
+CallsOver p result t callee frames old new from to =
+    (trees : Program) (bounds : Bounds) (inflated : List ℕ) (world : WorldOf ℕ) → IsProgram trees p → IsShared trees p bounds inflated old world
     → (class : Name) (rest : StackOf ℕ) → ShowsStack trees p from (model.Initialisation class model.Super ∷ rest)
     → (method : Member) (body : Body) → IsCallee trees p callee method body
     → Becomes trees p bounds inflated world
-    (pushed frames t world world (model.Initialisation class model.End ∷ rest) (model.Initialisation class model.End ∷ rest) (frame_with words method [] callee.entered body))
+    (pushed words trees frames t world world (model.Initialisation class model.End ∷ rest) (model.Initialisation class model.End ∷ rest) (frame_with words method [] callee.entered body))
     result old new from to
 
 -- the class's own initialiser is called, if it declares one (step 9)
@@ -92,7 +93,7 @@ RunsInitialiser p result t number frames old new from to =
     → (class : Name) (rest : StackOf ℕ) → IsClassAt trees number class
     → ShowsStack trees p from (model.Initialisation class model.Super ∷ rest)
     → Becomes trees p bounds inflated world
-    (initialiser_event words frames t (initialiser_of class) world (model.Initialisation class model.End ∷ rest) (body_of trees (initialiser_of class)))
+    (initialiser_event words trees frames t (initialiser_of class) world (model.Initialisation class model.End ∷ rest) (body_of trees (initialiser_of class)))
     result old new from to
 
 -- the event of a thread with the class on top, by its number and its phase

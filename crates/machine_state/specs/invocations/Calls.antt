@@ -25,7 +25,7 @@ DoesCall result t callee count frames old new from to =
     → (frame : FrameOf ℕ) (rest : StackOf ℕ) → ShowsStack trees p from (Invocation frame ∷ rest)
     → (method : Member) (body : Body) → IsCallee trees p callee method body
     → Does trees p bounds inflated t world (Invocation frame ∷ rest)
-    (pushed frames t world world (Invocation frame ∷ rest) (Invocation (at_call frame (drop count frame.place.slots.stack)) ∷ rest)
+    (pushed words trees frames t world world (Invocation frame ∷ rest) (Invocation (at_call frame (drop count frame.place.slots.stack)) ∷ rest)
     (frame_with words method (reverse (take count frame.place.slots.stack)) callee.entered body))
     result old new from to
 
@@ -37,4 +37,4 @@ DoesFirstCall result t callee arguments frames old new from to =
     → (own : StackOf ℕ) → ShowsStack trees p from own
     → (method : Member) (body : Body) → IsCallee trees p callee method body
     → Does trees p bounds inflated t world own
-    (pushed frames t world world own own (frame_with words method arguments callee.entered body)) result old new from to
+    (pushed words trees frames t world world own own (frame_with words method arguments callee.entered body)) result old new from to

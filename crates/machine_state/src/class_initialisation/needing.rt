@@ -50,6 +50,8 @@ pub fn need_class(
         ClassLook::Ready => Ok(None),
         ClassLook::New => begin(shared, stack, program, thread, class).map(Some),
         ClassLook::Held => Ok(Some(Answer::NotEnabled)),
-        ClassLook::Failed => { raise(shared, thread, MachineException::NoClassDefFound).map(Some) }
+        ClassLook::Failed => {
+            raise(shared, thread, MachineException::NoClassDefFound, 0).map(Some)
+        }
     }
 }

@@ -10,8 +10,8 @@ use crate::class_initialisation::initialisers::{class_before, initialiser_of};
 use crate::class_initialisation::needing::need_class;
 use crate::class_initialisation::statuses::set_status;
 use crate::invocations::first_call;
-use crate::raised_exceptions::{apply, raise};
-use crate::{Answer, ClassStatus, EventRefusal, MachineException, Shared};
+use crate::raised_exceptions::{apply, raise_in_initialiser};
+use crate::{Answer, ClassStatus, EventRefusal, Shared};
 use linked_code::LinkedProgram;
 use thread_stacks::{Callee, Phase, ThreadStack};
 
@@ -26,7 +26,7 @@ fn end(shared: &mut Shared, stack: &mut ThreadStack, class: u16, status: ClassSt
 }
 
 /// The class on top is erroneous, and its entry goes: an exception is pending that no handler took (JVMS 5.5, steps
-/// 11 and 12). An Error stays pending; what is none is replaced by an ExceptionInInitializerError.
+/// 11 and 12). An Error stays pending; what is none is replaced by an ExceptionInInitializerError, whose cause it is.
 ///
 /// # Errors
 ///
@@ -36,15 +36,16 @@ pub fn fail(
     stack: &mut ThreadStack,
     thread: u16,
     class: u16,
+    exception: u32,
     is_error: bool,
 ) -> Result<Answer, EventRefusal>
-    ensures { Fails result thread class is_error shared.old shared.new stack.old stack.new }
+    ensures { Fails result thread class exception is_error shared.old shared.new stack.old stack.new }
 {
     if is_error {
         end(shared, stack, class, ClassStatus::Erroneous);
         return Ok(Answer::Done);
     }
-    let answer = raise(shared, thread, MachineException::ExceptionInInitializer)?;
+    let answer = raise_in_initialiser(shared, thread, exception)?;
     end(shared, stack, class, ClassStatus::Erroneous);
     Ok(answer)
 }
@@ -53,16 +54,17 @@ pub fn fail(
 fn call(
     shared: &mut Shared,
     stack: &mut ThreadStack,
+    program: &LinkedProgram,
     thread: u16,
     callee: Callee,
     frames: usize,
 ) -> Result<Answer, EventRefusal>
     requires numbered { thread < most_threads }
     requires entered { callee.entered ≡ None }
-    ensures { Calls result thread callee frames shared.old shared.new stack.old stack.new }
+    ensures { Calls program.now result thread callee frames shared.old shared.new stack.old stack.new }
 {
     match first_call(shared, stack, thread, callee, &[], frames) {
-        Ok(effect) => apply(shared, thread, effect),
+        Ok(effect) => apply(shared, program, thread, effect),
         Err(refusal) => Err(refusal),
     }
 }
@@ -72,16 +74,17 @@ fn call(
 fn call_over(
     shared: &mut Shared,
     stack: &mut ThreadStack,
+    program: &LinkedProgram,
     thread: u16,
     callee: Callee,
     frames: usize,
 ) -> Result<Answer, EventRefusal>
     requires numbered { thread < most_threads }
     requires entered { callee.entered ≡ None }
-    ensures { CallsOver result thread callee frames shared.old shared.new stack.old stack.new }
+    ensures { CallsOver program.now result thread callee frames shared.old shared.new stack.old stack.new }
 {
     stack.set_phase(Phase::End);
-    match call(shared, stack, thread, callee, frames) {
+    match call(shared, stack, program, thread, callee, frames) {
         Ok(Answer::Done) => Ok(Answer::Done),
         Ok(Answer::NotEnabled) => {
             stack.set_phase(Phase::Super);
@@ -107,7 +110,7 @@ fn run_initialiser(
     ensures { RunsInitialiser program.now result thread class frames shared.old shared.new stack.old stack.new }
 {
     match initialiser_of(program, class) {
-        Some(callee) => call_over(shared, stack, thread, callee, frames),
+        Some(callee) => call_over(shared, stack, program, thread, callee, frames),
         None => {
             stack.set_phase(Phase::End);
             Ok(Answer::Done)

@@ -56,7 +56,7 @@ pub field_left : (trees : Program) (p : LinkedProgram) (at : ℕ → ℕ) (code 
     (i : LinkedInstruction) → is_call i ≡ false → IsLinked trees p at code site k i → ((word : ℕ) → i ≡ linked.GetSystemStream word → ⊥)
     → (i ≡ linked.LoadElement → ⊥) → (i ≡ linked.StoreInt → ⊥) → (i ≡ linked.StoreNarrow → ⊥) → (i ≡ linked.StoreReference → ⊥)
     → (i ≡ linked.ArrayLength → ⊥) → ((word : ℕ) → i ≡ linked.LoadObject word → ⊥)
-    → ((class : ℕ) (fields : ℕ) (cells : ℕ) → i ≡ linked.New class fields cells → ⊥) → ((of : Primitive) → i ≡ linked.NewArray of → ⊥)
+    → ((class : ℕ) (cells : ℕ) (uncounted : ℕ) → i ≡ linked.New class cells uncounted → ⊥) → ((of : Primitive) → i ≡ linked.NewArray of → ⊥)
     → ((number : ℕ) → i ≡ linked.NewReferenceArray number → ⊥) → ((type : LinkedType) → i ≡ linked.CheckCast type → ⊥)
     → ((type : LinkedType) → i ≡ linked.InstanceOf type → ⊥) → (i ≡ linked.Throw → ⊥) → (i ≡ linked.MonitorEnter → ⊥)
     → (i ≡ linked.MonitorExit → ⊥) → (i ≡ linked.Return → ⊥) → (i ≡ linked.ReturnValue → ⊥) → is_field_or_local i ≡ true
@@ -67,7 +67,7 @@ field_left trees p at code site k linked.StoreNarrow e l n0 n1 n2 n3 n4 n5 n6 n7
 field_left trees p at code site k linked.StoreReference e l n0 n1 n2 n3 n4 n5 n6 n7 n8 n9 n10 n11 n12 n13 n14 n15 n16 = absurd (n4 refl)
 field_left trees p at code site k linked.ArrayLength e l n0 n1 n2 n3 n4 n5 n6 n7 n8 n9 n10 n11 n12 n13 n14 n15 n16 = absurd (n5 refl)
 field_left trees p at code site k (linked.LoadObject word) e l n0 n1 n2 n3 n4 n5 n6 n7 n8 n9 n10 n11 n12 n13 n14 n15 n16 = absurd (n6 word refl)
-field_left trees p at code site k (linked.New class fields cells) e l n0 n1 n2 n3 n4 n5 n6 n7 n8 n9 n10 n11 n12 n13 n14 n15 n16 = absurd (n7 class fields cells refl)
+field_left trees p at code site k (linked.New class cells uncounted) e l n0 n1 n2 n3 n4 n5 n6 n7 n8 n9 n10 n11 n12 n13 n14 n15 n16 = absurd (n7 class cells uncounted refl)
 field_left trees p at code site k (linked.NewArray of) e l n0 n1 n2 n3 n4 n5 n6 n7 n8 n9 n10 n11 n12 n13 n14 n15 n16 = absurd (n8 of refl)
 field_left trees p at code site k (linked.NewReferenceArray number) e l n0 n1 n2 n3 n4 n5 n6 n7 n8 n9 n10 n11 n12 n13 n14 n15 n16 = absurd (n9 number refl)
 field_left trees p at code site k (linked.CheckCast type) e l n0 n1 n2 n3 n4 n5 n6 n7 n8 n9 n10 n11 n12 n13 n14 n15 n16 = absurd (n10 type refl)

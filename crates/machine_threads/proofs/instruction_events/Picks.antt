@@ -1,6 +1,6 @@
 -- What each instruction lets of the pick of its event, before its class is looked at (JVMS 5.5).
 use Rattle.std.proofs.Common.{◌≡◌, ℕ, List, [], ◌∷◌, Option, Some, None, Bool, true, false, refl, sym, ap, subst, ◌∙◌, ◌&&◌, ◌==◌}
-use Rattle.std.specs.Prelude.{find, unwrap_or, if◌then◌else◌}
+use Rattle.std.specs.Prelude.{codes, find, unwrap_or, if◌then◌else◌}
 use Rattle.std.specs.Option.{option_map}
 use Rattle.std.specs.List.{AllByRecursion}
 use Rattle.std.proofs.lemmas.Option.{same_Some}
@@ -11,7 +11,7 @@ use Rattle.model.specs.declared.instr.Returned.{Returned}
 use Rattle.model.specs.declared.instr.Returned.TheVariants as returned
 use Rattle.model.specs.Names.{Name, Member, name_eq}
 use Rattle.model.specs.BuiltIn.{built_in_classes}
-use Rattle.model.specs.BuiltInMethods.{BuiltInMethod, Construct, built_in_methods, is_row_of, built_in_method, built_in_may}
+use Rattle.model.specs.BuiltInMethods.{BuiltInMethod, Construct, ConstructWithMessage, ConstructWithCause, built_in_methods, constructor_of, is_row_of, built_in_method, built_in_may}
 use Rattle.model.specs.Classes.{Program, Body, is_built_in, body_of}
 use Rattle.model.specs.Arrays.{load_of, store_of}
 use Rattle.model.specs.Calls.{return_of, static_call, may_run}
@@ -98,12 +98,24 @@ rows_built_in : AllByRecursion (λ (row : Member × BuiltInMethod). is_built_in 
 unfolding built_in_classes
 rows_built_in = every_all (λ (row : Member × BuiltInMethod). is_built_in row.0.class) built_in_methods refl
 
-constructs : (method : Member) → is_built_in method.class ≡ false → built_in_method method ≡ Construct
-constructs method file = ap (λ (o : Option (Member × BuiltInMethod)). unwrap_or (option_map (λ (row : Member × BuiltInMethod). row.1) o) Construct) (not_found method file built_in_methods rows_built_in)
+constructs : (method : Member) → is_built_in method.class ≡ false → built_in_method method ≡ constructor_of method.descriptor
+constructs method file =
+    ap (λ (o : Option (Member × BuiltInMethod)). unwrap_or (option_map (λ (row : Member × BuiltInMethod). row.1) o) (constructor_of method.descriptor))
+    (not_found method file built_in_methods rows_built_in)
+
+-- a constructor picks none
+constructed_plain : (descriptor : Name) (event : Event) (world : WorldOf ℕ) (ops : List ℕ)
+    → built_in_may words (constructor_of descriptor) event world ops ≡ (event.pick == 0)
+constructed_plain descriptor event world ops = by (name_eq descriptor (codes "(Ljava/lang/String;)V")) (name_eq descriptor (codes "(Ljava/lang/String;Ljava/lang/Throwable;)V"))
+  where
+    by : (one two : Bool) → built_in_may words (if one then ConstructWithMessage else if two then ConstructWithCause else Construct) event world ops ≡ (event.pick == 0)
+    by true two = refl
+    by false true = refl
+    by false false = refl
 
 run_plain : (event : Event) (world : WorldOf ℕ) (ops : List ℕ) (method : Member) → is_built_in method.class ≡ false → (body : Option Body)
     → may_run words event world ops method body ≡ (event.pick == 0)
-run_plain event world ops method file None = ap (λ b. built_in_may words b event world ops) (constructs method file)
+run_plain event world ops method file None = ap (λ b. built_in_may words b event world ops) (constructs method file) ∙ constructed_plain method.descriptor event world ops
 run_plain event world ops method file (Some body) = refl
 
 static_mays : (trees : Program) (site : Site) (callee : Member) (i : LinkedInstruction) → is_call i ≡ true
@@ -155,7 +167,7 @@ mays linked.StoreNarrow trees p at code site k meaning l means = as_plain trees 
 mays linked.StoreReference trees p at code site k meaning l means = as_plain trees p at code site k meaning means _ _ l.is (store_plain trees site array_kind.Reference)
 mays linked.ArrayLength trees p at code site k meaning l means = as_plain trees p at code site k meaning means _ _ l.is (λ event world ops. refl)
 mays (linked.LoadObject word) trees p at code site k meaning l means = as_plain trees p at code site k meaning means _ _ l.is (λ event world ops. refl)
-mays (linked.New class fields cells) trees p at code site k meaning l means = as_plain trees p at code site k meaning means _ _ l.is (λ event world ops. refl)
+mays (linked.New class cells uncounted) trees p at code site k meaning l means = as_plain trees p at code site k meaning means _ _ l.is (λ event world ops. refl)
 mays (linked.NewArray of) trees p at code site k meaning l means = as_plain trees p at code site k meaning means _ _ l.is (λ event world ops. refl)
 mays (linked.NewReferenceArray number) trees p at code site k meaning l means = as_plain trees p at code site k meaning means _ _ l.is (λ event world ops. refl)
 mays (linked.CheckCast type) trees p at code site k meaning l means = as_plain trees p at code site k meaning means _ _ l.0.is (λ event world ops. refl)

@@ -24,7 +24,7 @@ use Rattle.machine_state.proofs.shown_objects.Strings.{string_at, decoded_units}
 use Rattle.machine_state.proofs.shown_objects.Objects.{counted}
 use Rattle.machine_state.specs.Shown.{IsProgram}
 use Rattle.machine_threads.specs.machine_opening.Opened.{opening_objects, string_object}
-use Rattle.model.specs.BuiltInNumbers.{class_number, print_stream_number, string_number, thread_number}
+use Rattle.model.specs.BuiltInNumbers.{class_number, print_stream_number, thread_number}
 
 -- ---- lists that are shown
 

@@ -92,24 +92,29 @@ same_length trees components (o ∷ os) [] s = absurd s
 same_length trees components (o ∷ os) (m ∷ ms) s = ap suc (same_length trees components os ms s.1)
 
 module _ (trees : Program) (p : LinkedProgram) (bounds : Bounds) (inflated : List ℕ) (t exception : ℕ) (shared : Shared)
-    (stack : List ShownEntry) (state : StateOf ℕ) (frame : FrameOf ℕ) (rest : StackOf ℕ)
-    (is : IsPending trees p bounds inflated t exception shared stack state (model.Invocation frame ∷ rest)) where
+    (stack : List ShownEntry) (state : StateOf ℕ) (own : StackOf ℕ)
+    (is : IsPending trees p bounds inflated t exception shared stack state own) where
   within : t < length state.world.threads
-  within = subst (λ n. t < n) (tables_counted trees state is.lent.typed).stacks (slice_get_within state.stacks t (model.Invocation frame ∷ rest) is.lent.is_own)
+  within = subst (λ n. t < n) (tables_counted trees state is.lent.typed).stacks (slice_get_within state.stacks t own is.lent.is_own)
 
-  there : slice_get state.world.threads t ≡ Some (thread_at state.world t)
+  pub there : slice_get state.world.threads t ≡ Some (thread_at state.world t)
   there = slice_get-get_or state.world.threads t no_thread within
-
-  stands : StandsInCode trees frame
-  stands = (in_code trees state is.lent.typed t (thread_at state.world t) (model.Invocation frame ∷ rest) there is.lent.is_own is.going).0
 
   same : length shared.heap.objects ≡ length state.world.heap
   same = same_length trees p.components.items shared.heap.objects state.world.heap is.lent.represents.world_is.objects
 
-  fits : length shared.heap.objects < 2 ^ 32 → exception < length shared.heap.objects
+  pub fits : length shared.heap.objects < 2 ^ 32 → exception < length shared.heap.objects
   fits few =
       subst (λ n. exception < n) (sym same)
       ((thread_words_fit trees state is.lent.typed (subst (λ n. n < 2 ^ 32) same few) t (thread_at state.world t) there).pending exception is.going is.pending).there
+
+module _ (trees : Program) (p : LinkedProgram) (bounds : Bounds) (inflated : List ℕ) (t exception : ℕ) (shared : Shared)
+    (stack : List ShownEntry) (state : StateOf ℕ) (frame : FrameOf ℕ) (rest : StackOf ℕ)
+    (is : IsPending trees p bounds inflated t exception shared stack state (model.Invocation frame ∷ rest)) where
+  stands : StandsInCode trees frame
+  stands =
+      (in_code trees state is.lent.typed t (thread_at state.world t) (model.Invocation frame ∷ rest)
+      (there trees p bounds inflated t exception shared stack state (model.Invocation frame ∷ rest) is) is.lent.is_own is.going).0
 
   -- ---- by its handler
 
@@ -127,7 +132,7 @@ module _ (trees : Program) (p : LinkedProgram) (bounds : Bounds) (inflated : Lis
 
   module _ (result : Result Answer EventRefusal) (new : Shared) (to : List ShownEntry) where
     abbrev BecomesBy : Option ExceptionEntry → Type 0
-    BecomesBy entry = Becomes trees p bounds inflated state.world (unwound words t exception state.world frame rest entry) result shared new stack to
+    BecomesBy entry = Becomes trees p bounds inflated state.world (unwound words trees t exception state.world frame rest entry) result shared new stack to
 
     pub goes_on : (place : ℕ) → IsHandlerOnTop p shared.heap.objects exception stack (Some place)
         → Catches t place exception result shared new stack to
@@ -137,7 +142,7 @@ module _ (trees : Program) (p : LinkedProgram) (bounds : Bounds) (inflated : Lis
       where
         by : (entry : Option ExceptionEntry) → IsPlaceOf (offset_at p top.shown.method) entry (Some place) → BecomesBy entry
         by None at = absurd at
-        by (Some entry) at = catches trees p bounds inflated state.world is.lent.represents fits top.shown top.others top.is frame rest top.shows.top top.shows.under entry.handler at
+        by (Some entry) at = catches trees p bounds inflated state.world is.lent.represents (fits trees p bounds inflated t exception shared stack state (model.Invocation frame ∷ rest) is) top.shown top.others top.is frame rest top.shows.top top.shows.under entry.handler at
 
     pub ends : IsHandlerOnTop p shared.heap.objects exception stack None → Unwinds result t shared new stack to
         → Becomes trees p bounds inflated state.world (event_of_pending trees t exception state (model.Invocation frame

@@ -53,10 +53,10 @@ module _ (trees : Program) (p : LinkedProgram) (program : IsProgram trees p) (fr
   pub calls : (n : ℕ) → IsClassAt trees n (initial_class trees) → (object : ℕ) → object ≡ 3 + n → (callee : Callee)
       (h : IsFirstCallee trees p (main trees) object callee)
       → main_frame words trees frames world (main trees) (body_of trees (main trees))
-      ≡ pushed frames 0 world (with_begun world 0) [] [] (frame_with words (main trees) (words.reference arguments_reference
+      ≡ pushed words trees frames 0 world (with_begun world 0) [] [] (frame_with words (main trees) (words.reference arguments_reference
       ∷ []) callee.entered h.body)
   calls n at object is callee h =
       let e : entered_by trees (main trees) (class_reference trees (initial_class trees)) ≡ callee.entered =
       ap (entered_by trees (main trees)) (sym (is ∙ class_object trees p program n at)) ∙ sym h.entered in
       ap (main_frame words trees frames world (main trees)) h.is_body
-      ∙ ap (λ entered. pushed frames 0 world (with_begun world 0) [] [] (frame_with words (main trees) (words.reference arguments_reference ∷ []) entered h.body)) e
+      ∙ ap (λ entered. pushed words trees frames 0 world (with_begun world 0) [] [] (frame_with words (main trees) (words.reference arguments_reference ∷ []) entered h.body)) e

@@ -2,6 +2,7 @@
 use Rattle.std.proofs.Common.{◌≡◌, ℕ, zero, suc, List, [], ◌∷◌, Option, Some, None, Bool, true, false, if◌then◌else◌, Ok, Err, length, refl, sym, ap, ◌∙◌, arith, inl, inr}
 use Rattle.std.specs.Prelude.{slice_set, slice_index_or, nat_lt}
 use Rattle.std.proofs.lemmas.Bool.{false≢true, lt-ltb}
+use Rattle.model.specs.Operands.{words}
 use Rattle.model.specs.Classes.{Program}
 use Rattle.model.specs.State.{FrameOf, Invocation, StackOf, WorldOf, Thread, new_thread}
 use Rattle.model.specs.Outcomes.{StackOverflow, Cost}
@@ -103,14 +104,14 @@ still_added t old new (inr h) = inr (record { stacks = h.stacks; threads = lengt
 module _ (trees : Program) (p : LinkedProgram) (bounds : Bounds) (inflated : List ℕ) (world : WorldOf ℕ) (t frames : ℕ) (frame : FrameOf ℕ)
     (old : Shared) (from : List ShownEntry) where
   abbrev called : SteppedOf (PartOf ℕ)
-  called = pushed frames t world world [] [] frame
+  called = pushed words trees frames t world world [] [] frame
 
   abbrev begins : SteppedOf (PartOf ℕ)
-  begins = pushed frames t world (with_begun world t) [] [] frame
+  begins = pushed words trees frames t world (with_begun world t) [] [] frame
 
   module _ (some : frames ≡ 0 → ⊥) where
-    enters : (after : WorldOf ℕ) → pushed frames t world after [] [] frame ≡ entering t after [] frame frame.entered
-    enters after = ap (λ b. if b then entering t after [] frame frame.entered else raised t StackOverflow world []) (some_room frames some)
+    enters : (after : WorldOf ℕ) → pushed words trees frames t world after [] [] frame ≡ entering t after [] frame frame.entered
+    enters after = ap (λ b. if b then entering t after [] frame frame.entered else raised words trees t StackOverflow world []) (some_room frames some)
 
     is_begun : then_begun t called ≡ begins
     is_begun = ap (then_begun t) (enters world) ∙ entering_begun t world frame frame.entered ∙ sym (enters (with_begun world t))

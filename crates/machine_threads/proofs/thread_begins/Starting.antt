@@ -56,15 +56,15 @@ module _ (trees : Program) (p : LinkedProgram) (bounds : Bounds) (inflated : Lis
 module _ (trees : Program) (p : LinkedProgram) (frames t : ℕ) (world : WorldOf ℕ) (r : ℕ) where
   pub calls : (o : Option Member) (callee : Callee) (h : IsRunOf trees p o r (Some callee)) (word : ℕ) → word ≡ r + 1
       → run_of words trees frames t world r o
-      ≡ pushed frames t world (with_begun world t) [] [] (frame_with words h.0 (word ∷ []) callee.entered h.2.body)
+      ≡ pushed words trees frames t world (with_begun world t) [] [] (frame_with words h.0 (word ∷ []) callee.entered h.2.body)
   calls o callee h word is =
       let e : suc r ≡ r + 1 = omega arith in
       let w : suc r ≡ word = e ∙ sym is in
       ap (run_of words trees frames t world r) h.1
       ∙ ap (run_frame words trees frames t world r h.0) h.2.is_body
-      ∙ (λ i. pushed frames t world (with_begun world t) [] [] (frame_with words h.0 (w i ∷ []) (sym h.2.entered i) h.2.body))
+      ∙ (λ i. pushed words trees frames t world (with_begun world t) [] [] (frame_with words h.0 (w i ∷ []) (sym h.2.entered i) h.2.body))
 
   pub fails : (o : Option Member) → option_and_then (body_of trees) o ≡ None
-      → run_of words trees frames t world r o ≡ raised t AbstractMethod world []
+      → run_of words trees frames t world r o ≡ raised words trees t AbstractMethod world []
   fails None h = refl
   fails (Some method) h = ap (run_frame words trees frames t world r method) h

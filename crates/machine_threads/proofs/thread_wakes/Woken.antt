@@ -1,16 +1,18 @@
 -- A thread that has left a wait set enters the monitor again, notified or interrupted.
-use Rattle.std.proofs.Common.{◌≡◌, ◌<◌, ℕ, zero, suc, List, [], ◌∷◌, ◌++◌, Some, Bool, true, false, Result, Ok, Err, length, slice_set, slice_index_or, refl, sym, ap, subst, ◌∙◌, arith}
+use Rattle.std.proofs.Common.{◌≡◌, ◌<◌, ℕ, zero, suc, List, [], ◌∷◌, ◌++◌, Some, None, Bool, true, false, Result, Ok, Err, length, slice_set, slice_index_or, refl, sym, ap, subst, ◌∙◌, arith}
 use Rattle.std.specs.Prelude.{slice_get}
 use Rattle.std.specs.Result.{IsErrAnd}
 use Rattle.std.proofs.lemmas.Bool.{false≢true}
 use Rattle.std.proofs.lemmas.List.{length-set, length-append, get_or_append_left, set-append_left}
 use Rattle.std.proofs.lemmas.Option.{slice_get_within, slice_get-get_or}
+use Rattle.model.specs.Operands.{words}
 use Rattle.model.specs.Classes.{Program}
-use Rattle.model.specs.State.{Instance, Monitor, WakeCause, Notified, Interrupted, Running, Thread, StackOf, WorldOf, StateOf}
+use Rattle.model.specs.State.{Monitor, WakeCause, Notified, Interrupted, Running, Thread, StackOf, WorldOf, StateOf}
 use Rattle.model.specs.Monitors as monitors
 use Rattle.model.specs.Monitors.{unlocked, monitor_at, monitor_relock}
 use Rattle.model.specs.LimitStands.{Bounds}
-use Rattle.model.specs.Outcomes.{Cost, Makes, InterruptedWait, exception_class}
+use Rattle.model.specs.MachineExceptions.{machine_exception}
+use Rattle.model.specs.Outcomes.{Cost, Makes, InterruptedWait}
 use Rattle.model.specs.Worlds.{is_done, has_ended, no_thread, thread_at, allocated, with_pending, with_interrupted}
 use Rattle.model.specs.Step.{Next, PartOf, part, enabled_if, after_wait, raised_by_interrupt, relock_event}
 use Rattle.model.specs.Step as step
@@ -42,10 +44,10 @@ use Rattle.machine_threads.proofs.thread_wakes.Ending.{added}
 -- ---- the exception and the monitor, in both orders
 
 -- the world in which an InterruptedException is pending
-abbrev thrown : ℕ → WorldOf ℕ → WorldOf ℕ
-thrown t world = with_pending (allocated (with_interrupted world t false) (Instance (exception_class InterruptedWait) [])) t (length world.heap)
+abbrev thrown : Program → ℕ → WorldOf ℕ → WorldOf ℕ
+thrown trees t world = with_pending (allocated (with_interrupted world t false) (machine_exception words trees InterruptedWait None)) t (length world.heap)
 
-module _ (t object count : ℕ) (world : WorldOf ℕ) (there : t < length world.threads) (inside : object < length world.monitors) where
+module _ (trees : Program) (t object count : ℕ) (world : WorldOf ℕ) (there : t < length world.threads) (inside : object < length world.monitors) where
   abbrev own : Thread
   own = thread_at world t
 
@@ -73,8 +75,8 @@ module _ (t object count : ℕ) (world : WorldOf ℕ) (there : t < length world.
       ap (λ (m : Monitor). slice_set (world.monitors ++ unlocked ∷ []) object (monitor_relock t count m).after) (get_or_append_left world.monitors (unlocked ∷ []) unlocked object inside)
       ∙ set-append_left world.monitors (unlocked ∷ []) object (monitor_relock t count (monitor_at world.monitors object)).after inside
 
-  either_order : relocked (thrown t world) object t count ≡ thrown t (relocked world object t count)
-  either_order = λ i. record (thrown t world) { monitors = monitors_same i; threads = threads_same i }
+  either_order : relocked (thrown trees t world) object t count ≡ thrown trees t (relocked world object t count)
+  either_order = λ i. record (thrown trees t world) { monitors = monitors_same i; threads = threads_same i }
 
 -- ---- a lock more, which is not fat
 
@@ -128,11 +130,11 @@ module _ (trees : Program) (p : LinkedProgram) (bounds : Bounds) (inflated : Lis
   free_is = ap (λ (ms : List Monitor). is_done (monitors.relock object t count ms).answer) (sym l.lent.represents.world_is.monitors)
 
   event_is : (free : Bool) → free ≡ frees old
-      → relock_event trees t object count cause world own ≡ enabled_if free (after_wait trees t cause (relocked world object t count) own)
-  event_is free says = ap (λ b. enabled_if b (after_wait trees t cause (relocked world object t count) own)) (free_is ∙ sym says)
+      → relock_event words trees t object count cause world own ≡ enabled_if free (after_wait words trees t cause (relocked world object t count) own)
+  event_is free says = ap (λ b. enabled_if b (after_wait words trees t cause (relocked world object t count) own)) (free_is ∙ sym says)
 
   pub not_enabled : false ≡ frees old → Becomes trees p bounds inflated
-      world (relock_event trees t object count cause world own) (Ok answer.NotEnabled) old old from from
+      world (relock_event words trees t object count cause world own) (Ok answer.NotEnabled) old old from from
   not_enabled says = (event_is false says, record { shared = refl; stack = refl })
 
   -- notified, it goes on behind its call
@@ -143,11 +145,11 @@ module _ (trees : Program) (p : LinkedProgram) (bounds : Bounds) (inflated : Lis
     pub returns : (new : Shared) (done : Bool) → Relocks done object t count old.heap new.heap old.threads new.threads
         → new ≡ record old { heap = new.heap; threads = new.threads }
         → (next : ℕ) → IsNextOfTop p from next → (to : List ShownEntry) → to ≡ on_top (moved next) from
-        → IsDone trees p bounds inflated world (relock_event trees t object count cause world own) old new to
+        → IsDone trees p bounds inflated world (relock_event words trees t object count cause world own) old new to
     returns new false r rest next is to same = absurd (false≢true (sym r.0 ∙ sym says))
     returns new true r rest next is to same =
         subst (λ s. IsDone trees p bounds inflated world s old new to)
-        (sym (event_is true says ∙ ap (λ c. after_wait trees t c (relocked world object t count) own) notified))
+        (sym (event_is true says ∙ ap (λ c. after_wait words trees t c (relocked world object t count) own) notified))
         (free_done trees p bounds inflated world (relocked world object t count) (step.returned trees [] own) old new to
         (both_shown trees p bounds world old new l.lent.represents (λ w. relocked w object t count) old.heap.locks.fat r.1 rest)
         (subst (λ (s : List ShownEntry). ShowsStack trees p s (step.returned trees [] own)) (sym (same ∙ goes_on next from))
@@ -157,20 +159,20 @@ module _ (trees : Program) (p : LinkedProgram) (bounds : Bounds) (inflated : Lis
 
   -- interrupted, the exception is made first
   module _ (interrupted : cause ≡ Interrupted) (says : true ≡ frees old) where
-    throws_is : relock_event trees t object count cause world own ≡ raised_by_interrupt t (relocked world object t count) own
-    throws_is = event_is true says ∙ ap (λ c. after_wait trees t c (relocked world object t count) own) interrupted
+    throws_is : relock_event words trees t object count cause world own ≡ raised_by_interrupt words trees t (relocked world object t count) own
+    throws_is = event_is true says ∙ ap (λ c. after_wait words trees t c (relocked world object t count) own) interrupted
 
     pub refused : (why : EventRefusal) (between : Shared)
-        → Becomes trees p bounds inflated world (raised_by_interrupt t world own) (Err why) old between from from
+        → Becomes trees p bounds inflated world (raised_by_interrupt words trees t world own) (Err why) old between from from
         → (result : Result Answer EventRefusal) → IsErrAnd result (λ told. told ≡ why)
-        → Becomes trees p bounds inflated world (relock_event trees t object count cause world own) result old between from from
+        → Becomes trees p bounds inflated world (relock_event words trees t object count cause world own) result old between from from
     refused why between b (Ok told) e = absurd e
     refused why between b (Err told) e =
         let is = b.0.is in
         let cost_is : b.0.cost ≡ Makes 0 = cc in (
           record {
             cost = Makes 0;
-            next = part (thrown t (relocked world object t count)) own;
+            next = part (thrown trees t (relocked world object t count)) own;
             is = throws_is;
             may = subst (MayBeRefused trees bounds inflated world (Makes 0) true) (sym e)
                 (subst (λ c. MayBeRefused trees bounds inflated world c (takes_memory world (shown_counts from) c b.0.next) why) cost_is b.0.may);
@@ -179,7 +181,7 @@ module _ (trees : Program) (p : LinkedProgram) (bounds : Bounds) (inflated : Lis
         )
 
     -- it may still enter the monitor then
-    module _ (between : Shared) (h : HasBecome trees p bounds inflated world (Makes 0) (part (thrown t world) own) old between from) (inside : object < length old.heap.locks.monitors) where
+    module _ (between : Shared) (h : HasBecome trees p bounds inflated world (Makes 0) (part (thrown trees t world) own) old between from) (inside : object < length old.heap.locks.monitors) where
       in_world : object < length world.monitors
       in_world = subst (λ (ms : List Monitor). object < length ms) l.lent.represents.world_is.monitors inside
 
@@ -200,18 +202,18 @@ module _ (trees : Program) (p : LinkedProgram) (bounds : Bounds) (inflated : Lis
 
       throws_by : (new : Shared) (done : Bool) → Relocks done object t count between.heap new.heap between.threads new.threads
           → new ≡ record between { heap = new.heap; threads = new.threads }
-          → IsDone trees p bounds inflated world (relock_event trees t object count cause world own) old new from
+          → IsDone trees p bounds inflated world (relock_event words trees t object count cause world own) old new from
       throws_by new false r rest = absurd (false≢true (sym r.0 ∙ still_free ∙ sym says))
       throws_by new true r rest =
           record {
             cost = Makes 0;
-            next = part (thrown t (relocked world object t count)) own;
+            next = part (thrown trees t (relocked world object t count)) own;
             is = throws_is;
             becomes = record {
               within = h.within;
               there = h.there;
-              represents = subst (Represents trees p bounds new) (either_order t object count world within in_world)
-                  (both_shown trees p bounds (thrown t world) between new h.represents (λ w. relocked w object t count) between.heap.locks.fat r.1 rest);
+              represents = subst (Represents trees p bounds new) (either_order trees t object count world within in_world)
+                  (both_shown trees p bounds (thrown trees t world) between new h.represents (λ w. relocked w object t count) between.heap.locks.fat r.1 rest);
               stack = h.stack;
               flags = r.1.fat_are ∙ h.flags;
               others = added old between new (ap (λ (s : Shared). s.stacks.items) rest)
@@ -220,11 +222,11 @@ module _ (trees : Program) (p : LinkedProgram) (bounds : Bounds) (inflated : Lis
           }
 
     abbrev raises : Shared → Answer → Type 0
-    raises between told = Becomes trees p bounds inflated world (raised_by_interrupt t world own) (Ok told) old between from from
+    raises between told = Becomes trees p bounds inflated world (raised_by_interrupt words trees t world own) (Ok told) old between from from
 
     done_by : (between : Shared) (told : Answer) → raises between told
-        → HasBecome trees p bounds inflated world (Makes 0) (part (thrown t world) own) old between from
-    done_by between answer.Done b = became trees p bounds inflated world (Makes 0) (part (thrown t world) own) old between from b
+        → HasBecome trees p bounds inflated world (Makes 0) (part (thrown trees t world) own) old between from
+    done_by between answer.Done b = became trees p bounds inflated world (Makes 0) (part (thrown trees t world) own) old between from b
     done_by between answer.NotEnabled b = let never = b.0 in absurd cc
 
     pub allowed_then : (between : Shared) (told : Answer) → raises between told → t < 32767
@@ -234,5 +236,5 @@ module _ (trees : Program) (p : LinkedProgram) (bounds : Bounds) (inflated : Lis
     pub throws_then : (between : Shared) (told : Answer) → raises between told → object < length old.heap.locks.monitors
         → (new : Shared) (done : Bool) → Relocks done object t count between.heap new.heap between.threads new.threads
         → new ≡ record between { heap = new.heap; threads = new.threads }
-        → IsDone trees p bounds inflated world (relock_event trees t object count cause world own) old new from
+        → IsDone trees p bounds inflated world (relock_event words trees t object count cause world own) old new from
     throws_then between told b inside = throws_by between (done_by between told b) inside

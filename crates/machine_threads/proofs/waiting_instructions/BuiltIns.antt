@@ -4,6 +4,8 @@ use Rattle.std.specs.Prelude.{nat_lt, is_none, is_some}
 use Rattle.std.proofs.lemmas.Bool.{true≢false}
 use Rattle.model.specs.Names.{Member}
 use Rattle.model.specs.Classes.{Program, Body, body_of}
+use Rattle.model.specs.ObjectMethods as object
+use Rattle.model.specs.ObjectMethods.{ObjectAnswer, object_answer, object_place, tells, type_at}
 use Rattle.model.specs.Operands.{Slots, words}
 use Rattle.model.specs.Outcomes.{OutcomeOf, Interrupts}
 use Rattle.model.specs.StringMethods.{StringAnswer, IsNull, IsOutside, Answers, Same, Composes, string_answer}
@@ -56,11 +58,21 @@ build_stays builder.Keeps empty next world slots ops rest = tt
 build_stays (builder.Adds added) empty next world slots ops rest = tt
 build_stays builder.GivesText empty next world slots ops rest = tt
 
+told_stays : (answer : ObjectAnswer) (files : Program) (next : ℕ) (world : WorldOf ℕ) (slots : Slots ℕ) (rest : List ℕ)
+    → Stays (tells words files answer next world slots rest)
+told_stays object.IsNull files next world slots rest = tt
+told_stays object.HasNoClass files next world slots rest = tt
+told_stays (object.Answers bits) files next world slots rest = tt
+told_stays (object.IsOf class) files next world slots rest = tt
+told_stays (object.Composes text) files next world slots rest = tt
+
 -- a built-in method calls nothing
 pub built_in_stays : (files : Program) (of : BuiltInMethod) (next t : ℕ) (world : WorldOf ℕ) (slots : Slots ℕ) (ops rest : List ℕ)
     → Stays (built_in_does words files of next (event_of t) world slots ops rest)
 built_in_stays files built_in.Construct next t world slots ops rest = tt
 built_in_stays files built_in.ConstructWithTarget next t world slots ops rest = tt
+built_in_stays files built_in.ConstructWithMessage next t world slots ops rest = tt
+built_in_stays files built_in.ConstructWithCause next t world slots ops rest = tt
 built_in_stays files built_in.ObjectWait next t world slots ops rest = wait_stays (is_owner world t (object_of words ops 0)) (thread_at world t).interrupted t _ world rest
 built_in_stays files built_in.ObjectNotify next t world slots ops rest = owner_stays (is_owner world t (object_of words ops 0)) _ tt
 built_in_stays files built_in.ObjectNotifyAll next t world slots ops rest = owner_stays (is_owner world t (object_of words ops 0)) _ tt
@@ -79,6 +91,8 @@ built_in_stays files (built_in.StringBuilderBuilds method) next t world slots op
     build_stays
     (builder_answer method (int_operand words ops 0) (is_none (referent words ops 0)) (string_shown world (referent words ops 0)) (builder_shown words world (referent words ops 0)))
     (string_reference files []) next world slots ops rest
+built_in_stays files (built_in.ObjectAnswers method) next t world slots ops rest =
+    told_stays (object_answer files method (referent words ops (object_place method)) (type_at world) (int_operand words ops 0)) files next world slots rest
 
 -- where a member waits, the first may be picked; else nothing is
 notify_may : (owner : Bool) (n : ℕ) → (if owner && nat_lt 0 n then nat_lt 0 n else true) ≡ true
@@ -94,6 +108,8 @@ pub built_in_allowed : (called : linked.BuiltInMethod) → (called ≡ method.Th
     → built_in_may words (built_in_of called) (event_of t) world ops ≡ true
 built_in_allowed method.Construct n t world ops = refl
 built_in_allowed method.ConstructWithTarget n t world ops = refl
+built_in_allowed method.ConstructWithMessage n t world ops = refl
+built_in_allowed method.ConstructWithCause n t world ops = refl
 built_in_allowed method.ObjectWait n t world ops = refl
 built_in_allowed method.ObjectNotify n t world ops = notify_may (is_owner world t (object_of words ops 0)) (length (waiters_of world (object_of words ops 0)))
 built_in_allowed method.ObjectNotifyAll n t world ops = refl
@@ -108,6 +124,7 @@ built_in_allowed method.ThreadIsAlive n t world ops = refl
 built_in_allowed (method.PrintStreamPrints print) n t world ops = refl
 built_in_allowed (method.StringAnswers of) n t world ops = refl
 built_in_allowed (method.StringBuilderBuilds of) n t world ops = refl
+built_in_allowed (method.ObjectAnswers of) n t world ops = refl
 
 -- a join that may not be done is one of a thread that is alive
 join_held : (alive interrupted : Bool) (next : ℕ) (world : WorldOf ℕ) (slots : Slots ℕ) (rest : List ℕ)
@@ -121,6 +138,8 @@ held_by : (files : Program) (of : BuiltInMethod) (next t : ℕ) (world : WorldOf
 held_by files built_in.ThreadJoin next t world slots ops rest h = join_held (is_alive world (object_of words ops 0)) (thread_at world t).interrupted next world slots rest h
 held_by files built_in.Construct next t world slots ops rest h = absurd (true≢false h)
 held_by files built_in.ConstructWithTarget next t world slots ops rest h = absurd (true≢false h)
+held_by files built_in.ConstructWithMessage next t world slots ops rest h = absurd (true≢false h)
+held_by files built_in.ConstructWithCause next t world slots ops rest h = absurd (true≢false h)
 held_by files built_in.ObjectWait next t world slots ops rest h = absurd (true≢false h)
 held_by files built_in.ObjectNotify next t world slots ops rest h = absurd (true≢false (sym (notify_may (is_owner world t (object_of words ops 0)) (length (waiters_of world (object_of words ops 0)))) ∙ h))
 held_by files built_in.ObjectNotifyAll next t world slots ops rest h = absurd (true≢false h)
@@ -134,6 +153,7 @@ held_by files built_in.ThreadIsAlive next t world slots ops rest h = absurd (tru
 held_by files (built_in.PrintStreamPrints print) next t world slots ops rest h = absurd (true≢false h)
 held_by files (built_in.StringAnswers method) next t world slots ops rest h = absurd (true≢false h)
 held_by files (built_in.StringBuilderBuilds method) next t world slots ops rest h = absurd (true≢false h)
+held_by files (built_in.ObjectAnswers method) next t world slots ops rest h = absurd (true≢false h)
 
 module _ (trees : Program) (site : Site) (t : ℕ) (world : WorldOf ℕ) (slots : Slots ℕ) (ops rest : List ℕ) (object : ℕ) where
   run_held : (m : Member) (body : Option Body) → may_run words (event_of t) world ops m body ≡ false

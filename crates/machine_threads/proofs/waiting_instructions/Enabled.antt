@@ -1,6 +1,7 @@
 -- When events are enabled: by the limit of frames, and by the monitor that a new frame enters.
 use Rattle.std.proofs.Common.{◌≡◌, ◌<◌, ◌≤◌, ℕ, List, ◌∷◌, Option, Some, None, Bool, true, false, if◌then◌else◌, refl, sym, ap, ◌∙◌, arith}
 use Rattle.std.proofs.lemmas.Bool.{le-ltb, lt-ltb}
+use Rattle.model.specs.Operands.{words}
 use Rattle.model.specs.Classes.{Program}
 use Rattle.model.specs.LimitStands.{Bounds}
 use Rattle.model.specs.Outcomes.{OutcomeOf, Goes, Raises, Throws, Interrupts, Calls, Returns, Waits, StackOverflow}
@@ -22,10 +23,10 @@ use Rattle.machine_threads.proofs.waiting_instructions.Quick.{stays_enabled}
 
 -- ---- a new frame
 
-pub overflows : (limit t : ℕ) (world after : WorldOf ℕ) (own rest : StackOf ℕ) (frame : FrameOf ℕ) → limit ≤ frames.frame_count own
-    → is_enabled_by (pushed limit t world after own rest frame) ≡ true
-overflows limit t world after own rest frame full =
-    ap (λ b. is_enabled_by (if b then entering t after rest frame frame.entered else raised t StackOverflow world own)) (le-ltb (frames.frame_count own) limit full)
+pub overflows : (trees : Program) (limit t : ℕ) (world after : WorldOf ℕ) (own rest : StackOf ℕ) (frame : FrameOf ℕ) → limit ≤ frames.frame_count own
+    → is_enabled_by (pushed words trees limit t world after own rest frame) ≡ true
+overflows trees limit t world after own rest frame full =
+    ap (λ b. is_enabled_by (if b then entering t after rest frame frame.entered else raised words trees t StackOverflow world own)) (le-ltb (frames.frame_count own) limit full)
 
 entering_enabled : (t : ℕ) (world : WorldOf ℕ) (rest : StackOf ℕ) (frame : FrameOf ℕ) (entered : Option ℕ)
     → is_enabled_by (entering t world rest frame entered) ≡ may_begin world t entered
@@ -38,10 +39,10 @@ entering_enabled t world rest frame (Some object) = by (may_enter world t object
     by false = refl
 
 -- where there is room, by its monitor
-pub entering_is : (limit t : ℕ) (world : WorldOf ℕ) (own rest : StackOf ℕ) (frame : FrameOf ℕ) → frames.frame_count own < limit
-    → is_enabled_by (pushed limit t world world own rest frame) ≡ may_begin world t frame.entered
-entering_is limit t world own rest frame room =
-    ap (λ b. is_enabled_by (if b then entering t world rest frame frame.entered else raised t StackOverflow world own)) (lt-ltb (frames.frame_count own) limit room)
+pub entering_is : (trees : Program) (limit t : ℕ) (world : WorldOf ℕ) (own rest : StackOf ℕ) (frame : FrameOf ℕ) → frames.frame_count own < limit
+    → is_enabled_by (pushed words trees limit t world world own rest frame) ≡ may_begin world t frame.entered
+entering_is trees limit t world own rest frame room =
+    ap (λ b. is_enabled_by (if b then entering t world rest frame frame.entered else raised words trees t StackOverflow world own)) (lt-ltb (frames.frame_count own) limit room)
     ∙ entering_enabled t world rest frame frame.entered
 
 -- whether the thread may enter, by the locks that are kept
@@ -58,18 +59,18 @@ count_is trees p stack own shows count e = e ∙ counted trees p stack own shows
 
 -- every outcome is enabled
 pub unlimited : (trees : Program) (t : ℕ) (world : WorldOf ℕ) (frame : FrameOf ℕ) (rest : StackOf ℕ) (outcome : OutcomeOf ℕ)
-    → is_enabled_by (become trees 0 t world frame rest outcome) ≡ true
+    → is_enabled_by (become words trees 0 t world frame rest outcome) ≡ true
 unlimited trees t world frame rest (Goes cost after slots to) = refl
 unlimited trees t world frame rest (Raises fault) = refl
 unlimited trees t world frame rest (Throws exception) = refl
 unlimited trees t world frame rest Interrupts = refl
-unlimited trees t world frame rest (Calls callee under) = overflows 0 t world world (Invocation frame ∷ rest) _ callee (omega arith)
+unlimited trees t world frame rest (Calls callee under) = overflows trees 0 t world world (Invocation frame ∷ rest) _ callee (omega arith)
 unlimited trees t world frame rest (Returns after results) = stays_enabled trees 0 t world frame rest (Returns after results) tt
 unlimited trees t world frame rest (Waits cost after under) = refl
 
 -- so the event says there whether the instruction itself may be done
 pub may_by : (trees : Program) (t : ℕ) (world : WorldOf ℕ) (frame : FrameOf ℕ) (rest : StackOf ℕ) (outcome : OutcomeOf ℕ) (may b : Bool)
-    → is_enabled_by (enabled_if may (become trees 0 t world frame rest outcome)) ≡ b → may ≡ b
+    → is_enabled_by (enabled_if may (become words trees 0 t world frame rest outcome)) ≡ b → may ≡ b
 may_by trees t world frame rest outcome true b h = sym (unlimited trees t world frame rest outcome) ∙ h
 may_by trees t world frame rest outcome false b h = h
 

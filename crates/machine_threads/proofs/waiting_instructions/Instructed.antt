@@ -66,7 +66,7 @@ module _ (trees : Program) (p : LinkedProgram) (at : ℕ → ℕ) (code : List L
   quick_of linked.StoreReference l n0 n1 n2 n3 n4 = quick _ l.is (quick_store trees site 0 array_kind.Reference)
   quick_of linked.ArrayLength l n0 n1 n2 n3 n4 = quick _ l.is (quick_length trees site 0)
   quick_of (linked.LoadObject word) l n0 n1 n2 n3 n4 = quick _ l.is (quick_object trees site 0 _ _)
-  quick_of (linked.New class fields cells) l n0 n1 n2 n3 n4 = quick _ l.is (quick_new trees site 0 _)
+  quick_of (linked.New class cells uncounted) l n0 n1 n2 n3 n4 = quick _ l.is (quick_new trees site 0 _)
   quick_of (linked.NewArray type) l n0 n1 n2 n3 n4 = quick _ l.is (quick_primitives trees site 0 (primitive_of type))
   quick_of (linked.NewReferenceArray number) l n0 n1 n2 n3 n4 = quick _ l.is (quick_references trees site 0 l.of)
   quick_of (linked.CheckCast type) l n0 n1 n2 n3 n4 = quick _ l.0.is (quick_cast trees site 0 _)
@@ -126,7 +126,7 @@ module _ (trees : Program) (limit t : ℕ) (world : WorldOf ℕ) (frame : FrameO
   pub quick_end : IsQuick meaning → ready_end trees limit t world frame rest site meaning ≡ Runnable
   quick_end q =
       let enabled : is_enabled_by (event limit) ≡ true =
-      ap (λ b. is_enabled_by (enabled_if b (become trees limit t world frame rest outcome))) (q.may t world (ops_of words meaning frame.place.slots))
+      ap (λ b. is_enabled_by (enabled_if b (become words trees limit t world frame rest outcome))) (q.may t world (ops_of words meaning frame.place.slots))
       ∙ stays_enabled trees limit t world frame rest outcome (q.stays t world frame.place.slots (ops_of words meaning frame.place.slots) (under meaning.wants frame.place.slots))
       in
       ap (λ b. end_by b may) enabled
@@ -160,7 +160,7 @@ module _ (trees : Program) (limit t : ℕ) (world : WorldOf ℕ) (frame : FrameO
         ∙ ap (λ (x : MeaningOf ℕ). is_enabled_by (done words trees limit (event_of t) world frame rest x)) is
         ∙ goes (referent words (ops_of words (monitor_enter_meaning words site) frame.place.slots) 0)
       where
-        goes : (o : Option ℕ) → is_enabled_by (become trees limit t world frame
+        goes : (o : Option ℕ) → is_enabled_by (become words trees limit t world frame
             rest (not_null o (λ r. pushing_at (entry_cost world r) site.next [] (with_entry world t r)
             frame.place.slots (under (monitor_enter_meaning words site).wants frame.place.slots)))) ≡ true
         goes None = refl
@@ -171,5 +171,5 @@ module _ (trees : Program) (limit t : ℕ) (world : WorldOf ℕ) (frame : FrameO
 
     pub blocked_end : may ≡ false → ready_end trees limit t world frame rest site meaning ≡ Blocked
     blocked_end h =
-        ap (λ b. end_by (is_enabled_by (enabled_if b (become trees limit t world frame rest outcome))) b) h
+        ap (λ b. end_by (is_enabled_by (enabled_if b (become words trees limit t world frame rest outcome))) b) h
         ∙ enters trees site meaning means t world frame.place.slots (ops_of words meaning frame.place.slots) h same

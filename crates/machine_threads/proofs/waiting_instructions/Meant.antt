@@ -1,13 +1,13 @@
 -- What the instruction of a site may wait for: nothing, the monitor of monitorenter, or what a call waits for.
 use Rattle.std.proofs.Common.{◌≡◌, ◌&&◌, ℕ, List, [], ◌∷◌, Option, Some, None, Bool, true, false, refl, sym, ap, subst, ◌∙◌}
-use Rattle.std.specs.Prelude.{find, unwrap_or, if◌then◌else◌}
+use Rattle.std.specs.Prelude.{codes, find, unwrap_or, if◌then◌else◌}
 use Rattle.std.specs.Option.{option_map}
 use Rattle.std.specs.List.{AllByRecursion}
 use Rattle.std.proofs.lemmas.Bool.{true≢false}
 use Rattle.std.proofs.lemmas.Option.{same_Some}
 use Rattle.model.specs.Names.{Name, Member, name_eq, java_lang_class, java_lang_string}
 use Rattle.model.specs.BuiltIn.{built_in_classes}
-use Rattle.model.specs.BuiltInMethods.{BuiltInMethod, Construct, built_in_methods, is_row_of, built_in_method, built_in_may}
+use Rattle.model.specs.BuiltInMethods.{BuiltInMethod, Construct, ConstructWithMessage, ConstructWithCause, built_in_methods, constructor_of, is_row_of, built_in_method, built_in_may}
 use Rattle.model.specs.Calls.{Chosen, Runs, may_run, may_invoke, invoked, selected, its_class, if_implements, of_class, special_class, call_on, static_call, virtual_call, interface_call, special_call, constructor_call, leads_after, constructed_leads}
 use Rattle.model.specs.Classes.{Program, Body, body_of, is_built_in}
 use Rattle.model.specs.Meaning.{waiting_at}
@@ -60,12 +60,24 @@ rows_built_in : AllByRecursion (λ (row : Member × BuiltInMethod). is_built_in 
 unfolding built_in_classes
 rows_built_in = every_all (λ (row : Member × BuiltInMethod). is_built_in row.0.class) built_in_methods refl
 
-constructs : (method : Member) → is_built_in method.class ≡ false → built_in_method method ≡ Construct
-constructs method file = ap (λ (o : Option (Member × BuiltInMethod)). unwrap_or (option_map (λ (row : Member × BuiltInMethod). row.1) o) Construct) (not_found method file built_in_methods rows_built_in)
+constructs : (method : Member) → is_built_in method.class ≡ false → built_in_method method ≡ constructor_of method.descriptor
+constructs method file =
+    ap (λ (o : Option (Member × BuiltInMethod)). unwrap_or (option_map (λ (row : Member × BuiltInMethod). row.1) o) (constructor_of method.descriptor))
+    (not_found method file built_in_methods rows_built_in)
+
+-- a constructor waits for nothing
+constructed_allowed : (descriptor : Name) (t : ℕ) (world : WorldOf ℕ) (ops : List ℕ)
+    → built_in_may words (constructor_of descriptor) (event_of t) world ops ≡ true
+constructed_allowed descriptor t world ops = by (name_eq descriptor (codes "(Ljava/lang/String;)V")) (name_eq descriptor (codes "(Ljava/lang/String;Ljava/lang/Throwable;)V"))
+  where
+    by : (one two : Bool) → built_in_may words (if one then ConstructWithMessage else if two then ConstructWithCause else Construct) (event_of t) world ops ≡ true
+    by true two = refl
+    by false true = refl
+    by false false = refl
 
 run_allowed : (t : ℕ) (world : WorldOf ℕ) (ops : List ℕ) (method : Member) → is_built_in method.class ≡ false → (body : Option Body)
     → may_run words (event_of t) world ops method body ≡ true
-run_allowed t world ops method file None = ap (λ b. built_in_may words b (event_of t) world ops) (constructs method file)
+run_allowed t world ops method file None = ap (λ b. built_in_may words b (event_of t) world ops) (constructs method file) ∙ constructed_allowed method.descriptor t world ops
 run_allowed t world ops method file (Some body) = refl
 
 -- ---- calls

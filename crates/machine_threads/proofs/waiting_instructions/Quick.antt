@@ -38,22 +38,22 @@ Stays (Calls callee rest) = ⊥
 Stays (Returns world results) = Unit {0}
 Stays (Waits cost world rest) = Unit {0}
 
-leaving_enabled : (t : ℕ) (o : Option ℕ) (world : WorldOf ℕ) (rest stack : StackOf ℕ) → is_enabled_by (leaving t o world rest stack) ≡ true
-leaving_enabled t None world rest stack = refl
-leaving_enabled t (Some object) world rest stack = by (is_owner world t object)
+leaving_enabled : (trees : Program) (t : ℕ) (o : Option ℕ) (world : WorldOf ℕ) (rest stack : StackOf ℕ) → is_enabled_by (leaving words trees t o world rest stack) ≡ true
+leaving_enabled trees t None world rest stack = refl
+leaving_enabled trees t (Some object) world rest stack = by (is_owner world t object)
   where
-    by : (b : Bool) → is_enabled_by (if b then on_to (with_exit world t object) rest else raised t IllegalMonitorState world stack) ≡ true
+    by : (b : Bool) → is_enabled_by (if b then on_to (with_exit world t object) rest else raised words trees t IllegalMonitorState world stack) ≡ true
     by true = refl
     by false = refl
 
 pub stays_enabled : (trees : Program) (frames t : ℕ) (world : WorldOf ℕ) (frame : FrameOf ℕ) (rest : StackOf ℕ) (outcome : OutcomeOf ℕ)
-    → Stays outcome → is_enabled_by (become trees frames t world frame rest outcome) ≡ true
+    → Stays outcome → is_enabled_by (become words trees frames t world frame rest outcome) ≡ true
 stays_enabled trees frames t world frame rest (Goes cost after slots to) h = refl
 stays_enabled trees frames t world frame rest (Raises fault) h = refl
 stays_enabled trees frames t world frame rest (Throws exception) h = refl
 stays_enabled trees frames t world frame rest Interrupts h = refl
 stays_enabled trees frames t world frame rest (Calls callee under) h = absurd h
-stays_enabled trees frames t world frame rest (Returns after results) h = leaving_enabled t frame.entered after _ _
+stays_enabled trees frames t world frame rest (Returns after results) h = leaving_enabled trees t frame.entered after _ _
 stays_enabled trees frames t world frame rest (Waits cost after under) h = refl
 
 not_null_stays : (o : Option ℕ) (go : ℕ → OutcomeOf ℕ) → ((r : ℕ) → Stays (go r)) → Stays (not_null o go)

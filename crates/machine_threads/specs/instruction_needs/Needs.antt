@@ -26,7 +26,7 @@ class_in (linked.PutBooleanStatic class slot) = Some class
 class_in (linked.PutByteStatic class slot) = Some class
 class_in (linked.PutCharStatic class slot) = Some class
 class_in (linked.PutShortStatic class slot) = Some class
-class_in (linked.New class fields cells) = Some class
+class_in (linked.New class cells uncounted) = Some class
 class_in (linked.InvokeStatic parameters class method) = Some class
 class_in _ = None
 

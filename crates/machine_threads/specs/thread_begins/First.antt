@@ -32,5 +32,5 @@ PushesFirst result t callee argument frames old new from to =
     (trees : Program) (p : LinkedProgram) (bounds : Bounds) (inflated : List ℕ) (world : WorldOf ℕ) → IsShared trees p bounds inflated old world
     → ShowsStack trees p from []
     → (method : Member) (body : Body) → IsCallee trees p callee method body
-    → Does trees p bounds inflated t world [] (pushed frames t world (with_begun world t) [] [] (frame_with words method (argument
+    → Does trees p bounds inflated t world [] (pushed words trees frames t world (with_begun world t) [] [] (frame_with words method (argument
     ∷ []) callee.entered body)) result old new from to

@@ -32,13 +32,13 @@ IsInitialClass p number = (trees : Program) → IsProgram trees p → IsClassAt 
 -- ---- the call, in each world that is shown, over the empty stack of the main thread
 
 -- a method gets the empty array, and the thread has begun
-abbrev pub CallsFirst : Result Answer EventRefusal → Callee → (frames : ℕ) → (old new : Shared) (from to : List ShownEntry) → Type 0
-CallsFirst result callee frames old new from to =
-    (trees : Program) (p : LinkedProgram) (bounds : Bounds) (inflated : List ℕ) (world : WorldOf ℕ) → IsShared trees p bounds inflated old world
+abbrev pub CallsFirst : LinkedProgram → Result Answer EventRefusal → Callee → (frames : ℕ) → (old new : Shared) (from to : List ShownEntry) → Type 0
+CallsFirst p result callee frames old new from to =
+    (trees : Program) (bounds : Bounds) (inflated : List ℕ) (world : WorldOf ℕ) → IsProgram trees p → IsShared trees p bounds inflated old world
     → ShowsStack trees p from []
     → (method : Member) (body : Body) → IsCallee trees p callee method body
     → Becomes trees p bounds inflated world
-    (pushed frames 0 world (with_begun world 0) [] [] (frame_with words method (words.reference arguments_reference ∷ []) callee.entered body))
+    (pushed words trees frames 0 world (with_begun world 0) [] [] (frame_with words method (words.reference arguments_reference ∷ []) callee.entered body))
     result old new from to
 
 -- so main, whose class is ready

@@ -23,7 +23,7 @@ use Rattle.machine_threads.specs.thread_events.Events.{DoesIn}
 abbrev pub DoesRelock : LinkedProgram → Result Answer EventRefusal → Event → (object count : ℕ) → WakeCause → (old new : Shared)
     (from to : List ShownEntry) → Type 0
 DoesRelock p result event object count cause old new from to =
-    DoesIn p event.thread (λ trees state own. unpicked event (relock_event trees event.thread object count cause state.world own)) result old new from to
+    DoesIn p event.thread (λ trees state own. unpicked event (relock_event words trees event.thread object count cause state.world own)) result old new from to
 
 -- an exception is pending (JVMS 2.10)
 abbrev pub DoesPending : LinkedProgram → Result Answer EventRefusal → Event → (exception : ℕ) → (old new : Shared) (from to : List ShownEntry)

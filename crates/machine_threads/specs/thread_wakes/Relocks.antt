@@ -1,5 +1,6 @@
 -- A thread that has left a wait set enters the monitor again (JLS 17.2.1), in whatever state is shown.
 use Rattle.std.specs.Prelude.{◌≡◌, ℕ, ◌<◌, List, Result}
+use Rattle.model.specs.Operands.{words}
 use Rattle.model.specs.BuiltInNumbers.{most_threads}
 use Rattle.model.specs.Classes.{Program}
 use Rattle.model.specs.State.{WakeCause, Relock, StackOf, StateOf}
@@ -36,4 +37,4 @@ abbrev pub RelocksIn : LinkedProgram → (t object count : ℕ) → WakeCause �
     (from to : List ShownEntry) → Type 0
 RelocksIn p t object count cause result old new from to =
     (trees : Program) (bounds : Bounds) (inflated : List ℕ) (state : StateOf ℕ) (own : StackOf ℕ) → HasLeft trees p bounds inflated t object count cause old from state own
-    → Becomes trees p bounds inflated state.world (relock_event trees t object count cause state.world own) result old new from to
+    → Becomes trees p bounds inflated state.world (relock_event words trees t object count cause state.world own) result old new from to

@@ -59,7 +59,7 @@ abbrev pub StandsInCode : (entered : Option ℕ) (frames t : ℕ) → Standing �
 StandsInCode entered frames t result shared stack =
     (trees : Program) (p : LinkedProgram) (bounds : Bounds) (world : WorldOf ℕ) (own rest : StackOf ℕ) (frame : FrameOf ℕ)
     → Represents trees p bounds shared world → ShowsStack trees p stack own → IsThere entered shared.heap → frame.entered ≡ entered
-    → StandsBy result frames (λ limit. pushed limit t world world own rest frame)
+    → StandsBy result frames (λ limit. pushed words trees limit t world world own rest frame)
 
 -- in whatever state a thread calls the method of a number, and with whatever operands
 abbrev pub StandsInCall : LinkedProgram → (method object frames t : ℕ) → Standing → Shared → List ShownEntry → Type 0

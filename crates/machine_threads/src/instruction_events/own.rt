@@ -44,9 +44,9 @@ pub(crate) fn own_instruction(
         LinkedInstruction::LoadObject(word) => load_object(stack, word),
         LinkedInstruction::New {
             class,
-            fields,
             cells,
-        } => new_object(shared, stack, class, fields, cells),
+            uncounted,
+        } => new_object(shared, stack, class, cells, uncounted),
         LinkedInstruction::NewArray(of) => new_array(shared, stack, of),
         LinkedInstruction::NewReferenceArray(component) => {
             new_reference_array(shared, stack, component)

@@ -1,22 +1,13 @@
 //! A frame that goes on at its handler.
 
-ghost use Rattle.std.specs.Prelude.{◌≡◌, ◌+◌, ◌<◌, ◌^◌, length, OnOk, OnErr};
+ghost use Rattle.std.specs.Prelude.{◌≡◌, OnOk, OnErr};
 ghost use Rattle.thread_stacks.specs.Stacks.{operands_on};
 ghost use Rattle.machine_threads.specs.pending_exceptions.Caught.{IsCaughtOnTop, HasNoOperand, IsCleared, Catches};
 
-use heap::Heap;
+use machine_state::raised_exceptions::word_of;
 use machine_state::{Answer, EventRefusal, Shared};
 use std::alloc::AllocError;
 use thread_stacks::ThreadStack;
-
-/// The word of the reference of an object, which is one of 32 bits, or 0 where there is no such object.
-#[inline]
-fn word_of(heap: &Heap, object: u32) -> u32
-    ensures bound { length heap.now.objects < 2 ^ 32 }
-    ensures there { object < length heap.now.objects → result ≡ object + 1 }
-{
-    if object < heap.len() { object + 1 } else { 0 }
-}
 
 /// How many operands the frame on top has.
 #[inline]

@@ -39,7 +39,7 @@ fn event_in_class(
     ensures { DoesInClass program.now thread class exception result shared.old shared.new stack.old stack.new }
 {
     let is_error = is_error(program, &shared.heap, exception);
-    fail(shared, stack, thread, class, is_error)
+    fail(shared, stack, thread, class, exception, is_error)
 }
 
 /// The event of a thread in which an exception is pending (JVMS 2.10): the frame on top goes on at the first of its

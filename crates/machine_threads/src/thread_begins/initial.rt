@@ -34,14 +34,15 @@ fn initial_class(program: &LinkedProgram) -> u16
 fn call_first(
     shared: &mut Shared,
     stack: &mut ThreadStack,
+    program: &LinkedProgram,
     callee: Callee,
     frames: usize,
 ) -> Result<Answer, EventRefusal>
     requires there { IsThere callee.entered shared.old.heap }
-    ensures { CallsFirst result callee frames shared.old shared.new stack.old stack.new }
+    ensures { CallsFirst program.now result callee frames shared.old shared.new stack.old stack.new }
 {
     match push_first(shared, stack, MAIN_THREAD, callee, ARGUMENTS, frames) {
-        Ok(effect) => apply(shared, MAIN_THREAD, effect),
+        Ok(effect) => apply(shared, program, MAIN_THREAD, effect),
         Err(refusal) => Err(refusal),
     }
 }
@@ -60,7 +61,7 @@ fn call_main(
     ensures { CallsMain program.now result frames shared.old shared.new stack.old stack.new }
 {
     match callee_at(program, program.main, class_object_of(class)) {
-        Some(callee) => call_first(shared, stack, callee, frames),
+        Some(callee) => call_first(shared, stack, program, callee, frames),
         None => unreachable!(),
     }
 }

@@ -25,7 +25,7 @@ fn begin_started(
     ensures { BeginsStarted program.now result thread frames shared.old shared.new stack.old stack.new }
 {
     match begin_run(shared, stack, program, thread, frames) {
-        Ok(effect) => apply(shared, thread, effect),
+        Ok(effect) => apply(shared, program, thread, effect),
         Err(refusal) => Err(refusal),
     }
 }

@@ -56,9 +56,9 @@ module _ {A : Type 0} where
 
   -- ---- exceptions, calls and returns
 
-  raised_kept : (b : Option ℕ) (old : StackOf A) (t : ℕ) (fault : MachineException) (world : WorldOf A) (stack : StackOf A)
-      → Kept b world.monitors old (raised t fault world stack)
-  raised_kept b old t fault world stack = any_keeps (meant b old stack) world.monitors _ (more_keeps world.monitors)
+  raised_kept : (C : Carrier A) (files : Program) (b : Option ℕ) (old : StackOf A) (t : ℕ) (fault : MachineException) (world : WorldOf A) (stack : StackOf A)
+      → Kept b world.monitors old (raised C files t fault world stack)
+  raised_kept C files b old t fault world stack = any_keeps (meant b old stack) world.monitors _ (more_keeps world.monitors)
 
   entering_kept : (old : StackOf A) (t : ℕ) (world : WorldOf A) (rest : StackOf A) (frame : FrameOf A) (o : Option ℕ) → frame.entered ≡ o
       → nat_lt (length old) (suc (length rest)) ≡ true → Kept None world.monitors old (entering t world rest frame o)
@@ -68,17 +68,17 @@ module _ {A : Type 0} where
       enabled_kept None world.monitors old (may_enter world t object) (Next (entry_cost world object) (part (with_entry world t object) (Invocation frame ∷ rest)))
       (subst (λ m. KeepsOwners m world.monitors (with_entry world t object).monitors) (sym is) (call_changes object (monitors.monitor_enter t) world.monitors))
 
-  pushed_kept : (old : StackOf A) (frames t : ℕ) (world after : WorldOf A) (stack rest : StackOf A) (frame : FrameOf A)
-      → Kept None world.monitors old (entering t after rest frame frame.entered) → Kept None world.monitors old (pushed frames t world after stack rest frame)
-  pushed_kept old frames t world after stack rest frame k =
-      either_part None world.monitors old (nat_lt (frame_count stack) frames) (entering t after rest frame frame.entered) (raised t StackOverflow world stack)
-      k (raised_kept None old t StackOverflow world stack)
+  pushed_kept : (C : Carrier A) (files : Program) (old : StackOf A) (frames t : ℕ) (world after : WorldOf A) (stack rest : StackOf A) (frame : FrameOf A)
+      → Kept None world.monitors old (entering t after rest frame frame.entered) → Kept None world.monitors old (pushed C files frames t world after stack rest frame)
+  pushed_kept C files old frames t world after stack rest frame k =
+      either_part None world.monitors old (nat_lt (frame_count stack) frames) (entering t after rest frame frame.entered) (raised C files t StackOverflow world stack)
+      k (raised_kept C files None old t StackOverflow world stack)
 
-  leaving_kept : (old : StackOf A) (t : ℕ) (o : Option ℕ) (world : WorldOf A) (rest stack : StackOf A) → Kept o world.monitors old (leaving t o world rest stack)
-  leaving_kept old t None world rest stack = same_kept (meant None old rest) world.monitors
-  leaving_kept old t (Some object) world rest stack =
-      either_part (Some object) world.monitors old (is_owner world t object) (on_to (with_exit world t object) rest) (raised t IllegalMonitorState world stack)
-      (call_changes object (monitors.monitor_exit t) world.monitors) (raised_kept (Some object) old t IllegalMonitorState world stack)
+  leaving_kept : (C : Carrier A) (files : Program) (old : StackOf A) (t : ℕ) (o : Option ℕ) (world : WorldOf A) (rest stack : StackOf A) → Kept o world.monitors old (leaving C files t o world rest stack)
+  leaving_kept C files old t None world rest stack = same_kept (meant None old rest) world.monitors
+  leaving_kept C files old t (Some object) world rest stack =
+      either_part (Some object) world.monitors old (is_owner world t object) (on_to (with_exit world t object) rest) (raised C files t IllegalMonitorState world stack)
+      (call_changes object (monitors.monitor_exit t) world.monitors) (raised_kept C files (Some object) old t IllegalMonitorState world stack)
 
   -- ---- the end of a thread
 
@@ -124,7 +124,7 @@ module _ {A : Type 0} where
     needing_kept b old t class IsNew world stack x k =
         equal_kept (meant b old (Initialisation class Super ∷ stack)) world.monitors _ (class_same t class world (class_of files class))
     needing_kept b old t class IsHeld world stack x k = tt
-    needing_kept b old t class HasFailed world stack x k = raised_kept b old t NoClassDefFound world stack
+    needing_kept b old t class HasFailed world stack x k = raised_kept C files b old t NoClassDefFound world stack
 
     needing_class_kept : (b : Option ℕ) (old : StackOf A) (t : ℕ) (class : Option Name) (world : WorldOf A) (stack : StackOf A) (x : SteppedOf (PartOf A))
         → Kept b world.monitors old x → Kept b world.monitors old (needing_class C files t class world stack x)
@@ -135,20 +135,20 @@ module _ {A : Type 0} where
 
     become_kept : (frames t : ℕ) (world : WorldOf A) (frame : FrameOf A) (stack : StackOf A) (instr : Instr) (ops : List A) (o : OutcomeOf A)
         → OutcomeKept (monitor_operand C ops instr) (object_of C ops 0) world.monitors o
-        → Kept (meant_by C instr frame ops o) world.monitors (Invocation frame ∷ stack) (become files frames t world frame stack o)
+        → Kept (meant_by C instr frame ops o) world.monitors (Invocation frame ∷ stack) (become C files frames t world frame stack o)
     become_kept frames t world frame stack instr ops (Goes cost after slots to) k =
         meant_kept (monitor_operand C ops instr) (Invocation frame ∷ stack) _ world.monitors after.monitors k
-    become_kept frames t world frame stack instr ops (Raises fault) k = raised_kept None (Invocation frame ∷ stack) t fault world (Invocation frame ∷ stack)
+    become_kept frames t world frame stack instr ops (Raises fault) k = raised_kept C files None (Invocation frame ∷ stack) t fault world (Invocation frame ∷ stack)
     become_kept frames t world frame stack instr ops (Throws exception) k =
         same_kept (meant None (Invocation frame ∷ stack) (Invocation frame ∷ stack)) world.monitors
     become_kept frames t world frame stack instr ops Interrupts k =
-        raised_kept None (Invocation frame ∷ stack) t InterruptedWait (with_interrupted world t false) (Invocation frame ∷ stack)
+        raised_kept C files None (Invocation frame ∷ stack) t InterruptedWait (with_interrupted world t false) (Invocation frame ∷ stack)
     become_kept frames t world frame stack instr ops (Calls callee rest) k =
-        pushed_kept (Invocation frame ∷ stack) frames t world world (Invocation frame ∷ stack) (Invocation (at_call frame rest) ∷ stack) callee
+        pushed_kept C files (Invocation frame ∷ stack) frames t world world (Invocation frame ∷ stack) (Invocation (at_call frame rest) ∷ stack) callee
         (entering_kept (Invocation frame ∷ stack) t world (Invocation (at_call frame rest) ∷ stack) callee callee.entered refl (longer (suc (length stack))))
     become_kept frames t world frame stack instr ops (Returns after results) k =
-        subst (λ (l : List Monitor). Kept frame.entered l (Invocation frame ∷ stack) (leaving t frame.entered after (returned files results stack) (Invocation frame ∷ stack))) k
-        (leaving_kept (Invocation frame ∷ stack) t frame.entered after (returned files results stack) (Invocation frame ∷ stack))
+        subst (λ (l : List Monitor). Kept frame.entered l (Invocation frame ∷ stack) (leaving C files t frame.entered after (returned files results stack) (Invocation frame ∷ stack))) k
+        (leaving_kept C files (Invocation frame ∷ stack) t frame.entered after (returned files results stack) (Invocation frame ∷ stack))
     become_kept frames t world frame stack instr ops (Waits cost after rest) k = k
 
     module _ (frames : ℕ) (event : Event) (world : WorldOf A) where
@@ -180,10 +180,10 @@ module _ {A : Type 0} where
 
       -- ---- classes that are initialised, and threads that begin
 
-      initialiser_kept : (old : StackOf A) (t : ℕ) (m : Member) (stack : StackOf A) (o : Option Body) → Kept None world.monitors old (initialiser_event C frames t m world stack o)
+      initialiser_kept : (old : StackOf A) (t : ℕ) (m : Member) (stack : StackOf A) (o : Option Body) → Kept None world.monitors old (initialiser_event C files frames t m world stack o)
       initialiser_kept old t m stack None = same_kept (meant None old stack) world.monitors
       initialiser_kept old t m stack (Some body) =
-          pushed_kept old frames t world world stack stack (frame_with C m [] None body)
+          pushed_kept C files old frames t world world stack stack (frame_with C m [] None body)
           (same_kept (meant None old (Invocation (frame_with C m [] None body) ∷ stack)) world.monitors)
 
       initialisation_kept : (t : ℕ) (class : Name) (phase : Phase) (stack : StackOf A)
@@ -197,16 +197,16 @@ module _ {A : Type 0} where
       main_kept main None = tt
       main_kept main (Some body) =
           let frame = frame_with C main (C.reference arguments_reference ∷ []) (entered_by files main (class_reference files main.class)) body in
-          pushed_kept [] frames 0 world (with_begun world 0) [] [] frame (entering_kept [] 0 (with_begun world 0) [] frame frame.entered refl refl)
+          pushed_kept C files [] frames 0 world (with_begun world 0) [] [] frame (entering_kept [] 0 (with_begun world 0) [] frame frame.entered refl refl)
 
       run_frame_kept : (t object : ℕ) (m : Member) (o : Option Body) → Kept None world.monitors [] (run_frame C files frames t world object m o)
-      run_frame_kept t object m None = raised_kept None [] t AbstractMethod world []
+      run_frame_kept t object m None = raised_kept C files None [] t AbstractMethod world []
       run_frame_kept t object m (Some body) =
           let frame = frame_with C m (C.reference object ∷ []) (entered_by files m object) body in
-          pushed_kept [] frames t world (with_begun world t) [] [] frame (entering_kept [] t (with_begun world t) [] frame frame.entered refl refl)
+          pushed_kept C files [] frames t world (with_begun world t) [] [] frame (entering_kept [] t (with_begun world t) [] frame frame.entered refl refl)
 
       run_kept : (t object : ℕ) (o : Option Member) → Kept None world.monitors [] (run_of C files frames t world object o)
-      run_kept t object None = raised_kept None [] t AbstractMethod world []
+      run_kept t object None = raised_kept C files None [] t AbstractMethod world []
       run_kept t object (Some m) = run_frame_kept t object m (body_of files m)
 
       begin_kept : (t : ℕ) → Kept None world.monitors [] (begin_event C files frames world t)
@@ -220,14 +220,14 @@ module _ {A : Type 0} where
       -- ---- pending exceptions, and threads that were woken
 
       unwound_kept : (old : StackOf A) (t exception : ℕ) (frame : FrameOf A) (stack : StackOf A) (o : Option ExceptionEntry)
-          → Kept frame.entered world.monitors old (unwound C t exception world frame stack o)
-      unwound_kept old t exception frame stack None = leaving_kept old t frame.entered world stack stack
+          → Kept frame.entered world.monitors old (unwound C files t exception world frame stack o)
+      unwound_kept old t exception frame stack None = leaving_kept C files old t frame.entered world stack stack
       unwound_kept old t exception frame stack (Some entry) = meant_kept frame.entered old _ world.monitors world.monitors (same_kept frame.entered world.monitors)
 
-      failed_kept : (old : StackOf A) (t : ℕ) (b : Bool) (class : Name) (stack : StackOf A)
-          → Kept None world.monitors old (failed t b (with_class_status world class Erroneous) stack)
-      failed_kept old t true class stack = same_kept (meant None old stack) world.monitors
-      failed_kept old t false class stack = raised_kept None old t ExceptionInInitializer (with_class_status world class Erroneous) stack
+      failed_kept : (old : StackOf A) (t exception : ℕ) (b : Bool) (class : Name) (stack : StackOf A)
+          → Kept None world.monitors old (failed C files t exception b (with_class_status world class Erroneous) stack)
+      failed_kept old t exception true class stack = same_kept (meant None old stack) world.monitors
+      failed_kept old t exception false class stack = any_keeps (meant None old stack) world.monitors _ (more_keeps world.monitors)
 
       pending_kept : (t exception : ℕ) (thrown : Option ReferenceType) (stack : StackOf A)
           → Kept (entered_in stack) world.monitors stack (pending_event C files t exception thrown world stack)
@@ -235,7 +235,7 @@ module _ {A : Type 0} where
       pending_kept t exception thrown (Invocation frame ∷ stack) =
           unwound_kept (Invocation frame ∷ stack) t exception frame stack (option_and_then (handler_in files frame.place.offset thrown) (body_of files frame.method))
       pending_kept t exception thrown (Initialisation class phase ∷ stack) =
-          failed_kept (Initialisation class phase ∷ stack) t (is_object_of files (ClassType java_lang_error) thrown) class stack
+          failed_kept (Initialisation class phase ∷ stack) t exception (is_object_of files (ClassType java_lang_error) thrown) class stack
 
       -- ---- an event
 
@@ -254,7 +254,7 @@ module _ {A : Type 0} where
           (pending_kept event.thread exception thrown stack)
 
       after_wait_kept : (old : StackOf A) (t object : ℕ) (cause : WakeCause) (after : WorldOf A) (stack : StackOf A) → KeepsOwners (Some object) world.monitors after.monitors
-          → Kept (Some object) world.monitors old (after_wait files t cause after stack)
+          → Kept (Some object) world.monitors old (after_wait C files t cause after stack)
       after_wait_kept old t object Notified after stack h = h
       after_wait_kept old t object Interrupted after stack h = then_keeps (Some object) world.monitors after.monitors _ h (more_keeps after.monitors)
 
@@ -263,7 +263,7 @@ module _ {A : Type 0} where
       event_kept stack Running = going_kept stack (thread_at world event.thread).pending
       event_kept stack (Waiting object count) = tt
       event_kept stack (Relock object count cause) =
-          enabled_kept (Some object) world.monitors stack (event.pick == 0) (relock_event files event.thread object count cause world stack)
+          enabled_kept (Some object) world.monitors stack (event.pick == 0) (relock_event C files event.thread object count cause world stack)
           (enabled_kept (Some object) world.monitors stack (is_done (monitors.relock object event.thread count world.monitors).answer) _
           (after_wait_kept stack event.thread object cause _ stack (call_changes object (monitors.monitor_relock event.thread count) world.monitors)))
       event_kept stack (Ended exception) = tt

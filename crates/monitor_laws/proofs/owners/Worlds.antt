@@ -13,7 +13,9 @@ use Rattle.model.specs.Sites.{pushing, int_operand}
 use Rattle.model.specs.StringMethods.{StringAnswer, IsNull, IsOutside, Answers, Same, Composes, string_answer}
 use Rattle.model.specs.BuilderMethods as builder
 use Rattle.model.specs.BuilderMethods.{BuilderAnswer, KeepsEmpty, Keeps, Adds, GivesText, builds}
-use Rattle.model.specs.BuiltInMethods.{BuiltInMethod, Construct, ConstructWithTarget, ObjectWait, ObjectNotify, ObjectNotifyAll, ThreadStart, ThreadInterrupt, ThreadIsInterrupted, ThreadInterrupted, ThreadYield, ThreadCurrentThread, ThreadJoin, ThreadIsAlive, PrintStreamPrints, StringAnswers, StringBuilderBuilds, object_of, string_operand, answered, wait_by, notified_one, notified, notified_all, if_owner, start_by, interrupted_in, interrupted_on, join_by, built_in_does}
+use Rattle.model.specs.ObjectMethods as telling
+use Rattle.model.specs.ObjectMethods.{ObjectAnswer, HasNoClass, IsOf, object_answer, object_place, tells, type_at}
+use Rattle.model.specs.BuiltInMethods.{BuiltInMethod, Construct, ConstructWithMessage, ConstructWithCause, ConstructWithTarget, ObjectWait, ObjectNotify, ObjectNotifyAll, ThreadStart, ThreadInterrupt, ThreadIsInterrupted, ThreadInterrupted, ThreadYield, ThreadCurrentThread, ThreadJoin, ThreadIsAlive, PrintStreamPrints, StringAnswers, StringBuilderBuilds, ObjectAnswers, object_of, string_operand, answered, wait_by, notified_one, notified, notified_all, if_owner, start_by, interrupted_in, interrupted_on, join_by, built_in_does}
 use Rattle.monitor_laws.specs.owners.Owners.{KeepsOwners}
 use Rattle.monitor_laws.proofs.owners.Monitors.{any_keeps, more_keeps, call_changes, call_keeps, as_owner_keeps}
 
@@ -122,9 +124,20 @@ module _ {A : Type 0} where
       builds_kept C empty (Adds added) next slots ops rest = any_keeps p world.monitors _ (more_keeps world.monitors)
       builds_kept C empty GivesText next slots ops rest = same_kept p world.monitors
 
+      -- and of what an object tells
+      tells_kept : (C : Carrier A) (files : Program) (answer : ObjectAnswer) (next : ℕ) (slots : Slots A) (rest : List A)
+          → kept (tells C files answer next world slots rest)
+      tells_kept C files telling.IsNull next slots rest = tt
+      tells_kept C files HasNoClass next slots rest = tt
+      tells_kept C files (telling.Answers bits) next slots rest = same_kept p world.monitors
+      tells_kept C files (IsOf class) next slots rest = same_kept p world.monitors
+      tells_kept C files (telling.Composes text) next slots rest = any_keeps p world.monitors _ (more_keeps world.monitors)
+
     pub built_in_kept : (p : Option ℕ) (C : Carrier A) (files : Program) (method : BuiltInMethod) (next : ℕ) (event : Event) (slots : Slots A) (ops rest : List A)
         → OutcomeKept p (object_of C ops 0) world.monitors (built_in_does C files method next event world slots ops rest)
     built_in_kept p C files Construct next event slots ops rest = same_kept p world.monitors
+    built_in_kept p C files ConstructWithMessage next event slots ops rest = same_kept p world.monitors
+    built_in_kept p C files ConstructWithCause next event slots ops rest = same_kept p world.monitors
     built_in_kept p C files ConstructWithTarget next event slots ops rest = same_kept p world.monitors
     built_in_kept p C files ObjectWait next event slots ops rest =
         wait_by_kept p (object_of C ops 0) (is_owner world event.thread (object_of C ops 0)) (thread_at world event.thread).interrupted event.thread rest
@@ -151,3 +164,4 @@ module _ {A : Type 0} where
         answered_kept p (object_of C ops 0) C (string_answer called (int_operand C ops) (string_operand C world ops)) next slots ops rest
     built_in_kept p C files (StringBuilderBuilds called) next event slots ops rest =
         builds_kept p (object_of C ops 0) C (string_reference files []) _ next slots ops rest
+    built_in_kept p C files (ObjectAnswers called) next event slots ops rest = tells_kept p (object_of C ops 0) C files _ next slots rest

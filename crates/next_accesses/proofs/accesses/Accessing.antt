@@ -1,5 +1,5 @@
 -- The access that is told is the one of the definitions.
-use Rattle.std.proofs.Common.{◌≡◌, ℕ, List, [], ◌∷◌, Bool, true, false, Option, Some, None, map, refl, sym, ap, subst, ◌∙◌}
+use Rattle.std.proofs.Common.{◌≡◌, ℕ, List, [], ◌∷◌, Bool, true, false, Option, Some, None, if◌then◌else◌, map, refl, sym, ap, subst, ◌∙◌}
 use Rattle.std.specs.Prelude.{IsTrue, is_some, slice_index_or, unwrap_or}
 use Rattle.std.specs.Option.{option_map, option_map_or, option_and_then}
 use Rattle.model.specs.declared.value.Value.{Value}
@@ -20,12 +20,12 @@ use Rattle.race_places.specs.named_actions.Names.{IsRight, named_action}
 use Rattle.data_races.specs.Variables as named
 use Rattle.data_races.specs.Variables.{declares_volatile}
 use Rattle.data_races.specs.Actions as actions
-use Rattle.data_races.specs.EventActions.{field_access, access_by}
+use Rattle.data_races.specs.EventActions.{field_access, named_access, only_if, access_by}
 use Rattle.std.specs.Option.{option_to_list}
 use Rattle.field_names.specs.declared.named_fields.NamedField.{NamedField}
 use Rattle.field_names.specs.named_fields.Fields.{IsField, IsFieldIf, member_at, names_of, no_member}
 use Rattle.next_accesses.specs.read_operands.Reads.{ReadsAt}
-use Rattle.next_accesses.specs.accesses.Accesses.{object_under, instance_of, static_of, element_of, read_of, write_of, field_action, IsFieldOf, IsRightIf, IsAccess, TellsAccess}
+use Rattle.next_accesses.specs.accesses.Accesses.{object_under, instance_of, static_of, element_of, read_of, write_of, access_action, field_action, IsFieldOf, IsRightIf, IsAccess, TellsAccess}
 
 module _ (files : Program) (site : Site) (ops : List Value) (operands : List ℕ) where
   -- ---- fields
@@ -58,20 +58,40 @@ module _ (files : Program) (site : Site) (ops : List Value) (operands : List ℕ
     write_right None = tt
     write_right (Some r) = (there, volatile_is)
 
-    of_field : (how : FieldAccess) (index : ℕ) → ReadsAt ops operands (instr.Field how index)
-        → map (named_action (names_of files)) (option_to_list (field_action operands how field)) ≡ field_access ops how member
-    of_field access.GetStatic index r = ap (λ (m : Member). actions.Read (named.StaticField m) ∷ []) name_is
-    of_field access.PutStatic index r = ap (λ (m : Member). actions.Write (named.StaticField m) ∷ []) name_is
-    of_field access.GetField index r =
+    of_variable : (how : FieldAccess) (index : ℕ) → ReadsAt ops operands (instr.Field how index)
+        → map (named_action (names_of files)) (option_to_list (access_action operands how field)) ≡ named_access ops how member
+    of_variable access.GetStatic index r = ap (λ (m : Member). actions.Read (named.StaticField m) ∷ []) name_is
+    of_variable access.PutStatic index r = ap (λ (m : Member). actions.Write (named.StaticField m) ∷ []) name_is
+    of_variable access.GetField index r =
         read_instance (object_under operands 0) ∙ ap (λ (o : Option ℕ). option_map_or (λ x. actions.Read (named.InstanceField x member) ∷ []) o []) (sym r)
-    of_field access.PutField index r =
+    of_variable access.PutField index r =
         write_instance (object_under operands 1) ∙ ap (λ (o : Option ℕ). option_map_or (λ x. actions.Write (named.InstanceField x member) ∷ []) o []) (sym r)
 
+    right_variable : (how : FieldAccess) → IsRightIf files (access_action operands how field)
+    right_variable access.GetStatic = (there, volatile_is)
+    right_variable access.PutStatic = (there, volatile_is)
+    right_variable access.GetField = read_right (object_under operands 0)
+    right_variable access.PutField = write_right (object_under operands 1)
+
+    -- by whether it is a variable
+    abbrev if_variable : Bool → FieldAccess → Option Action
+    if_variable b how = if b then access_action operands how field else None
+
+    of_either : (b : Bool) (how : FieldAccess) (index : ℕ) → ReadsAt ops operands (instr.Field how index)
+        → map (named_action (names_of files)) (option_to_list (if_variable b how)) ≡ only_if b (named_access ops how member)
+    of_either true how index r = of_variable how index r
+    of_either false how index r = refl
+
+    of_field : (how : FieldAccess) (index : ℕ) → ReadsAt ops operands (instr.Field how index)
+        → map (named_action (names_of files)) (option_to_list (field_action operands how field)) ≡ field_access ops how member
+    of_field how index r = of_either field.is_variable how index r ∙ ap (λ b. only_if b (named_access ops how member)) is.is_variable
+
+    right_either : (b : Bool) (how : FieldAccess) → IsRightIf files (if_variable b how)
+    right_either true how = right_variable how
+    right_either false how = tt
+
     right_field : (how : FieldAccess) → IsRightIf files (field_action operands how field)
-    right_field access.GetStatic = (there, volatile_is)
-    right_field access.PutStatic = (there, volatile_is)
-    right_field access.GetField = read_right (object_under operands 0)
-    right_field access.PutField = write_right (object_under operands 1)
+    right_field how = right_either field.is_variable how
 
   by_found : (how : FieldAccess) (index : ℕ) (o : Option Member) (field : NamedField) → option_and_then (find_field files) (field_at site.body.pool index) ≡ o → IsFieldIf files o (Some field)
       → ReadsAt ops operands (instr.Field how index) → IsAccess files site ops (instr.Field how index) (field_action operands how field)

@@ -28,7 +28,7 @@ use Rattle.next_accesses.specs.builder_calls.Called.{as_builder, builder_run, bu
 
 -- ---- descriptors
 
-all_counted : list_all (passes as_builder refl (λ m b. is_some (builder_parameters m.descriptor))) built_in_methods ≡ true
+all_counted : list_all (passes as_builder (refl, (refl, refl)) (λ m b. is_some (builder_parameters m.descriptor))) built_in_methods ≡ true
 all_counted = refl
 
 none_counted : (o : Option ℕ) → o ≡ None → is_some o ≡ false
@@ -40,7 +40,7 @@ no_builder m none = by (as_builder (built_in_method m)) refl
     by : (o : Option BuilderMethod) → as_builder (built_in_method m) ≡ o → o ≡ None
     by None e = refl
     by (Some b) e =
-        absurd (false≢true (sym (ap is_some none) ∙ passed as_builder refl (λ x y. is_some (builder_parameters x.descriptor)) all_counted m b e))
+        absurd (false≢true (sym (ap is_some none) ∙ passed as_builder (refl, (refl, refl)) (λ x y. is_some (builder_parameters x.descriptor)) all_counted m b e))
 
 zero_of_void : length (parameters_declared (codes "()V")) ≡ 0
 unfolding method_type parameters_at field_at field_type element_at

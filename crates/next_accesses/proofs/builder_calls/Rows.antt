@@ -48,6 +48,8 @@ use Rattle.next_accesses.specs.builder_calls.Called.{as_builder, builder_run, bu
 same_builder : (b : BuiltInMethod) → builder_of b ≡ as_builder (built_in_of b)
 same_builder called.Construct = refl
 same_builder called.ConstructWithTarget = refl
+same_builder called.ConstructWithMessage = refl
+same_builder called.ConstructWithCause = refl
 same_builder called.ObjectWait = refl
 same_builder called.ObjectNotify = refl
 same_builder called.ObjectNotifyAll = refl
@@ -62,6 +64,7 @@ same_builder called.ThreadIsAlive = refl
 same_builder (called.PrintStreamPrints print) = refl
 same_builder (called.StringAnswers answer) = refl
 same_builder (called.StringBuilderBuilds method) = refl
+same_builder (called.ObjectAnswers method) = refl
 
 -- ---- a method that is chosen
 
@@ -69,7 +72,7 @@ abbrev run_by : Member → Option Body → Option BuilderMethod
 run_by m o = option_and_then as_builder (without_code m o)
 
 -- a method of StringBuilder is not abstract
-all_concrete : (trees : Program) → list_all (passes as_builder refl (λ m b. not (is_one is_abstract_method trees m))) built_in_methods ≡ true
+all_concrete : (trees : Program) → list_all (passes as_builder (refl, (refl, refl)) (λ m b. not (is_one is_abstract_method trees m))) built_in_methods ≡ true
 unfolding built_in_classes
 all_concrete trees = refl
 
@@ -79,7 +82,7 @@ no_builder trees m abstract = by (as_builder (built_in_method m)) refl
     by : (o : Option BuilderMethod) → as_builder (built_in_method m) ≡ o → o ≡ None
     by None e = refl
     by (Some b) e =
-        absurd (false≢true (sym (not-true (is_one is_abstract_method trees m) (passed as_builder refl (λ x y. not (is_one is_abstract_method trees x)) (all_concrete trees) m b e)) ∙ abstract))
+        absurd (false≢true (sym (not-true (is_one is_abstract_method trees m) (passed as_builder (refl, (refl, refl)) (λ x y. not (is_one is_abstract_method trees x)) (all_concrete trees) m b e)) ∙ abstract))
 
 module _ (trees : Program) (p : LinkedProgram) where
   by_body : (m : Member) (b : MethodBody) (chosen : Chosen) → RunsBody trees p m b chosen → body_builder b ≡ builder_run trees chosen

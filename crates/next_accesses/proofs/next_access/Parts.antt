@@ -24,7 +24,7 @@ use Rattle.model.specs.Sites.{Site, referent, int_operand}
 use Rattle.model.specs.BuiltInMethods.{BuiltInMethod, ObjectWait, ThreadStart, ThreadInterrupt, ThreadIsInterrupted, ThreadInterrupted, ThreadJoin, ThreadIsAlive, StringBuilderBuilds}
 use Rattle.data_races.specs.Variables.{Variable, InstanceField, StaticField, Element}
 use Rattle.data_races.specs.Actions.{Action, Read, Write, Lock, Unlock, Finish, Start, Interrupt, ClearInterrupt, Wake, FinishInitialisation, FindStarted, FindFinished, FindInterrupted, FindNotInterrupted, FindInitialised}
-use Rattle.data_races.specs.EventActions.{Rule, Begins, Does, Initialises, Relocks, Other, needed_class, only_if, is_finished, found_class, of_thread, is_over, found_alive, found_status, found_own, found_by_join, found_on, interrupts_on, at_reference, field_access, access_by, text_access, builder_accesses, built_in_accesses, accesses_at, built_in_at, receiver_of, is_done, goes_on, outcome_at, operands_of, finds_of, accesses_of, interrupts_of, owned, waiting, besides, finished_classes, started, end_actions, clear_actions, actions_to}
+use Rattle.data_races.specs.EventActions.{Rule, Begins, Does, Initialises, Relocks, Other, needed_class, only_if, is_finished, found_class, of_thread, is_over, found_alive, found_status, found_own, found_by_join, found_on, interrupts_on, at_reference, is_variable, named_access, field_access, access_by, text_access, builder_accesses, built_in_accesses, accesses_at, built_in_at, receiver_of, is_done, goes_on, outcome_at, operands_of, finds_of, accesses_of, interrupts_of, owned, waiting, besides, finished_classes, started, end_actions, clear_actions, actions_to}
 use Rattle.model.specs.ClassInitialisation.{status_of}
 use Rattle.next_accesses.specs.next_access.Next.{is_access}
 
@@ -124,11 +124,18 @@ all_at ops k f h = by (referent values ops k)
     by None = refl
     by (Some r) = ap (λ b. if b then f r ∷ [] else []) (h r)
 
+all_if : (b : Bool) (xs : List Action) → reads_of xs ≡ xs → reads_of (only_if b xs) ≡ only_if b xs
+all_if true xs e = e
+all_if false xs e = refl
+
+all_variable : (ops : List Value) (how : FieldAccess) (field : Member) → reads_of (named_access ops how field) ≡ named_access ops how field
+all_variable ops access.GetStatic field = refl
+all_variable ops access.PutStatic field = refl
+all_variable ops access.GetField field = all_at ops 0 (λ r. Read (InstanceField r field)) (λ r. refl)
+all_variable ops access.PutField field = all_at ops 1 (λ r. Write (InstanceField r field)) (λ r. refl)
+
 all_field : (ops : List Value) (how : FieldAccess) (field : Member) → reads_of (field_access ops how field) ≡ field_access ops how field
-all_field ops access.GetStatic field = refl
-all_field ops access.PutStatic field = refl
-all_field ops access.GetField field = all_at ops 0 (λ r. Read (InstanceField r field)) (λ r. refl)
-all_field ops access.PutField field = all_at ops 1 (λ r. Write (InstanceField r field)) (λ r. refl)
+all_field ops how field = all_if (is_variable field) (named_access ops how field) (all_variable ops how field)
 
 all_named : (ops : List Value) (how : FieldAccess) (o : Option Member) → reads_of (option_map_or (field_access ops how) o []) ≡ option_map_or (field_access ops how) o []
 all_named ops how None = refl
@@ -139,10 +146,6 @@ all_accesses files site ops (instr.Field how index) = all_named ops how (option_
 all_accesses files site ops (instr.LoadElement kind) = all_at ops 1 (λ r. Read (Element r (int_operand values ops 0))) (λ r. refl)
 all_accesses files site ops (instr.StoreElement kind) = all_at ops 2 (λ r. Write (Element r (int_operand values ops 1))) (λ r. refl)
 all_accesses files site ops _ = refl
-
-all_if : (b : Bool) (xs : List Action) → reads_of xs ≡ xs → reads_of (only_if b xs) ≡ only_if b xs
-all_if true xs e = e
-all_if false xs e = refl
 
 all_both : (xs ys : List Action) → reads_of xs ≡ xs → reads_of ys ≡ ys → reads_of (xs ++ ys) ≡ xs ++ ys
 all_both xs ys e g = filter-append is_access xs ys ∙ ap (λ l. l ++ reads_of ys) e ∙ ap (λ l. xs ++ l) g

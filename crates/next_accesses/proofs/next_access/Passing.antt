@@ -53,7 +53,7 @@ use Rattle.machine_state.proofs.shown_objects.Objects.{are_elements}
 use Rattle.machine_instructions.specs.type_instructions.Words.{TestsStore}
 use Rattle.data_races.specs.Variables.{InstanceField, StaticField, Element}
 use Rattle.data_races.specs.Actions.{Action, Read, Write}
-use Rattle.data_races.specs.EventActions.{only_if, is_ready, goes_on, field_access, access_by}
+use Rattle.data_races.specs.EventActions.{only_if, is_ready, goes_on, is_variable, named_access, field_access, access_by}
 use Rattle.field_names.specs.declared.named_fields.NamedField.{NamedField}
 use Rattle.field_names.specs.named_fields.Fields.{IsField, IsFieldIf, member_at}
 use Rattle.next_accesses.specs.read_operands.Reads.{ReadsAt}
@@ -188,12 +188,18 @@ module _ (files : Program) (p : LinkedProgram) (bounds : Bounds) (shared : Share
     not_null_goes None go f h = refl
     not_null_goes (Some r) go f h = ap (λ b. only_if b (f r ∷ [])) (sym (h r))
 
+    -- of a field that is no variable there is no access
+    if_variable : (b c : Bool) (xs : List Action) → xs ≡ only_if c xs → only_if b xs ≡ only_if c (only_if b xs)
+    if_variable true c xs e = e
+    if_variable false c xs e = only_nothing true c [] refl
+
     of_object : (how : FieldAccess) (k : ℕ) (f : Member → ℕ → Action) (ops : List Value) (go : ℕ → OutcomeOf Value) → ((r : ℕ) → goes_on (go r) ≡ true)
-        → ((member : Member) → field_access ops how member ≡ option_map_or (λ r. f member r ∷ []) (referent values ops k) []) → (o : Option Member)
+        → ((member : Member) → named_access ops how member ≡ option_map_or (λ r. f member r ∷ []) (referent values ops k) []) → (o : Option Member)
         → option_map_or (field_access ops how) o [] ≡ only_if (goes_on (not_null (referent values ops k) go)) (option_map_or (field_access ops how) o [])
     of_object how k f ops go h is None = only_nothing true (goes_on (not_null (referent values ops k) go)) [] refl
     of_object how k f ops go h is (Some member) =
-        is member ∙ not_null_goes (referent values ops k) go (f member) h ∙ ap (only_if (goes_on (not_null (referent values ops k) go))) (sym (is member))
+        if_variable (is_variable member) (goes_on (not_null (referent values ops k) go)) (named_access ops how member)
+        (is member ∙ not_null_goes (referent values ops k) go (f member) h ∙ ap (only_if (goes_on (not_null (referent values ops k) go))) (sym (is member)))
 
     get_field : (index : ℕ) (m : MeaningOf Value) → meaning_of values files (site_of (instr.Field access.GetField index)) ≡ Some m → Claim (site_of (instr.Field access.GetField index)) m
     get_field index m means =

@@ -86,7 +86,7 @@ module _ (files : Program) (frames : ℕ) (s : State) (t : ℕ) (instruction : I
   outcome_is : outcome_at event s.world instruction ≡ outcome
   outcome_is = ap (λ (slots : Slots Value). meaning.does event s.world slots (ops_of values meaning slots) (under meaning.wants slots)) h.slots
 
-  goes : (o : OutcomeOf Value) → goes_on o ≡ true → IsNext State (whole (become files frames t s.world h.frame h.rest o))
+  goes : (o : OutcomeOf Value) → goes_on o ≡ true → IsNext State (whole (become values files frames t s.world h.frame h.rest o))
   goes (Goes cost world slots to) e = record { cost = cost; next = _; is = refl }
   goes (Raises fault) e = absurd (let f : false ≡ true = e in cc)
   goes (Throws exception) e = absurd (let f : false ≡ true = e in cc)

@@ -1,5 +1,5 @@
 -- What an instruction reads or writes where it goes on (JLS 17.4.1, 17.4.2), by the words of a frame.
-use Rattle.std.specs.Prelude.{◌≡◌, ℕ, ◌+◌, List, Option, Some, None, Bool, false, map, slice_index_or}
+use Rattle.std.specs.Prelude.{◌≡◌, ℕ, ◌+◌, List, Option, Some, None, Bool, false, if◌then◌else◌, map, slice_index_or}
 use Rattle.std.specs.Option.{option_map, option_and_then}
 use Rattle.model.specs.declared.value.Value.{Value}
 use Rattle.model.specs.declared.instr.FieldAccess.{FieldAccess}
@@ -46,11 +46,15 @@ read_of is_volatile v = option_map (λ x. action.Read x is_volatile) v
 abbrev pub write_of : Bool → Option Variable → Option Action
 write_of is_volatile v = option_map (λ x. action.Write x is_volatile) v
 
+abbrev pub access_action : List ℕ → FieldAccess → NamedField → Option Action
+access_action operands access.GetStatic field = read_of field.is_volatile (Some (static_of field))
+access_action operands access.PutStatic field = write_of field.is_volatile (Some (static_of field))
+access_action operands access.GetField field = read_of field.is_volatile (instance_of (object_under operands 0) field)
+access_action operands access.PutField field = write_of field.is_volatile (instance_of (object_under operands 1) field)
+
+-- of a field that is a variable
 abbrev pub field_action : List ℕ → FieldAccess → NamedField → Option Action
-field_action operands access.GetStatic field = read_of field.is_volatile (Some (static_of field))
-field_action operands access.PutStatic field = write_of field.is_volatile (Some (static_of field))
-field_action operands access.GetField field = read_of field.is_volatile (instance_of (object_under operands 0) field)
-field_action operands access.PutField field = write_of field.is_volatile (instance_of (object_under operands 1) field)
+field_action operands how field = if field.is_variable then access_action operands how field else None
 
 -- ---- what is told
 

@@ -9,6 +9,8 @@ use std::test::Fail;
 
 const OBJECT: &[u8] = b"java/lang/Object";
 
+const THROWABLE: &[u8] = b"java/lang/Throwable";
+
 /// A class whose main returns.
 fn main_class(alloc: Global) -> Result<Vec<u8>, AllocError> {
     let mut builder = ClassBuilder::new(alloc, 0x0021, b"A", OBJECT)?;
@@ -119,25 +121,27 @@ fn told(alloc: Global, files: &[Vec<u8>]) -> Result<Vec<u8>, Fail> {
     Ok(text)
 }
 
-/// Places among five files, and what is told of the files at these places. They are A; W with 65,534 instance fields
-/// and a static one; V and T below W, with one and two instance fields; and U, which stands below a class that is not
-/// there.
-const SETS: [(&[usize], &str); 4] = [
+/// Places among six files, and what is told of the files at these places. They are A; W with 65,534 instance fields
+/// and a static one; V and T below W, with one and two instance fields; U, which stands below a class that is not
+/// there; and E below Throwable, whose hidden fields are no cells, with 65,535.
+const SETS: [(&[usize], &str); 5] = [
     (&[], "refused 7 NoMain"),
     (&[0, 1, 2], "linked 3"),
     // before NoMain, and behind Unresolved
     (&[3, 1], "refused 8 TooLarge file 0"),
     (&[3, 1, 4], "refused 4 Unresolved file 2"),
+    (&[0, 5], "linked 2"),
 ];
 
-/// The file at a place: A, W, V, T and U.
+/// The file at a place: A, W, V, T, U and E.
 fn file(alloc: Global, place: usize) -> Result<Vec<u8>, AllocError> {
     match place {
         0 => main_class(alloc),
         1 => wide_class(alloc, b"W", OBJECT, 65_535, 1),
         2 => wide_class(alloc, b"V", b"W", 1, 0),
         3 => wide_class(alloc, b"T", b"W", 2, 0),
-        _ => wide_class(alloc, b"U", b"X", 0, 0),
+        4 => wide_class(alloc, b"U", b"X", 0, 0),
+        _ => wide_class(alloc, b"E", THROWABLE, 65_535, 0),
     }
 }
 

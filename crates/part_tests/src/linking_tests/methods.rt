@@ -163,8 +163,8 @@ const J: Class = Class {
     ..I
 };
 
-/// The classes with the numbers from 37 on, behind the built-in ones. Their methods have the numbers from 158 on: A's
-/// 158, R's 159, Q's 160 to 163, P's 164 to 168, I's 169 and J's 170.
+/// The classes with the numbers from 37 on, behind the built-in ones. Their methods have the numbers from 200 on: A's
+/// 200, R's 201, Q's 202 to 205, P's 206 to 210, I's 211 and J's 212.
 pub(crate) static CLASSES: [Class; 6] = [A, R, Q, P, I, J];
 
 static NAMED: [Row<Option<usize>>; 21] = [
@@ -172,20 +172,20 @@ static NAMED: [Row<Option<usize>>; 21] = [
     (
         37,
         Entry::Method(b"R", b"s", b"(ILjava/lang/Object;[I)V"),
-        Some(167),
+        Some(209),
     ),
-    (37, Entry::Method(b"R", b"m", b"()V"), Some(160)),
-    (37, Entry::Method(b"Q", b"n", b"(I)I"), Some(165)),
-    (37, Entry::InterfaceMethod(b"J", b"i", b"()V"), Some(169)),
+    (37, Entry::Method(b"R", b"m", b"()V"), Some(202)),
+    (37, Entry::Method(b"Q", b"n", b"(I)I"), Some(207)),
+    (37, Entry::InterfaceMethod(b"J", b"i", b"()V"), Some(211)),
     // R.m with a parameter; R.n and R.i, which R and Q declare again; P.i, which only I declares
-    (37, Entry::Method(b"R", b"m", b"(I)V"), Some(163)),
-    (37, Entry::Method(b"R", b"n", b"(I)I"), Some(159)),
-    (37, Entry::Method(b"R", b"i", b"()V"), Some(162)),
-    (37, Entry::Method(b"P", b"i", b"()V"), Some(169)),
+    (37, Entry::Method(b"R", b"m", b"(I)V"), Some(205)),
+    (37, Entry::Method(b"R", b"n", b"(I)I"), Some(201)),
+    (37, Entry::Method(b"R", b"i", b"()V"), Some(204)),
+    (37, Entry::Method(b"P", b"i", b"()V"), Some(211)),
     // J.notify, which Object declares
-    (37, Entry::InterfaceMethod(b"J", b"notify", b"()V"), Some(3)),
+    (37, Entry::InterfaceMethod(b"J", b"notify", b"()V"), Some(6)),
     // Thread.run's invokeinterface Runnable.run
-    (2, Entry::At(14), Some(5)),
+    (2, Entry::At(14), Some(8)),
     // R.z is declared nowhere, and there is no class X; R.m by an InterfaceMethodref is no method of an interface
     (37, Entry::Method(b"R", b"z", b"()V"), None),
     (37, Entry::Method(b"X", b"m", b"()V"), None),
@@ -204,41 +204,41 @@ static NAMED: [Row<Option<usize>>; 21] = [
 
 pub(crate) const NO_ROWS: [Row<()>; 0] = [];
 
-/// Numbers of methods, each with the class and the place among its methods. Object declares five methods, Runnable one,
-/// Thread eleven, String 30, Class one, System none, PrintStream nine, Comparable one, CharSequence four, Cloneable
-/// none and StringBuilder 36; and the 26 classes of what is thrown 60. Then come the files, in their order.
+/// Numbers of methods, each with the class and the place among its methods. Object declares eight methods, Runnable
+/// one, Thread eleven, String 32, Class and System four each, PrintStream twelve, Comparable one, CharSequence four,
+/// Cloneable none and StringBuilder 38; and the 26 classes of what is thrown 85. Then come the files, in their order.
 const PLACES: [(usize, usize, usize); 24] = [
     (0, 0, 0),
-    (4, 0, 4),
-    (5, 1, 0),
-    (6, 2, 0),
-    (16, 2, 10),
-    (17, 3, 0),
-    (46, 3, 29),
-    (47, 4, 0),
-    (48, 6, 0),
-    (56, 6, 8),
-    (57, 7, 0),
-    (59, 7, 2),
-    (121, 35, 1),
-    (122, 36, 0),
-    (157, 36, 35),
-    (158, 37, 0),
-    (160, 39, 0),
-    (163, 39, 3),
-    (164, 40, 0),
-    (168, 40, 4),
-    (169, 41, 0),
-    (170, 42, 0),
-    (159, 38, 0),
-    (118, 34, 0),
+    (7, 0, 7),
+    (8, 1, 0),
+    (9, 2, 0),
+    (19, 2, 10),
+    (20, 3, 0),
+    (51, 3, 31),
+    (52, 4, 0),
+    (60, 6, 0),
+    (71, 6, 11),
+    (72, 7, 0),
+    (85, 7, 13),
+    (161, 35, 5),
+    (162, 36, 0),
+    (199, 36, 37),
+    (200, 37, 0),
+    (202, 39, 0),
+    (205, 39, 3),
+    (206, 40, 0),
+    (210, 40, 4),
+    (211, 41, 0),
+    (212, 42, 0),
+    (201, 38, 0),
+    (154, 34, 0),
 ];
 
-/// Places at which no method stands: behind the last of Thread, in System, behind the last of all, and in one more
+/// Places at which no method stands: behind the last of Thread, in Cloneable, behind the last of all, and in one more
 /// class.
 const NO_PLACES: [(usize, usize); 5] = [
     (2, 11),
-    (5, 0),
+    (33, 0),
     (42, 1),
     (43, 0),
     (usize::MAX, usize::MAX),
@@ -287,7 +287,7 @@ impl Answers for PlaceAnswers {
             wrong_place: wrong_place(&numbers),
             wrong_no_place: wrong_no_place(&numbers),
             count: numbers.count(),
-            behind_the_last: numbers.place(171),
+            behind_the_last: numbers.place(213),
         })
     }
 }
@@ -297,7 +297,7 @@ fn methods_have_numbers(rt: HostRuntime) -> Result<(), Fail> {
     let found: PlaceAnswers = asked(rt.alloc(), &CLASSES, &NO_ROWS)?;
     assert_eq!(rt; found.wrong_place, None);
     assert_eq!(rt; found.wrong_no_place, None);
-    assert!(rt; found.count == 171 && found.behind_the_last.is_none());
+    assert!(rt; found.count == 213 && found.behind_the_last.is_none());
     Ok(())
 }
 
@@ -340,38 +340,38 @@ fn entries_name_what_is_found(rt: HostRuntime) -> Result<(), Fail> {
 /// A class, a method, and the method that receivers of the class have in its place.
 const SELECTED: [(usize, usize, Option<usize>); 24] = [
     // P.m is overridden in Q, from which A and R have it
-    (40, 164, Some(164)),
-    (39, 164, Some(160)),
-    (38, 164, Some(160)),
-    (37, 164, Some(160)),
+    (40, 206, Some(206)),
+    (39, 206, Some(202)),
+    (38, 206, Some(202)),
+    (37, 206, Some(202)),
     // a class above the one that declares the method has one of its own, too
-    (40, 160, Some(164)),
+    (40, 202, Some(206)),
     // the m with a parameter is another one
-    (37, 163, Some(163)),
-    (40, 163, None),
+    (37, 205, Some(205)),
+    (40, 205, None),
     // P.n is inherited by Q, and so is Object's notify
-    (39, 165, Some(165)),
-    (37, 165, Some(165)),
-    (39, 3, Some(3)),
+    (39, 207, Some(207)),
+    (37, 207, Some(207)),
+    (39, 6, Some(6)),
     // Thread declares Runnable's run
-    (2, 5, Some(6)),
+    (2, 8, Some(9)),
     // p is private in P, and public in Q
-    (40, 166, None),
-    (40, 161, None),
-    (39, 166, Some(161)),
-    (37, 166, Some(161)),
+    (40, 208, None),
+    (40, 203, None),
+    (39, 208, Some(203)),
+    (37, 208, Some(203)),
     // P.s and main are static
-    (40, 167, None),
-    (39, 167, None),
-    (37, 158, None),
+    (40, 209, None),
+    (39, 209, None),
+    (37, 200, None),
     // R declares P.n again as an abstract one, and nothing below P declares a
-    (38, 165, Some(159)),
-    (40, 168, Some(168)),
-    (37, 168, Some(168)),
+    (38, 207, Some(201)),
+    (40, 210, Some(210)),
+    (37, 210, Some(210)),
     // I.i is declared by Q, and by no class above it; methods of interfaces aren't selected
-    (37, 169, Some(162)),
-    (40, 169, None),
-    (37, 170, None),
+    (37, 211, Some(204)),
+    (40, 211, None),
+    (37, 212, None),
 ];
 
 /// The place of the first row of `SELECTED` that isn't so.

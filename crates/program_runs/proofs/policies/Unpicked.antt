@@ -50,6 +50,8 @@ pub others_may : (b : BuiltInMethod) → (b ≡ built_in.ObjectNotify → ⊥) �
     → built_in_may words b (picked t (suc k)) world ops ≡ false
 others_may built_in.Construct n t k world ops = past_zero k
 others_may built_in.ConstructWithTarget n t k world ops = past_zero k
+others_may built_in.ConstructWithMessage n t k world ops = past_zero k
+others_may built_in.ConstructWithCause n t k world ops = past_zero k
 others_may built_in.ObjectWait n t k world ops = past_zero k
 others_may built_in.ObjectNotify n t k world ops = absurd (n refl)
 others_may built_in.ObjectNotifyAll n t k world ops = past_zero k
@@ -64,6 +66,7 @@ others_may built_in.ThreadIsAlive n t k world ops = past_zero k
 others_may (built_in.PrintStreamPrints print) n t k world ops = past_zero k
 others_may (built_in.StringAnswers method) n t k world ops = past_zero k
 others_may (built_in.StringBuilderBuilds method) n t k world ops = past_zero k
+others_may (built_in.ObjectAnswers method) n t k world ops = past_zero k
 
 -- a notify picks one of the members, by the owner
 pub notify_may : (owner : Bool) (n k : ℕ) → (if owner && nat_lt 0 n then nat_lt (suc k) n else (suc k == 0)) ≡ nat_lt (suc k) (if owner then n else 0)
@@ -75,7 +78,7 @@ notify_may true n k = by (nat_lt 0 n) refl
     by false e = grind (arith, nat_tests, e)
 
 pub notify_enabled : (trees : Program) (frames t : ℕ) (world : WorldOf ℕ) (frame : FrameOf ℕ) (rest : StackOf ℕ) (owner : Bool) (next : ℕ) (after : WorldOf ℕ) (slots : Slots ℕ) (under : List ℕ)
-    → is_enabled_by (become trees frames t world frame rest (if_owner owner (pushing next [] after slots under))) ≡ true
+    → is_enabled_by (become words trees frames t world frame rest (if_owner owner (pushing next [] after slots under))) ≡ true
 notify_enabled trees frames t world frame rest true next after slots under = refl
 notify_enabled trees frames t world frame rest false next after slots under = refl
 
@@ -152,7 +155,7 @@ module _ (trees : Program) (p : LinkedProgram) (at : ℕ → ℕ) (code : List L
   picks_none linked.StoreReference l n0 n1 n2 = of _ l.is (store_none trees site array_kind.Reference)
   picks_none linked.ArrayLength l n0 n1 n2 = plain _ l.is (λ t k world ops. refl)
   picks_none (linked.LoadObject word) l n0 n1 n2 = plain _ l.is (λ t k world ops. refl)
-  picks_none (linked.New class fields cells) l n0 n1 n2 = plain _ l.is (λ t k world ops. refl)
+  picks_none (linked.New class cells uncounted) l n0 n1 n2 = plain _ l.is (λ t k world ops. refl)
   picks_none (linked.NewArray type) l n0 n1 n2 = plain _ l.is (λ t k world ops. refl)
   picks_none (linked.NewReferenceArray number) l n0 n1 n2 = plain _ l.is (λ t k world ops. refl)
   picks_none (linked.CheckCast type) l n0 n1 n2 = plain _ l.0.is (λ t k world ops. refl)

@@ -23,7 +23,7 @@ use Rattle.model.specs.ClassInitialisation.{status_of}
 use Rattle.model.specs.Sites.{referent}
 use Rattle.data_races.specs.Actions.{Action, Read, Write, Lock, Unlock, Start, Wake, Finish, ClearInterrupt, FinishInitialisation, FindInitialised, synchronizes, conflicts, is_read, is_write}
 use Rattle.data_races.specs.Variables.{InstanceField, is_volatile}
-use Rattle.data_races.specs.EventActions.{Instruction, Rule, Does, only_if, found_class, is_finished, needed_class, operands_of, receiver_of, found_on, interrupts_on, is_done, finds_of, accesses_of, goes_on, outcome_at, interrupts_of, access_by, accesses_at, at_reference, field_access, owned, besides, started, clear_actions, finished_classes, end_actions, waiting, is_over, actions_to}
+use Rattle.data_races.specs.EventActions.{Instruction, Rule, Does, only_if, found_class, is_finished, needed_class, operands_of, receiver_of, found_on, interrupts_on, is_done, finds_of, accesses_of, goes_on, outcome_at, interrupts_of, access_by, accesses_at, at_reference, named_access, is_variable, field_access, owned, besides, started, clear_actions, finished_classes, end_actions, waiting, is_over, actions_to}
 use Rattle.data_races.proofs.Decided.{In, from_map}
 use Rattle.race_laws.proofs.racy_states.Upto.{to_finds, to_locks, to_accesses, to_unlocks, to_starts, to_interrupts, to_clears, to_finished}
 use Rattle.race_laws.proofs.racy_states.Shapes.{IsGrown}
@@ -117,13 +117,21 @@ module _ (files : Program) (t : ℕ) (old new : World) (instruction : Instructio
       by None g h = absurd g
       by (Some r) g h = elim g [ inl p ↦ elim h [ inl q ↦ p ∙ sym q | inr q ↦ absurd q ] | inr p ↦ absurd p ]
 
+  one_named : (ops : List Value) (kind : FieldAccess) (field : Member) (x y : Action) → In x (named_access ops kind field) → In y (named_access ops kind field)
+      → x ≡ y
+  one_named ops access.GetStatic field x y g h = elim g [ inl p ↦ elim h [ inl q ↦ p ∙ sym q | inr q ↦ absurd q ] | inr p ↦ absurd p ]
+  one_named ops access.PutStatic field x y g h = elim g [ inl p ↦ elim h [ inl q ↦ p ∙ sym q | inr q ↦ absurd q ] | inr p ↦ absurd p ]
+  one_named ops access.GetField field x y g h = one_of_reference ops 0 _ x y g h
+  one_named ops access.PutField field x y g h = one_of_reference ops 1 _ x y g h
+
   one_of_field : (ops : List Value) (kind : FieldAccess) (o : Option Member) (x y : Action) → In x (option_map_or (field_access ops kind) o []) → In y (option_map_or (field_access ops kind) o [])
       → x ≡ y
   one_of_field ops kind None x y g h = absurd g
-  one_of_field ops access.GetStatic (Some field) x y g h = elim g [ inl p ↦ elim h [ inl q ↦ p ∙ sym q | inr q ↦ absurd q ] | inr p ↦ absurd p ]
-  one_of_field ops access.PutStatic (Some field) x y g h = elim g [ inl p ↦ elim h [ inl q ↦ p ∙ sym q | inr q ↦ absurd q ] | inr p ↦ absurd p ]
-  one_of_field ops access.GetField (Some field) x y g h = one_of_reference ops 0 _ x y g h
-  one_of_field ops access.PutField (Some field) x y g h = one_of_reference ops 1 _ x y g h
+  one_of_field ops kind (Some field) x y g h = by (is_variable field) g h
+    where
+      by : (b : Bool) → In x (only_if b (named_access ops kind field)) → In y (only_if b (named_access ops kind field)) → x ≡ y
+      by true g h = one_named ops kind field x y g h
+      by false g h = absurd g
 
   one_of : (ops : List Value) (i : Instr) (x y : Action) → In x (access_by files instruction.site ops i) → In y (access_by files instruction.site ops i) → x ≡ y
   one_of ops (instr.Field kind index) x y g h = one_of_field ops kind (option_and_then (find_field files) (field_at instruction.site.body.pool index)) x y g h

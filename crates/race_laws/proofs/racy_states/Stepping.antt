@@ -167,4 +167,4 @@ module _ (files : Program) (frames : ℕ) (s : State) (t : ℕ) (instruction : I
       ∙ ap (λ b. next_by (whole (if b then enabled_if may_now then_done else unpicked event WrongKind))) finds
       ∙ ap (λ b. next_by (whole (enabled_if b then_done))) may
       ∙ ap (λ p. next_by (whole p)) (ready instruction.meaning.looks (state.Invocation h.frame ∷ h.rest) (done values files frames event s.world h.frame h.rest instruction.meaning) look)
-      ∙ ap (λ o. next_by (whole (become files frames t s.world h.frame h.rest o))) does
+      ∙ ap (λ o. next_by (whole (become values files frames t s.world h.frame h.rest o))) does

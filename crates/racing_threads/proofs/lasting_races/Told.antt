@@ -46,7 +46,7 @@ use Rattle.run_laws.proofs.word_runs.WordMeanings.{Kinded, Same, int_words, refe
 use Rattle.run_laws.proofs.word_runs.WordTable.{SameIf, meaning_same}
 use Rattle.run_laws.proofs.word_runs.WordWorlds.{KeepsTexts, world_words, object_at_words, type_words}
 use Rattle.data_races.specs.Actions.{Action, Read, Write}
-use Rattle.data_races.specs.EventActions.{Instruction, is_ready, operands_of, goes_on, outcome_at, access_by, field_access, text_access, builder_accesses}
+use Rattle.data_races.specs.EventActions.{Instruction, is_ready, operands_of, goes_on, outcome_at, access_by, only_if, is_variable, named_access, field_access, text_access, builder_accesses}
 use Rattle.data_races.specs.Variables.{Variable, InstanceField, Element}
 use Rattle.data_races.proofs.Decided.{In}
 use Rattle.data_races.proofs.BuilderCalls.{IsCallOn}
@@ -89,10 +89,10 @@ owner_is_object files named field =
 
 -- ---- instructions
 
-static_same : (ops others : List Value) (kind : FieldAccess) (o : Option Member) → ((field : Member) → field_access others kind field ≡ field_access ops kind field)
+static_same : (ops others : List Value) (kind : FieldAccess) (o : Option Member) → ((field : Member) → named_access others kind field ≡ named_access ops kind field)
     → option_map_or (field_access others kind) o [] ≡ option_map_or (field_access ops kind) o []
 static_same ops others kind None each = refl
-static_same ops others kind (Some field) each = each field
+static_same ops others kind (Some field) each = ap (only_if (is_variable field)) (each field)
 
 element_same : (make : Variable → Action) (o p : Option ℕ) (n m : ℕ) → p ≡ o → m ≡ n
     → option_map_or (λ r. make (Element r m) ∷ []) p [] ≡ option_map_or (λ r. make (Element r n) ∷ []) o []

@@ -125,7 +125,7 @@ module _ (files : Program) (frames : ℕ) (event : Event) (world : World) (stack
 
   abbrev by_test : Bool → SteppedOf (PartOf Value)
   by_test fails =
-      if finds then enabled_if (event.pick == 0) (become files frames event.thread world o.frame o.rest (if fails then Raises Arithmetic else goes)) else unpicked event WrongKind
+      if finds then enabled_if (event.pick == 0) (become values files frames event.thread world o.frame o.rest (if fails then Raises Arithmetic else goes)) else unpicked event WrongKind
 
   -- done, where it finds its operands
   pub own_running : running_event values files frames event world stack

@@ -71,17 +71,17 @@ module _ (files : Program) where
       enabled_right (may_enter world t object) (Next (entry_cost world object) (part (with_entry world t object) (Invocation frame ∷ rest))) refl
 
   pushed_right : (frames t : ℕ) (world after : World) (stack rest : StackOf Value) (frame : Frame)
-      → Right (pushed frames t world after stack rest frame)
+      → Right (pushed values files frames t world after stack rest frame)
   pushed_right frames t world after stack rest frame =
-      if_right (nat_lt (frame_count stack) frames) (entering t after rest frame frame.entered) (raised t StackOverflow world stack) (entering_right t after rest frame frame.entered) refl
+      if_right (nat_lt (frame_count stack) frames) (entering t after rest frame frame.entered) (raised values files t StackOverflow world stack) (entering_right t after rest frame frame.entered) refl
 
-  leaving_right : (t : ℕ) (o : Option ℕ) (world : World) (rest stack : StackOf Value) → Right (leaving t o world rest stack)
+  leaving_right : (t : ℕ) (o : Option ℕ) (world : World) (rest stack : StackOf Value) → Right (leaving values files t o world rest stack)
   leaving_right t None world rest stack = refl
   leaving_right t (Some object) world rest stack =
-      if_right (is_owner world t object) (on_to (with_exit world t object) rest) (raised t IllegalMonitorState world stack) refl refl
+      if_right (is_owner world t object) (on_to (with_exit world t object) rest) (raised values files t IllegalMonitorState world stack) refl refl
 
   become_right : (frames t : ℕ) (world : World) (frame : Frame) (stack : StackOf Value) (o : OutcomeOf Value)
-      → Right (become files frames t world frame stack o)
+      → Right (become values files frames t world frame stack o)
   become_right frames t world frame stack (Goes cost after slots to) = refl
   become_right frames t world frame stack (Raises fault) = refl
   become_right frames t world frame stack (Throws exception) = refl
@@ -109,7 +109,7 @@ module _ (files : Program) where
       bytecode_by_right frames event world frame stack body.code.max_stack (option_and_then (meaning_of values files) (site_at frame.method body frame.place.offset)) h
 
   initialiser_right : (frames t : ℕ) (m : Member) (world : World) (stack : StackOf Value) (o : Option Body)
-      → Right (initialiser_event values frames t m world stack o)
+      → Right (initialiser_event values files frames t m world stack o)
   initialiser_right frames t m world stack None = refl
   initialiser_right frames t m world stack (Some body) = pushed_right frames t world world stack stack (frame_with values m [] None body)
 
@@ -117,7 +117,7 @@ module _ (files : Program) where
       → Right (initialisation_event values files frames t class phase world stack)
   initialisation_right frames t class Super world stack =
       needing_class_right t (before files class) world (Initialisation class Super ∷ stack)
-      (initialiser_event values frames t (initialiser_of class) world (Initialisation class End ∷ stack) (body_of files (initialiser_of class)))
+      (initialiser_event values files frames t (initialiser_of class) world (Initialisation class End ∷ stack) (body_of files (initialiser_of class)))
       (initialiser_right frames t (initialiser_of class) world (Initialisation class End ∷ stack) (body_of files (initialiser_of class)))
   initialisation_right frames t class End world stack = refl
 
@@ -144,13 +144,13 @@ module _ (files : Program) where
       run_of_right frames (suc t) world (thread_at world (suc t)).object (select files (class_of_object (object_at world (thread_at world (suc t)).object)) thread_run)
 
   unwound_right : (t exception : ℕ) (world : World) (frame : Frame) (stack : StackOf Value) (o : Option ExceptionEntry)
-      → Right (unwound values t exception world frame stack o)
+      → Right (unwound values files t exception world frame stack o)
   unwound_right t exception world frame stack None = leaving_right t frame.entered world stack stack
   unwound_right t exception world frame stack (Some entry) = refl
 
-  failed_right : (t : ℕ) (b : Bool) (world : World) (stack : StackOf Value) → Right (failed t b world stack)
-  failed_right t true world stack = refl
-  failed_right t false world stack = refl
+  failed_right : (t exception : ℕ) (b : Bool) (world : World) (stack : StackOf Value) → Right (failed values files t exception b world stack)
+  failed_right t exception true world stack = refl
+  failed_right t exception false world stack = refl
 
   pending_right : (t exception : ℕ) (thrown : Option ReferenceType) (world : World) (stack : StackOf Value)
       → Right (pending_event values files t exception thrown world stack)
@@ -158,9 +158,9 @@ module _ (files : Program) where
   pending_right t exception thrown world (Invocation frame ∷ stack) =
       unwound_right t exception world frame stack (option_and_then (handler_in files frame.place.offset thrown) (body_of files frame.method))
   pending_right t exception thrown world (Initialisation class phase ∷ stack) =
-      failed_right t (is_object_of files (ClassType java_lang_error) thrown) (with_class_status world class Erroneous) stack
+      failed_right t exception (is_object_of files (ClassType java_lang_error) thrown) (with_class_status world class Erroneous) stack
 
-  after_wait_right : (t : ℕ) (cause : WakeCause) (world : World) (stack : StackOf Value) → Right (after_wait files t cause world stack)
+  after_wait_right : (t : ℕ) (cause : WakeCause) (world : World) (stack : StackOf Value) → Right (after_wait values files t cause world stack)
   after_wait_right t Notified world stack = refl
   after_wait_right t Interrupted world stack = refl
 
@@ -187,8 +187,8 @@ module _ (files : Program) where
     event_right stack thread (Waiting object count) e h = refl
     event_right stack thread (Relock object count cause) e h =
         let after = with_status (with_monitors world (monitors.relock object event.thread count world.monitors)) event.thread Running in
-        enabled_right (event.pick == 0) (relock_event files event.thread object count cause world stack)
-        (enabled_right (is_done (monitors.relock object event.thread count world.monitors).answer) (after_wait files event.thread cause after stack) (after_wait_right event.thread cause after stack))
+        enabled_right (event.pick == 0) (relock_event values files event.thread object count cause world stack)
+        (enabled_right (is_done (monitors.relock object event.thread count world.monitors).answer) (after_wait values files event.thread cause after stack) (after_wait_right event.thread cause after stack))
     event_right stack thread (Ended exception) e h = refl
 
 -- the thread of a stack

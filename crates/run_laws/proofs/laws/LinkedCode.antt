@@ -22,7 +22,7 @@ use Rattle.model.specs.InstructionStarts.{starts_from, is_start}
 use Rattle.model.specs.Profile.{unknown_opcode}
 use Rattle.model.specs.CodeParts.{marked_from, decodes, any_code, any_instruction, any_instruction_in, class_operand, field_operand, method_operand}
 use Rattle.model.specs.CodeConditions.{jump_off_boundary, unsorted_matches, local_above_max, operand_of_wrong_kind, wrong_interface_count, wrong_interface_end, constructor_not_by_special, calls_initialiser, is_class_aside, special_of_class_aside, new_of_array, too_many_dimensions, malformed_instruction, malformed_code, has_malformed_code}
-use Rattle.model.specs.Resolution.{is_missing, differs, member_classes, operand_classes, superclass_missing, interface_missing, operand_class_missing, new_of_abstract, field_missing, field_of_other_kind, puts_system_stream, names_hidden_field, method_missing, method_of_other_kind, call_on_other_kind, unresolved_instruction, is_unresolved}
+use Rattle.model.specs.Resolution.{is_missing, differs, member_classes, operand_classes, superclass_missing, interface_missing, operand_class_missing, new_of_abstract, field_missing, field_of_other_kind, puts_system_stream, names_hidden_field, names_hidden_method, method_missing, method_of_other_kind, call_on_other_kind, unresolved_instruction, is_unresolved}
 use Rattle.run_laws.proofs.laws.Lists.{every_weaken}
 use Rattle.run_laws.proofs.laws.Found.{found_has, none_any, every_all, map_or_at}
 use Rattle.run_laws.proofs.laws.Homes.{Coded, class_has, coded_of}
@@ -103,7 +103,8 @@ module _ (files : Program) where
       let t = or_parts (puts_system_stream files file i) _ s.1 in
       let u = or_parts (names_hidden_field files file i) _ t.1 in
       let v = or_parts (method_missing files file i) _ u.1 in
-      (or_parts (method_of_other_kind files file i) _ v.1).1
+      let w = or_parts (names_hidden_method files file i) _ v.1 in
+      (or_parts (method_of_other_kind files file i) _ w.1).1
 
   resolves_so : (file : FileTree) (i : Instr) → unresolved_instruction files file i ≡ false → misnames files file i ≡ false
   resolves_so file i e = or_from (operand_class_missing files file i) (call_on_other_kind files file i) (class_found file i e) (called_rightly file i e)

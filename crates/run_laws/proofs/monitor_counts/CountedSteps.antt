@@ -12,8 +12,9 @@ use Rattle.model.specs.Types.{is_object_of}
 use Rattle.model.specs.Operands.{Carrier, words, values, under}
 use Rattle.model.specs.Lookup.{select, field_member}
 use Rattle.model.specs.Opening.{arguments_reference, class_reference}
-use Rattle.model.specs.State.{Instance, types_of, InProgress, Erroneous, WakeCause, Notified, Interrupted, ThreadStatus, Running, Waiting, Relock, Ended, FrameOf, Phase, Super, End, Invocation, Initialisation, StackOf, WorldOf, StateOf}
-use Rattle.model.specs.Outcomes.{MachineException, exception_class, OutcomeOf, Goes, Raises, Throws, Interrupts, Calls, Returns, Waits, NoClassDefFound, StackOverflow, IllegalMonitorState, InterruptedWait, AbstractMethod, ExceptionInInitializer}
+use Rattle.model.specs.State.{types_of, InProgress, Erroneous, WakeCause, Notified, Interrupted, ThreadStatus, Running, Waiting, Relock, Ended, FrameOf, Phase, Super, End, Invocation, Initialisation, StackOf, WorldOf, StateOf}
+use Rattle.model.specs.Outcomes.{MachineException, OutcomeOf, Goes, Raises, Throws, Interrupts, Calls, Returns, Waits, NoClassDefFound, StackOverflow, IllegalMonitorState, InterruptedWait, AbstractMethod, ExceptionInInitializer}
+use Rattle.model.specs.MachineExceptions.{machine_exception}
 use Rattle.model.specs.Monitors as monitors
 use Rattle.model.specs.Worlds.{thread_at, with_thread, with_begun, with_pending, with_caught, with_status, with_interrupted, with_static, put_value, allocated, object_at, class_of_object, is_owner, may_enter, with_entry, entry_cost, with_exit, with_monitors, is_done}
 use Rattle.model.specs.ClassInitialisation.{status_of, with_class_status, constant_value, with_constant, with_constants, Look, IsReady, IsNew, IsHeld, HasFailed, look_by}
@@ -57,10 +58,10 @@ module _ {A : Type 0} where
 
     -- ---- exceptions, calls and returns
 
-    raised_counted : (t : ℕ) (fault : MachineException) (world : WorldOf A) (stack : StackOf A) → AreMonitorsCounted fat world
-        → Counted fat (raised t fault world stack)
-    raised_counted t fault world stack h =
-        pending_keeps (allocated world (Instance (exception_class fault) [])) t _ (more_monitors fat world.monitors world.threads h)
+    raised_counted : (C : Carrier A) (files : Program) (t : ℕ) (fault : MachineException) (world : WorldOf A) (stack : StackOf A) → AreMonitorsCounted fat world
+        → Counted fat (raised C files t fault world stack)
+    raised_counted C files t fault world stack h =
+        pending_keeps (allocated world (machine_exception C files fault None)) t _ (more_monitors fat world.monitors world.threads h)
 
     entering_counted : (t : ℕ) (world : WorldOf A) (rest : StackOf A) (frame : FrameOf A) (o : Option ℕ) → AreMonitorsCounted fat world
         → Counted fat (entering t world rest frame o)
@@ -68,18 +69,18 @@ module _ {A : Type 0} where
     entering_counted t world rest frame (Some object) h =
         enabled_counted (may_enter world t object) (Next (entry_cost world object) (part (with_entry world t object) (Invocation frame ∷ rest))) (entry_counted fat world h t object)
 
-    pushed_counted : (frames t : ℕ) (world after : WorldOf A) (stack rest : StackOf A) (frame : FrameOf A) → AreMonitorsCounted fat world
-        → AreMonitorsCounted fat after → Counted fat (pushed frames t world after stack rest frame)
-    pushed_counted frames t world after stack rest frame h k =
-        either_part (nat_lt (frame_count stack) frames) (entering t after rest frame frame.entered) (raised t StackOverflow world stack)
-        (entering_counted t after rest frame frame.entered k) (raised_counted t StackOverflow world stack h)
+    pushed_counted : (C : Carrier A) (files : Program) (frames t : ℕ) (world after : WorldOf A) (stack rest : StackOf A) (frame : FrameOf A) → AreMonitorsCounted fat world
+        → AreMonitorsCounted fat after → Counted fat (pushed C files frames t world after stack rest frame)
+    pushed_counted C files frames t world after stack rest frame h k =
+        either_part (nat_lt (frame_count stack) frames) (entering t after rest frame frame.entered) (raised C files t StackOverflow world stack)
+        (entering_counted t after rest frame frame.entered k) (raised_counted C files t StackOverflow world stack h)
 
-    leaving_counted : (t : ℕ) (o : Option ℕ) (world : WorldOf A) (rest stack : StackOf A) → AreMonitorsCounted fat world
-        → Counted fat (leaving t o world rest stack)
-    leaving_counted t None world rest stack h = h
-    leaving_counted t (Some object) world rest stack h =
-        either_part (is_owner world t object) (on_to (with_exit world t object) rest) (raised t IllegalMonitorState world stack)
-        (exit_keeps fat world h t object) (raised_counted t IllegalMonitorState world stack h)
+    leaving_counted : (C : Carrier A) (files : Program) (t : ℕ) (o : Option ℕ) (world : WorldOf A) (rest stack : StackOf A) → AreMonitorsCounted fat world
+        → Counted fat (leaving C files t o world rest stack)
+    leaving_counted C files t None world rest stack h = h
+    leaving_counted C files t (Some object) world rest stack h =
+        either_part (is_owner world t object) (on_to (with_exit world t object) rest) (raised C files t IllegalMonitorState world stack)
+        (exit_keeps fat world h t object) (raised_counted C files t IllegalMonitorState world stack h)
 
     -- ---- the end of a thread
 
@@ -127,7 +128,7 @@ module _ {A : Type 0} where
     needing_counted t class IsReady world stack x h k = k
     needing_counted t class IsNew world stack x h k = class_keeps t class world (class_of files class) h
     needing_counted t class IsHeld world stack x h k = tt
-    needing_counted t class HasFailed world stack x h k = raised_counted fat t NoClassDefFound world stack h
+    needing_counted t class HasFailed world stack x h k = raised_counted fat C files t NoClassDefFound world stack h
 
     needing_class_counted : (t : ℕ) (class : Option Name) (world : WorldOf A) (stack : StackOf A) (x : SteppedOf (PartOf A))
         → AreMonitorsCounted fat world → Counted fat x → Counted fat (needing_class C files t class world stack x)
@@ -137,16 +138,16 @@ module _ {A : Type 0} where
     -- ---- an instruction
 
     become_counted : (frames t : ℕ) (world : WorldOf A) (frame : FrameOf A) (stack : StackOf A) (o : OutcomeOf A)
-        → AreMonitorsCounted fat world → OutcomeCounted fat o → Counted fat (become files frames t world frame stack o)
+        → AreMonitorsCounted fat world → OutcomeCounted fat o → Counted fat (become C files frames t world frame stack o)
     become_counted frames t world frame stack (Goes cost after slots to) h k = k
-    become_counted frames t world frame stack (Raises fault) h k = raised_counted fat t fault world (Invocation frame ∷ stack) h
+    become_counted frames t world frame stack (Raises fault) h k = raised_counted fat C files t fault world (Invocation frame ∷ stack) h
     become_counted frames t world frame stack (Throws exception) h k = pending_keeps fat world t exception h
     become_counted frames t world frame stack Interrupts h k =
-        raised_counted fat t InterruptedWait (with_interrupted world t false) (Invocation frame ∷ stack) (interrupted_keeps fat world h t false)
+        raised_counted fat C files t InterruptedWait (with_interrupted world t false) (Invocation frame ∷ stack) (interrupted_keeps fat world h t false)
     become_counted frames t world frame stack (Calls callee rest) h k =
-        pushed_counted fat frames t world world (Invocation frame ∷ stack) (Invocation (at_call frame rest) ∷ stack) callee h h
+        pushed_counted fat C files frames t world world (Invocation frame ∷ stack) (Invocation (at_call frame rest) ∷ stack) callee h h
     become_counted frames t world frame stack (Returns after results) h k =
-        leaving_counted fat t frame.entered after (returned files results stack) (Invocation frame ∷ stack) k
+        leaving_counted fat C files t frame.entered after (returned files results stack) (Invocation frame ∷ stack) k
     become_counted frames t world frame stack (Waits cost after rest) h k = k
 
     module _ (frames : ℕ) (event : Event) (world : WorldOf A) (h : AreMonitorsCounted fat world) where
@@ -174,9 +175,9 @@ module _ {A : Type 0} where
       -- ---- classes that are initialised, and threads that begin
 
       initialiser_counted : (t : ℕ) (m : Member) (stack : StackOf A) (o : Option Body)
-          → Counted fat (initialiser_event C frames t m world stack o)
+          → Counted fat (initialiser_event C files frames t m world stack o)
       initialiser_counted t m stack None = h
-      initialiser_counted t m stack (Some body) = pushed_counted fat frames t world world stack stack (frame_with C m [] None body) h h
+      initialiser_counted t m stack (Some body) = pushed_counted fat C files frames t world world stack stack (frame_with C m [] None body) h h
 
       initialisation_counted : (t : ℕ) (class : Name) (phase : Phase) (stack : StackOf A)
           → Counted fat (initialisation_event C files frames t class phase world stack)
@@ -188,15 +189,15 @@ module _ {A : Type 0} where
       main_counted : (main : Member) (o : Option Body) → Counted fat (main_frame C files frames world main o)
       main_counted main None = tt
       main_counted main (Some body) =
-          pushed_counted fat frames 0 world (with_begun world 0) [] [] (frame_with C main (C.reference arguments_reference ∷ []) (entered_by files main (class_reference files main.class)) body) h (begun_keeps fat world 0 h)
+          pushed_counted fat C files frames 0 world (with_begun world 0) [] [] (frame_with C main (C.reference arguments_reference ∷ []) (entered_by files main (class_reference files main.class)) body) h (begun_keeps fat world 0 h)
 
       run_frame_counted : (t object : ℕ) (m : Member) (o : Option Body) → Counted fat (run_frame C files frames t world object m o)
-      run_frame_counted t object m None = raised_counted fat t AbstractMethod world [] h
+      run_frame_counted t object m None = raised_counted fat C files t AbstractMethod world [] h
       run_frame_counted t object m (Some body) =
-          pushed_counted fat frames t world (with_begun world t) [] [] (frame_with C m (C.reference object ∷ []) (entered_by files m object) body) h (begun_keeps fat world t h)
+          pushed_counted fat C files frames t world (with_begun world t) [] [] (frame_with C m (C.reference object ∷ []) (entered_by files m object) body) h (begun_keeps fat world t h)
 
       run_counted : (t object : ℕ) (o : Option Member) → Counted fat (run_of C files frames t world object o)
-      run_counted t object None = raised_counted fat t AbstractMethod world [] h
+      run_counted t object None = raised_counted fat C files t AbstractMethod world [] h
       run_counted t object (Some m) = run_frame_counted t object m (body_of files m)
 
       begin_counted : (t : ℕ) → Counted fat (begin_event C files frames world t)
@@ -210,14 +211,16 @@ module _ {A : Type 0} where
       -- ---- pending exceptions, and threads that were woken
 
       unwound_counted : (t exception : ℕ) (frame : FrameOf A) (stack : StackOf A) (o : Option ExceptionEntry)
-          → Counted fat (unwound C t exception world frame stack o)
-      unwound_counted t exception frame stack None = leaving_counted fat t frame.entered world stack stack h
+          → Counted fat (unwound C files t exception world frame stack o)
+      unwound_counted t exception frame stack None = leaving_counted fat C files t frame.entered world stack stack h
       unwound_counted t exception frame stack (Some entry) = caught_keeps fat world t h
 
-      failed_counted : (t : ℕ) (b : Bool) (class : Name) (stack : StackOf A)
-          → Counted fat (failed t b (with_class_status world class Erroneous) stack)
-      failed_counted t true class stack = h
-      failed_counted t false class stack = raised_counted fat t ExceptionInInitializer (with_class_status world class Erroneous) stack h
+      failed_counted : (t exception : ℕ) (b : Bool) (class : Name) (stack : StackOf A)
+          → Counted fat (failed C files t exception b (with_class_status world class Erroneous) stack)
+      failed_counted t exception true class stack = h
+      failed_counted t exception false class stack =
+          let erroneous = with_class_status world class Erroneous in
+          pending_keeps fat (allocated erroneous (machine_exception C files ExceptionInInitializer (Some exception))) t _ (more_monitors fat erroneous.monitors erroneous.threads h)
 
       pending_counted : (t exception : ℕ) (thrown : Option ReferenceType) (stack : StackOf A)
           → Counted fat (pending_event C files t exception thrown world stack)
@@ -225,7 +228,7 @@ module _ {A : Type 0} where
       pending_counted t exception thrown (Invocation frame ∷ stack) =
           unwound_counted t exception frame stack (option_and_then (handler_in files frame.place.offset thrown) (body_of files frame.method))
       pending_counted t exception thrown (Initialisation class phase ∷ stack) =
-          failed_counted t (is_object_of files (ClassType java_lang_error) thrown) class stack
+          failed_counted t exception (is_object_of files (ClassType java_lang_error) thrown) class stack
 
       -- ---- an event
 
@@ -242,9 +245,9 @@ module _ {A : Type 0} where
           enabled_counted fat (event.pick == 0) (pending_event C files event.thread exception thrown world stack) (pending_counted event.thread exception thrown stack)
 
     after_wait_counted : (t : ℕ) (cause : WakeCause) (world : WorldOf A) (stack : StackOf A) → AreMonitorsCounted fat world
-        → Counted fat (after_wait files t cause world stack)
+        → Counted fat (after_wait C files t cause world stack)
     after_wait_counted t Notified world stack h = h
-    after_wait_counted t Interrupted world stack h = raised_counted fat t InterruptedWait (with_interrupted world t false) stack (interrupted_keeps fat world h t false)
+    after_wait_counted t Interrupted world stack h = raised_counted fat C files t InterruptedWait (with_interrupted world t false) stack (interrupted_keeps fat world h t false)
 
     event_counted : (frames : ℕ) (event : Event) (world : WorldOf A) (stack : StackOf A) (status : ThreadStatus)
         → AreMonitorsCounted fat world → IsStatusCounted fat status → Counted fat (thread_event C files frames event world stack status)
@@ -254,8 +257,8 @@ module _ {A : Type 0} where
         let locked = with_monitors world (monitors.relock object event.thread count world.monitors) in
         let after = with_status locked event.thread Running in
         let k : AreMonitorsCounted fat locked = relock_keeps fat world h event.thread object count p in
-        enabled_counted fat (event.pick == 0) (relock_event files event.thread object count cause world stack)
-        (enabled_counted fat (is_done (monitors.relock object event.thread count world.monitors).answer) (after_wait files event.thread cause after stack)
+        enabled_counted fat (event.pick == 0) (relock_event C files event.thread object count cause world stack)
+        (enabled_counted fat (is_done (monitors.relock object event.thread count world.monitors).answer) (after_wait C files event.thread cause after stack)
         (after_wait_counted event.thread cause after stack (status_keeps fat locked k event.thread Running tt)))
     event_counted frames event world stack (Ended exception) h p = tt
 

@@ -7,6 +7,8 @@ use Rattle.model.specs.Opening.{string_reference}
 use Rattle.model.specs.declared.event.Event.{Event}
 use Rattle.model.specs.Operands.{Slots, Carrier}
 use Rattle.model.specs.State.{WorldOf, Waiter, WakeCause, Notified, Interrupted, ThreadStatus, Running, Waiting, Relock, Ended}
+use Rattle.model.specs.ObjectMethods as telling
+use Rattle.model.specs.ObjectMethods.{ObjectAnswer, HasNoClass, IsOf, object_answer, object_place, tells, type_at}
 use Rattle.model.specs.BuilderMethods as building
 use Rattle.model.specs.BuilderMethods.{BuilderAnswer, KeepsEmpty, Keeps, Adds, GivesText, builder_answer, builder_shown, builds}
 use Rattle.model.specs.Outcomes.{Cost, Joins, OutcomeOf, Goes, Raises, Throws, Interrupts, Calls, Returns, Waits, not_null}
@@ -15,7 +17,7 @@ use Rattle.model.specs.StringMethods.{StringAnswer, IsNull, IsOutside, Answers, 
 use Rattle.model.specs.Monitors.{unlocked, owns, monitor_at}
 use Rattle.model.specs.Worlds.{thread_at, thread_of, is_alive, is_owner, string_shown, with_monitors, with_entry, entry_cost, with_exit, with_status, with_interrupted, woken, all_woken, waiters_of}
 use Rattle.model.specs.Sites.{referent, int_operand, pushing}
-use Rattle.model.specs.BuiltInMethods.{BuiltInMethod, Construct, ConstructWithTarget, ObjectWait, ObjectNotify, ObjectNotifyAll, ThreadStart, ThreadInterrupt, ThreadIsInterrupted, ThreadInterrupted, ThreadYield, ThreadCurrentThread, ThreadJoin, ThreadIsAlive, PrintStreamPrints, StringAnswers, StringBuilderBuilds, object_of, waiting, wait_by, notified_one, notified, notified_all, if_owner, start_by, interrupted_in, interrupted_on, join_by, string_operand, answered, built_in_does}
+use Rattle.model.specs.BuiltInMethods.{BuiltInMethod, Construct, ConstructWithMessage, ConstructWithCause, ConstructWithTarget, ObjectWait, ObjectNotify, ObjectNotifyAll, ThreadStart, ThreadInterrupt, ThreadIsInterrupted, ThreadInterrupted, ThreadYield, ThreadCurrentThread, ThreadJoin, ThreadIsAlive, PrintStreamPrints, StringAnswers, StringBuilderBuilds, ObjectAnswers, object_of, waiting, wait_by, notified_one, notified, notified_all, if_owner, start_by, interrupted_in, interrupted_on, join_by, string_operand, answered, built_in_does}
 use Rattle.run_laws.specs.monitor_counts.Counts.{is_fat_after, IsStatusCounted, AreMonitorsCounted, Returns as ReturnsTo}
 use Rattle.run_laws.proofs.monitor_counts.Counted.{Each, fat_still, fat_joined, counted_more, owner_entries, enter_counted, exit_counted, wait_counted, notify_counted, emptied_counted, interrupt_counted, relock_counted, as_owner_counted, with_one, with_same, more_threads, more_monitors, called}
 
@@ -163,9 +165,19 @@ module _ {A : Type 0} where
     builds_counted C empty (Adds added) next slots ops rest = more_monitors fat world.monitors world.threads h
     builds_counted C empty GivesText next slots ops rest = h
 
+    tells_counted : (C : Carrier A) (files : Program) (answer : ObjectAnswer) (next : ℕ) (slots : Slots A) (rest : List A)
+        → OutcomeCounted fat (tells C files answer next world slots rest)
+    tells_counted C files telling.IsNull next slots rest = tt
+    tells_counted C files HasNoClass next slots rest = tt
+    tells_counted C files (telling.Answers bits) next slots rest = h
+    tells_counted C files (IsOf class) next slots rest = h
+    tells_counted C files (telling.Composes text) next slots rest = more_monitors fat world.monitors world.threads h
+
     pub built_in_counted : (C : Carrier A) (files : Program) (method : BuiltInMethod) (next : ℕ) (event : Event) (slots : Slots A) (ops rest : List A)
         → OutcomeCounted fat (built_in_does C files method next event world slots ops rest)
     built_in_counted C files Construct next event slots ops rest = h
+    built_in_counted C files ConstructWithMessage next event slots ops rest = h
+    built_in_counted C files ConstructWithCause next event slots ops rest = h
     built_in_counted C files ConstructWithTarget next event slots ops rest = h
     built_in_counted C files ObjectWait next event slots ops rest =
         wait_by_counted (is_owner world event.thread (object_of C ops 0)) (thread_at world event.thread).interrupted event.thread (object_of C ops 0) rest refl
@@ -190,3 +202,5 @@ module _ {A : Type 0} where
         builds_counted C (string_reference files [])
         (builder_answer method (int_operand C ops 0) (is_none (referent C ops 0)) (string_shown world (referent C ops 0)) (builder_shown C world (referent C ops 0)))
         next slots ops rest
+    built_in_counted C files (ObjectAnswers method) next event slots ops rest =
+        tells_counted C files (object_answer files method (referent C ops (object_place method)) (type_at world) (int_operand C ops 0)) next slots rest

@@ -5,19 +5,21 @@ use Rattle.std.specs.Prelude.{if◌then◌else◌, slice_get, is_some}
 use Rattle.std.specs.Option.{is_none}
 use Rattle.std.proofs.lemmas.List.{length-set, length_push}
 use Rattle.model.specs.declared.event.Event.{Event}
-use Rattle.model.specs.Names.{thread_target, builder_text}
+use Rattle.model.specs.Names.{thread_target, throwable_message, throwable_cause, builder_text}
 use Rattle.model.specs.Classes.{Program}
 use Rattle.model.specs.Opening.{string_reference}
 use Rattle.model.specs.Operands.{Slots, Carrier}
 use Rattle.model.specs.State.{ObjectOf, WorldOf, Waiter, WakeCause, Notified, ThreadStatus, Running, Waiting, Relock, Ended, Characters}
 use Rattle.model.specs.Monitors as monitors
 use Rattle.model.specs.StringMethods.{StringAnswer, IsNull, IsOutside, Answers, Same, Composes, string_answer}
+use Rattle.model.specs.ObjectMethods as telling
+use Rattle.model.specs.ObjectMethods.{ObjectAnswer, HasNoClass, IsOf, object_answer, object_place, tells, type_at}
 use Rattle.model.specs.BuilderMethods as building
 use Rattle.model.specs.BuilderMethods.{BuilderAnswer, KeepsEmpty, Keeps, Adds, GivesText, builder_answer, built_text, builder_shown, builds}
 use Rattle.model.specs.Outcomes.{OutcomeOf, Goes, Raises, Throws, Interrupts, Calls, Returns, Waits, not_null}
 use Rattle.model.specs.Worlds.{thread_at, thread_of, is_alive, object_at, allocated, string_shown, with_object, with_field, is_owner, with_monitors, woken, all_woken, waiters_of}
 use Rattle.model.specs.Sites.{operand, referent, int_operand, pushing}
-use Rattle.model.specs.BuiltInMethods.{BuiltInMethod, Construct, ConstructWithTarget, ObjectWait, ObjectNotify, ObjectNotifyAll, ThreadStart, ThreadInterrupt, ThreadIsInterrupted, ThreadInterrupted, ThreadYield, ThreadCurrentThread, ThreadJoin, ThreadIsAlive, PrintStreamPrints, StringAnswers, StringBuilderBuilds, object_of, wait_by, notified_one, notified, notified_all, if_owner, start_by, interrupted_in, interrupted_on, join_by, string_operand, answered, built_in_does}
+use Rattle.model.specs.BuiltInMethods.{BuiltInMethod, Construct, ConstructWithMessage, ConstructWithCause, ConstructWithTarget, ObjectWait, ObjectNotify, ObjectNotifyAll, ThreadStart, ThreadInterrupt, ThreadIsInterrupted, ThreadInterrupted, ThreadYield, ThreadCurrentThread, ThreadJoin, ThreadIsAlive, PrintStreamPrints, StringAnswers, StringBuilderBuilds, ObjectAnswers, object_of, wait_by, notified_one, notified, notified_all, if_owner, start_by, interrupted_in, interrupted_on, join_by, string_operand, answered, built_in_does}
 use Rattle.run_laws.specs.object_counts.Bounds.{made}
 
 -- ---- lists
@@ -125,9 +127,25 @@ module _ {A : Type 0} where
       object_count made o (with_field builder_text (C.reference (length world.heap)) (object_at made o)) ∙ length_push world.heap (Characters text)
   builds_counted C empty GivesText next world slots ops rest = unchanged (length world.heap)
 
+  tells_counted : (C : Carrier A) (files : Program) (answer : ObjectAnswer) (next : ℕ) (world : WorldOf A) (slots : Slots A) (rest : List A)
+      → OutcomeCounted (length world.heap) (tells C files answer next world slots rest)
+  tells_counted C files telling.IsNull next world slots rest = tt
+  tells_counted C files HasNoClass next world slots rest = tt
+  tells_counted C files (telling.Answers bits) next world slots rest = unchanged (length world.heap)
+  tells_counted C files (IsOf class) next world slots rest = unchanged (length world.heap)
+  tells_counted C files (telling.Composes text) next world slots rest = length_push world.heap (Characters text)
+
   pub built_in_counted : (C : Carrier A) (files : Program) (method : BuiltInMethod) (next : ℕ) (event : Event) (world : WorldOf A) (slots : Slots A)
       (ops rest : List A) → OutcomeCounted (length world.heap) (built_in_does C files method next event world slots ops rest)
   built_in_counted C files Construct next event world slots ops rest = unchanged (length world.heap)
+  built_in_counted C files ConstructWithMessage next event world slots ops rest =
+      let o = object_of C ops 1 in
+      let new = with_field throwable_message (operand C ops 0) (object_at world o) in
+      same_count (length (with_object world o new).heap) (length world.heap) (object_count world o new)
+  built_in_counted C files ConstructWithCause next event world slots ops rest =
+      let o = object_of C ops 2 in
+      let new = with_field throwable_cause (operand C ops 0) (with_field throwable_message (operand C ops 1) (object_at world o)) in
+      same_count (length (with_object world o new).heap) (length world.heap) (object_count world o new)
   built_in_counted C files ConstructWithTarget next event world slots ops rest =
       let o = object_of C ops 1 in
       let new = with_field thread_target (operand C ops 0) (object_at world o) in
@@ -161,3 +179,5 @@ module _ {A : Type 0} where
       builds_counted C (string_reference files [])
       (builder_answer method (int_operand C ops 0) (is_none (referent C ops 0)) (string_shown world (referent C ops 0)) (builder_shown C world (referent C ops 0)))
       next world slots ops rest
+  built_in_counted C files (ObjectAnswers method) next event world slots ops rest =
+      tells_counted C files (object_answer files method (referent C ops (object_place method)) (type_at world) (int_operand C ops 0)) next world slots rest

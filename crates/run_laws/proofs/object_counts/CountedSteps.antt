@@ -13,8 +13,9 @@ use Rattle.model.specs.Types.{is_object_of}
 use Rattle.model.specs.Operands.{Carrier, words, values, under}
 use Rattle.model.specs.Lookup.{select, field_member}
 use Rattle.model.specs.Opening.{arguments_reference, class_reference}
-use Rattle.model.specs.State.{Instance, types_of, InProgress, Erroneous, WakeCause, Notified, Interrupted, ThreadStatus, Running, Waiting, Relock, Ended, FrameOf, Phase, Super, End, Invocation, Initialisation, StackOf, WorldOf, StateOf}
-use Rattle.model.specs.Outcomes.{MachineException, exception_class, OutcomeOf, Goes, Raises, Throws, Interrupts, Calls, Returns, Waits, NoClassDefFound, StackOverflow, IllegalMonitorState, InterruptedWait, AbstractMethod, ExceptionInInitializer}
+use Rattle.model.specs.State.{types_of, InProgress, Erroneous, WakeCause, Notified, Interrupted, ThreadStatus, Running, Waiting, Relock, Ended, FrameOf, Phase, Super, End, Invocation, Initialisation, StackOf, WorldOf, StateOf}
+use Rattle.model.specs.Outcomes.{MachineException, OutcomeOf, Goes, Raises, Throws, Interrupts, Calls, Returns, Waits, NoClassDefFound, StackOverflow, IllegalMonitorState, InterruptedWait, AbstractMethod, ExceptionInInitializer}
+use Rattle.model.specs.MachineExceptions.{machine_exception}
 use Rattle.model.specs.Monitors as monitors
 use Rattle.model.specs.Worlds.{thread_at, with_thread, with_begun, with_status, with_interrupted, with_static, put_value, object_at, class_of_object, is_owner, may_enter, with_entry, entry_cost, with_exit, with_monitors, is_done, waiters_of}
 use Rattle.model.specs.ClassInitialisation.{status_of, with_class_status, constant_value, with_constant, with_constants, with_class_begun, Look, IsReady, IsNew, IsHeld, HasFailed, look_by}
@@ -44,9 +45,9 @@ module _ {A : Type 0} where
 
   -- ---- exceptions, calls and returns
 
-  raised_counted : (t : ℕ) (fault : MachineException) (world : WorldOf A) (stack : StackOf A)
-      → Counted (length world.heap) (raised t fault world stack)
-  raised_counted t fault world stack = length_push world.heap (Instance (exception_class fault) [])
+  raised_counted : (C : Carrier A) (files : Program) (t : ℕ) (fault : MachineException) (world : WorldOf A) (stack : StackOf A)
+      → Counted (length world.heap) (raised C files t fault world stack)
+  raised_counted C files t fault world stack = length_push world.heap (machine_exception C files fault None)
 
   on_counted : (n : ℕ) (world : WorldOf A) (stack : StackOf A) → length world.heap ≡ n → Counted n (on_to world stack)
   on_counted n world stack e = same_count (length world.heap) n e
@@ -58,20 +59,20 @@ module _ {A : Type 0} where
       enabled_counted (length world.heap) (may_enter world t object) (Next (entry_cost world object) (part (with_entry world t object) (Invocation frame ∷ rest)))
       (same_count (length world.heap) (length world.heap) refl)
 
-  pushed_counted : (frames t : ℕ) (world after : WorldOf A) (stack rest : StackOf A) (frame : FrameOf A)
-      → length after.heap ≡ length world.heap → Counted (length world.heap) (pushed frames t world after stack rest frame)
-  pushed_counted frames t world after stack rest frame e =
-      either_part (length world.heap) (nat_lt (frame_count stack) frames) (entering t after rest frame frame.entered) (raised t StackOverflow world stack)
+  pushed_counted : (C : Carrier A) (files : Program) (frames t : ℕ) (world after : WorldOf A) (stack rest : StackOf A) (frame : FrameOf A)
+      → length after.heap ≡ length world.heap → Counted (length world.heap) (pushed C files frames t world after stack rest frame)
+  pushed_counted C files frames t world after stack rest frame e =
+      either_part (length world.heap) (nat_lt (frame_count stack) frames) (entering t after rest frame frame.entered) (raised C files t StackOverflow world stack)
       (subst (λ n. Counted n (entering t after rest frame frame.entered)) e (entering_counted t after rest frame frame.entered))
-      (raised_counted t StackOverflow world stack)
+      (raised_counted C files t StackOverflow world stack)
 
-  leaving_counted : (n t : ℕ) (o : Option ℕ) (world : WorldOf A) (rest stack : StackOf A) → length world.heap ≡ n
-      → Counted n (leaving t o world rest stack)
-  leaving_counted n t None world rest stack e = on_counted n world rest e
-  leaving_counted n t (Some object) world rest stack e =
-      either_part n (is_owner world t object) (on_to (with_exit world t object) rest) (raised t IllegalMonitorState world stack)
+  leaving_counted : (C : Carrier A) (files : Program) (n t : ℕ) (o : Option ℕ) (world : WorldOf A) (rest stack : StackOf A) → length world.heap ≡ n
+      → Counted n (leaving C files t o world rest stack)
+  leaving_counted C files n t None world rest stack e = on_counted n world rest e
+  leaving_counted C files n t (Some object) world rest stack e =
+      either_part n (is_owner world t object) (on_to (with_exit world t object) rest) (raised C files t IllegalMonitorState world stack)
       (on_counted n (with_exit world t object) rest e)
-      (subst (λ n. Counted n (raised t IllegalMonitorState world stack)) e (raised_counted t IllegalMonitorState world stack))
+      (subst (λ n. Counted n (raised C files t IllegalMonitorState world stack)) e (raised_counted C files t IllegalMonitorState world stack))
 
   -- ---- the end of a thread
 
@@ -118,7 +119,7 @@ module _ {A : Type 0} where
     needing_counted t class IsNew world stack x h =
         on_counted (length world.heap) (with_class_begun C files t class world) (Initialisation class Super ∷ stack) (begun_count t class world (class_of files class))
     needing_counted t class IsHeld world stack x h = tt
-    needing_counted t class HasFailed world stack x h = raised_counted t NoClassDefFound world stack
+    needing_counted t class HasFailed world stack x h = raised_counted C files t NoClassDefFound world stack
 
     needing_class_counted : (t : ℕ) (class : Option Name) (world : WorldOf A) (stack : StackOf A) (x : SteppedOf (PartOf A))
         → Counted (length world.heap) x → Counted (length world.heap) (needing_class C files t class world stack x)
@@ -128,15 +129,15 @@ module _ {A : Type 0} where
     -- ---- an instruction
 
     become_counted : (frames t : ℕ) (world : WorldOf A) (frame : FrameOf A) (stack : StackOf A) (o : OutcomeOf A)
-        → OutcomeCounted (length world.heap) o → Counted (length world.heap) (become files frames t world frame stack o)
+        → OutcomeCounted (length world.heap) o → Counted (length world.heap) (become C files frames t world frame stack o)
     become_counted frames t world frame stack (Goes cost after slots to) h = h
-    become_counted frames t world frame stack (Raises fault) h = raised_counted t fault world (Invocation frame ∷ stack)
+    become_counted frames t world frame stack (Raises fault) h = raised_counted C files t fault world (Invocation frame ∷ stack)
     become_counted frames t world frame stack (Throws exception) h = same_count (length world.heap) (length world.heap) refl
-    become_counted frames t world frame stack Interrupts h = raised_counted t InterruptedWait (with_interrupted world t false) (Invocation frame ∷ stack)
+    become_counted frames t world frame stack Interrupts h = raised_counted C files t InterruptedWait (with_interrupted world t false) (Invocation frame ∷ stack)
     become_counted frames t world frame stack (Calls callee rest) h =
-        pushed_counted frames t world world (Invocation frame ∷ stack) (Invocation (at_call frame rest) ∷ stack) callee refl
+        pushed_counted C files frames t world world (Invocation frame ∷ stack) (Invocation (at_call frame rest) ∷ stack) callee refl
     become_counted frames t world frame stack (Returns after results) h =
-        leaving_counted (length world.heap) t frame.entered after (returned files results stack) (Invocation frame ∷ stack) h
+        leaving_counted C files (length world.heap) t frame.entered after (returned files results stack) (Invocation frame ∷ stack) h
     become_counted frames t world frame stack (Waits cost after rest) h = h
 
     bytecode_by_counted : (frames : ℕ) (event : Event) (world : WorldOf A) (frame : FrameOf A) (stack : StackOf A) (max_stack : ℕ)
@@ -164,9 +165,9 @@ module _ {A : Type 0} where
     -- ---- classes that are initialised, and threads that begin
 
     initialiser_counted : (frames t : ℕ) (m : Member) (world : WorldOf A) (stack : StackOf A) (o : Option Body)
-        → Counted (length world.heap) (initialiser_event C frames t m world stack o)
+        → Counted (length world.heap) (initialiser_event C files frames t m world stack o)
     initialiser_counted frames t m world stack None = on_counted (length world.heap) world stack refl
-    initialiser_counted frames t m world stack (Some body) = pushed_counted frames t world world stack stack (frame_with C m [] None body) refl
+    initialiser_counted frames t m world stack (Some body) = pushed_counted C files frames t world world stack stack (frame_with C m [] None body) refl
 
     initialisation_counted : (frames t : ℕ) (class : Name) (phase : Phase) (world : WorldOf A) (stack : StackOf A)
         → Counted (length world.heap) (initialisation_event C files frames t class phase world stack)
@@ -179,17 +180,17 @@ module _ {A : Type 0} where
         → Counted (length world.heap) (main_frame C files frames world main o)
     main_counted frames world main None = tt
     main_counted frames world main (Some body) =
-        pushed_counted frames 0 world (with_begun world 0) [] [] (frame_with C main (C.reference arguments_reference ∷ []) (entered_by files main (class_reference files main.class)) body) refl
+        pushed_counted C files frames 0 world (with_begun world 0) [] [] (frame_with C main (C.reference arguments_reference ∷ []) (entered_by files main (class_reference files main.class)) body) refl
 
     run_frame_counted : (frames t : ℕ) (world : WorldOf A) (object : ℕ) (m : Member) (o : Option Body)
         → Counted (length world.heap) (run_frame C files frames t world object m o)
-    run_frame_counted frames t world object m None = raised_counted t AbstractMethod world []
+    run_frame_counted frames t world object m None = raised_counted C files t AbstractMethod world []
     run_frame_counted frames t world object m (Some body) =
-        pushed_counted frames t world (with_begun world t) [] [] (frame_with C m (C.reference object ∷ []) (entered_by files m object) body) refl
+        pushed_counted C files frames t world (with_begun world t) [] [] (frame_with C m (C.reference object ∷ []) (entered_by files m object) body) refl
 
     run_counted : (frames t : ℕ) (world : WorldOf A) (object : ℕ) (o : Option Member)
         → Counted (length world.heap) (run_of C files frames t world object o)
-    run_counted frames t world object None = raised_counted t AbstractMethod world []
+    run_counted frames t world object None = raised_counted C files t AbstractMethod world []
     run_counted frames t world object (Some m) = run_frame_counted frames t world object m (body_of files m)
 
     begin_counted : (frames : ℕ) (world : WorldOf A) (t : ℕ) → Counted (length world.heap) (begin_event C files frames world t)
@@ -203,13 +204,13 @@ module _ {A : Type 0} where
     -- ---- pending exceptions, and threads that were woken
 
     unwound_counted : (t exception : ℕ) (world : WorldOf A) (frame : FrameOf A) (stack : StackOf A) (o : Option ExceptionEntry)
-        → Counted (length world.heap) (unwound C t exception world frame stack o)
-    unwound_counted t exception world frame stack None = leaving_counted (length world.heap) t frame.entered world stack stack refl
+        → Counted (length world.heap) (unwound C files t exception world frame stack o)
+    unwound_counted t exception world frame stack None = leaving_counted C files (length world.heap) t frame.entered world stack stack refl
     unwound_counted t exception world frame stack (Some entry) = same_count (length world.heap) (length world.heap) refl
 
-    failed_counted : (t : ℕ) (b : Bool) (world : WorldOf A) (stack : StackOf A) → Counted (length world.heap) (failed t b world stack)
-    failed_counted t true world stack = on_counted (length world.heap) world stack refl
-    failed_counted t false world stack = raised_counted t ExceptionInInitializer world stack
+    failed_counted : (t exception : ℕ) (b : Bool) (world : WorldOf A) (stack : StackOf A) → Counted (length world.heap) (failed C files t exception b world stack)
+    failed_counted t exception true world stack = on_counted (length world.heap) world stack refl
+    failed_counted t exception false world stack = length_push world.heap (machine_exception C files ExceptionInInitializer (Some exception))
 
     pending_counted : (t exception : ℕ) (thrown : Option ReferenceType) (world : WorldOf A) (stack : StackOf A)
         → Counted (length world.heap) (pending_event C files t exception thrown world stack)
@@ -217,12 +218,12 @@ module _ {A : Type 0} where
     pending_counted t exception thrown world (Invocation frame ∷ stack) =
         unwound_counted t exception world frame stack (option_and_then (handler_in files frame.place.offset thrown) (body_of files frame.method))
     pending_counted t exception thrown world (Initialisation class phase ∷ stack) =
-        failed_counted t (is_object_of files (ClassType java_lang_error) thrown) (with_class_status world class Erroneous) stack
+        failed_counted t exception (is_object_of files (ClassType java_lang_error) thrown) (with_class_status world class Erroneous) stack
 
     after_wait_counted : (t : ℕ) (cause : WakeCause) (world : WorldOf A) (stack : StackOf A)
-        → Counted (length world.heap) (after_wait files t cause world stack)
+        → Counted (length world.heap) (after_wait C files t cause world stack)
     after_wait_counted t Notified world stack = on_counted (length world.heap) world (returned files [] stack) refl
-    after_wait_counted t Interrupted world stack = raised_counted t InterruptedWait (with_interrupted world t false) stack
+    after_wait_counted t Interrupted world stack = raised_counted C files t InterruptedWait (with_interrupted world t false) stack
 
     -- ---- an event
 
@@ -246,8 +247,8 @@ module _ {A : Type 0} where
       event_counted stack (Waiting object count) = tt
       event_counted stack (Relock object count cause) =
           let after = with_status (with_monitors world (monitors.relock object event.thread count world.monitors)) event.thread Running in
-          enabled_counted (length world.heap) (event.pick == 0) (relock_event files event.thread object count cause world stack)
-          (enabled_counted (length world.heap) (is_done (monitors.relock object event.thread count world.monitors).answer) (after_wait files event.thread cause after stack)
+          enabled_counted (length world.heap) (event.pick == 0) (relock_event C files event.thread object count cause world stack)
+          (enabled_counted (length world.heap) (is_done (monitors.relock object event.thread count world.monitors).answer) (after_wait C files event.thread cause after stack)
           (after_wait_counted event.thread cause after stack))
       event_counted stack (Ended exception) = tt
 

@@ -12,7 +12,7 @@ use Rattle.model.specs.declared.instr.Returned.{Returned}
 use Rattle.model.specs.declared.instr.Returned.TheVariants as returned
 use Rattle.model.specs.Names.{Name, Member}
 use Rattle.model.specs.Arrays.{load_of, store_of}
-use Rattle.model.specs.BuiltInMethods.{BuiltInMethod, Construct, ConstructWithTarget, ObjectWait, ObjectNotify, ObjectNotifyAll, ThreadStart, ThreadInterrupt, ThreadIsInterrupted, ThreadInterrupted, ThreadYield, ThreadCurrentThread, ThreadJoin, ThreadIsAlive, PrintStreamPrints, StringAnswers, StringBuilderBuilds, built_in_method, built_in_may, built_in_does, if_owner, object_of}
+use Rattle.model.specs.BuiltInMethods.{BuiltInMethod, Construct, ConstructWithMessage, ConstructWithCause, ConstructWithTarget, ObjectWait, ObjectNotify, ObjectNotifyAll, ThreadStart, ThreadInterrupt, ThreadIsInterrupted, ThreadInterrupted, ThreadYield, ThreadCurrentThread, ThreadJoin, ThreadIsAlive, PrintStreamPrints, StringAnswers, StringBuilderBuilds, ObjectAnswers, built_in_method, built_in_may, built_in_does, if_owner, object_of}
 use Rattle.model.specs.Calls.{Chosen, Fails, Runs, invoked, runs, may_run, may_invoke, return_of}
 use Rattle.model.specs.Classes.{Program, Body, body_of}
 use Rattle.model.specs.ClassInitialisation.{Look, IsReady, IsNew, IsHeld, HasFailed, look_by, status_of}
@@ -72,6 +72,8 @@ module _ {A : Type 0} where
 
     built_in_lower : (files : Program) (b : BuiltInMethod) → MayLower files b
     built_in_lower files Construct t k next world ops e = none_past k e
+    built_in_lower files ConstructWithMessage t k next world ops e = none_past k e
+    built_in_lower files ConstructWithCause t k next world ops e = none_past k e
     built_in_lower files ConstructWithTarget t k next world ops e = none_past k e
     built_in_lower files ObjectWait t k next world ops e = none_past k e
     built_in_lower files ObjectNotify t k next world ops e = (
@@ -90,6 +92,7 @@ module _ {A : Type 0} where
     built_in_lower files (PrintStreamPrints print) t k next world ops e = none_past k e
     built_in_lower files (StringAnswers method) t k next world ops e = none_past k e
     built_in_lower files (StringBuilderBuilds method) t k next world ops e = none_past k e
+    built_in_lower files (ObjectAnswers method) t k next world ops e = none_past k e
 
     module _ (files : Program) (site : Site) where
       run_lower : (method : Member) (o : Option Body) (t k : ℕ) (world : WorldOf A) (ops : List A) (object : ℕ)
@@ -158,7 +161,7 @@ module _ {A : Type 0} where
 
     module _ (files : Program) (frames : ℕ) where
       become_next : (t : ℕ) (world : WorldOf A) (frame : FrameOf A) (stack : StackOf A) (o : OutcomeOf A) → Stays o
-          → is_enabled_by (become files frames t world frame stack o) ≡ true
+          → is_enabled_by (become C files frames t world frame stack o) ≡ true
       become_next t world frame stack (Goes cost after slots to) h = refl
       become_next t world frame stack (Raises fault) h = refl
       become_next t world frame stack (Throws exception) h = refl

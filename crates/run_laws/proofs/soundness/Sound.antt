@@ -77,7 +77,7 @@ module _ (files : Program) (linked : Linked files) (accepted : AreTyped files) (
         subst (λ p. OnPart files event.thread world (going_event values files frames event world stack p)) (sym is) (going_on_typed e stack thread.pending refl h)
     by_status stack (Waiting object count) e h = tt
     by_status stack (Relock object count cause) e h =
-        unpicked_typed files event.thread world event (relock_event files event.thread object count cause world stack)
+        unpicked_typed files event.thread world event (relock_event values files event.thread object count cause world stack)
         (relock_typed files linked event.thread world thread there (self_at files event.thread world thread fits there (idle_relock thread object count cause e)) object count cause stack h.0 h.1.1)
     by_status stack (Ended exception) e h = tt
 

@@ -1,10 +1,9 @@
 -- The methods of StringBuilder without code: each brings about what a call of it has to.
-use Rattle.std.proofs.Common.{◌≡◌, ℕ, List, [], ◌∷◌, ◌++◌, length, Bool, true, false, Some, refl, sym, subst}
+use Rattle.std.proofs.Common.{◌≡◌, ℕ, List, [], ◌∷◌, length, true, false, Some, refl, sym, subst}
 use Rattle.std.specs.Prelude.{slice_get, codes}
-use Rattle.std.proofs.lemmas.Bool.{and_from}
 use Rattle.model.specs.declared.value.Value.{Value}
 use Rattle.model.specs.declared.value.Value.TheVariants as value
-use Rattle.model.specs.Names.{Name, Member, java_lang_string, java_lang_string_builder, constructor_name, builder_text}
+use Rattle.model.specs.Names.{Member, java_lang_string, java_lang_string_builder, constructor_name, builder_text}
 use Rattle.model.specs.BuiltIn.{built_in_classes}
 use Rattle.model.specs.Classes.{Program}
 use Rattle.model.specs.DescriptorScan.{method_type, field_type, parameters_at, field_at, element_at}

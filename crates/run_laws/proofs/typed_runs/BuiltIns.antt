@@ -1,25 +1,24 @@
 -- The built-in methods without code: each brings about what a call of it has to.
-use Rattle.std.proofs.Common.{◌≡◌, ℕ, zero, suc, List, [], ◌∷◌, ◌++◌, map, reverse, length, drop, Bool, true, false, Option, Some, None, refl, sym, ap, ◌∙◌, subst, ⊎_elim}
+use Rattle.std.proofs.Common.{◌≡◌, ℕ, List, [], ◌∷◌, ◌++◌, map, reverse, length, drop, Bool, true, false, Option, Some, refl, sym, ap, ◌∙◌, subst, ⊎_elim}
 use Rattle.std.specs.Prelude.{slice_get, slice_index_or, find, unwrap_or, is_some, codes, if◌then◌else◌}
 use Rattle.std.specs.Option.{option_map, is_none}
 use Rattle.std.specs.List.{AllByRecursion, list_any}
 use Rattle.std.proofs.lemmas.Bool.{false≢true, and_parts, and_from, or_cases, or_from, cond_both}
 use Rattle.std.proofs.lemmas.List.{reverse-reverse}
+use Rattle.std.proofs.lemmas.Option.{get_or_from_slice_get}
 use Rattle.model.specs.declared.event.Event.{Event}
 use Rattle.model.specs.declared.value.Value.{Value}
 use Rattle.model.specs.declared.value.Value.TheVariants as value
-use Rattle.model.specs.Names.{Name, Member, java_lang_object, java_lang_string, java_lang_string_builder, java_lang_runnable, java_lang_thread, java_io_print_stream, constructor_name, thread_target, println_int}
+use Rattle.model.specs.Names.{Name, Member, java_lang_object, java_lang_class, java_lang_throwable, java_lang_string, java_lang_string_builder, java_lang_runnable, java_lang_thread, java_io_print_stream, constructor_name, thread_target, throwable_message, throwable_cause, name_eq, println_int}
 use Rattle.model.specs.DescriptorParts.{returns_void}
-use Rattle.model.specs.DescriptorScan.{method_type, field_type, parameters_at, field_at, element_at}
-use Rattle.model.specs.BuiltIn.{built_in_classes}
 use Rattle.model.specs.Classes.{Program}
-use Rattle.model.specs.ReferenceTypes.{ReferenceType, ClassType}
-use Rattle.model.specs.Types.{VerificationType, Unusable, IntType, OfType, UninitialisedThis, is_value_below}
-use Rattle.model.specs.DescribedTypes.{field_declared, verification_type, made_type}
+use Rattle.model.specs.ReferenceTypes.{ReferenceType, ClassType, PrimitiveArray, ReferenceArray, is_assignable}
+use Rattle.model.specs.Types.{VerificationType, Unusable, IntType, OfType, UninitialisedThis, is_value_below, is_object_below}
+use Rattle.model.specs.DescribedTypes.{parameters_declared, verification_type, made_type}
 use Rattle.model.specs.Operands.{values, reference_of}
-use Rattle.model.specs.State.{ObjectOf, types_of, Characters, Thread, Frame, World, new_thread}
+use Rattle.model.specs.State.{ObjectOf, type_of, types_of, Characters, Frame, World, new_thread}
 use Rattle.model.specs.Outcomes.{Cost, OutcomeOf, Makes, Free}
-use Rattle.model.specs.Worlds.{thread_at, allocated, object_at, with_object, with_field, with_interrupted, is_owner, is_alive, is_interrupted, thread_of}
+use Rattle.model.specs.Worlds.{no_object, thread_at, allocated, object_at, with_object, with_field, with_interrupted, is_owner, is_alive, is_interrupted, thread_of}
 use Rattle.model.specs.Frames.{at_offset, at_call}
 use Rattle.model.specs.Sites.{pushing, pushing_at, operand, referent, int_operand}
 use Rattle.model.specs.Calls.{parameter_count, result_types}
@@ -28,185 +27,47 @@ use Rattle.model.specs.declared.string_method.StringMethod.TheVariants.{Length, 
 use Rattle.model.specs.declared.builder_method.BuilderMethod.TheVariants.{ConstructEmpty, ToString}
 use Rattle.model.specs.BuilderMethods as building
 use Rattle.model.specs.BuilderMethods.{Adds, kept_string, built_text, with_string, with_composed, builds}
-use Rattle.model.specs.Opening.{string_reference}
+use Rattle.model.specs.Opening.{string_reference, class_reference}
+use Rattle.model.specs.declared.object_method.ObjectMethod.TheVariants as object_method
+use Rattle.model.specs.ObjectMethods as telling
+use Rattle.model.specs.ObjectMethods.{ObjectAnswer, HasNoClass, IsOf, class_answer, object_answer, tells, type_at}
 use Rattle.model.specs.StringMethods.{StringAnswer, IsNull, IsOutside, Answers, Same, Composes, string_answer}
 use Rattle.model.specs.Texts.{Text}
 use Rattle.model.specs.BuiltInMethods
 use Rattle.model.specs.declared.print_method.PrintMethod.{PrintMethod}
 use Rattle.model.specs.declared.print_method.PrintMethod.TheVariants.{Println, PrintlnChar, PrintlnInt, PrintlnString, PrintChar, PrintInt, PrintString}
-use Rattle.model.specs.BuiltInMethods.{BuiltInMethod, Construct, ConstructWithTarget, PrintStreamPrints, StringAnswers, StringBuilderBuilds, of_object, of_thread, of_print_stream, of_string, of_string_builder, printed_by, built_in_methods, is_row_of, built_in_does, wait_by, notified, notified_all, if_owner, with_started, start_by, interrupted_on, join_by, bit, with_printed, string_operand, answered, object_of}
-use Rattle.model.specs.Typing.{has_no_receiver, argument_types}
-use Rattle.model.specs.WellTyped.{has_type, is_object_in, are_typed, Ready, Awaits}
+use Rattle.model.specs.BuiltInMethods.{BuiltInMethod, Construct, ConstructWithMessage, ConstructWithCause, ConstructWithTarget, PrintStreamPrints, StringAnswers, StringBuilderBuilds, ObjectAnswers, of_object, constructor_of, of_thread, of_print_stream, of_string, of_string_builder, printed_by, built_in_methods, is_row_of, built_in_does, wait_by, notified, notified_all, if_owner, with_started, start_by, interrupted_on, join_by, bit, with_printed, string_operand, answered, object_of}
+use Rattle.model.specs.Typing.{has_no_receiver, receiver_type, parameter_types, argument_types}
+use Rattle.model.specs.WellTyped.{has_type, is_object_typed, is_object_in, are_typed, Ready, Awaits}
 use Rattle.run_laws.proofs.laws.Lists.{Pairwise, pairs_of, pair_get, get_front}
-use Rattle.run_laws.proofs.laws.Classes.{members_same}
-use Rattle.run_laws.proofs.laws.Order.{Extends, extends_self, has_type_more}
+use Rattle.run_laws.proofs.laws.Classes.{members_same, names_same}
+use Rattle.run_laws.proofs.laws.Order.{Extends, extends_self, has_type_more, assignable_self}
 use Rattle.run_laws.proofs.laws.StringAnswers.{IsOfInt, IsOfString, length_of_int, char_of_int, equals_of_int, hash_of_int, compared_of_int, index_of_int, regions_of_int, concat_of_string, substring_of_string}
 use Rattle.run_laws.proofs.typed_runs.Invariant.{awaits_more}
 use Rattle.run_laws.proofs.typed_runs.Objects.{object_found, added_below}
 use Rattle.run_laws.proofs.typed_runs.Frames.{resumed}
-use Rattle.run_laws.proofs.typed_runs.Changes.{Started, Go, OutcomeTyped}
+use Rattle.run_laws.proofs.typed_runs.Changes.{OutcomeTyped}
 use Rattle.run_laws.proofs.laws.Linked.{Linked}
 use Rattle.run_laws.proofs.laws.LinkedMethods.{returns_nothing}
-use Rattle.run_laws.proofs.typed_runs.Threads.{kept_self, waits, wait_sets_weaken}
+use Rattle.run_laws.proofs.typed_runs.Threads.{wait_sets_weaken}
 use Rattle.run_laws.proofs.typed_runs.WorldChanges.{Keeps, self_keeps, object_keeps, allocated_keeps, printed_keeps, interrupted_keeps, goes_on}
 use Rattle.run_laws.proofs.typed_runs.WaitChanges.{notified_keeps, notified_all_keeps, interrupted_on_keeps, waiting_changes, waits_on}
 use Rattle.run_laws.proofs.typed_runs.Builders.{a_builder, Shaped, empty_constructor, string_constructor, append_string, append_int, append_char, append_builder, to_string, string_keeps, composed_keeps, empty_typed}
 use Rattle.run_laws.proofs.typed_runs.Texts.{kept_string_typed}
+use Rattle.run_laws.proofs.typed_runs.Exceptions.{message_typed, cause_typed, changed_keeps}
+use Rattle.run_laws.proofs.typed_runs.OpeningObjects.{class_there}
+use Rattle.run_laws.proofs.typed_runs.Told.{IsIntTold, IsTextTold, a_class, class_is_there, hash_code, get_class, identity_results, name_results, described_results, hash_told, identity_told, name_told, described_told}
 use Rattle.run_laws.proofs.typed_runs.Called.{Called, BuiltInTyped}
 use Rattle.run_laws.proofs.typed_runs.Instructions.{at_typed, at_there, with_field_typed, with_field_same}
 use Rattle.run_laws.proofs.typed_runs.Callees.{pair_reverse}
-
--- ---- names
-
--- ---- what the methods take and give
-
-module _ (files : Program) where
-  void_results : (class name : Name) → result_types files (record { class = class; name = name; descriptor = codes "()V" }) ≡ []
-  unfolding method_type parameters_at field_at element_at field_type
-  void_results class name = refl
-
-  bit_results : (name : Name) → result_types files (of_thread name (codes "()Z")) ≡ IntType ∷ []
-  unfolding method_type parameters_at field_at element_at field_type
-  bit_results name = refl
-
-  thread_results : result_types files (of_thread (codes "currentThread") (codes "()Ljava/lang/Thread;"))
-      ≡ OfType (ClassType java_lang_thread) ∷ []
-  unfolding method_type parameters_at field_at element_at field_type built_in_classes
-  thread_results = refl
-
-  target_results : result_types files (of_thread constructor_name (codes "(Ljava/lang/Runnable;)V")) ≡ []
-  unfolding method_type parameters_at field_at element_at field_type
-  target_results = refl
-
-  -- methods of PrintStream with a parameter
-  int_printed_results : (name : Name) → result_types files (of_print_stream name (codes "(I)V")) ≡ []
-  unfolding method_type parameters_at field_at element_at field_type
-  int_printed_results name = refl
-
-  char_printed_results : (name : Name) → result_types files (of_print_stream name (codes "(C)V")) ≡ []
-  unfolding method_type parameters_at field_at element_at field_type
-  char_printed_results name = refl
-
-  string_printed_results : (name : Name) → result_types files (of_print_stream name (codes "(Ljava/lang/String;)V")) ≡ []
-  unfolding method_type parameters_at field_at element_at field_type
-  string_printed_results name = refl
-
-  -- methods of String
-  int_answered_results : (name : Name) → result_types files (of_string name (codes "()I")) ≡ IntType ∷ []
-  unfolding method_type parameters_at field_at element_at field_type
-  int_answered_results name = refl
-
-  char_at_results : result_types files (of_string (codes "charAt") (codes "(I)C")) ≡ IntType ∷ []
-  unfolding method_type parameters_at field_at element_at field_type
-  char_at_results = refl
-
-  equals_results : result_types files (of_string (codes "equals") (codes "(Ljava/lang/Object;)Z")) ≡ IntType ∷ []
-  unfolding method_type parameters_at field_at element_at field_type
-  equals_results = refl
-
-  compare_results : result_types files (of_string (codes "compareTo") (codes "(Ljava/lang/String;)I")) ≡ IntType ∷ []
-  unfolding method_type parameters_at field_at element_at field_type
-  compare_results = refl
-
-  index_results : result_types files (of_string (codes "indexOf") (codes "(II)I")) ≡ IntType ∷ []
-  unfolding method_type parameters_at field_at element_at field_type
-  index_results = refl
-
-  regions_results : result_types files (of_string (codes "regionMatches") (codes "(ILjava/lang/String;II)Z")) ≡ IntType ∷ []
-  unfolding method_type parameters_at field_at element_at field_type
-  regions_results = refl
-
-  abbrev a_string : List VerificationType
-  a_string = OfType (ClassType java_lang_string) ∷ []
-
-  concat_results : result_types files (of_string (codes "concat") (codes "(Ljava/lang/String;)Ljava/lang/String;")) ≡ a_string
-  unfolding method_type parameters_at field_at element_at field_type built_in_classes
-  concat_results = refl
-
-  concat_arguments : argument_types files (of_string (codes "concat") (codes "(Ljava/lang/String;)Ljava/lang/String;"))
-      ≡ OfType (ClassType java_lang_string) ∷ a_string
-  unfolding method_type parameters_at field_at element_at field_type built_in_classes
-  concat_arguments = refl
-
-  substring_results : result_types files (of_string (codes "substring") (codes "(II)Ljava/lang/String;")) ≡ a_string
-  unfolding method_type parameters_at field_at element_at field_type built_in_classes
-  substring_results = refl
-
-  substring_arguments : argument_types files (of_string (codes "substring") (codes "(II)Ljava/lang/String;"))
-      ≡ OfType (ClassType java_lang_string) ∷ IntType ∷ IntType ∷ []
-  unfolding method_type parameters_at field_at element_at field_type built_in_classes
-  substring_arguments = refl
-
-  int_text_results : result_types files (of_string (codes "valueOf") (codes "(I)Ljava/lang/String;")) ≡ a_string
-  unfolding method_type parameters_at field_at element_at field_type built_in_classes
-  int_text_results = refl
-
-  char_text_results : result_types files (of_string (codes "valueOf") (codes "(C)Ljava/lang/String;")) ≡ a_string
-  unfolding method_type parameters_at field_at element_at field_type built_in_classes
-  char_text_results = refl
-
-  wait_arguments : argument_types files (of_object (codes "wait")) ≡ OfType (ClassType java_lang_object) ∷ []
-  unfolding method_type parameters_at field_at element_at field_type built_in_classes
-  wait_arguments = refl
-
-  wait_receiver : has_no_receiver files (of_object (codes "wait")) ≡ false
-  unfolding built_in_classes
-  wait_receiver = refl
-
-  start_arguments : argument_types files (of_thread (codes "start") (codes "()V")) ≡ OfType (ClassType java_lang_thread) ∷ []
-  unfolding method_type parameters_at field_at element_at field_type built_in_classes
-  start_arguments = refl
-
-  start_receiver : has_no_receiver files (of_thread (codes "start") (codes "()V")) ≡ false
-  unfolding built_in_classes
-  start_receiver = refl
-
-  no_parameters : (class name : Name) → parameter_count (record { class = class; name = name; descriptor = codes "()V" }) ≡ 0
-  unfolding method_type parameters_at field_at element_at field_type
-  no_parameters class name = refl
-
-  target_arguments : argument_types files (of_thread constructor_name (codes "(Ljava/lang/Runnable;)V"))
-      ≡ UninitialisedThis java_lang_thread ∷ OfType (made_type files (ClassType java_lang_runnable)) ∷ []
-  unfolding method_type parameters_at field_at element_at field_type built_in_classes
-  target_arguments = refl
-
-  target_receiver : has_no_receiver files (of_thread constructor_name (codes "(Ljava/lang/Runnable;)V")) ≡ false
-  unfolding built_in_classes
-  target_receiver = refl
-
-  target_parameters : parameter_count (of_thread constructor_name (codes "(Ljava/lang/Runnable;)V")) ≡ 1
-  unfolding method_type parameters_at field_at element_at field_type
-  target_parameters = refl
-
-  target_type : verification_type files (field_declared thread_target.descriptor) ≡ OfType (made_type files (ClassType java_lang_runnable))
-  unfolding field_type field_at element_at
-  target_type = refl
-
--- ---- a thread that is started
-
-front_waits : (threads : List Thread) (new : Thread) (object u : ℕ) → waits threads object u ≡ true
-    → waits (threads ++ new ∷ []) object u ≡ true
-front_waits [] new object u h = absurd (false≢true h)
-front_waits (x ∷ xs) new object zero h = h
-front_waits (x ∷ xs) new object (suc u) h = front_waits xs new object u h
-
-last_is : (threads : List Thread) (new : Thread) (u : ℕ) (thread : Thread) → slice_get threads u ≡ None
-    → slice_get (threads ++ new ∷ []) u ≡ Some thread → new ≡ thread
-last_is [] new zero thread n e = cc
-last_is [] new (suc u) thread n e = absurd cc
-last_is (x ∷ xs) new zero thread n e = absurd cc
-last_is (x ∷ xs) new (suc u) thread n e = last_is xs new u thread n e
-
-started_go : (files : Program) (os : List ReferenceType) (t : ℕ) (threads : List Thread) (object : ℕ)
-    → is_object_in files os java_lang_thread object ≡ true → Go files os t threads (threads ++ new_thread object ∷ [])
-started_go files os t threads object h =
-    record {
-      still = λ u thread e. record { thread = thread; there = get_front threads (new_thread object ∷ []) u thread e; object = refl; kept = λ q. kept_self thread };
-      started = λ u thread n e. subst (Started files os) (last_is threads (new_thread object) u thread n e) (record { pending = refl; status = refl; object = h });
-    }
+use Rattle.run_laws.proofs.typed_runs.Signatures.{void_results, bit_results, thread_results, target_results, int_printed_results, char_printed_results, string_printed_results, int_answered_results, char_at_results, equals_results, compare_results, index_results, regions_results, concat_results, concat_arguments, substring_results, substring_arguments, int_text_results, char_text_results, wait_arguments, wait_receiver, start_arguments, start_receiver, no_parameters, target_arguments, target_receiver, target_parameters, target_type, message_parameters, cause_parameters}
+use Rattle.run_laws.proofs.typed_runs.StartedThreads.{front_waits, started_go}
 
 module _ (files : Program) (linked : Linked files) (event : Event) (w : World) (f : Frame) (next : ℕ) (method : Member)
     (ops rest : List Value) (c : Called files event w f next method ops rest) where
+  abbrev a_string : List VerificationType
+  a_string = OfType (ClassType java_lang_string) ∷ []
+
   -- ---- how the frame goes on
 
   ready_after : (after : World) (vs : List Value) → Extends (types_of w.heap) (types_of after.heap)
@@ -249,7 +110,7 @@ module _ (files : Program) (linked : Linked files) (event : Event) (w : World) (
   abbrev Typed : BuiltInMethod → Type 0
   Typed b = OutcomeTyped files event.thread w f (built_in_does values files b next event w f.place.slots ops rest)
 
-  waited : method ≡ of_object (codes "wait") → (b interrupted : Bool) → is_owner w event.thread (object_of values ops 0) ≡ b
+  waited : method ≡ of_object (codes "wait") (codes "()V") → (b interrupted : Bool) → is_owner w event.thread (object_of values ops 0) ≡ b
       → OutcomeTyped files event.thread w f (wait_by b interrupted event.thread (object_of values ops 0) w rest)
   waited e false interrupted q = tt
   waited e true true q = tt
@@ -319,21 +180,21 @@ module _ (files : Program) (linked : Linked files) (event : Event) (w : World) (
   int_answered (Same k) e is = absurd is
   int_answered (Composes text) e is = absurd is
 
-  composed : (text : Text) → result_types files method ≡ a_string files
+  composed : (text : Text) → result_types files method ≡ a_string
       → OutcomeTyped files event.thread w f (answered values (Composes text) next w f.place.slots ops rest)
   composed text e =
-      carries_at (Makes (length text)) (a_string files) (allocated w (Characters text)) (value.Reference (length w.heap) ∷ []) e
+      carries_at (Makes (length text)) (OfType (ClassType java_lang_string) ∷ []) (allocated w (Characters text)) (value.Reference (length w.heap) ∷ []) e
       (allocated_keeps files w c.fits (Characters text) refl)
       (and_from _ _ (added_below files w.heap c.fits.heap (Characters text)) refl)
 
-  string_answered : (place : ℕ) (a : StringAnswer) → result_types files method ≡ a_string files
+  string_answered : (place : ℕ) (a : StringAnswer) → result_types files method ≡ a_string
       → has_type files (types_of w.heap) (OfType (ClassType java_lang_string)) (operand values ops place) ≡ true → IsOfString place a
       → OutcomeTyped files event.thread w f (answered values a next w f.place.slots ops rest)
   string_answered place IsNull e typed is = tt
   string_answered place IsOutside e typed is = tt
   string_answered place (Answers bits) e typed is = absurd is
   string_answered place (Same k) e typed is =
-      carries (a_string files) w (operand values ops k ∷ []) e (self_keeps files w c.fits)
+      carries (OfType (ClassType java_lang_string) ∷ []) w (operand values ops k ∷ []) e (self_keeps files w c.fits)
       (and_from _ _ (subst (λ n. has_type files (types_of w.heap) (OfType (ClassType java_lang_string)) (operand values ops n) ≡ true) (sym is) typed) refl)
   string_answered place (Composes text) e typed is = composed text e
 
@@ -353,7 +214,7 @@ module _ (files : Program) (linked : Linked files) (event : Event) (w : World) (
   concat_typed : method ≡ of_string (codes "concat") (codes "(Ljava/lang/String;)Ljava/lang/String;") → Typed (StringAnswers Concat)
   concat_typed e =
       string_answered 1 (answer Concat) (ap (result_types files) e ∙ concat_results files)
-      (typed_operand (OfType (ClassType java_lang_string) ∷ a_string files) (ap (argument_types files) e ∙ concat_arguments files) 1)
+      (typed_operand (OfType (ClassType java_lang_string) ∷ a_string) (ap (argument_types files) e ∙ concat_arguments files) 1)
       (concat_of_string ints texts)
 
   substring_typed : method ≡ of_string (codes "substring") (codes "(II)Ljava/lang/String;") → Typed (StringAnswers Substring)
@@ -415,8 +276,70 @@ module _ (files : Program) (linked : Linked files) (event : Event) (w : World) (
   gives_text e =
       let os = types_of w.heap in
       let r = object_of values ops 0 in
-      carries (a_string files) w (kept_string values (object_at w r) ∷ []) (gives (to_string files) e) (self_keeps files w c.fits)
+      carries (OfType (ClassType java_lang_string) ∷ []) w (kept_string values (object_at w r) ∷ []) (gives (to_string files) e) (self_keeps files w c.fits)
       (and_from _ _ (kept_string_typed files os (object_at w r) (at_typed files os w.heap r c.fits.heap)) refl)
+
+  -- ---- what an object tells of itself
+
+  abbrev asked : Option ℕ
+  asked = referent values ops 0
+
+  int_told : (a : ObjectAnswer) → result_types files method ≡ IntType ∷ [] → IsIntTold a
+      → OutcomeTyped files event.thread w f (tells values files a next w f.place.slots rest)
+  int_told telling.IsNull e is = tt
+  int_told HasNoClass e is = tt
+  int_told (telling.Answers bits) e is = carries (IntType ∷ []) w (value.Int bits ∷ []) e (self_keeps files w c.fits) refl
+  int_told (IsOf class) e is = absurd is
+  int_told (telling.Composes text) e is = absurd is
+
+  text_told : (a : ObjectAnswer) → result_types files method ≡ a_string → IsTextTold a
+      → OutcomeTyped files event.thread w f (tells values files a next w f.place.slots rest)
+  text_told telling.IsNull e is = tt
+  text_told HasNoClass e is = tt
+  text_told (telling.Answers bits) e is = absurd is
+  text_told (IsOf class) e is = absurd is
+  text_told (telling.Composes text) e is = composed text e
+
+  -- the Class object of the receiver's class
+  class_told : method ≡ of_object (codes "getClass") (codes "()Ljava/lang/Class;") → Typed (ObjectAnswers object_method.GetClass)
+  class_told e = by (operand values ops 0) (taken (get_class files) e 0)
+    where
+      of_type : (t : ReferenceType) → is_assignable files t (ClassType java_lang_object) ≡ true
+          → OutcomeTyped files event.thread w f (tells values files (class_answer t) next w f.place.slots rest)
+      of_type (ClassType name) h =
+          let r = class_reference files name in
+          let there = c.fits.opened.keeps r (ClassType java_lang_class) (class_there files name (class_is_there files name h)) in
+          carries (a_class ∷ []) w (value.Reference r ∷ []) (gives (get_class files) e) (self_keeps files w c.fits)
+          (and_from _ _ (subst (λ o. is_object_below files (ClassType java_lang_class) o ≡ true) (sym there) (assignable_self files (ClassType java_lang_class))) refl)
+      of_type (PrimitiveArray of) h = tt
+      of_type (ReferenceArray of) h = tt
+
+      by : (v : Value) → is_value_below files (types_of w.heap) (ClassType java_lang_object) v ≡ true
+          → OutcomeTyped files event.thread w f (tells values files (object_answer files object_method.GetClass (reference_of v) (type_at w) (int_operand values ops 0)) next w f.place.slots rest)
+      by value.Unset h = tt
+      by (value.Int bits) h = tt
+      by value.Null h = tt
+      by (value.Reference r) h =
+          let found = object_found files w.heap r (ClassType java_lang_object) h in
+          of_type (type_at w r) (subst (λ o. is_assignable files (type_of o) (ClassType java_lang_object) ≡ true) (sym (get_or_from_slice_get w.heap r found.0 no_object found.1)) found.2)
+
+  object_rows : AllByRecursion (λ (row : Member × BuiltInMethod). method ≡ row.0 → Typed row.1) (drop 37 built_in_methods)
+  object_rows = (
+    λ e. int_told _ (gives (hash_code files) e) (hash_told files (type_at w) (int_operand values ops 0) asked),
+    (
+      class_told,
+      (
+        λ e. int_told _ (ap (result_types files) e ∙ identity_results files) (identity_told files (type_at w) (int_operand values ops 0) asked),
+        (
+          λ e. text_told _ (ap (result_types files) e ∙ name_results files) (name_told files (type_at w) (int_operand values ops 0) asked),
+          (
+            λ e. text_told _ (ap (result_types files) e ∙ described_results files) (described_told files (type_at w) (int_operand values ops 0) (referent values ops 1)),
+            tt,
+          ),
+        ),
+      ),
+    ),
+  )
 
   builder_rows : AllByRecursion (λ (row : Member × BuiltInMethod). method ≡ row.0 → Typed row.1) (drop 30 built_in_methods)
   builder_rows = (
@@ -433,7 +356,7 @@ module _ (files : Program) (linked : Linked files) (event : Event) (w : World) (
               λ e. adds (append_builder files) e _,
               (
                 gives_text,
-                tt,
+                object_rows,
               ),
             ),
           ),
@@ -538,22 +461,71 @@ module _ (files : Program) (linked : Linked files) (event : Event) (w : World) (
     ),
   )
 
-  -- a constructor
-  constructed : returns_void method.descriptor ≡ true → Typed Construct
-  constructed void = carries [] w [] (ap (map (verification_type files)) (returns_nothing method.descriptor void)) (self_keeps files w c.fits) refl
+  -- ---- constructors
+
+  -- an operand of a method with these parameters, whether it has a receiver or not
+  typed_over : (ps : List VerificationType) → parameter_types files method ≡ ps → (k : ℕ) (t : VerificationType)
+      → slice_index_or (reverse ps) k Unusable ≡ t → slice_index_or (reverse (receiver_type method ∷ ps)) k Unusable ≡ t
+      → has_type files (types_of w.heap) t (operand values ops k) ≡ true
+  typed_over ps e k t alone over = by (has_no_receiver files method) refl
+    where
+      by : (b : Bool) → has_no_receiver files method ≡ b → has_type files (types_of w.heap) t (operand values ops k) ≡ true
+      by true q =
+          subst (λ u. has_type files (types_of w.heap) u (operand values ops k) ≡ true) alone
+          (typed_operand ps (ap (λ x. if x then parameter_types files method else receiver_type method ∷ parameter_types files method) q ∙ e) k)
+      by false q =
+          subst (λ u. has_type files (types_of w.heap) u (operand values ops k) ≡ true) over
+          (typed_operand (receiver_type method ∷ ps) (ap (λ x. if x then parameter_types files method else receiver_type method ∷ parameter_types files method) q ∙ ap (λ l. receiver_type method ∷ l) e) k)
+
+  module _ (void : returns_void method.descriptor ≡ true) where
+    sets : (r : ℕ) (change : ObjectOf Value → ObjectOf Value) → ((o : ObjectOf Value) → type_of (change o) ≡ type_of o)
+        → ((o : ObjectOf Value) → is_object_typed files (types_of w.heap) o ≡ true → is_object_typed files (types_of w.heap) (change o) ≡ true)
+        → OutcomeTyped files event.thread w f (pushing next [] (with_object w r (change (object_at w r))) f.place.slots rest)
+    sets r change same typed =
+        carries [] (with_object w r (change (object_at w r))) [] (ap (map (verification_type files)) (returns_nothing method.descriptor void)) (changed_keeps files w c.fits r change same typed) refl
+
+    abbrev os : List ReferenceType
+    os = types_of w.heap
+
+    with_a_message : method.descriptor ≡ codes "(Ljava/lang/String;)V" → Typed ConstructWithMessage
+    with_a_message e =
+        let v = operand values ops 0 in
+        let ps = ap (λ d. map (verification_type files) (parameters_declared d)) e ∙ message_parameters files in
+        let given = typed_over (OfType (ClassType java_lang_string) ∷ []) ps 0 (OfType (ClassType java_lang_string)) refl refl in
+        sets (object_of values ops 1) (with_field throwable_message v) (with_field_same throwable_message v) (λ o h. message_typed files os v o given h)
+
+    with_a_cause : method.descriptor ≡ codes "(Ljava/lang/String;Ljava/lang/Throwable;)V" → Typed ConstructWithCause
+    with_a_cause e =
+        let v = operand values ops 0 in
+        let m = operand values ops 1 in
+        let two = OfType (ClassType java_lang_string) ∷ OfType (ClassType java_lang_throwable) ∷ [] in
+        let ps = ap (λ d. map (verification_type files) (parameters_declared d)) e ∙ cause_parameters files in
+        let cause = typed_over two ps 0 (OfType (ClassType java_lang_throwable)) refl refl in
+        let message = typed_over two ps 1 (OfType (ClassType java_lang_string)) refl refl in
+        sets (object_of values ops 2) (λ o. with_field throwable_cause v (with_field throwable_message m o))
+        (λ o. with_field_same throwable_cause v (with_field throwable_message m o) ∙ with_field_same throwable_message m o)
+        (λ o h. cause_typed files os v (with_field throwable_message m o) cause (message_typed files os m o message h))
+
+    constructed : Typed (constructor_of method.descriptor)
+    constructed =
+        let one = codes "(Ljava/lang/String;)V" in
+        let two = codes "(Ljava/lang/String;Ljava/lang/Throwable;)V" in
+        cond_both (name_eq method.descriptor one) _ _ Typed (λ q. with_a_message (names_same method.descriptor one q))
+        (λ q. cond_both (name_eq method.descriptor two) _ _ Typed (λ r. with_a_cause (names_same method.descriptor two r))
+        (λ r. carries [] w [] (ap (map (verification_type files)) (returns_nothing method.descriptor void)) (self_keeps files w c.fits) refl))
 
   walk : (rows : List (Member × BuiltInMethod)) → AllByRecursion (λ (row : Member × BuiltInMethod). method ≡ row.0 → Typed row.1) rows
-      → (list_any (is_row_of method) rows ≡ false → Typed Construct)
-      → Typed (unwrap_or (option_map (λ (row : Member × BuiltInMethod). row.1) (find (is_row_of method) rows)) Construct)
-  walk [] h k = k refl
-  walk (row ∷ rows) h k =
-      cond_both (is_row_of method row) (Some row) (find (is_row_of method) rows) (λ o. Typed (unwrap_or (option_map (λ (r : Member × BuiltInMethod). r.1) o) Construct))
-      (λ q. h.0 (sym (members_same row.0 method q))) (λ q. walk rows h.1 (λ n. k (or_from (is_row_of method row) (list_any (is_row_of method) rows) q n)))
+      → (other : BuiltInMethod) → (list_any (is_row_of method) rows ≡ false → Typed other)
+      → Typed (unwrap_or (option_map (λ (row : Member × BuiltInMethod). row.1) (find (is_row_of method) rows)) other)
+  walk [] h other k = k refl
+  walk (row ∷ rows) h other k =
+      cond_both (is_row_of method row) (Some row) (find (is_row_of method) rows) (λ o. Typed (unwrap_or (option_map (λ (r : Member × BuiltInMethod). r.1) o) other))
+      (λ q. h.0 (sym (members_same row.0 method q))) (λ q. walk rows h.1 other (λ n. k (or_from (is_row_of method row) (list_any (is_row_of method) rows) q n)))
 
   built_in_case : OutcomeTyped files event.thread w
       f (built_in_does values files (BuiltInMethods.built_in_method method) next event w f.place.slots ops rest)
   built_in_case =
-      walk built_in_methods on_rows
+      walk built_in_methods on_rows (constructor_of method.descriptor)
       (λ n. constructed (⊎_elim (λ q. absurd (false≢true (sym n ∙ q))) (λ q. (and_parts _ _ q).1) (or_cases (list_any (is_row_of method) built_in_methods) _ c.machine)))
 
 -- each built-in method brings about what a call of it has to

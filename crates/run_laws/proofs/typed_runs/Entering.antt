@@ -55,7 +55,7 @@ module _ (files : Program) (rooted : Rooted files) (t : ℕ) (before : World) (f
   pub pushed_typed : (frames : ℕ) (world after : World) (thread new : Thread) (stack rest : StackOf Value) (frame : Frame)
       → At files t before world thread → thread.status ≡ Running → At files t before after new → new.status ≡ Running → new.pending ≡ None
       → Failing files (types_of world.heap) stack → Beneath files (types_of after.heap) Instruction (Invocation frame ∷ rest)
-      → OnPart files t before (pushed frames t world after stack rest frame)
+      → OnPart files t before (pushed values files frames t world after stack rest frame)
   pushed_typed frames world after thread new stack rest frame at runs later runs_later none failing h =
       cond_both (nat_lt (frame_count stack) frames) _ _ (OnPart files t before)
       (λ q. entering_typed after new rest frame frame.entered later runs_later none h)
@@ -65,7 +65,7 @@ module _ (files : Program) (rooted : Rooted files) (t : ℕ) (before : World) (f
 
   pub leaving_typed : (o : Option ℕ) (world : World) (thread : Thread) (rest stack : StackOf Value) → At files t before world thread
       → thread.status ≡ Running → IsRunning files (types_of world.heap) thread.pending rest → Failing files (types_of world.heap) stack
-      → OnPart files t before (leaving t o world rest stack)
+      → OnPart files t before (leaving values files t o world rest stack)
   leaving_typed None world thread rest stack at runs h failing = on_typed files t before first was world thread rest at runs h
   leaving_typed (Some object) world thread rest stack at runs h failing =
       let x = exit_keeps files world at.changes.fits t object in

@@ -28,7 +28,7 @@ use Rattle.run_laws.proofs.laws.Linked.{Linked}
 use Rattle.run_laws.proofs.typed_runs.WorldChanges.{class_status_keeps, relock_keeps}
 use Rattle.run_laws.proofs.typed_runs.NewFrames.{opened_ready, initialiser_arguments}
 use Rattle.run_laws.proofs.typed_runs.Handlers.{handled_ready}
-use Rattle.run_laws.proofs.typed_runs.StepParts.{At, OnPart, at_same, own_at, on_typed, raised_typed, interrupted_typed, idle_running}
+use Rattle.run_laws.proofs.typed_runs.StepParts.{At, OnPart, at_same, own_at, on_typed, raised_for_typed, interrupted_typed, idle_running}
 use Rattle.run_laws.proofs.typed_runs.Entering.{BegunKeeps, enabled_typed, going_typed, pushed_typed, leaving_typed, needing_class_typed}
 
 module _ (files : Program) (linked : Linked files) (t : ℕ) (world : World) (thread : Thread)
@@ -45,7 +45,7 @@ module _ (files : Program) (linked : Linked files) (t : ℕ) (world : World) (th
     unwound_typed : (frame : Frame) (stack : StackOf Value) → Stopped files (types_of world.heap) frame
         → Beneath files (types_of world.heap) (Results (result_types files frame.method)) stack → (o : Option ExceptionEntry)
         → option_and_then (handler_in files frame.place.offset (slice_get (types_of world.heap) exception)) (body_of files frame.method)
-        ≡ o → OnPart files t world (unwound values t exception world frame stack o)
+        ≡ o → OnPart files t world (unwound values files t exception world frame stack o)
     unwound_typed frame stack stopped beneath None e =
         let failing = failing_from files (types_of world.heap) (Results (result_types files frame.method)) stack beneath in
         leaving_typed files linked.rooted t world thread there frame.entered world thread stack stack start runs (subst (λ p. IsRunning files (types_of world.heap) p stack) (sym pending) (throwable, failing)) failing
@@ -56,12 +56,12 @@ module _ (files : Program) (linked : Linked files) (t : ℕ) (world : World) (th
         (handled_ready files linked (types_of world.heap) frame stopped exception entry throwable e, beneath)
 
     failed_typed : (class : Name) (stack : StackOf Value) → Failing files (types_of world.heap) stack → (b : Bool)
-        → OnPart files t world (failed t b (with_class_status world class Erroneous) stack)
+        → OnPart files t world (failed values files t exception b (with_class_status world class Erroneous) stack)
     failed_typed class stack failing true =
         on_typed files t world thread there (with_class_status world class Erroneous) thread stack (at_same files t world thread there world (with_class_status world class Erroneous) thread start (class_status_keeps files world start.changes.fits class Erroneous) refl) runs
         (subst (λ p. IsRunning files (types_of world.heap) p stack) (sym pending) (throwable, failing))
     failed_typed class stack failing false =
-        raised_typed files t world thread there linked.rooted ExceptionInInitializer (with_class_status world class Erroneous) thread stack (at_same files t world thread there world (with_class_status world class Erroneous) thread start (class_status_keeps files world start.changes.fits class Erroneous) refl) runs failing
+        raised_for_typed files t world thread there linked.rooted ExceptionInInitializer (Some exception) (with_class_status world class Erroneous) thread stack throwable (at_same files t world thread there world (with_class_status world class Erroneous) thread start (class_status_keeps files world start.changes.fits class Erroneous) refl) runs failing
 
     pub pending_event_typed : (thrown : Option ReferenceType) → slice_get (types_of world.heap) exception ≡ thrown
         → (stack : StackOf Value) → Failing files (types_of world.heap) stack
@@ -76,19 +76,19 @@ module _ (files : Program) (linked : Linked files) (t : ℕ) (world : World) (th
 
   after_typed : (cause : WakeCause) (after : World) (new : Thread) (stack : StackOf Value) → At files t world after new
       → new.status ≡ Running → new.pending ≡ None → Beneath files (types_of after.heap) (Results []) stack
-      → OnPart files t world (after_wait files t cause after stack)
+      → OnPart files t world (after_wait values files t cause after stack)
   after_typed Notified after new stack at runs none beneath =
       going_typed files linked.rooted t world thread there after new (returned files [] stack) at runs none (returned_typed files linked.rooted (types_of after.heap) [] stack [] beneath refl)
   after_typed Interrupted after new stack at runs none beneath =
       interrupted_typed files t world thread there linked.rooted after new stack at runs (failing_from files (types_of after.heap) (Results []) stack beneath)
 
   pub relock_typed : (object count : ℕ) (cause : WakeCause) (stack : StackOf Value) → thread.pending ≡ None
-      → Beneath files (types_of world.heap) (Results []) stack → OnPart files t world (relock_event files t object count cause world stack)
+      → Beneath files (types_of world.heap) (Results []) stack → OnPart files t world (relock_event values files t object count cause world stack)
   relock_typed object count cause stack none beneath =
       let locked = with_monitors world (monitors.relock object t count world.monitors) in
       let new = record (thread_at locked t) { status = Running } in
       let at = at_same files t world thread there world locked thread start (relock_keeps files world start.changes.fits t object count) refl in
-      enabled_typed files t world (is_done (monitors.relock object t count world.monitors).answer) (after_wait files t cause (with_status locked t Running) stack)
+      enabled_typed files t world (is_done (monitors.relock object t count world.monitors).answer) (after_wait values files t cause (with_status locked t Running) stack)
       (after_typed cause (with_status locked t Running) new stack (own_at files t world thread there locked thread new at refl (λ object. refl)) refl (ap (λ (th : Thread). th.pending) is_at ∙ none) beneath)
 
   -- ---- a class on top of the stack
@@ -96,7 +96,7 @@ module _ (files : Program) (linked : Linked files) (t : ℕ) (world : World) (th
   module _ (accepted : AreTyped files) (begun_keeps : BegunKeeps files) (frames : ℕ) (runs : thread.status ≡ Running) (none : thread.pending ≡ None) where
     initialiser_typed : (class : Name) (stack : StackOf Value) → Beneath files (types_of world.heap) Instruction stack → (o : Option Body)
         → body_of files (initialiser_of class) ≡ o
-        → OnPart files t world (initialiser_event values frames t (initialiser_of class) world (Initialisation class End ∷ stack) o)
+        → OnPart files t world (initialiser_event values files frames t (initialiser_of class) world (Initialisation class End ∷ stack) o)
     initialiser_typed class stack beneath None e = going_typed files linked.rooted t world thread there world thread (Initialisation class End ∷ stack) start runs none beneath
     initialiser_typed class stack beneath (Some body) e =
         pushed_typed files linked.rooted t world thread there frames world world thread thread (Initialisation class End ∷ stack) (Initialisation class End ∷ stack) (frame_with values (initialiser_of class) [] None body) start runs start runs none beneath

@@ -16,8 +16,8 @@ use Rattle.model.specs.ReferenceTypes.{ReferenceType, is_assignable, ClassType}
 use Rattle.model.specs.Types.{is_object_below}
 use Rattle.model.specs.DescribedTypes.{DeclaredType, DeclaredInt, DeclaredReference, element_declared, declared_with, declared_of, field_declared, verification_type}
 use Rattle.model.specs.Operands.{values}
-use Rattle.model.specs.State.{ObjectOf, References, type_of, types_of, Characters, Instance}
-use Rattle.model.specs.Opening.{first_value, first_of, with_first, new_instance}
+use Rattle.model.specs.State.{ObjectOf, References, type_of, types_of, Characters}
+use Rattle.model.specs.Opening.{first_value, first_of, with_first, first_instance, new_instance}
 use Rattle.model.specs.Lookup.{instance_fields}
 use Rattle.model.specs.Worlds.{value_in, with_value, type_kept, element_kept, put_value}
 use Rattle.model.specs.WellTyped.{has_type, is_field_typed, is_object_typed}
@@ -87,15 +87,18 @@ module _ (files : Program) (os : List ReferenceType) where
       (λ e. and_from _ _ (subst (λ d. has_type files os (verification_type files (field_declared d)) v ≡ true) (sym (same_descriptor f.0 field e)) q) g.1)
       (λ e. and_from _ _ g.0 (with_value_typed field v fields q g.1))
 
+  pub first_instance_typed : (class : Name) → is_object_typed files os (first_instance values files class) ≡ true
+  first_instance_typed class = all_map (is_field_typed files os) (with_first values) (instance_fields files class) first_of_typed
+
   pub new_instance_typed : (class : Name) → is_object_typed files os (new_instance values files class) ≡ true
   new_instance_typed class =
-      cond_both (name_eq class java_lang_string) (Characters []) (Instance class (map (with_first values) (instance_fields files class))) (λ o. is_object_typed files os o ≡ true)
-      (λ e. refl) (λ e. all_map (is_field_typed files os) (with_first values) (instance_fields files class) first_of_typed)
+      cond_both (name_eq class java_lang_string) (Characters []) (first_instance values files class) (λ o. is_object_typed files os o ≡ true)
+      (λ e. refl) (λ e. first_instance_typed class)
 
   -- it is of its class
   pub new_instance_type : (class : Name) → type_of (new_instance values files class) ≡ ClassType class
   new_instance_type class =
-      cond_both (name_eq class java_lang_string) (Characters []) (Instance class (map (with_first values) (instance_fields files class))) (λ o. type_of o ≡ ClassType class)
+      cond_both (name_eq class java_lang_string) (Characters []) (first_instance values files class) (λ o. type_of o ≡ ClassType class)
       (λ e. ap (λ n. ClassType n) (sym (names_same class java_lang_string e))) (λ e. refl)
 
   -- ---- what is kept of a value

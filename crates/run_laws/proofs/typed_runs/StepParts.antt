@@ -1,6 +1,6 @@
 -- What a step of a thread leaves: a world that it may leave, with its own stack typed. And the exceptions that the
 -- machine makes.
-use Rattle.std.proofs.Common.{◌≡◌, ℕ, [], ◌∷◌, ◌++◌, length, true, false, Some, refl, sym, ap, ◌∙◌, subst}
+use Rattle.std.proofs.Common.{◌≡◌, ℕ, [], ◌∷◌, ◌++◌, length, true, false, Option, Some, None, refl, sym, ap, ◌∙◌, subst}
 use Rattle.std.specs.Prelude.{slice_get}
 use Rattle.std.proofs.lemmas.Bool.{false≢true, eq-eqb}
 use Rattle.std.proofs.lemmas.Option.{get_or_from_slice_get}
@@ -10,20 +10,23 @@ use Rattle.model.specs.Names.{java_lang_throwable}
 use Rattle.model.specs.BuiltIn.{built_in_classes}
 use Rattle.model.specs.Classes.{Program, is_within}
 use Rattle.model.specs.ReferenceTypes.{ClassType}
-use Rattle.model.specs.Types.{OfType}
-use Rattle.model.specs.State.{Instance, types_of, ThreadStatus, Running, Relock, Thread, StackOf, World}
+use Rattle.model.specs.Types.{OfType, is_object_below}
+use Rattle.model.specs.State.{ObjectOf, type_of, types_of, ThreadStatus, Running, Relock, Thread, StackOf, World}
 use Rattle.model.specs.Outcomes.{MachineException, exception_class, NullPointer, Arithmetic, ArrayIndexOutOfBounds, StringIndexOutOfBounds, NegativeArraySize, ArrayStore, ClassCast, IllegalMonitorState, IllegalThreadState, InterruptedWait, IncompatibleClassChange, AbstractMethod, StackOverflow, NoClassDefFound, ExceptionInInitializer}
 use Rattle.model.specs.Worlds.{no_thread, thread_at, with_thread, with_pending, with_interrupted, allocated}
-use Rattle.model.specs.Step.{SteppedOf, NotEnabled, WrongKind, Next, PartOf, part, raised, raised_by_interrupt}
+use Rattle.model.specs.Step.{SteppedOf, NotEnabled, WrongKind, Next, PartOf, part, raised_for, raised, raised_by_interrupt}
 use Rattle.model.specs.WellTyped.{is_object_in, is_waiting_for, Failing, IsRunning, IsStackTyped}
 use Rattle.run_laws.specs.laws.Steps.{Rooted}
 use Rattle.run_laws.proofs.laws.Classes.{within_subclass}
 use Rattle.run_laws.proofs.laws.Order.{stack_above}
 use Rattle.run_laws.proofs.typed_runs.Invariant.{failing_more}
-use Rattle.run_laws.proofs.typed_runs.Objects.{added_below}
+use Rattle.model.specs.MachineExceptions.{machine_exception}
+use Rattle.model.specs.Operands.{values}
+use Rattle.run_laws.proofs.typed_runs.Exceptions.{IsCause, cause_more, exception_typed, exception_type}
+use Rattle.run_laws.proofs.typed_runs.Objects.{added_extends, added_below}
 use Rattle.run_laws.proofs.typed_runs.Changes.{Moved, Same, Wakes, Fits, Changes, Live}
 use Rattle.run_laws.proofs.typed_runs.Threads.{get_set_at}
-use Rattle.run_laws.proofs.typed_runs.WorldChanges.{Keeps, changes_of, changes_trans, self_keeps, allocated_keeps, own_changes}
+use Rattle.run_laws.proofs.typed_runs.WorldChanges.{Keeps, extends_trans, changes_of, changes_trans, self_keeps, allocated_keeps, own_changes}
 
 -- it waits for nothing
 abbrev pub IsIdle : Thread → Type 0
@@ -149,23 +152,32 @@ module _ (files : Program) (t : ℕ) (before : World) (first : Thread) (was : sl
         let status = ap (λ (th : Thread). th.status) (get_or_from_slice_get world.threads t thread no_thread at.there) ∙ runs in
         on_typed (with_thread world t new) new stack (own_at world thread new at refl (idle_running new status)) status (h, failing)
 
-    fault_typed : (fault : MachineException) (world : World) (fits : Fits files world)
-        → is_object_in files (types_of (world.heap ++ Instance (exception_class fault) [] ∷ [])) java_lang_throwable (length world.heap)
-        ≡ true
-    fault_typed fault world fits =
-        stack_above files rooted (types_of (world.heap ++ Instance (exception_class fault) [] ∷ [])) (OfType (ClassType (exception_class fault))) (OfType (ClassType java_lang_throwable)) (value.Reference (length world.heap)) (within_subclass files rooted 5 (exception_class fault) java_lang_throwable (fault_within files fault)) (added_below files world.heap fits.heap (Instance (exception_class fault) []))
+    fault_typed : (fault : MachineException) (o : ObjectOf Value) → type_of o ≡ ClassType (exception_class fault) → (world : World)
+        → Fits files world → is_object_in files (types_of (world.heap ++ o ∷ [])) java_lang_throwable (length world.heap) ≡ true
+    fault_typed fault o is world fits =
+        let os = types_of (world.heap ++ o ∷ []) in
+        let class = exception_class fault in
+        stack_above files rooted os (OfType (ClassType class)) (OfType (ClassType java_lang_throwable)) (value.Reference (length world.heap)) (within_subclass files rooted 5 class java_lang_throwable (fault_within files fault))
+        (subst (λ t. is_object_below files t (slice_get os (length world.heap)) ≡ true) is (added_below files world.heap fits.heap o))
 
-    -- the machine makes an exception
+    -- the machine makes an exception, whose cause is there
+    pub raised_for_typed : (fault : MachineException) (cause : Option ℕ) (world : World) (thread : Thread) (stack : StackOf Value)
+        → IsCause files (types_of world.heap) cause → At files t before world thread → thread.status ≡ Running
+        → Failing files (types_of world.heap) stack → OnPart files t before (raised_for values files t fault cause world stack)
+    raised_for_typed fault cause world thread stack is at runs failing =
+        let fits = at.changes.fits in
+        let o = machine_exception values files fault cause in
+        let added = added_extends files world.heap fits.heap o in
+        let x = allocated_keeps files world fits o (exception_typed files (types_of (world.heap ++ o ∷ [])) (extends_trans _ _ _ fits.opened added) fault cause (cause_more files _ _ added cause is)) in
+        pending_typed (allocated world o) thread (length world.heap) stack (at_same world (allocated world o) thread at x refl) runs (fault_typed fault o (exception_type files fault cause) world fits) (failing_more files _ _ x.extends stack failing)
+
     pub raised_typed : (fault : MachineException) (world : World) (thread : Thread) (stack : StackOf Value)
         → At files t before world thread → thread.status ≡ Running → Failing files (types_of world.heap) stack
-        → OnPart files t before (raised t fault world stack)
-    raised_typed fault world thread stack at runs failing =
-        let o = Instance (exception_class fault) [] in
-        let x = allocated_keeps files world at.changes.fits o refl in
-        pending_typed (allocated world o) thread (length world.heap) stack (at_same world (allocated world o) thread at x refl) runs (fault_typed fault world at.changes.fits) (failing_more files _ _ x.extends stack failing)
+        → OnPart files t before (raised values files t fault world stack)
+    raised_typed fault world thread stack at runs failing = raised_for_typed fault None world thread stack tt at runs failing
 
     pub interrupted_typed : (world : World) (thread : Thread) (stack : StackOf Value) → At files t before world thread
-        → thread.status ≡ Running → Failing files (types_of world.heap) stack → OnPart files t before (raised_by_interrupt t world stack)
+        → thread.status ≡ Running → Failing files (types_of world.heap) stack → OnPart files t before (raised_by_interrupt values files t world stack)
     interrupted_typed world thread stack at runs failing =
         let new = record (thread_at world t) { interrupted = false } in
         let status = ap (λ (th : Thread). th.status) (get_or_from_slice_get world.threads t thread no_thread at.there) ∙ runs in

@@ -38,7 +38,7 @@ module _ (files : Program) (linked : Linked files) (t : ℕ) (world : World) (fi
 
   pub become_typed : (frames : ℕ) (frame : Frame) (stack : StackOf Value) → Ready files (types_of world.heap) frame
       → Beneath files (types_of world.heap) (Results (result_types files frame.method)) stack → (o : OutcomeOf Value)
-      → OutcomeTyped files t world frame o → OnPart files t world (become files frames t world frame stack o)
+      → OutcomeTyped files t world frame o → OnPart files t world (become values files frames t world frame stack o)
   become_typed frames frame stack ready beneath (Goes cost after slots to) h =
       let more = beneath_more files _ _ h.0.extends (Results (result_types files frame.method)) stack beneath in
       going_typed files linked.rooted t world live.thread live.there after h.1.0.thread (Invocation (at_offset frame to slots) ∷ stack) (live_at files t world after h.0 h.1.0) h.1.0.status h.1.0.pending (h.1.1, more)

@@ -1,5 +1,5 @@
 -- The text of a StringBuilder in a well-typed heap: null, or a reference to a String.
-use Rattle.std.proofs.Common.{◌≡◌, ℕ, List, true, refl, sym, subst}
+use Rattle.std.proofs.Common.{◌≡◌, List, true, refl, subst}
 use Rattle.std.proofs.lemmas.Bool.{false≢true}
 use Rattle.model.specs.declared.value.Value.{Value}
 use Rattle.model.specs.declared.value.Value.TheVariants as value

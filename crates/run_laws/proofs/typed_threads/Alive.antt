@@ -19,7 +19,7 @@ use Rattle.model.specs.Sites.{site_with}
 use Rattle.model.specs.Meanings.{meaning_of}
 use Rattle.model.specs.State.{types_of, InProgress, Erroneous, WakeCause, Notified, Interrupted, ThreadStatus, Running, Waiting, Relock, Ended, Thread, Frame, Phase, Super, End, Invocation, Initialisation, StackOf, World}
 use Rattle.model.specs.Monitors as monitors
-use Rattle.model.specs.Outcomes.{MachineException, NoClassDefFound, StackOverflow, IllegalMonitorState, InterruptedWait, AbstractMethod, ExceptionInInitializer, OutcomeOf, Goes, Raises, Throws, Interrupts, Calls, Returns, Waits}
+use Rattle.model.specs.Outcomes.{MachineException, NoClassDefFound, StackOverflow, IllegalMonitorState, InterruptedWait, AbstractMethod, OutcomeOf, Goes, Raises, Throws, Interrupts, Calls, Returns, Waits}
 use Rattle.model.specs.Worlds.{no_thread, thread_at, has_ended, is_owner, may_enter, with_begun, with_status, with_interrupted, with_monitors, with_static, put_value, is_done, object_at, class_of_object}
 use Rattle.model.specs.ClassInitialisation.{Look, IsReady, IsNew, IsHeld, HasFailed, look_by, status_of, constant_value, with_constant, with_constants, with_class_status, with_class_begun}
 use Rattle.model.specs.Frames.{frame_count, at_call, frame_with}
@@ -51,15 +51,15 @@ status_alive world t thread there h = ap (λ (th : Thread). has_ended th.status)
 live_alive : (world : World) (t : ℕ) → Live world t → IsAlive t world
 live_alive world t live = status_alive world t live.thread live.there (ap has_ended live.status)
 
-module _ (t : ℕ) where
+module _ (files : Program) (t : ℕ) where
   enabled_alive : (b : Bool) (x : SteppedOf (PartOf Value)) → (b ≡ true → Alive t x) → Alive t (enabled_if b x)
   enabled_alive true x h = h refl
   enabled_alive false x h = tt
 
-  raised_alive : (fault : MachineException) (world : World) (stack : StackOf Value) → IsAlive t world → Alive t (raised t fault world stack)
+  raised_alive : (fault : MachineException) (world : World) (stack : StackOf Value) → IsAlive t world → Alive t (raised values files t fault world stack)
   raised_alive fault world stack h = set_alive world.threads t _ h
 
-  interrupted_alive : (world : World) (stack : StackOf Value) → IsAlive t world → Alive t (raised_by_interrupt t world stack)
+  interrupted_alive : (world : World) (stack : StackOf Value) → IsAlive t world → Alive t (raised_by_interrupt values files t world stack)
   interrupted_alive world stack h = raised_alive InterruptedWait (with_interrupted world t false) stack (set_alive world.threads t _ h)
 
   -- ---- calls and returns
@@ -70,11 +70,11 @@ module _ (t : ℕ) where
   entering_alive world rest frame (Some object) h = enabled_alive (may_enter world t object) _ (λ q. h)
 
   pushed_alive : (frames : ℕ) (world after : World) (stack rest : StackOf Value) (frame : Frame) → IsAlive t world → IsAlive t after
-      → Alive t (pushed frames t world after stack rest frame)
+      → Alive t (pushed values files frames t world after stack rest frame)
   pushed_alive frames world after stack rest frame h g =
       cond_both (nat_lt (frame_count stack) frames) _ _ (Alive t) (λ q. entering_alive after rest frame frame.entered g) (λ q. raised_alive StackOverflow world stack h)
 
-  leaving_alive : (o : Option ℕ) (world : World) (rest stack : StackOf Value) → IsAlive t world → Alive t (leaving t o world rest stack)
+  leaving_alive : (o : Option ℕ) (world : World) (rest stack : StackOf Value) → IsAlive t world → Alive t (leaving values files t o world rest stack)
   leaving_alive None world rest stack h = h
   leaving_alive (Some object) world rest stack h =
       cond_both (is_owner world t object) _ _ (Alive t) (λ q. h) (λ q. raised_alive IllegalMonitorState world stack h)
@@ -86,111 +86,111 @@ module _ (t : ℕ) where
   constant_alive world field None h = h
   constant_alive world field (Some v) h = h
 
-  constants_alive : (files : Program) (class : Name) (pool : List Entry) (world : World) (fields : List FieldTree) → IsAlive t world
+  constants_alive : (class : Name) (pool : List Entry) (world : World) (fields : List FieldTree) → IsAlive t world
       → IsAlive t (with_constants values files class pool world fields)
-  constants_alive files class pool world [] h = h
-  constants_alive files class pool world (field ∷ fields) h =
-      constants_alive files class pool (with_constant values files class pool world field) fields (constant_alive world (field_member class pool field) (constant_value values files pool field) h)
+  constants_alive class pool world [] h = h
+  constants_alive class pool world (field ∷ fields) h =
+      constants_alive class pool (with_constant values files class pool world field) fields (constant_alive world (field_member class pool field) (constant_value values files pool field) h)
 
-  begun_alive : (files : Program) (class : Name) (world : World) → IsAlive t world → IsAlive t (with_class_begun values files t class world)
-  begun_alive files class world h = by (class_of files class)
+  begun_alive : (class : Name) (world : World) → IsAlive t world → IsAlive t (with_class_begun values files t class world)
+  begun_alive class world h = by (class_of files class)
     where
       by : (o : Option FileTree) → IsAlive t (option_map_or
           (λ (file : FileTree). with_constants values files class file.pool (with_class_status world class (InProgress t)) file.fields)
           o (with_class_status world class (InProgress t)))
       by None = h
-      by (Some file) = constants_alive files class file.pool (with_class_status world class (InProgress t)) file.fields h
+      by (Some file) = constants_alive class file.pool (with_class_status world class (InProgress t)) file.fields h
 
-  needing_alive : (files : Program) (class : Name) (look : Look) (world : World) (stack : StackOf Value) (rest : SteppedOf (PartOf Value))
+  needing_alive : (class : Name) (look : Look) (world : World) (stack : StackOf Value) (rest : SteppedOf (PartOf Value))
       → IsAlive t world → Alive t rest → Alive t (needing values files t class look world stack rest)
-  needing_alive files class IsReady world stack rest h r = r
-  needing_alive files class IsNew world stack rest h r = begun_alive files class world h
-  needing_alive files class IsHeld world stack rest h r = tt
-  needing_alive files class HasFailed world stack rest h r = raised_alive NoClassDefFound world stack h
+  needing_alive class IsReady world stack rest h r = r
+  needing_alive class IsNew world stack rest h r = begun_alive class world h
+  needing_alive class IsHeld world stack rest h r = tt
+  needing_alive class HasFailed world stack rest h r = raised_alive NoClassDefFound world stack h
 
-  needing_class_alive : (files : Program) (class : Option Name) (world : World) (stack : StackOf Value) (rest : SteppedOf (PartOf Value))
+  needing_class_alive : (class : Option Name) (world : World) (stack : StackOf Value) (rest : SteppedOf (PartOf Value))
       → IsAlive t world → Alive t rest → Alive t (needing_class values files t class world stack rest)
-  needing_class_alive files None world stack rest h r = r
-  needing_class_alive files (Some class) world stack rest h r = needing_alive files class (look_by t (status_of world class)) world stack rest h r
+  needing_class_alive None world stack rest h r = r
+  needing_class_alive (Some class) world stack rest h r = needing_alive class (look_by t (status_of world class)) world stack rest h r
 
   -- ---- instructions
 
-  become_alive : (files : Program) (frames : ℕ) (world : World) (frame : Frame) (stack : StackOf Value) (o : OutcomeOf Value)
-      → IsAlive t world → OutcomeTyped files t world frame o → Alive t (become files frames t world frame stack o)
-  become_alive files frames world frame stack (Goes cost after slots to) h x = live_alive after t x.1.0
-  become_alive files frames world frame stack (Raises fault) h x = raised_alive fault world (Invocation frame ∷ stack) h
-  become_alive files frames world frame stack (Throws exception) h x = set_alive world.threads t _ h
-  become_alive files frames world frame stack Interrupts h x = interrupted_alive world (Invocation frame ∷ stack) h
-  become_alive files frames world frame stack (Calls callee rest) h x =
+  become_alive : (frames : ℕ) (world : World) (frame : Frame) (stack : StackOf Value) (o : OutcomeOf Value)
+      → IsAlive t world → OutcomeTyped files t world frame o → Alive t (become values files frames t world frame stack o)
+  become_alive frames world frame stack (Goes cost after slots to) h x = live_alive after t x.1.0
+  become_alive frames world frame stack (Raises fault) h x = raised_alive fault world (Invocation frame ∷ stack) h
+  become_alive frames world frame stack (Throws exception) h x = set_alive world.threads t _ h
+  become_alive frames world frame stack Interrupts h x = interrupted_alive world (Invocation frame ∷ stack) h
+  become_alive frames world frame stack (Calls callee rest) h x =
       pushed_alive frames world world (Invocation frame ∷ stack) (Invocation (at_call frame rest) ∷ stack) callee h h
-  become_alive files frames world frame stack (Returns after results) h x =
+  become_alive frames world frame stack (Returns after results) h x =
       leaving_alive frame.entered after (returned files results stack) (Invocation frame ∷ stack) (live_alive after t x.1.0)
-  become_alive files frames world frame stack (Waits cost after rest) h x =
+  become_alive frames world frame stack (Waits cost after rest) h x =
       let w = x.1.0 in
       status_alive after t w.thread w.there (ap has_ended w.status)
 
   -- ---- what is no instruction
 
-  failed_alive : (b : Bool) (world : World) (stack : StackOf Value) → IsAlive t world → Alive t (failed t b world stack)
-  failed_alive true world stack h = h
-  failed_alive false world stack h = raised_alive ExceptionInInitializer world stack h
+  failed_alive : (exception : ℕ) (b : Bool) (world : World) (stack : StackOf Value) → IsAlive t world → Alive t (failed values files t exception b world stack)
+  failed_alive exception true world stack h = h
+  failed_alive exception false world stack h = set_alive world.threads t _ h
 
   unwound_alive : (exception : ℕ) (world : World) (frame : Frame) (stack : StackOf Value) (o : Option ExceptionEntry) → IsAlive t world
-      → Alive t (unwound values t exception world frame stack o)
+      → Alive t (unwound values files t exception world frame stack o)
   unwound_alive exception world frame stack None h = leaving_alive frame.entered world stack stack h
   unwound_alive exception world frame stack (Some entry) h = set_alive world.threads t _ h
 
-  pending_alive : (files : Program) (exception : ℕ) (thrown : Option ReferenceType) (world : World) (stack : StackOf Value)
+  pending_alive : (exception : ℕ) (thrown : Option ReferenceType) (world : World) (stack : StackOf Value)
       → IsAlive t world → Alive t (pending_event values files t exception thrown world stack)
-  pending_alive files exception thrown world [] h = tt
-  pending_alive files exception thrown world (Invocation frame ∷ stack) h =
+  pending_alive exception thrown world [] h = tt
+  pending_alive exception thrown world (Invocation frame ∷ stack) h =
       unwound_alive exception world frame stack (option_and_then (handler_in files frame.place.offset thrown) (body_of files frame.method)) h
-  pending_alive files exception thrown world (Initialisation class phase ∷ stack) h =
-      failed_alive (is_object_of files (ClassType java_lang_error) thrown) (with_class_status world class Erroneous) stack h
+  pending_alive exception thrown world (Initialisation class phase ∷ stack) h =
+      failed_alive exception (is_object_of files (ClassType java_lang_error) thrown) (with_class_status world class Erroneous) stack h
 
-  after_alive : (files : Program) (cause : WakeCause) (world : World) (stack : StackOf Value) → IsAlive t world
-      → Alive t (after_wait files t cause world stack)
-  after_alive files Notified world stack h = h
-  after_alive files Interrupted world stack h = interrupted_alive world stack h
+  after_alive : (cause : WakeCause) (world : World) (stack : StackOf Value) → IsAlive t world
+      → Alive t (after_wait values files t cause world stack)
+  after_alive Notified world stack h = h
+  after_alive Interrupted world stack h = interrupted_alive world stack h
 
-  relock_alive : (files : Program) (object count : ℕ) (cause : WakeCause) (world : World) (stack : StackOf Value)
-      → Alive t (relock_event files t object count cause world stack)
-  relock_alive files object count cause world stack =
+  relock_alive : (object count : ℕ) (cause : WakeCause) (world : World) (stack : StackOf Value)
+      → Alive t (relock_event values files t object count cause world stack)
+  relock_alive object count cause world stack =
       enabled_alive (is_done (monitors.relock object t count world.monitors).answer) _
-      (λ q. after_alive files cause (with_status (with_monitors world (monitors.relock object t count world.monitors)) t Running) stack (set_alive world.threads t _ refl))
+      (λ q. after_alive cause (with_status (with_monitors world (monitors.relock object t count world.monitors)) t Running) stack (set_alive world.threads t _ refl))
 
   initialiser_alive : (frames : ℕ) (initialiser : Member) (world : World) (stack : StackOf Value) (o : Option Body) → IsAlive t world
-      → Alive t (initialiser_event values frames t initialiser world stack o)
+      → Alive t (initialiser_event values files frames t initialiser world stack o)
   initialiser_alive frames initialiser world stack None h = h
   initialiser_alive frames initialiser world stack (Some body) h = pushed_alive frames world world stack stack (frame_with values initialiser [] None body) h h
 
-  initialisation_alive : (files : Program) (frames : ℕ) (class : Name) (phase : Phase) (world : World) (stack : StackOf Value)
+  initialisation_alive : (frames : ℕ) (class : Name) (phase : Phase) (world : World) (stack : StackOf Value)
       → IsAlive t world → Alive t (initialisation_event values files frames t class phase world stack)
-  initialisation_alive files frames class Super world stack h =
-      needing_class_alive files (before files class) world (Initialisation class Super ∷ stack) _ h (initialiser_alive frames (initialiser_of class) world (Initialisation class End ∷ stack) (body_of files (initialiser_of class)) h)
-  initialisation_alive files frames class End world stack h = h
+  initialisation_alive frames class Super world stack h =
+      needing_class_alive (before files class) world (Initialisation class Super ∷ stack) _ h (initialiser_alive frames (initialiser_of class) world (Initialisation class End ∷ stack) (body_of files (initialiser_of class)) h)
+  initialisation_alive frames class End world stack h = h
 
-  run_frame_alive : (files : Program) (frames : ℕ) (world : World) (object : ℕ) (method : Member) (o : Option Body) → IsAlive t world
+  run_frame_alive : (frames : ℕ) (world : World) (object : ℕ) (method : Member) (o : Option Body) → IsAlive t world
       → Alive t (run_frame values files frames t world object method o)
-  run_frame_alive files frames world object method None h = raised_alive AbstractMethod world [] h
-  run_frame_alive files frames world object method (Some body) h = pushed_alive frames world (with_begun world t) [] [] _ h (set_alive world.threads t _ h)
+  run_frame_alive frames world object method None h = raised_alive AbstractMethod world [] h
+  run_frame_alive frames world object method (Some body) h = pushed_alive frames world (with_begun world t) [] [] _ h (set_alive world.threads t _ h)
 
-  run_of_alive : (files : Program) (frames : ℕ) (world : World) (object : ℕ) (o : Option Member) → IsAlive t world
+  run_of_alive : (frames : ℕ) (world : World) (object : ℕ) (o : Option Member) → IsAlive t world
       → Alive t (run_of values files frames t world object o)
-  run_of_alive files frames world object None h = raised_alive AbstractMethod world [] h
-  run_of_alive files frames world object (Some method) h = run_frame_alive files frames world object method (body_of files method) h
+  run_of_alive frames world object None h = raised_alive AbstractMethod world [] h
+  run_of_alive frames world object (Some method) h = run_frame_alive frames world object method (body_of files method) h
 
 main_frame_alive : (files : Program) (frames : ℕ) (world : World) (main : Member) (o : Option Body) → IsAlive 0 world
     → Alive 0 (main_frame values files frames world main o)
 main_frame_alive files frames world main None h = tt
-main_frame_alive files frames world main (Some body) h = pushed_alive 0 frames world (with_begun world 0) [] [] _ h (set_alive world.threads 0 _ h)
+main_frame_alive files frames world main (Some body) h = pushed_alive files 0 frames world (with_begun world 0) [] [] _ h (set_alive world.threads 0 _ h)
 
 begin_alive : (files : Program) (frames : ℕ) (world : World) (t : ℕ) → IsAlive t world → Alive t (begin_event values files frames world t)
 begin_alive files frames world zero h =
-    needing_class_alive 0 files (Some (initial_class files)) world [] _ h (main_frame_alive files frames world (main_of (initial_class files)) (body_of files (main_of (initial_class files))) h)
+    needing_class_alive files 0 (Some (initial_class files)) world [] _ h (main_frame_alive files frames world (main_of (initial_class files)) (body_of files (main_of (initial_class files))) h)
 begin_alive files frames world (suc t) h =
     let object = (thread_at world (suc t)).object in
-    run_of_alive (suc t) files frames world object (select files (class_of_object (object_at world object)) thread_run) h
+    run_of_alive files (suc t) frames world object (select files (class_of_object (object_at world object)) thread_run) h
 
 -- ---- an event
 
@@ -204,7 +204,7 @@ module _ (files : Program) (linked : Linked files) (accepted : AreTyped files) (
         → flow.meaning.may event world (ops_of values flow.meaning frame.place.slots) ≡ true
         → Alive event.thread (done values files frames event world frame stack flow.meaning)
     done_alive flow may =
-        become_alive event.thread files frames world frame stack (flow.meaning.does event world frame.place.slots (ops_of values flow.meaning frame.place.slots) (under flow.meaning.wants frame.place.slots)) alive
+        become_alive files event.thread frames world frame stack (flow.meaning.does event world frame.place.slots (ops_of values flow.meaning frame.place.slots) (under flow.meaning.wants frame.place.slots)) alive
         (instructions event world frame (site_with frame.method ready.stopped.stands.body frame.place.offset flow.sized) (here_of files linked accepted event.thread world frame fits live self ready flow.sized flow.is_sized) flow.meaning flow.is_meaning flow.allows may)
 
     meant_alive : (max_stack : ℕ) (flow : Flow files frame ready.stopped.stands)
@@ -212,9 +212,9 @@ module _ (files : Program) (linked : Linked files) (accepted : AreTyped files) (
     meant_alive max_stack flow =
         let m = flow.meaning in
         cond_both (values.finds files (types_of world.heap) m.wants max_stack frame.place.slots) _ _ (Alive event.thread)
-        (λ q. enabled_alive event.thread (m.may event world (ops_of values m frame.place.slots)) _
-        (λ may. needing_class_alive event.thread files m.looks world (Invocation frame ∷ stack) (done values files frames event world frame stack m) alive (done_alive flow may)))
-        (λ q. enabled_alive event.thread (event.pick == 0) WrongKind (λ p. tt))
+        (λ q. enabled_alive files event.thread (m.may event world (ops_of values m frame.place.slots)) _
+        (λ may. needing_class_alive files event.thread m.looks world (Invocation frame ∷ stack) (done values files frames event world frame stack m) alive (done_alive flow may)))
+        (λ q. enabled_alive files event.thread (event.pick == 0) WrongKind (λ p. tt))
 
     bytecode_alive : Alive event.thread (bytecode_event values files frames event world frame stack)
     bytecode_alive =
@@ -229,18 +229,18 @@ module _ (files : Program) (linked : Linked files) (accepted : AreTyped files) (
     running_alive : thread.status ≡ Running → thread.pending ≡ None → (stack : StackOf Value)
         → IsRunning files (types_of world.heap) None stack → Alive event.thread (running_event values files frames event world stack)
     running_alive runs none [] h =
-        enabled_alive event.thread (event.pick == 0) _ (λ q. begin_alive files frames world event.thread (status_alive world event.thread thread there (ap has_ended runs)))
+        enabled_alive files event.thread (event.pick == 0) _ (λ q. begin_alive files frames world event.thread (status_alive world event.thread thread there (ap has_ended runs)))
     running_alive runs none (Invocation frame ∷ stack) h =
         bytecode_alive (record { thread = thread; there = there; status = runs; pending = none }) self frame stack h.0
     running_alive runs none (Initialisation class phase ∷ stack) h =
-        enabled_alive event.thread (event.pick == 0) _ (λ q. initialisation_alive event.thread files frames class phase world stack (status_alive world event.thread thread there (ap has_ended runs)))
+        enabled_alive files event.thread (event.pick == 0) _ (λ q. initialisation_alive files event.thread frames class phase world stack (status_alive world event.thread thread there (ap has_ended runs)))
 
     going_alive : thread.status ≡ Running → (stack : StackOf Value) (pending : Option ℕ) → thread.pending ≡ pending
         → IsRunning files (types_of world.heap) pending stack
         → Alive event.thread (going_event values files frames event world stack pending)
     going_alive runs stack None e h = running_alive runs e stack h
     going_alive runs stack (Some exception) e h =
-        enabled_alive event.thread (event.pick == 0) _ (λ q. pending_alive event.thread files exception (slice_get (types_of world.heap) exception) world stack (status_alive world event.thread thread there (ap has_ended runs)))
+        enabled_alive files event.thread (event.pick == 0) _ (λ q. pending_alive files event.thread exception (slice_get (types_of world.heap) exception) world stack (status_alive world event.thread thread there (ap has_ended runs)))
 
     pub thread_alive : (stack : StackOf Value) (status : ThreadStatus) → thread.status ≡ status
         → IsStackTyped files (types_of world.heap) thread.pending stack status
@@ -250,5 +250,5 @@ module _ (files : Program) (linked : Linked files) (accepted : AreTyped files) (
         subst (λ p. Alive event.thread (going_event values files frames event world stack p)) (sym is) (going_alive e stack thread.pending refl h)
     thread_alive stack (Waiting object count) e h = tt
     thread_alive stack (Relock object count cause) e h =
-        enabled_alive event.thread (event.pick == 0) _ (λ q. relock_alive event.thread files object count cause world stack)
+        enabled_alive files event.thread (event.pick == 0) _ (λ q. relock_alive files event.thread object count cause world stack)
     thread_alive stack (Ended exception) e h = tt

@@ -88,18 +88,18 @@ settled_enabled t NotEnabled = refl
 settled_enabled t WrongKind = refl
 settled_enabled t (Next cost p) = refl
 
-leaving_enabled : (t : ℕ) (o : Option ℕ) (world : World) (rest stack : StackOf Value) → is_enabled_by (leaving t o world rest stack) ≡ true
-leaving_enabled t None world rest stack = refl
-leaving_enabled t (Some object) world rest stack = by (is_owner world t object)
+leaving_enabled : (files : Program) (t : ℕ) (o : Option ℕ) (world : World) (rest stack : StackOf Value) → is_enabled_by (leaving values files t o world rest stack) ≡ true
+leaving_enabled files t None world rest stack = refl
+leaving_enabled files t (Some object) world rest stack = by (is_owner world t object)
   where
-    by : (b : Bool) → is_enabled_by (if b then on_to (with_exit world t object) rest else raised t IllegalMonitorState world stack) ≡ true
+    by : (b : Bool) → is_enabled_by (if b then on_to (with_exit world t object) rest else raised values files t IllegalMonitorState world stack) ≡ true
     by true = refl
     by false = refl
 
-unwound_enabled : (t exception : ℕ) (world : World) (frame : Frame) (stack : StackOf Value) (o : Option ExceptionEntry)
-    → is_enabled_by (unwound values t exception world frame stack o) ≡ true
-unwound_enabled t exception world frame stack None = leaving_enabled t frame.entered world stack stack
-unwound_enabled t exception world frame stack (Some entry) = refl
+unwound_enabled : (files : Program) (t exception : ℕ) (world : World) (frame : Frame) (stack : StackOf Value) (o : Option ExceptionEntry)
+    → is_enabled_by (unwound values files t exception world frame stack o) ≡ true
+unwound_enabled files t exception world frame stack None = leaving_enabled files t frame.entered world stack stack
+unwound_enabled files t exception world frame stack (Some entry) = refl
 
 stepped_enabled : (x : SteppedOf State) → is_enabled_by (map_stepped words_of x) ≡ is_enabled_by x
 stepped_enabled NotEnabled = refl
@@ -119,7 +119,7 @@ module _ (files : Program) (frames : ℕ) (s : State) (t : ℕ) where
       ∙ (settled_enabled t (thread_event values files frames event s.world stack (thread_at s.world t).status)
       ∙ (ap (λ x. is_enabled_by (thread_event values files frames event s.world stack x)) runs
       ∙ (ap (λ o. is_enabled_by (going_event values files frames event s.world stack o)) pending
-      ∙ unwound_enabled t exception s.world frame rest (option_and_then (handler_in files frame.place.offset thrown) (body_of files frame.method))))))
+      ∙ unwound_enabled files t exception s.world frame rest (option_and_then (handler_in files frame.place.offset thrown) (body_of files frame.method))))))
 
 -- ---- lists
 

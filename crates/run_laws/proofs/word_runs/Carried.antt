@@ -65,7 +65,7 @@ module _ (files : Program) where
       done_words : Carries (done words files frames event (world_words world) (map_frame word_of frame) (stack_words stack) w)
           (done values files frames event world frame stack v)
       done_words =
-          ap (become files frames event.thread (world_words world) (map_frame word_of frame) (stack_words stack))
+          ap (become words files frames event.thread (world_words world) (map_frame word_of frame) (stack_words stack))
           (ap (λ o. w.does event (world_words world) (map_slots word_of frame.place.slots) o (under w.wants (map_slots word_of frame.place.slots))) ops_same
           ∙ (ap (λ r. w.does event (world_words world) (map_slots word_of frame.place.slots) (map word_of (ops_of values v frame.place.slots)) r) under_same
           ∙ same.does event world frame.place.slots (under v.wants frame.place.slots) q texts))
@@ -123,27 +123,27 @@ module _ (files : Program) where
       → Carries (initialisation_event words files frames t class phase (world_words world) (stack_words stack))
       (initialisation_event values files frames t class phase world stack)
   initialisation_words frames t class Super world stack =
-      needing_class_words files t (before files class) world (Initialisation class Super ∷ stack) _ (initialiser_event values frames t (initialiser_of class) world (Initialisation class End ∷ stack) (body_of files (initialiser_of class)))
-      (initialiser_words frames t (initialiser_of class) world (Initialisation class End ∷ stack) (body_of files (initialiser_of class)))
+      needing_class_words files t (before files class) world (Initialisation class Super ∷ stack) _ (initialiser_event values files frames t (initialiser_of class) world (Initialisation class End ∷ stack) (body_of files (initialiser_of class)))
+      (initialiser_words files frames t (initialiser_of class) world (Initialisation class End ∷ stack) (body_of files (initialiser_of class)))
   initialisation_words frames t class End world stack = refl
 
   main_frame_words : (frames : ℕ) (world : World) (m : Member) (o : Option Body)
       → Carries (main_frame words files frames (world_words world) m o) (main_frame values files frames world m o)
   main_frame_words frames world m None = refl
   main_frame_words frames world m (Some body) =
-      ap (λ f. pushed frames 0 (world_words world) (world_words (with_begun world 0)) [] [] f) (frame_words m (value.Reference arguments_reference ∷ []) (entered_by files m (class_reference files m.class)) body)
-      ∙ pushed_words frames 0 world (with_begun world 0) [] [] (frame_with values m (value.Reference arguments_reference ∷ []) (entered_by files m (class_reference files m.class)) body)
+      ap (λ f. pushed words files frames 0 (world_words world) (world_words (with_begun world 0)) [] [] f) (frame_words m (value.Reference arguments_reference ∷ []) (entered_by files m (class_reference files m.class)) body)
+      ∙ pushed_words files frames 0 world (with_begun world 0) [] [] (frame_with values m (value.Reference arguments_reference ∷ []) (entered_by files m (class_reference files m.class)) body)
 
   run_frame_words : (frames t : ℕ) (world : World) (object : ℕ) (m : Member) (o : Option Body)
       → Carries (run_frame words files frames t (world_words world) object m o) (run_frame values files frames t world object m o)
-  run_frame_words frames t world object m None = raised_words t AbstractMethod world []
+  run_frame_words frames t world object m None = raised_words files t AbstractMethod world []
   run_frame_words frames t world object m (Some body) =
-      ap (λ f. pushed frames t (world_words world) (world_words (with_begun world t)) [] [] f) (frame_words m (value.Reference object ∷ []) (entered_by files m object) body)
-      ∙ pushed_words frames t world (with_begun world t) [] [] (frame_with values m (value.Reference object ∷ []) (entered_by files m object) body)
+      ap (λ f. pushed words files frames t (world_words world) (world_words (with_begun world t)) [] [] f) (frame_words m (value.Reference object ∷ []) (entered_by files m object) body)
+      ∙ pushed_words files frames t world (with_begun world t) [] [] (frame_with values m (value.Reference object ∷ []) (entered_by files m object) body)
 
   run_of_words : (frames t : ℕ) (world : World) (object : ℕ) (o : Option Member)
       → Carries (run_of words files frames t (world_words world) object o) (run_of values files frames t world object o)
-  run_of_words frames t world object None = raised_words t AbstractMethod world []
+  run_of_words frames t world object None = raised_words files t AbstractMethod world []
   run_of_words frames t world object (Some m) = run_frame_words frames t world object m (body_of files m)
 
   begin_words : (frames : ℕ) (world : World) (t : ℕ)
@@ -163,16 +163,16 @@ module _ (files : Program) where
       (pending_event values files t exception thrown world stack)
   pending_words t exception thrown world [] = refl
   pending_words t exception thrown world (Invocation frame ∷ stack) =
-      unwound_words t exception world frame stack (option_and_then (handler_in files frame.place.offset thrown) (body_of files frame.method))
+      unwound_words files t exception world frame stack (option_and_then (handler_in files frame.place.offset thrown) (body_of files frame.method))
   pending_words t exception thrown world (Initialisation class phase ∷ stack) =
-      failed_words t (is_object_of files (ClassType java_lang_error) thrown) (with_class_status world class Erroneous) stack
+      failed_words files t exception (is_object_of files (ClassType java_lang_error) thrown) (with_class_status world class Erroneous) stack
 
   relock_words : (t object count : ℕ) (cause : WakeCause) (world : World) (stack : StackOf Value)
-      → Carries (relock_event files t object count cause (world_words world) (stack_words stack))
-      (relock_event files t object count cause world stack)
+      → Carries (relock_event words files t object count cause (world_words world) (stack_words stack))
+      (relock_event values files t object count cause world stack)
   relock_words t object count cause world stack =
       let after = with_status (with_monitors world (monitors.relock object t count world.monitors)) t Running in
-      enabled_words (is_done (monitors.relock object t count world.monitors).answer) _ (after_wait files t cause after stack) (after_wait_words files t cause after stack)
+      enabled_words (is_done (monitors.relock object t count world.monitors).answer) _ (after_wait values files t cause after stack) (after_wait_words files t cause after stack)
 
   -- ---- a thread
 
@@ -202,7 +202,7 @@ module _ (files : Program) where
         going_words stack (thread_at world event.thread).pending (subst (λ (th : Thread). IsRunning files (types_of world.heap) th.pending stack) (sym e) h)
     thread_words stack thread (Waiting object count) e h = refl
     thread_words stack thread (Relock object count cause) e h =
-        enabled_words (event.pick == 0) _ (relock_event files event.thread object count cause world stack) (relock_words event.thread object count cause world stack)
+        enabled_words (event.pick == 0) _ (relock_event values files event.thread object count cause world stack) (relock_words event.thread object count cause world stack)
     thread_words stack thread (Ended exception) e h = refl
 
 -- ---- the whole state

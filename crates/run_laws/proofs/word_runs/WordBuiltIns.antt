@@ -1,6 +1,6 @@
 -- Methods of the machine by their words.
 use Rattle.std.proofs.Common.{◌≡◌, ℕ, List, map, length, find, Bool, true, false, not, ◌&&◌, ◌==◌, nat_lt, is_some, if◌then◌else◌, Option, Some, None, option_map, refl, sym, ap, ◌∙◌, subst, zero, suc, [], ◌∷◌, ◌++◌, reverse, ⊎_elim}
-use Rattle.std.specs.Prelude.{unwrap_or, slice_get}
+use Rattle.std.specs.Prelude.{unwrap_or, slice_get, codes}
 use Rattle.std.specs.Option.{option_map_or, option_and_then, is_none}
 use Rattle.std.specs.List.{list_all}
 use Rattle.std.proofs.lemmas.Bool.{and_parts, or_cases, not-true, false≢true, eqb-true, cond_both}
@@ -8,19 +8,19 @@ use Rattle.std.proofs.lemmas.List.{length-map}
 use Rattle.model.specs.declared.event.Event.{Event}
 use Rattle.model.specs.declared.value.Value.{Value}
 use Rattle.model.specs.declared.value.Value.TheVariants as value
-use Rattle.model.specs.Names.{Member, thread_target, builder_text, Name}
+use Rattle.model.specs.Names.{Member, name_eq, thread_target, builder_text, throwable_message, throwable_cause, Name}
 use Rattle.model.specs.AccessFlags.{is_static_method}
 use Rattle.model.specs.BuiltIn.{built_in_classes}
 use Rattle.model.specs.DescriptorScan.{element_at, field_at, field_type, parameters_at, method_type}
 use Rattle.model.specs.Classes.{Program}
 use Rattle.model.specs.Operands.{Slots, words, values, word_of, word_reference, reference_of}
-use Rattle.model.specs.State.{Characters, Waiter, Notified, ThreadStatus, Running, Waiting, Relock, Ended, World}
+use Rattle.model.specs.State.{Characters, type_of, Waiter, Notified, ThreadStatus, Running, Waiting, Relock, Ended, World}
 use Rattle.model.specs.Outcomes.{Free, Makes, Goes}
 use Rattle.model.specs.Worlds.{allocated, with_monitors, thread_at, object_at, with_object, with_field, is_owner, is_alive, is_interrupted, thread_of, waiters_of, text_of}
 use Rattle.model.specs.Monitors as monitors
 use Rattle.model.specs.Sites.{operand, referent, int_operand}
 use Rattle.model.specs.Calls.{is_one, parameter_count}
-use Rattle.model.specs.BuiltInMethods.{BuiltInMethod, Construct, ConstructWithTarget, ObjectWait, ObjectNotify, ObjectNotifyAll, ThreadStart, ThreadInterrupt, ThreadIsInterrupted, ThreadInterrupted, ThreadYield, ThreadCurrentThread, ThreadJoin, ThreadIsAlive, PrintStreamPrints, StringAnswers, StringBuilderBuilds, printed_by, built_in_methods, is_row_of, built_in_method, wait_by, notified_one, notified, if_owner, start_by, interrupted_in, interrupted_on, may_join, notified_all, bit, join_by, with_printed, object_of, built_in_may, built_in_does, string_shown, string_text, string_operand, answered}
+use Rattle.model.specs.BuiltInMethods.{BuiltInMethod, Construct, ConstructWithMessage, ConstructWithCause, ConstructWithTarget, ObjectWait, ObjectNotify, ObjectNotifyAll, ThreadStart, ThreadInterrupt, ThreadIsInterrupted, ThreadInterrupted, ThreadYield, ThreadCurrentThread, ThreadJoin, ThreadIsAlive, PrintStreamPrints, StringAnswers, StringBuilderBuilds, ObjectAnswers, constructor_of, printed_by, built_in_methods, is_row_of, built_in_method, wait_by, notified_one, notified, if_owner, start_by, interrupted_in, interrupted_on, may_join, notified_all, bit, join_by, with_printed, object_of, built_in_may, built_in_does, string_shown, string_text, string_operand, answered}
 use Rattle.model.specs.Words.{map_slots}
 use Rattle.model.specs.declared.print_method.PrintMethod.{PrintMethod}
 use Rattle.model.specs.declared.print_method.PrintMethod.TheVariants.{Println, PrintlnChar, PrintlnInt, PrintlnString, PrintChar, PrintInt, PrintString}
@@ -30,6 +30,10 @@ use Rattle.model.specs.declared.builder_method.BuilderMethod.TheVariants.{Constr
 use Rattle.model.specs.BuilderMethods as building
 use Rattle.model.specs.BuilderMethods.{BuilderAnswer, KeepsEmpty, Keeps, Adds, GivesText, builder_answer, kept_string, text_or_empty, built_text, builder_shown, with_string, with_composed, composed, builds}
 use Rattle.model.specs.Opening.{string_reference}
+use Rattle.model.specs.declared.object_method.ObjectMethod.{ObjectMethod}
+use Rattle.model.specs.declared.object_method.ObjectMethod.TheVariants as object_method
+use Rattle.model.specs.ObjectMethods as telling
+use Rattle.model.specs.ObjectMethods.{ObjectAnswer, HasNoClass, IsOf, object_answer, object_place, object_tells, tells, type_at}
 use Rattle.model.specs.StringMethods.{StringAnswer, IsNull, IsOutside, Answers, Same, Composes, string_answer}
 use Rattle.model.specs.declared.instr.Conversion.TheVariants.{ToChar}
 use Rattle.model.specs.Ints.{signed, converted}
@@ -44,8 +48,8 @@ use Rattle.run_laws.proofs.laws.StringAnswers.{string_places, is_place_of, same_
 use Rattle.std.specs.Fmt.{signed_decimal}
 use Rattle.run_laws.specs.word_runs.Words.{map_outcome}
 use Rattle.run_laws.proofs.laws.Found.{found_passes, found_has, every_all}
-use Rattle.run_laws.proofs.laws.Classes.{members_same}
-use Rattle.run_laws.proofs.word_runs.WordWorlds.{KeepsTexts, kept_string_words, all_words, world_words, object_words, allocated_words, string_text_words, object_at_words, with_field_words, with_object_words, text_words}
+use Rattle.run_laws.proofs.laws.Classes.{members_same, names_same}
+use Rattle.run_laws.proofs.word_runs.WordWorlds.{KeepsTexts, type_words, kept_string_words, all_words, world_words, object_words, allocated_words, string_text_words, object_at_words, with_field_words, with_object_words, text_words}
 use Rattle.run_laws.proofs.word_runs.WordMeanings.{operand_words, int_words, pushes_words, becomes_words, goes_words, referent_words}
 
 -- ---- what holds of each row holds of the methods
@@ -54,27 +58,35 @@ module _ (test : Member → BuiltInMethod → Bool) where
   abbrev on_row : Member × BuiltInMethod → Bool
   on_row row = test row.0 row.1
 
-  on_method : list_all on_row built_in_methods ≡ true → (method : Member) → test method Construct ≡ true
+  on_method : list_all on_row built_in_methods ≡ true → (method : Member) → test method (constructor_of method.descriptor) ≡ true
       → test method (built_in_method method) ≡ true
   on_method all method construct = by (find (is_row_of method) built_in_methods) refl
     where
       by : (o : Option (Member × BuiltInMethod)) → find (is_row_of method) built_in_methods ≡ o
-          → test method (unwrap_or (option_map (λ (row : Member × BuiltInMethod). row.1) o) Construct) ≡ true
+          → test method (unwrap_or (option_map (λ (row : Member × BuiltInMethod). row.1) o) (constructor_of method.descriptor)) ≡ true
       by None f = construct
       by (Some row) f =
           let is : row.0 ≡ method = members_same row.0 method (found_passes (is_row_of method) built_in_methods row f) in
           subst (λ m. test m row.1 ≡ true) is
           (found_has (λ r. on_row r ≡ true) (is_row_of method) built_in_methods row (every_all on_row built_in_methods all) f)
 
--- of what a method has, if it has it
-module _ {A : Type 0} (place : BuiltInMethod → Option A) (none : place Construct ≡ None) (test : Member → A → Bool) where
+-- what holds of the three kinds of constructors holds of that of a descriptor
+pub by_constructor : (P : BuiltInMethod → Type 0) → P Construct → P ConstructWithMessage → P ConstructWithCause → (descriptor : Name)
+    → P (constructor_of descriptor)
+by_constructor P plain message cause descriptor =
+    cond_both (name_eq descriptor (codes "(Ljava/lang/String;)V")) _ _ P (λ q. message)
+    (λ q. cond_both (name_eq descriptor (codes "(Ljava/lang/String;Ljava/lang/Throwable;)V")) _ _ P (λ r. cause) (λ r. plain))
+
+-- of what a method has, if it has it; no constructor has it that has no row
+module _ {A : Type 0} (place : BuiltInMethod → Option A) (none : (place Construct ≡ None) × ((place ConstructWithMessage ≡ None) × (place ConstructWithCause ≡ None))) (test : Member → A → Bool) where
   abbrev pub passes : Member × BuiltInMethod → Bool
   passes row = option_map_or (test row.0) (place row.1) true
 
   pub passed : list_all passes built_in_methods ≡ true → (method : Member) (a : A) → place (built_in_method method) ≡ Some a
       → test method a ≡ true
   passed all method a e =
-      let construct : option_map_or (test method) (place Construct) true ≡ true = ap (λ o. option_map_or (test method) o true) none in
+      let construct : option_map_or (test method) (place (constructor_of method.descriptor)) true ≡ true =
+      ap (λ o. option_map_or (test method) o true) (by_constructor (λ b. place b ≡ None) none.0 none.1.0 none.1.1 method.descriptor) in
       sym (ap (λ o. option_map_or (test method) o true) e) ∙ on_method (λ m b. option_map_or (test m) (place b) true) all method construct
 
 -- ---- the operand that a method of the machine takes as its receiver, if it has one
@@ -90,6 +102,8 @@ builder_place ToString = 0
 
 abbrev pub receiver_place : BuiltInMethod → Option ℕ
 receiver_place Construct = None
+receiver_place ConstructWithMessage = None
+receiver_place ConstructWithCause = None
 receiver_place ConstructWithTarget = Some 1
 receiver_place ObjectWait = Some 0
 receiver_place ObjectNotify = Some 0
@@ -105,12 +119,13 @@ receiver_place ThreadIsAlive = Some 0
 receiver_place (PrintStreamPrints print) = None
 receiver_place (StringAnswers string) = None
 receiver_place (StringBuilderBuilds builder) = Some (builder_place builder)
+receiver_place (ObjectAnswers method) = None
 
 -- it is under the parameters, and the method is not static
 abbrev is_placed : Program → Member → ℕ → Bool
 is_placed files method k = (parameter_count method == k) && not (is_one is_static_method files method)
 
-all_placed : (files : Program) → list_all (passes receiver_place refl (is_placed files)) built_in_methods ≡ true
+all_placed : (files : Program) → list_all (passes receiver_place (refl, (refl, refl)) (is_placed files)) built_in_methods ≡ true
 unfolding built_in_classes method_type parameters_at field_at field_type element_at
 all_placed files = refl
 
@@ -120,7 +135,7 @@ pub record Placed (files : Program) (method : Member) (k : ℕ) : Type 0 where
 
 pub placed : (files : Program) (method : Member) (k : ℕ) → receiver_place (built_in_method method) ≡ Some k → Placed files method k
 placed files method k e =
-    let here = and_parts (parameter_count method == k) (not (is_one is_static_method files method)) (passed receiver_place refl (is_placed files) (all_placed files) method k e) in
+    let here = and_parts (parameter_count method == k) (not (is_one is_static_method files method)) (passed receiver_place (refl, (refl, refl)) (is_placed files) (all_placed files) method k e) in
     record { place = eqb-true (parameter_count method) k here.0; instance = not-true (is_one is_static_method files method) here.1 }
 
 -- ---- the operands that it takes as objects: the receiver, or Strings
@@ -147,30 +162,62 @@ abbrev pub object_places : BuiltInMethod → List ℕ
 object_places (PrintStreamPrints print) = print_places print
 object_places (StringAnswers string) = string_places string
 object_places (StringBuilderBuilds builder) = builder_places builder
+object_places (ObjectAnswers method) = object_place method ∷ []
+object_places ConstructWithMessage = 1 ∷ []
+object_places ConstructWithCause = 2 ∷ []
 object_places other = option_map_or (λ k. k ∷ []) (receiver_place other) []
 
 -- an object is wanted at a place
 abbrev pub wants_object : List Want → ℕ → Bool
 wants_object ws k = option_map_or is_object_want (slice_get ws k) false
 
--- what a method of a descriptor wants where it is called on an object
+-- an object is wanted there, if anything is
+abbrev wants_no_other : List Want → ℕ → Bool
+wants_no_other ws k = option_map_or is_object_want (slice_get ws k) true
+
+no_other : (ws : List Want) (k : ℕ) → wants_object ws k ≡ true → wants_no_other ws k ≡ true
+no_other [] k e = absurd (false≢true e)
+no_other (w ∷ ws) zero e = e
+no_other (w ∷ ws) (suc k) e = no_other ws k e
+
+-- what a method of a descriptor wants over its receiver, if it has one
+abbrev pub wants_over : Program → Name → List Want → List Want
+wants_over files descriptor receiver = reverse (map (declared_want files) (parameters_declared descriptor)) ++ receiver
+
+-- what it wants where it is called on an object
 abbrev pub wants_on : Program → Name → Want → List Want
-wants_on files descriptor receiver = reverse (map (declared_want files) (parameters_declared descriptor)) ++ receiver ∷ []
+wants_on files descriptor receiver = wants_over files descriptor (receiver ∷ [])
 
--- so is each of those operands, and the method is not static
-abbrev is_wanted : Program → Member → ℕ → Bool
-is_wanted files method k = wants_object (wants_on files method.descriptor (AReference any_object)) k && not (is_one is_static_method files method)
+-- so is each of those operands, whether the method is called on an object or not
+abbrev is_wanted : Program → Name → ℕ → Bool
+is_wanted files descriptor k = wants_object (wants_on files descriptor (AReference any_object)) k && wants_no_other (wants_over files descriptor []) k
 
-abbrev are_wanted : Program → Member → BuiltInMethod → Bool
-are_wanted files method built_in = list_all (is_wanted files method) (object_places built_in)
+abbrev are_wanted : Program → Name → BuiltInMethod → Bool
+are_wanted files descriptor built_in = list_all (is_wanted files descriptor) (object_places built_in)
 
-all_wanted : (files : Program) → list_all (on_row (are_wanted files)) built_in_methods ≡ true
+abbrev row_wanted : Program → Member → BuiltInMethod → Bool
+row_wanted files method built_in = are_wanted files method.descriptor built_in
+
+all_wanted : (files : Program) → list_all (on_row (row_wanted files)) built_in_methods ≡ true
 unfolding built_in_classes method_type parameters_at field_at field_type element_at
 all_wanted files = refl
 
-pub record IsWanted (files : Program) (method : Member) (k : ℕ) : Type 0 where
-  pub object : wants_object (wants_on files method.descriptor (AReference any_object)) k ≡ true
-  pub instance : is_one is_static_method files method ≡ false
+message_wanted : (files : Program) → are_wanted files (codes "(Ljava/lang/String;)V") ConstructWithMessage ≡ true
+unfolding built_in_classes method_type parameters_at field_at field_type element_at
+message_wanted files = refl
+
+cause_wanted : (files : Program) → are_wanted files (codes "(Ljava/lang/String;Ljava/lang/Throwable;)V") ConstructWithCause ≡ true
+unfolding built_in_classes method_type parameters_at field_at field_type element_at
+cause_wanted files = refl
+
+constructor_wanted : (files : Program) (descriptor : Name) → are_wanted files descriptor (constructor_of descriptor) ≡ true
+constructor_wanted files descriptor =
+    let one = codes "(Ljava/lang/String;)V" in
+    let two = codes "(Ljava/lang/String;Ljava/lang/Throwable;)V" in
+    cond_both (name_eq descriptor one) _ _ (λ b. are_wanted files descriptor b ≡ true)
+    (λ q. subst (λ d. are_wanted files d ConstructWithMessage ≡ true) (sym (names_same descriptor one q)) (message_wanted files))
+    (λ q. cond_both (name_eq descriptor two) _ _ (λ b. are_wanted files descriptor b ≡ true)
+    (λ r. subst (λ d. are_wanted files d ConstructWithCause ≡ true) (sym (names_same descriptor two r)) (cause_wanted files)) (λ r. refl))
 
 passes_at : (p : ℕ → Bool) (places : List ℕ) (k : ℕ) → list_all p places ≡ true → is_place_of places k ≡ true → p k ≡ true
 passes_at p [] k all h = absurd (false≢true h)
@@ -178,12 +225,16 @@ passes_at p (place ∷ places) k all h =
     let here = and_parts (p place) (list_all p places) all in
     ⊎_elim (λ q. subst (λ n. p n ≡ true) (eqb-true place k q) here.0) (λ q. passes_at p places k here.1 q) (or_cases (place == k) (is_place_of places k) h)
 
+pub record IsWanted (files : Program) (method : Member) (k : ℕ) : Type 0 where
+  pub object : wants_object (wants_on files method.descriptor (AReference any_object)) k ≡ true
+  pub alone : wants_no_other (wants_over files method.descriptor []) k ≡ true
+
 pub wanted : (files : Program) (method : Member) (k : ℕ) → is_place_of (object_places (built_in_method method)) k ≡ true
     → IsWanted files method k
 wanted files method k e =
-    let all = on_method (are_wanted files) (all_wanted files) method refl in
-    let here = and_parts (wants_object (wants_on files method.descriptor (AReference any_object)) k) (not (is_one is_static_method files method)) (passes_at (is_wanted files method) (object_places (built_in_method method)) k all e) in
-    record { object = here.0; instance = not-true (is_one is_static_method files method) here.1 }
+    let all = on_method (row_wanted files) (all_wanted files) method (constructor_wanted files method.descriptor) in
+    let here = and_parts (wants_object (wants_on files method.descriptor (AReference any_object)) k) _ (passes_at (is_wanted files method.descriptor) (object_places (built_in_method method)) k all e) in
+    record { object = here.0; alone = here.1 }
 
 -- whatever object the receiver is wanted as
 on_receiver : (ws : List Want) (v w : Want) (k : ℕ) → is_object_want w ≡ true → wants_object (ws ++ v ∷ []) k ≡ true
@@ -193,14 +244,25 @@ on_receiver [] v w (suc k) o e = absurd (false≢true e)
 on_receiver (x ∷ ws) v w zero o e = e
 on_receiver (x ∷ ws) v w (suc k) o e = on_receiver ws v w k o e
 
+-- behind the operands there is nothing
+nothing_behind : (R : Want → Value → Bool) (ws : List Want) (ops : List Value) (k : ℕ) → Pairwise R ws ops → slice_get ws k ≡ None
+    → operand values ops k ≡ value.Unset
+nothing_behind R [] [] k q e = refl
+nothing_behind R [] (v ∷ ops) k q e = absurd q
+nothing_behind R (w ∷ ws) [] k q e = refl
+nothing_behind R (w ∷ ws) (v ∷ ops) zero q e = absurd cc
+nothing_behind R (w ∷ ws) (v ∷ ops) (suc k) q e = nothing_behind R ws ops k q.1 e
+
 -- what is wanted as an object is so by its word
 wanted_words : (files : Program) (os : List ReferenceType) (ws : List Want) (ops : List Value) (k : ℕ)
-    → Pairwise (value_meets files os) ws ops → wants_object ws k ≡ true → referent words (map word_of ops) k ≡ referent values ops k
+    → Pairwise (value_meets files os) ws ops → wants_no_other ws k ≡ true → referent words (map word_of ops) k ≡ referent values ops k
 wanted_words files os ws ops k q h = by (slice_get ws k) refl h
   where
-    by : (o : Option Want) → slice_get ws k ≡ o → option_map_or is_object_want o false ≡ true
+    by : (o : Option Want) → slice_get ws k ≡ o → option_map_or is_object_want o true ≡ true
         → referent words (map word_of ops) k ≡ referent values ops k
-    by None f e = absurd (false≢true e)
+    by None f e =
+        let unset = nothing_behind (value_meets files os) ws ops k q f in
+        ap word_reference (operand_words ops k) ∙ (ap (λ v. word_reference (word_of v)) unset ∙ sym (ap reference_of unset))
     by (Some w) f e = referent_words files os ws ops k w q f e
 
 -- ---- what the methods do
@@ -216,7 +278,13 @@ pub agrees_on : (files : Program) (os : List ReferenceType) (method : Member) (r
 agrees_on files os method receiver ops o q =
     λ k p.
     wanted_words files os (wants_on files method.descriptor receiver) ops k q
-    (on_receiver (reverse (map (declared_want files) (parameters_declared method.descriptor))) (AReference any_object) receiver k o (wanted files method k p).object)
+    (no_other (wants_on files method.descriptor receiver) k
+    (on_receiver (reverse (map (declared_want files) (parameters_declared method.descriptor))) (AReference any_object) receiver k o (wanted files method k p).object))
+
+-- and of one that is called on none
+pub agrees_alone : (files : Program) (os : List ReferenceType) (method : Member) (ops : List Value)
+    → Pairwise (value_meets files os) (wants_over files method.descriptor []) ops → Agrees (built_in_method method) ops
+agrees_alone files os method ops q = λ k p. wanted_words files os (wants_over files method.descriptor []) ops k q (wanted files method k p).alone
 
 as_object : (ops : List Value) (k : ℕ) → referent words (map word_of ops) k ≡ referent values ops k
     → object_of words (map word_of ops) k ≡ object_of values ops k
@@ -226,6 +294,8 @@ module _ (event : Event) (world : World) where
   pub may_words : (method : BuiltInMethod) (ops : List Value) → Agrees method ops
       → built_in_may words method event (world_words world) (map word_of ops) ≡ built_in_may values method event world ops
   may_words Construct ops a = refl
+  may_words ConstructWithMessage ops a = refl
+  may_words ConstructWithCause ops a = refl
   may_words ConstructWithTarget ops a = refl
   may_words ObjectWait ops a = refl
   may_words ObjectNotify ops a =
@@ -242,6 +312,7 @@ module _ (event : Event) (world : World) where
   may_words (PrintStreamPrints print) ops a = refl
   may_words (StringAnswers string) ops a = refl
   may_words (StringBuilderBuilds builder) ops a = refl
+  may_words (ObjectAnswers method) ops a = refl
 
   module _ (texts : KeepsTexts world) (files : Program) (next : ℕ) (slots : Slots Value) (rest : List Value) where
     abbrev Carries : BuiltInMethod → List Value → Type 0
@@ -254,14 +325,39 @@ module _ (event : Event) (world : World) where
         ap (λ o. with_object (world_words before) r (with_field field (word_of v) o)) (object_at_words before r)
         ∙ (ap (λ o. with_object (world_words before) r o) (with_field_words field v (object_at before r)) ∙ with_object_words before r (with_field field v (object_at before r)))
 
-    target_words : (ops : List Value) → Agrees ConstructWithTarget ops → Carries ConstructWithTarget ops
-    target_words ops a =
+    -- a constructor sets a field of its receiver
+    kept_words : (field : Member) (ops : List Value) → referent words (map word_of ops) 1 ≡ referent values ops 1
+        → with_object (world_words world) (object_of words (map word_of ops) 1)
+        (with_field field (operand words (map word_of ops) 0) (object_at (world_words world) (object_of words (map word_of ops) 1)))
+        ≡ world_words (with_object world (object_of values ops 1) (with_field field (operand values ops 0) (object_at world (object_of values ops 1))))
+    kept_words field ops e =
         let r = object_of values ops 1 in
+        ap (λ o. with_object (world_words world) o (with_field field (operand words (map word_of ops) 0) (object_at (world_words world) o))) (as_object ops 1 e)
+        ∙ (ap (λ n. with_object (world_words world) r (with_field field n (object_at (world_words world) r))) (operand_words ops 0)
+        ∙ with_field_at_words world r field (operand values ops 0))
+
+    target_words : (ops : List Value) → Agrees ConstructWithTarget ops → Carries ConstructWithTarget ops
+    target_words ops a = becomes_words _ _ rest slots.locals next (kept_words thread_target ops (a 1 refl))
+
+    message_words : (ops : List Value) → Agrees ConstructWithMessage ops → Carries ConstructWithMessage ops
+    message_words ops a = becomes_words _ _ rest slots.locals next (kept_words throwable_message ops (a 1 refl))
+
+    cause_words : (ops : List Value) → Agrees ConstructWithCause ops → Carries ConstructWithCause ops
+    cause_words ops a =
+        let r = object_of values ops 2 in
+        let m = operand values ops 1 in
         let v = operand values ops 0 in
-        becomes_words _ (with_object world r (with_field thread_target v (object_at world r))) rest slots.locals next
-        (ap (λ o. with_object (world_words world) o (with_field thread_target (operand words (map word_of ops) 0) (object_at (world_words world) o))) (as_object ops 1 (a 1 refl))
-        ∙ (ap (λ n. with_object (world_words world) r (with_field thread_target n (object_at (world_words world) r))) (operand_words ops 0)
-        ∙ with_field_at_words world r thread_target v))
+        let o = object_at world r in
+        let w = world_words world in
+        let arguments = map word_of ops in
+        becomes_words _ (with_object world r (with_field throwable_cause v (with_field throwable_message m o))) rest slots.locals next
+        (ap (λ x. with_object w x (with_field throwable_cause (operand words arguments 0) (with_field throwable_message (operand words arguments 1) (object_at w x)))) (as_object ops 2 (a 2 refl))
+        ∙ (ap (λ n. with_object w r (with_field throwable_cause n (with_field throwable_message (operand words arguments 1) (object_at w r)))) (operand_words ops 0)
+        ∙ (ap (λ n. with_object w r (with_field throwable_cause (word_of v) (with_field throwable_message n (object_at w r)))) (operand_words ops 1)
+        ∙ (ap (λ x. with_object w r (with_field throwable_cause (word_of v) (with_field throwable_message (word_of m) x))) (object_at_words world r)
+        ∙ (ap (λ x. with_object w r (with_field throwable_cause (word_of v) x)) (with_field_words throwable_message m o)
+        ∙ (ap (λ x. with_object w r x) (with_field_words throwable_cause v (with_field throwable_message m o))
+        ∙ with_object_words world r (with_field throwable_cause v (with_field throwable_message m o))))))))
 
     wait_words : (owner interrupted : Bool) (object : ℕ)
         → wait_by owner interrupted event.thread object (world_words world) (map word_of rest)
@@ -345,6 +441,35 @@ module _ (event : Event) (world : World) where
     answered_words ops (Composes text) =
         goes_words (Makes (length text)) (Makes (length text)) _ (allocated world (Characters text)) _ (value.Reference (length world.heap) ∷ rest) slots.locals next refl
         (allocated_words world (Characters text)) (ap (λ n. suc n ∷ map word_of rest) (length-map world.heap object_words))
+
+    -- ---- what an object tells of itself
+
+    type_at_words : (r : ℕ) → type_at (world_words world) r ≡ type_at world r
+    type_at_words r = ap type_of (object_at_words world r) ∙ type_words (object_at world r)
+
+    told_words : (method : ObjectMethod) (ops : List Value) (o : Option ℕ) → referent words (map word_of ops) (object_place method) ≡ o
+        → object_answer files method (referent words (map word_of ops) (object_place method)) (type_at (world_words world)) (int_operand words (map word_of ops) 0)
+        ≡ object_answer files method o (type_at world) (int_operand values ops 0)
+    told_words method ops o e = λ i. object_answer files method (e i) (λ r. type_at_words r i) (int_words ops 0 i)
+
+    tells_words : (answer : ObjectAnswer)
+        → tells words files answer next (world_words world) (map_slots word_of slots) (map word_of rest)
+        ≡ map_outcome word_of (tells values files answer next world slots rest)
+    tells_words telling.IsNull = refl
+    tells_words HasNoClass = refl
+    tells_words (telling.Answers bits) = refl
+    tells_words (IsOf class) = refl
+    tells_words (telling.Composes text) =
+        goes_words (Makes (length text)) (Makes (length text)) _ (allocated world (Characters text)) _ (value.Reference (length world.heap) ∷ rest) slots.locals next refl
+        (allocated_words world (Characters text)) (ap (λ n. suc n ∷ map word_of rest) (length-map world.heap object_words))
+
+    asked_words : (method : ObjectMethod) (ops : List Value) → Agrees (ObjectAnswers method) ops
+        → referent words (map word_of ops) (object_place method) ≡ referent values ops (object_place method)
+    asked_words object_method.HashCode ops a = a 0 refl
+    asked_words object_method.IdentityHashCode ops a = a 0 refl
+    asked_words object_method.GetClass ops a = a 0 refl
+    asked_words object_method.ClassName ops a = a 0 refl
+    asked_words object_method.Described ops a = a 1 refl
 
     -- ---- methods of StringBuilder
 
@@ -434,6 +559,8 @@ module _ (event : Event) (world : World) where
 
     pub does_words : (method : BuiltInMethod) (ops : List Value) → Agrees method ops → Carries method ops
     does_words Construct ops a = refl
+    does_words ConstructWithMessage ops a = message_words ops a
+    does_words ConstructWithCause ops a = cause_words ops a
     does_words ConstructWithTarget ops a = target_words ops a
     does_words ObjectWait ops a =
         ap (λ o. wait_by (is_owner world event.thread o) (thread_at world event.thread).interrupted event.thread o (world_words world) (map word_of rest)) (as_object ops 0 (a 0 refl))
@@ -474,3 +601,6 @@ module _ (event : Event) (world : World) where
         ∙ builds_words empty
         (builder_answer builder (int_operand values ops 0) (is_none (referent values ops 0)) (string_shown world (referent values ops 0)) (builder_shown values world (referent values ops 0)))
         ops (receiver_agrees builder ops a)
+    does_words (ObjectAnswers method) ops a =
+        ap (λ answer. tells words files answer next (world_words world) (map_slots word_of slots) (map word_of rest)) (told_words method ops (referent values ops (object_place method)) (asked_words method ops a))
+        ∙ tells_words (object_answer files method (referent values ops (object_place method)) (type_at world) (int_operand values ops 0))

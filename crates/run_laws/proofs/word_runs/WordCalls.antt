@@ -2,7 +2,6 @@
 use Rattle.std.proofs.Common.{◌≡◌, ℕ, ◌-◌, List, [], ◌∷◌, ◌++◌, map, length, replicate, reverse, Bool, true, false, if◌then◌else◌, Option, Some, None, refl, sym, ap, ◌∙◌, subst}
 use Rattle.std.specs.Prelude.{slice_get, unwrap_or}
 use Rattle.std.specs.Option.{option_or, option_map_or}
-use Rattle.std.proofs.lemmas.Bool.{false≢true}
 use Rattle.std.proofs.lemmas.List.{length-reverse, map-append, length-map}
 use Rattle.model.specs.declared.event.Event.{Event}
 use Rattle.model.specs.declared.value.Value.{Value}
@@ -33,7 +32,7 @@ use Rattle.run_laws.proofs.laws.Lists.{Pairwise, get_last}
 use Rattle.run_laws.proofs.laws.WordLists.{map_copies, map_reversed, is_object_want}
 use Rattle.run_laws.proofs.word_runs.WordWorlds.{world_words, object_at_words, class_words, type_words, KeepsTexts}
 use Rattle.run_laws.proofs.word_runs.WordMeanings.{operand_words, referent_words, Same}
-use Rattle.run_laws.proofs.word_runs.WordBuiltIns.{wanted, wants_on, Agrees, agrees_on, may_words, does_words}
+use Rattle.run_laws.proofs.word_runs.WordBuiltIns.{wants_on, Agrees, agrees_on, agrees_alone, may_words, does_words}
 
 -- ---- new frames
 
@@ -196,13 +195,11 @@ module _ (files : Program) where
       record {
         looks = refl;
         wants = refl;
-        may = λ event world ops q. may_invoke_words event world ops (Runs method) (agrees ops);
+        may = λ event world ops q. may_invoke_words event world ops (Runs method) (agrees_alone files (types_of world.heap) method ops q);
         does = λ event world slots rest q texts.
-            invoked_words site event world texts slots (ops_of values (static_call values files site method) slots) rest (class_reference files method.class) (Runs method) (agrees (ops_of values (static_call values files site method) slots));
+            let ops = ops_of values (static_call values files site method) slots in
+            invoked_words site event world texts slots ops rest (class_reference files method.class) (Runs method) (agrees_alone files (types_of world.heap) method ops q);
       }
-    where
-      agrees : (ops : List Value) → Agrees (built_in_method method) ops
-      agrees ops k p = absurd (false≢true (sym (wanted files method k p).instance ∙ static))
 
   pub virtual_same : (site : Site) (named : Name) (method : Member)
       → Same files (virtual_call values files site named method) (virtual_call words files site named method)

@@ -25,7 +25,7 @@ use Rattle.model.specs.Calls.{of_class}
 use Rattle.model.specs.ThrowMeaning.{throw_meaning}
 use Rattle.model.specs.MonitorMeanings.{may_enter_object, left, monitor_enter_meaning, monitor_exit_meaning}
 use Rattle.model.specs.Step.{ops_of}
-use Rattle.model.specs.Words.{map_field, map_slots}
+use Rattle.model.specs.Words.{map_slots}
 use Rattle.run_laws.specs.word_runs.Words.{map_outcome}
 use Rattle.run_laws.proofs.laws.Lists.{Pairwise}
 use Rattle.run_laws.proofs.laws.WordLists.{map_index, wanted_referent, is_object_want, row_words}

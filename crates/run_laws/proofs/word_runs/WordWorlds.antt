@@ -17,7 +17,7 @@ use Rattle.model.specs.Lookup.{field_member, instance_fields}
 use Rattle.model.specs.Operands.{values, words, word_of, word_reference, reference_of}
 use Rattle.model.specs.BuilderMethods.{kept_string}
 use Rattle.model.specs.State.{Waiter, WakeCause, ObjectOf, Instance, Primitives, References, InProgress, type_of, types_of, World, WorldOf, Characters}
-use Rattle.model.specs.Opening.{first_value, first_of, with_first, new_instance, string_reference}
+use Rattle.model.specs.Opening.{first_value, first_of, with_first, first_instance, new_instance, string_reference}
 use Rattle.model.specs.Worlds.{woken, all_woken, allocated, no_object, object_at, with_object, value_in, with_value, fields_of, with_field, is_cell_field, cells_of, with_static, elements_of, with_element, element_kept, type_kept, put_value, class_of_object, text_of}
 use Rattle.model.specs.BuiltInMethods.{string_text}
 use Rattle.model.specs.ClassInitialisation.{constant_in, constant_of, constant_value, with_constant, with_constants, with_class_status, with_class_begun}
@@ -198,13 +198,17 @@ pub with_static_words : (world : World) (field : Member) (v : Value)
     → with_static (world_words world) field (word_of v) ≡ world_words (with_static world field v)
 with_static_words world field v = ap (λ s. record (world_words world) { statics = s }) (with_value_words field v world.statics)
 
+pub first_instance_words : (files : Program) (class : Name) → first_instance words files class ≡ object_words (first_instance values files class)
+first_instance_words files class =
+    ap (λ l. Instance class l) (map_same (map_field word_of) (with_first words) (with_first values) (instance_fields files class) with_first_words)
+
 pub new_words : (files : Program) (class : Name) → new_instance words files class ≡ object_words (new_instance values files class)
 new_words files class = by (name_eq class java_lang_string)
   where
-    by : (b : Bool) → (if b then Characters [] else Instance class (map (with_first words) (instance_fields files class)))
-        ≡ object_words (if b then Characters [] else Instance class (map (with_first values) (instance_fields files class)))
+    by : (b : Bool) → (if b then Characters [] else first_instance words files class)
+        ≡ object_words (if b then Characters [] else first_instance values files class)
     by true = refl
-    by false = ap (λ l. Instance class l) (map_same (map_field word_of) (with_first words) (with_first values) (instance_fields files class) with_first_words)
+    by false = first_instance_words files class
 
 -- ---- constants of a class
 

@@ -12,7 +12,7 @@ use Rattle.model.specs.CodeParts.{end_of_decoding, decodes, any_code, any_decode
 use Rattle.model.specs.Profile.{field_of_left_out_type, left_out_constant, instance_field_of_interface, method_of_left_out_type, native_method, initialiser_of_other_descriptor, abstract_initialiser, constructor_with_result, contradictory_abstract_method, contradictory_constructor, concrete_method_of_interface, unknown_opcode, operand_of_left_out_type, left_out_array, float_constant, array_class_constant, method_of_array_class}
 use Rattle.model.specs.CodeConditions.{low_above_high, negative_count, cut_instruction, jump_off_boundary, unsorted_matches, local_above_max, too_few_locals, operand_of_wrong_kind, wrong_interface_count, wrong_interface_end, constructor_not_by_special, calls_initialiser, special_of_class_aside, new_of_array, too_many_dimensions, empty_range, range_off_boundary, handler_off_boundary}
 use Rattle.model.specs.Hierarchy.{in_cycle, extends_interface, extends_final, implements_class, interface_below_other, redeclares, final_redeclared, static_redeclared, instance_redeclared, redeclared_in_other_package, redeclared_as_private, catches_no_throwable}
-use Rattle.model.specs.Resolution.{superclass_missing, interface_missing, catch_type_missing, declared_class_missing, operand_class_missing, new_of_abstract, field_missing, field_of_other_kind, puts_system_stream, names_hidden_field, method_missing, method_of_other_kind, call_on_other_kind}
+use Rattle.model.specs.Resolution.{superclass_missing, interface_missing, catch_type_missing, declared_class_missing, operand_class_missing, new_of_abstract, field_missing, field_of_other_kind, puts_system_stream, names_hidden_field, method_missing, names_hidden_method, method_of_other_kind, call_on_other_kind}
 use Rattle.model.specs.Linkable.{too_many_files, too_many_strings, too_many_fields, two_of_one_name, has_built_in_name, no_file, no_static_main, LinkCondition, TooLarge, DuplicateClass, OutsideProfile, MalformedCode, BadHierarchy, Unresolved, TooManyFields, NoMain, stands, stands_first}
 
 -- a name, and whether its condition stands
@@ -120,6 +120,7 @@ of_resolution files file =
     ∷ (codes "puts_system_stream", in_program puts_system_stream files file)
     ∷ (codes "names_hidden_field", in_program names_hidden_field files file)
     ∷ (codes "method_missing", in_program method_missing files file)
+    ∷ (codes "names_hidden_method", in_program names_hidden_method files file)
     ∷ (codes "method_of_other_kind", in_program method_of_other_kind files file)
     ∷ (codes "call_on_other_kind", in_program call_on_other_kind files file)
     ∷ []

@@ -1,6 +1,6 @@
 -- Frame types in short, for lists of those of a method.
 use Rattle.std.specs.Prelude.{ℕ, List, false, map}
-use Rattle.model.specs.Names.{Name, Member, java_lang_class, java_lang_string, java_lang_string_builder}
+use Rattle.model.specs.Names.{Name, Member, java_lang_class, java_lang_string, java_lang_string_builder, java_lang_throwable}
 use Rattle.model.specs.ReferenceTypes.{ClassType}
 use Rattle.model.specs.Types.{VerificationType, OfType}
 use Rattle.model.specs.TypeOrder.{FrameType}
@@ -17,6 +17,9 @@ class = of java_lang_class
 
 abbrev pub builder : VerificationType
 builder = of java_lang_string_builder
+
+abbrev pub throwable : VerificationType
+throwable = of java_lang_throwable
 
 -- offsets at which the local variables have the same types, with the types on the stack at each
 abbrev pub with_locals : List VerificationType → List (ℕ × List VerificationType) → List (ℕ × FrameType)

@@ -1,7 +1,7 @@
 -- Class files over one constant pool, for the examples of refusals.
 use Rattle.std.specs.Prelude.{ℕ, List, [], ◌∷◌, ◌++◌, replicate, codes}
 use Rattle.model.specs.declared.class_file.ExceptionEntry.{ExceptionEntry}
-use Rattle.model.specs.Names.{Name, java_lang_object, java_lang_runnable, java_lang_string, java_lang_system, java_lang_thread}
+use Rattle.model.specs.Names.{Name, java_lang_object, java_lang_runnable, java_lang_string, java_lang_system, java_lang_thread, java_lang_throwable}
 use Rattle.model.specs.Tree.{Entry, Utf8, Float, Long, Class, Field, Method, InterfaceMethod, NameAndType, Unusable, FieldPart, FieldTree, MethodPart, CodeOf, MethodTree, FileTree}
 use Rattle.model.specs.Classes.{Program}
 use Rattle.run_laws.specs.examples.Bytes.{hex}
@@ -22,7 +22,9 @@ pool =
     ∷ Utf8 (codes "out") ∷ Utf8 (codes "Ljava/io/PrintStream;") ∷ NameAndType 51 52 ∷ Field 50 53 ∷ Utf8 java_lang_thread
     ∷ Class 55 ∷ Utf8 (codes "target") ∷ Utf8 (codes "Ljava/lang/Runnable;") ∷ NameAndType 57 58 ∷ Field 56 59
     ∷ Utf8 (codes "wait") ∷ Utf8 java_lang_string ∷ Class 62 ∷ Utf8 (codes "p/B") ∷ Class 64
-    ∷ Utf8 (codes "ConstantValue") ∷ Long 0 ∷ Unusable ∷ Utf8 (codes "V") ∷ Utf8 (codes "p//B") ∷ []
+    ∷ Utf8 (codes "ConstantValue") ∷ Long 0 ∷ Unusable ∷ Utf8 (codes "V") ∷ Utf8 (codes "p//B")
+    ∷ Utf8 (codes "described") ∷ Utf8 (codes "(Ljava/lang/Object;I)Ljava/lang/String;") ∷ NameAndType 71 72 ∷ Method 63 73 ∷ Utf8 java_lang_throwable
+    ∷ Class 75 ∷ []
 
 abbrev pub class : ℕ → ℕ → ℕ → List ℕ → List FieldTree → List MethodTree → FileTree
 class flags this super interfaces fields methods =

@@ -6,7 +6,7 @@ use Rattle.model.specs.Classes.{Program}
 use Rattle.model.specs.BuiltInForm.{public_class, built_in}
 use Rattle.model.specs.Linkable.{too_many_files}
 use Rattle.run_laws.specs.examples.Conditions.{standing, refused_as, answered_as}
-use Rattle.run_laws.specs.examples.Made.{class, field, method, code_with, code, returns, exception, a_with, a_alone, with_method, doing, with_field, catching, beside, b_below, b_interface}
+use Rattle.run_laws.specs.examples.Made.{class, main, field, method, code_with, code, returns, exception, a_with, a_alone, with_method, doing, with_field, catching, beside, b_below, b_interface}
 use Rattle.run_laws.specs.examples.PrintsSeven.{prints_seven_file}
 
 -- one condition stands, and no other
@@ -135,6 +135,8 @@ pub record Unresolveds : Type 0 where
   pub no_method : Meets (a_with [] (method 0x0009 8 9 (code (codes "01 b60027 b1")) ∷ []) ∷ b_below 4 [] [] ∷ []) (codes "method_missing")
   pub no_constructor : Meets (a_with [] (method 0x0009 8 9 (code (codes "bb0025 b70029 b1")) ∷ []) ∷ b_below 4 [] []
       ∷ []) (codes "method_missing")
+  -- invokestatic String.described
+  pub described : Meets (doing (codes "01 03 b8004a 57 b1")) (codes "names_hidden_method")
   -- invokevirtual A.f, which is static, and invokestatic of an instance method
   pub virtual : Meets (doing (codes "01 b60028 b1")) (codes "method_of_other_kind")
   pub static : Meets (with_method (method 0x0001 8 9 (code (codes "b80028 b1")))) (codes "method_of_other_kind")
@@ -158,6 +160,8 @@ pub record OtherRefusals : Type 0 where
   pub files_at_most : too_many_files (replicate 65000 a_alone) ≡ false
   pub fields : refused_as (with_fields 65536 ∷ []) ≡ codes "TooLarge by fields" ∷ []
   pub fields_at_most : refused_as (with_fields 65535 ∷ []) ≡ []
+  -- what a Throwable keeps by itself doesn't count
+  pub fields_of_throwable : refused_as (class 0x0021 2 76 [] (replicate 65535 (field 0x0001 13 12 [])) (main ∷ []) ∷ []) ≡ []
   pub linkable : standing (prints_seven_file ∷ []) ≡ []
   -- a native method, a superclass that is missing and a cycle: first what the profile leaves out, then the cycle
   pub three : refused_as (with_method (method 0x0101 8 9 []) ++ (b_below 37 [] [] ∷ class 0x0021 65 45 [] [] [] ∷ []))

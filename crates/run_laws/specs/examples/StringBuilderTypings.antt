@@ -30,22 +30,28 @@ string_builder_init_2_types =
     ∷ (7, string ∷ UninitialisedThis (codes "java/lang/StringBuilder") ∷ []) ∷ [])
     ++ with_locals (builder ∷ object ∷ []) ((10, []) ∷ [])
 
--- StringBuilder.append(Z)Ljava/lang/StringBuilder;
+-- StringBuilder.append(Ljava/lang/Object;)Ljava/lang/StringBuilder;
 abbrev pub string_builder_append_types : List (ℕ × FrameType)
 string_builder_append_types =
+    with_locals (builder ∷ object ∷ []) ((0, []) ∷ (1, builder ∷ []) ∷ (2, object ∷ builder ∷ [])
+    ∷ (5, string ∷ builder ∷ []) ∷ (8, builder ∷ []) ∷ [])
+
+-- StringBuilder.append(Z)Ljava/lang/StringBuilder;
+abbrev pub string_builder_append_2_types : List (ℕ × FrameType)
+string_builder_append_2_types =
     with_locals (builder ∷ IntType ∷ []) ((0, []) ∷ (1, builder ∷ []) ∷ (2, IntType ∷ builder ∷ [])
     ∷ (5, string ∷ builder ∷ []) ∷ (8, builder ∷ []) ∷ [])
 
 -- StringBuilder.append(Ljava/lang/CharSequence;)Ljava/lang/StringBuilder;
-abbrev pub string_builder_append_2_types : List (ℕ × FrameType)
-string_builder_append_2_types =
+abbrev pub string_builder_append_3_types : List (ℕ × FrameType)
+string_builder_append_3_types =
     with_locals (builder ∷ object ∷ []) ((0, []) ∷ (1, builder ∷ []) ∷ (2, object ∷ builder ∷ [])
     ∷ (5, builder ∷ []) ∷ (7, string ∷ builder ∷ []) ∷ (10, builder ∷ []) ∷ (11, object ∷ builder ∷ [])
     ∷ (16, string ∷ builder ∷ []) ∷ (19, builder ∷ []) ∷ [])
 
 -- StringBuilder.append(Ljava/lang/CharSequence;II)Ljava/lang/StringBuilder;
-abbrev pub string_builder_append_3_types : List (ℕ × FrameType)
-string_builder_append_3_types =
+abbrev pub string_builder_append_4_types : List (ℕ × FrameType)
+string_builder_append_4_types =
     with_locals (builder ∷ object ∷ IntType ∷ IntType ∷ Unusable ∷ []) ((0, []) ∷ (1, object ∷ []) ∷ (4, [])
     ∷ (6, string ∷ []) ∷ (9, []) ∷ (10, object ∷ []) ∷ (15, string ∷ []) ∷ [])
     ++ with_locals (builder ∷ object ∷ IntType ∷ IntType ∷ string ∷ []) ((17, []) ∷ (18, IntType ∷ []) ∷ (21, [])
@@ -176,9 +182,15 @@ string_builder_insert_types =
     ∷ (12, IntType ∷ IntType ∷ builder ∷ []) ∷ (13, string ∷ IntType ∷ IntType ∷ builder ∷ [])
     ∷ (16, builder ∷ []) ∷ [])
 
--- StringBuilder.insert(ILjava/lang/CharSequence;)Ljava/lang/StringBuilder;
+-- StringBuilder.insert(ILjava/lang/Object;)Ljava/lang/StringBuilder;
 abbrev pub string_builder_insert_2_types : List (ℕ × FrameType)
 string_builder_insert_2_types =
+    with_locals (builder ∷ IntType ∷ object ∷ []) ((0, []) ∷ (1, builder ∷ []) ∷ (2, IntType ∷ builder ∷ [])
+    ∷ (3, object ∷ IntType ∷ builder ∷ []) ∷ (6, string ∷ IntType ∷ builder ∷ []) ∷ (9, builder ∷ []) ∷ [])
+
+-- StringBuilder.insert(ILjava/lang/CharSequence;)Ljava/lang/StringBuilder;
+abbrev pub string_builder_insert_3_types : List (ℕ × FrameType)
+string_builder_insert_3_types =
     with_locals (builder ∷ IntType ∷ object ∷ []) ((0, []) ∷ (1, builder ∷ []) ∷ (2, IntType ∷ builder ∷ [])
     ∷ (3, IntType ∷ IntType ∷ builder ∷ []) ∷ (4, object ∷ IntType ∷ IntType ∷ builder ∷ [])
     ∷ (7, IntType ∷ IntType ∷ builder ∷ []) ∷ (9, string ∷ IntType ∷ IntType ∷ builder ∷ [])
@@ -186,8 +198,8 @@ string_builder_insert_2_types =
     ∷ (18, string ∷ IntType ∷ IntType ∷ builder ∷ []) ∷ (21, builder ∷ []) ∷ [])
 
 -- StringBuilder.insert(ILjava/lang/CharSequence;II)Ljava/lang/StringBuilder;
-abbrev pub string_builder_insert_3_types : List (ℕ × FrameType)
-string_builder_insert_3_types =
+abbrev pub string_builder_insert_4_types : List (ℕ × FrameType)
+string_builder_insert_4_types =
     with_locals (builder ∷ IntType ∷ object ∷ IntType ∷ IntType ∷ Unusable ∷ []) ((0, []) ∷ (1, object ∷ [])
     ∷ (4, []) ∷ (6, string ∷ []) ∷ (9, []) ∷ (10, object ∷ []) ∷ (15, string ∷ []) ∷ [])
     ++ with_locals (builder ∷ IntType ∷ object ∷ IntType ∷ IntType ∷ string ∷ []) ((17, []) ∷ (18, IntType ∷ [])
@@ -208,22 +220,22 @@ string_builder_insert_3_types =
     ∷ (71, string ∷ IntType ∷ IntType ∷ builder ∷ []) ∷ (74, builder ∷ []) ∷ [])
 
 -- StringBuilder.insert(IC)Ljava/lang/StringBuilder;
-abbrev pub string_builder_insert_4_types : List (ℕ × FrameType)
-string_builder_insert_4_types =
-    with_locals (builder ∷ IntType ∷ IntType ∷ []) ((0, []) ∷ (1, builder ∷ []) ∷ (2, IntType ∷ builder ∷ [])
-    ∷ (3, IntType ∷ IntType ∷ builder ∷ []) ∷ (4, IntType ∷ IntType ∷ IntType ∷ builder ∷ [])
-    ∷ (7, string ∷ IntType ∷ IntType ∷ builder ∷ []) ∷ (10, builder ∷ []) ∷ [])
-
--- StringBuilder.insert(II)Ljava/lang/StringBuilder;
 abbrev pub string_builder_insert_5_types : List (ℕ × FrameType)
 string_builder_insert_5_types =
     with_locals (builder ∷ IntType ∷ IntType ∷ []) ((0, []) ∷ (1, builder ∷ []) ∷ (2, IntType ∷ builder ∷ [])
     ∷ (3, IntType ∷ IntType ∷ builder ∷ []) ∷ (4, IntType ∷ IntType ∷ IntType ∷ builder ∷ [])
     ∷ (7, string ∷ IntType ∷ IntType ∷ builder ∷ []) ∷ (10, builder ∷ []) ∷ [])
 
--- StringBuilder.insert(IZ)Ljava/lang/StringBuilder;
+-- StringBuilder.insert(II)Ljava/lang/StringBuilder;
 abbrev pub string_builder_insert_6_types : List (ℕ × FrameType)
 string_builder_insert_6_types =
+    with_locals (builder ∷ IntType ∷ IntType ∷ []) ((0, []) ∷ (1, builder ∷ []) ∷ (2, IntType ∷ builder ∷ [])
+    ∷ (3, IntType ∷ IntType ∷ builder ∷ []) ∷ (4, IntType ∷ IntType ∷ IntType ∷ builder ∷ [])
+    ∷ (7, string ∷ IntType ∷ IntType ∷ builder ∷ []) ∷ (10, builder ∷ []) ∷ [])
+
+-- StringBuilder.insert(IZ)Ljava/lang/StringBuilder;
+abbrev pub string_builder_insert_7_types : List (ℕ × FrameType)
+string_builder_insert_7_types =
     with_locals (builder ∷ IntType ∷ IntType ∷ []) ((0, []) ∷ (1, builder ∷ []) ∷ (2, IntType ∷ builder ∷ [])
     ∷ (3, IntType ∷ IntType ∷ builder ∷ []) ∷ (4, IntType ∷ IntType ∷ IntType ∷ builder ∷ [])
     ∷ (7, string ∷ IntType ∷ IntType ∷ builder ∷ []) ∷ (10, builder ∷ []) ∷ [])
@@ -301,9 +313,10 @@ abbrev pub string_builder_typings : List (Member × List (ℕ × FrameType))
 string_builder_typings =
     (member java_lang_string_builder (codes "<init>") (codes "(I)V"), string_builder_init_types)
     ∷ (member java_lang_string_builder (codes "<init>") (codes "(Ljava/lang/CharSequence;)V"), string_builder_init_2_types)
-    ∷ (member java_lang_string_builder (codes "append") (codes "(Z)Ljava/lang/StringBuilder;"), string_builder_append_types)
-    ∷ (member java_lang_string_builder (codes "append") (codes "(Ljava/lang/CharSequence;)Ljava/lang/StringBuilder;"), string_builder_append_2_types)
-    ∷ (member java_lang_string_builder (codes "append") (codes "(Ljava/lang/CharSequence;II)Ljava/lang/StringBuilder;"), string_builder_append_3_types)
+    ∷ (member java_lang_string_builder (codes "append") (codes "(Ljava/lang/Object;)Ljava/lang/StringBuilder;"), string_builder_append_types)
+    ∷ (member java_lang_string_builder (codes "append") (codes "(Z)Ljava/lang/StringBuilder;"), string_builder_append_2_types)
+    ∷ (member java_lang_string_builder (codes "append") (codes "(Ljava/lang/CharSequence;)Ljava/lang/StringBuilder;"), string_builder_append_3_types)
+    ∷ (member java_lang_string_builder (codes "append") (codes "(Ljava/lang/CharSequence;II)Ljava/lang/StringBuilder;"), string_builder_append_4_types)
     ∷ (member java_lang_string_builder (codes "length") (codes "()I"), string_builder_length_types)
     ∷ (member java_lang_string_builder (codes "charAt") (codes "(I)C"), string_builder_char_at_types)
     ∷ (member java_lang_string_builder (codes "capacity") (codes "()I"), string_builder_capacity_types)
@@ -315,11 +328,12 @@ string_builder_typings =
     ∷ (member java_lang_string_builder (codes "delete") (codes "(II)Ljava/lang/StringBuilder;"), string_builder_delete_types)
     ∷ (member java_lang_string_builder (codes "replace") (codes "(IILjava/lang/String;)Ljava/lang/StringBuilder;"), string_builder_replace_types)
     ∷ (member java_lang_string_builder (codes "insert") (codes "(ILjava/lang/String;)Ljava/lang/StringBuilder;"), string_builder_insert_types)
-    ∷ (member java_lang_string_builder (codes "insert") (codes "(ILjava/lang/CharSequence;)Ljava/lang/StringBuilder;"), string_builder_insert_2_types)
-    ∷ (member java_lang_string_builder (codes "insert") (codes "(ILjava/lang/CharSequence;II)Ljava/lang/StringBuilder;"), string_builder_insert_3_types)
-    ∷ (member java_lang_string_builder (codes "insert") (codes "(IC)Ljava/lang/StringBuilder;"), string_builder_insert_4_types)
-    ∷ (member java_lang_string_builder (codes "insert") (codes "(II)Ljava/lang/StringBuilder;"), string_builder_insert_5_types)
-    ∷ (member java_lang_string_builder (codes "insert") (codes "(IZ)Ljava/lang/StringBuilder;"), string_builder_insert_6_types)
+    ∷ (member java_lang_string_builder (codes "insert") (codes "(ILjava/lang/Object;)Ljava/lang/StringBuilder;"), string_builder_insert_2_types)
+    ∷ (member java_lang_string_builder (codes "insert") (codes "(ILjava/lang/CharSequence;)Ljava/lang/StringBuilder;"), string_builder_insert_3_types)
+    ∷ (member java_lang_string_builder (codes "insert") (codes "(ILjava/lang/CharSequence;II)Ljava/lang/StringBuilder;"), string_builder_insert_4_types)
+    ∷ (member java_lang_string_builder (codes "insert") (codes "(IC)Ljava/lang/StringBuilder;"), string_builder_insert_5_types)
+    ∷ (member java_lang_string_builder (codes "insert") (codes "(II)Ljava/lang/StringBuilder;"), string_builder_insert_6_types)
+    ∷ (member java_lang_string_builder (codes "insert") (codes "(IZ)Ljava/lang/StringBuilder;"), string_builder_insert_7_types)
     ∷ (member java_lang_string_builder (codes "indexOf") (codes "(Ljava/lang/String;)I"), string_builder_index_of_types)
     ∷ (member java_lang_string_builder (codes "indexOf") (codes "(Ljava/lang/String;I)I"), string_builder_index_of_2_types)
     ∷ (member java_lang_string_builder (codes "lastIndexOf") (codes "(Ljava/lang/String;)I"), string_builder_last_index_of_types)

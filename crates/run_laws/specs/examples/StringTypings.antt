@@ -7,9 +7,15 @@ use Rattle.model.specs.TypeOrder.{FrameType}
 use Rattle.run_laws.specs.examples.Typings.{object}
 use Rattle.run_laws.specs.examples.FrameTypes.{string, with_locals, member}
 
--- String.valueOf(Z)Ljava/lang/String;
+-- String.valueOf(Ljava/lang/Object;)Ljava/lang/String;
 abbrev pub string_value_of_types : List (ℕ × FrameType)
 string_value_of_types =
+    with_locals (object ∷ []) ((0, []) ∷ (1, object ∷ []) ∷ (4, []) ∷ (6, string ∷ []) ∷ (9, [])
+    ∷ (10, object ∷ []) ∷ (13, string ∷ []) ∷ [])
+
+-- String.valueOf(Z)Ljava/lang/String;
+abbrev pub string_value_of_2_types : List (ℕ × FrameType)
+string_value_of_2_types =
     with_locals (IntType ∷ []) ((0, []) ∷ (1, IntType ∷ []) ∷ (4, []) ∷ (6, string ∷ []) ∷ (9, [])
     ∷ (11, string ∷ []) ∷ [])
 
@@ -161,7 +167,8 @@ string_trim_types =
 
 abbrev pub string_typings : List (Member × List (ℕ × FrameType))
 string_typings =
-    (member java_lang_string (codes "valueOf") (codes "(Z)Ljava/lang/String;"), string_value_of_types)
+    (member java_lang_string (codes "valueOf") (codes "(Ljava/lang/Object;)Ljava/lang/String;"), string_value_of_types)
+    ∷ (member java_lang_string (codes "valueOf") (codes "(Z)Ljava/lang/String;"), string_value_of_2_types)
     ∷ (member java_lang_string (codes "isEmpty") (codes "()Z"), string_is_empty_types)
     ∷ (member java_lang_string (codes "toString") (codes "()Ljava/lang/String;"), string_to_string_types)
     ∷ (member java_lang_string (codes "substring") (codes "(I)Ljava/lang/String;"), string_substring_types)

@@ -123,6 +123,8 @@ nobody (Some u) = refl
 pub nothing_of : (world : World) (t u : ℕ) (b : Called) → (b ≡ called.ThreadStart → ⊥) → (b ≡ called.ThreadInterrupt → ⊥) → (b ≡ called.ThreadIsAlive → ⊥)
     → (b ≡ called.ThreadIsInterrupted → ⊥) → (b ≡ called.ThreadJoin → ⊥) → found_of world t u (built_in_of b) ≡ []
 nothing_of world t u called.Construct a e i s j = refl
+nothing_of world t u called.ConstructWithMessage a e i s j = refl
+nothing_of world t u called.ConstructWithCause a e i s j = refl
 nothing_of world t u called.ConstructWithTarget a e i s j = refl
 nothing_of world t u called.ObjectWait a e i s j = refl
 nothing_of world t u called.ObjectNotify a e i s j = refl
@@ -138,10 +140,13 @@ nothing_of world t u called.ThreadIsAlive a e i s j = absurd (i refl)
 nothing_of world t u (called.PrintStreamPrints print) a e i s j = refl
 nothing_of world t u (called.StringAnswers method) a e i s j = refl
 nothing_of world t u (called.StringBuilderBuilds method) a e i s j = refl
+nothing_of world t u (called.ObjectAnswers method) a e i s j = refl
 
 pub on_thread : (world : World) (t object : ℕ) (b : Called) → (b ≡ called.ObjectWait → ⊥) → (b ≡ called.ThreadInterrupted → ⊥)
     → found_on world t object (built_in_of b) ≡ of_thread (worlds.thread_of world object) (λ u. found_of world t u (built_in_of b))
 on_thread world t object called.Construct w i = nobody (worlds.thread_of world object)
+on_thread world t object called.ConstructWithMessage w i = nobody (worlds.thread_of world object)
+on_thread world t object called.ConstructWithCause w i = nobody (worlds.thread_of world object)
 on_thread world t object called.ConstructWithTarget w i = nobody (worlds.thread_of world object)
 on_thread world t object called.ObjectWait w i = absurd (w refl)
 on_thread world t object called.ObjectNotify w i = nobody (worlds.thread_of world object)
@@ -157,9 +162,12 @@ on_thread world t object called.ThreadIsAlive w i = refl
 on_thread world t object (called.PrintStreamPrints print) w i = nobody (worlds.thread_of world object)
 on_thread world t object (called.StringAnswers method) w i = nobody (worlds.thread_of world object)
 on_thread world t object (called.StringBuilderBuilds method) w i = nobody (worlds.thread_of world object)
+on_thread world t object (called.ObjectAnswers method) w i = nobody (worlds.thread_of world object)
 
 pub no_interrupt_on : (world : World) (object : ℕ) (b : Called) → (b ≡ called.ThreadInterrupt → ⊥) → interrupts_on world object (built_in_of b) ≡ []
 no_interrupt_on world object called.Construct n = refl
+no_interrupt_on world object called.ConstructWithMessage n = refl
+no_interrupt_on world object called.ConstructWithCause n = refl
 no_interrupt_on world object called.ConstructWithTarget n = refl
 no_interrupt_on world object called.ObjectWait n = refl
 no_interrupt_on world object called.ObjectNotify n = refl
@@ -175,6 +183,7 @@ no_interrupt_on world object called.ThreadIsAlive n = refl
 no_interrupt_on world object (called.PrintStreamPrints print) n = refl
 no_interrupt_on world object (called.StringAnswers method) n = refl
 no_interrupt_on world object (called.StringBuilderBuilds method) n = refl
+no_interrupt_on world object (called.ObjectAnswers method) n = refl
 
 -- what is told in place of other actions, or of another method
 module _ (heap : Heap) (table : ThreadTable) where

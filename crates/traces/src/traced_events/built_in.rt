@@ -78,7 +78,10 @@ pub(crate) fn built_in_deed(
 ) -> Deed {
     let object = before.receiver.saturating_sub(1);
     match built_in {
-        BuiltInMethod::Construct | BuiltInMethod::ConstructWithTarget => Deed::Runs { method },
+        BuiltInMethod::Construct
+        | BuiltInMethod::ConstructWithTarget
+        | BuiltInMethod::ConstructWithMessage
+        | BuiltInMethod::ConstructWithCause => Deed::Runs { method },
         BuiltInMethod::ObjectWait => Deed::Waits { object },
         BuiltInMethod::ObjectNotify => Deed::Notifies {
             thread: before.waiting.get(usize::from(pick)).copied(),
@@ -93,7 +96,10 @@ pub(crate) fn built_in_deed(
         | BuiltInMethod::ThreadCurrentThread
         | BuiltInMethod::ThreadIsAlive => Deed::Pushes { word: answer.word },
         BuiltInMethod::PrintStreamPrints(method) => print_deed(before, method),
-        BuiltInMethod::StringAnswers(_) => answer_deed(before.objects, answer),
+        BuiltInMethod::StringAnswers(_) | BuiltInMethod::ObjectAnswers(_) => answer_deed(
+            before.objects,
+            answer,
+        ),
         BuiltInMethod::StringBuilderBuilds(builder) => builder_deed(builder, method, answer.word),
     }
 }

@@ -13,6 +13,7 @@ use Rattle.model.specs.Pool.{class_name_of, class_name_at}
 use Rattle.model.specs.Conditions.{is_class_or_array, entry_names}
 use Rattle.model.specs.BuiltIn.{built_in_classes}
 use Rattle.model.specs.Classes.{Program, class_of, is_method, declared_in, code_in}
+use Rattle.model.specs.DescriptorScan.{element_at, field_at, field_type}
 use Rattle.model.specs.Instruction.{instr_at, wide_at, table_switch_at, lookup_switch_at}
 use Rattle.model.specs.InstructionStarts.{starts_from, is_start}
 use Rattle.model.specs.OpcodeTable.{low_form, high_form}
@@ -83,7 +84,7 @@ operand_type pool other h = refl
 
 module _ (files : Program) where
   built_in_names : list_all (λ file. list_all (entry_names file.pool) file.pool) built_in_classes ≡ true
-  unfolding built_in_classes
+  unfolding built_in_classes element_at field_at field_type
   built_in_names = refl
 
   names_file : (file : FileTree) → IsWhole file → list_all (entry_names file.pool) file.pool ≡ true

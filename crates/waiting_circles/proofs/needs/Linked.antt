@@ -52,7 +52,7 @@ module _ (trees : Program) (p : LinkedProgram) (at : ℕ → ℕ) (code : List L
   quick_of linked.StoreReference l n0 n1 n2 n3 n4 = quick _ l.is (quick_store trees site 0 array_kind.Reference)
   quick_of linked.ArrayLength l n0 n1 n2 n3 n4 = quick _ l.is (quick_length trees site 0)
   quick_of (linked.LoadObject word) l n0 n1 n2 n3 n4 = quick _ l.is (quick_object trees site 0 _ _)
-  quick_of (linked.New class fields cells) l n0 n1 n2 n3 n4 = quick _ l.is (quick_new trees site 0 _)
+  quick_of (linked.New class cells uncounted) l n0 n1 n2 n3 n4 = quick _ l.is (quick_new trees site 0 _)
   quick_of (linked.NewArray type) l n0 n1 n2 n3 n4 = quick _ l.is (quick_primitives trees site 0 (primitive_of type))
   quick_of (linked.NewReferenceArray number) l n0 n1 n2 n3 n4 = quick _ l.is (quick_references trees site 0 l.of)
   quick_of (linked.CheckCast type) l n0 n1 n2 n3 n4 = quick _ l.0.is (quick_cast trees site 0 _)

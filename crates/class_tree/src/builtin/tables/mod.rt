@@ -2,23 +2,47 @@
 //!
 //! Made by `tools/build-built-in` of the class files of builtin/classes. Not to be edited.
 
+mod array_index_out_of_bounds_exception;
+mod assertion_error;
 mod class;
+mod error;
+mod exception;
+mod exception_in_initializer_error;
+mod illegal_argument_exception;
+mod illegal_state_exception;
 mod object;
 mod print_stream;
+mod runtime_exception;
 mod string;
 mod string_builder;
+mod string_index_out_of_bounds_exception;
+mod system;
 mod thread;
+mod throwable;
+mod virtual_machine_error;
 
-use crate::builtin::form::{BuiltInClass, Declared, Operand, Stored};
+use crate::builtin::form::{BuiltInClass, Declared};
+use crate::builtin::tables::array_index_out_of_bounds_exception::ARRAY_INDEX_OUT_OF_BOUNDS_EXCEPTION;
+use crate::builtin::tables::assertion_error::ASSERTION_ERROR;
 use crate::builtin::tables::class::CLASS;
+use crate::builtin::tables::error::ERROR;
+use crate::builtin::tables::exception::EXCEPTION;
+use crate::builtin::tables::exception_in_initializer_error::EXCEPTION_IN_INITIALIZER_ERROR;
+use crate::builtin::tables::illegal_argument_exception::ILLEGAL_ARGUMENT_EXCEPTION;
+use crate::builtin::tables::illegal_state_exception::ILLEGAL_STATE_EXCEPTION;
 use crate::builtin::tables::object::OBJECT;
 use crate::builtin::tables::print_stream::PRINT_STREAM;
+use crate::builtin::tables::runtime_exception::RUNTIME_EXCEPTION;
 use crate::builtin::tables::string::STRING;
 use crate::builtin::tables::string_builder::STRING_BUILDER;
+use crate::builtin::tables::string_index_out_of_bounds_exception::STRING_INDEX_OUT_OF_BOUNDS_EXCEPTION;
+use crate::builtin::tables::system::SYSTEM;
 use crate::builtin::tables::thread::THREAD;
+use crate::builtin::tables::throwable::THROWABLE;
+use crate::builtin::tables::virtual_machine_error::VIRTUAL_MACHINE_ERROR;
 
-/// The built-in classes by their numbers: 0 to 1.
-pub(crate) static FROM_OBJECT: [BuiltInClass; 2] = [
+/// The built-in classes by their numbers: 0 to 2.
+pub(crate) static FROM_OBJECT: [BuiltInClass; 3] = [
     OBJECT,
     BuiltInClass {
         flags: 0x0601,
@@ -30,90 +54,23 @@ pub(crate) static FROM_OBJECT: [BuiltInClass; 2] = [
         coded: &[],
         natives: &[Declared(0x0401, b"run", b"()V")],
     },
+    THREAD,
 ];
-
-/// The built-in classes by their numbers: 2.
-pub(crate) static FROM_THREAD: [BuiltInClass; 1] = [THREAD];
 
 /// The built-in classes by their numbers: 3.
 pub(crate) static FROM_STRING: [BuiltInClass; 1] = [STRING];
 
-/// The built-in classes by their numbers: 4 to 5.
-pub(crate) static FROM_CLASS: [BuiltInClass; 2] = [
-    CLASS,
-    BuiltInClass {
-        flags: 0x0031,
-        name: b"java/lang/System",
-        superclass: Some(b"java/lang/Object"),
-        interfaces: &[],
-        operands: &[
-            Operand::Utf8(b"out"),
-            Operand::Utf8(b"Ljava/io/PrintStream;"),
-            Operand::Utf8(b"err"),
-        ],
-        fields: &[Stored(0x0019, 5, 6), Stored(0x0019, 7, 6)],
-        coded: &[],
-        natives: &[],
-    },
-];
+/// The built-in classes by their numbers: 4.
+pub(crate) static FROM_CLASS: [BuiltInClass; 1] = [CLASS];
 
-/// The built-in classes by their numbers: 6 to 13.
-pub(crate) static FROM_PRINT_STREAM: [BuiltInClass; 8] = [
-    PRINT_STREAM,
-    BuiltInClass {
-        flags: 0x0021,
-        name: b"java/lang/Throwable",
-        superclass: Some(b"java/lang/Object"),
-        interfaces: &[],
-        operands: &[],
-        fields: &[],
-        coded: &[],
-        natives: &[
-            Declared(0x0101, b"<init>", b"()V"),
-            Declared(0x0101, b"<init>", b"(Ljava/lang/String;)V"),
-            Declared(
-                0x0101,
-                b"<init>",
-                b"(Ljava/lang/String;Ljava/lang/Throwable;)V",
-            ),
-        ],
-    },
-    BuiltInClass {
-        flags: 0x0021,
-        name: b"java/lang/Error",
-        superclass: Some(b"java/lang/Throwable"),
-        interfaces: &[],
-        operands: &[],
-        fields: &[],
-        coded: &[],
-        natives: &[
-            Declared(0x0101, b"<init>", b"()V"),
-            Declared(0x0101, b"<init>", b"(Ljava/lang/String;)V"),
-            Declared(
-                0x0101,
-                b"<init>",
-                b"(Ljava/lang/String;Ljava/lang/Throwable;)V",
-            ),
-        ],
-    },
-    BuiltInClass {
-        flags: 0x0021,
-        name: b"java/lang/Exception",
-        superclass: Some(b"java/lang/Throwable"),
-        interfaces: &[],
-        operands: &[],
-        fields: &[],
-        coded: &[],
-        natives: &[
-            Declared(0x0101, b"<init>", b"()V"),
-            Declared(0x0101, b"<init>", b"(Ljava/lang/String;)V"),
-            Declared(
-                0x0101,
-                b"<init>",
-                b"(Ljava/lang/String;Ljava/lang/Throwable;)V",
-            ),
-        ],
-    },
+/// The built-in classes by their numbers: 5 to 6.
+pub(crate) static FROM_SYSTEM: [BuiltInClass; 2] = [SYSTEM, PRINT_STREAM];
+
+/// The built-in classes by their numbers: 7 to 14.
+pub(crate) static FROM_THROWABLE: [BuiltInClass; 8] = [
+    THROWABLE,
+    ERROR,
+    EXCEPTION,
     BuiltInClass {
         flags: 0x0021,
         name: b"java/lang/LinkageError",
@@ -132,24 +89,7 @@ pub(crate) static FROM_PRINT_STREAM: [BuiltInClass; 8] = [
             ),
         ],
     },
-    BuiltInClass {
-        flags: 0x0421,
-        name: b"java/lang/VirtualMachineError",
-        superclass: Some(b"java/lang/Error"),
-        interfaces: &[],
-        operands: &[],
-        fields: &[],
-        coded: &[],
-        natives: &[
-            Declared(0x0101, b"<init>", b"()V"),
-            Declared(0x0101, b"<init>", b"(Ljava/lang/String;)V"),
-            Declared(
-                0x0101,
-                b"<init>",
-                b"(Ljava/lang/String;Ljava/lang/Throwable;)V",
-            ),
-        ],
-    },
+    VIRTUAL_MACHINE_ERROR,
     BuiltInClass {
         flags: 0x0021,
         name: b"java/lang/IncompatibleClassChangeError",
@@ -176,23 +116,11 @@ pub(crate) static FROM_PRINT_STREAM: [BuiltInClass; 8] = [
             Declared(0x0101, b"<init>", b"(Ljava/lang/String;)V"),
         ],
     },
+    EXCEPTION_IN_INITIALIZER_ERROR,
 ];
 
-/// The built-in classes by their numbers: 14 to 21.
-pub(crate) static FROM_EXCEPTION_IN_INITIALIZER_ERROR: [BuiltInClass; 8] = [
-    BuiltInClass {
-        flags: 0x0021,
-        name: b"java/lang/ExceptionInInitializerError",
-        superclass: Some(b"java/lang/LinkageError"),
-        interfaces: &[],
-        operands: &[],
-        fields: &[],
-        coded: &[],
-        natives: &[
-            Declared(0x0101, b"<init>", b"()V"),
-            Declared(0x0101, b"<init>", b"(Ljava/lang/String;)V"),
-        ],
-    },
+/// The built-in classes by their numbers: 15 to 22.
+pub(crate) static FROM_ABSTRACT_METHOD_ERROR: [BuiltInClass; 8] = [
     BuiltInClass {
         flags: 0x0021,
         name: b"java/lang/AbstractMethodError",
@@ -219,24 +147,7 @@ pub(crate) static FROM_EXCEPTION_IN_INITIALIZER_ERROR: [BuiltInClass; 8] = [
             Declared(0x0101, b"<init>", b"(Ljava/lang/String;)V"),
         ],
     },
-    BuiltInClass {
-        flags: 0x0021,
-        name: b"java/lang/RuntimeException",
-        superclass: Some(b"java/lang/Exception"),
-        interfaces: &[],
-        operands: &[],
-        fields: &[],
-        coded: &[],
-        natives: &[
-            Declared(0x0101, b"<init>", b"()V"),
-            Declared(0x0101, b"<init>", b"(Ljava/lang/String;)V"),
-            Declared(
-                0x0101,
-                b"<init>",
-                b"(Ljava/lang/String;Ljava/lang/Throwable;)V",
-            ),
-        ],
-    },
+    RUNTIME_EXCEPTION,
     BuiltInClass {
         flags: 0x0021,
         name: b"java/lang/InterruptedException",
@@ -289,10 +200,6 @@ pub(crate) static FROM_EXCEPTION_IN_INITIALIZER_ERROR: [BuiltInClass; 8] = [
             Declared(0x0101, b"<init>", b"(Ljava/lang/String;)V"),
         ],
     },
-];
-
-/// The built-in classes by their numbers: 22 to 29.
-pub(crate) static FROM_ILLEGAL_MONITOR_STATE_EXCEPTION: [BuiltInClass; 8] = [
     BuiltInClass {
         flags: 0x0021,
         name: b"java/lang/IllegalMonitorStateException",
@@ -306,42 +213,12 @@ pub(crate) static FROM_ILLEGAL_MONITOR_STATE_EXCEPTION: [BuiltInClass; 8] = [
             Declared(0x0101, b"<init>", b"(Ljava/lang/String;)V"),
         ],
     },
-    BuiltInClass {
-        flags: 0x0021,
-        name: b"java/lang/IllegalArgumentException",
-        superclass: Some(b"java/lang/RuntimeException"),
-        interfaces: &[],
-        operands: &[],
-        fields: &[],
-        coded: &[],
-        natives: &[
-            Declared(0x0101, b"<init>", b"()V"),
-            Declared(0x0101, b"<init>", b"(Ljava/lang/String;)V"),
-            Declared(
-                0x0101,
-                b"<init>",
-                b"(Ljava/lang/String;Ljava/lang/Throwable;)V",
-            ),
-        ],
-    },
-    BuiltInClass {
-        flags: 0x0021,
-        name: b"java/lang/IllegalStateException",
-        superclass: Some(b"java/lang/RuntimeException"),
-        interfaces: &[],
-        operands: &[],
-        fields: &[],
-        coded: &[],
-        natives: &[
-            Declared(0x0101, b"<init>", b"()V"),
-            Declared(0x0101, b"<init>", b"(Ljava/lang/String;)V"),
-            Declared(
-                0x0101,
-                b"<init>",
-                b"(Ljava/lang/String;Ljava/lang/Throwable;)V",
-            ),
-        ],
-    },
+];
+
+/// The built-in classes by their numbers: 23 to 30.
+pub(crate) static FROM_ILLEGAL_ARGUMENT_EXCEPTION: [BuiltInClass; 8] = [
+    ILLEGAL_ARGUMENT_EXCEPTION,
+    ILLEGAL_STATE_EXCEPTION,
     BuiltInClass {
         flags: 0x0021,
         name: b"java/lang/IndexOutOfBoundsException",
@@ -394,23 +271,7 @@ pub(crate) static FROM_ILLEGAL_MONITOR_STATE_EXCEPTION: [BuiltInClass; 8] = [
             Declared(0x0101, b"<init>", b"(Ljava/lang/String;)V"),
         ],
     },
-    BuiltInClass {
-        flags: 0x0021,
-        name: b"java/lang/ArrayIndexOutOfBoundsException",
-        superclass: Some(b"java/lang/IndexOutOfBoundsException"),
-        interfaces: &[],
-        operands: &[],
-        fields: &[],
-        coded: &[],
-        natives: &[
-            Declared(0x0101, b"<init>", b"()V"),
-            Declared(0x0101, b"<init>", b"(Ljava/lang/String;)V"),
-        ],
-    },
-];
-
-/// The built-in classes by their numbers: 30 to 35.
-pub(crate) static FROM_COMPARABLE: [BuiltInClass; 6] = [
+    ARRAY_INDEX_OUT_OF_BOUNDS_EXCEPTION,
     BuiltInClass {
         flags: 0x0601,
         name: b"java/lang/Comparable",
@@ -421,6 +282,10 @@ pub(crate) static FROM_COMPARABLE: [BuiltInClass; 6] = [
         coded: &[],
         natives: &[Declared(0x0401, b"compareTo", b"(Ljava/lang/Object;)I")],
     },
+];
+
+/// The built-in classes by their numbers: 31 to 35.
+pub(crate) static FROM_CHAR_SEQUENCE: [BuiltInClass; 5] = [
     BuiltInClass {
         flags: 0x0601,
         name: b"java/lang/CharSequence",
@@ -436,19 +301,7 @@ pub(crate) static FROM_COMPARABLE: [BuiltInClass; 6] = [
             Declared(0x0401, b"toString", b"()Ljava/lang/String;"),
         ],
     },
-    BuiltInClass {
-        flags: 0x0021,
-        name: b"java/lang/StringIndexOutOfBoundsException",
-        superclass: Some(b"java/lang/IndexOutOfBoundsException"),
-        interfaces: &[],
-        operands: &[],
-        fields: &[],
-        coded: &[],
-        natives: &[
-            Declared(0x0101, b"<init>", b"()V"),
-            Declared(0x0101, b"<init>", b"(Ljava/lang/String;)V"),
-        ],
-    },
+    STRING_INDEX_OUT_OF_BOUNDS_EXCEPTION,
     BuiltInClass {
         flags: 0x0601,
         name: b"java/lang/Cloneable",
@@ -472,23 +325,7 @@ pub(crate) static FROM_COMPARABLE: [BuiltInClass; 6] = [
             Declared(0x0101, b"<init>", b"(Ljava/lang/String;)V"),
         ],
     },
-    BuiltInClass {
-        flags: 0x0021,
-        name: b"java/lang/AssertionError",
-        superclass: Some(b"java/lang/Error"),
-        interfaces: &[],
-        operands: &[],
-        fields: &[],
-        coded: &[],
-        natives: &[
-            Declared(0x0101, b"<init>", b"()V"),
-            Declared(
-                0x0101,
-                b"<init>",
-                b"(Ljava/lang/String;Ljava/lang/Throwable;)V",
-            ),
-        ],
-    },
+    ASSERTION_ERROR,
 ];
 
 /// The built-in classes by their numbers: 36.

@@ -9,6 +9,7 @@ use Rattle.model.specs.Schedule.{events_of}
 use Rattle.schedule.specs.Joined.{RecordedFile}
 use Rattle.engines.specs.RecordForms.{record_form, recorded_as}
 use Rattle.engines.proofs.RunLemmas.{few_files}
+use Rattle.engines.proofs.TheoremLemmas.{replay_is}
 use Rattle.engines.proofs.continuing.ran_up_to.Goals as goal
 
 pub recorded_file-requires : goal.recorded_file-requires
@@ -33,7 +34,9 @@ returns-clause-run g c = λ bytes options same opened few.
       few = few;
       report = ran.report;
       end = ran.end;
-      replayed = subst (λ (t : Program). IsReplay t events given.limits ran.report ran.end) c.deref.ensures ran.ensures;
+      replayed =
+          replay_is (arc_value given.verified) events given.limits ran.report ran.end
+          (subst (λ (t : Program). IsReplay t events given.limits ran.report ran.end) c.deref.ensures ran.ensures);
       told = c.in_ok-text.ensures.text;
       ended = c.in_ok-text.ensures.status;
       spelled =

@@ -3,6 +3,7 @@ use Rattle.std.specs.Arc.{arc_value}
 use Rattle.machine.specs.machine_replay.Replays.{IsReplay}
 use Rattle.model.specs.Classes.{Program}
 use Rattle.model.specs.Schedule.{events_of}
+use Rattle.engines.proofs.TheoremLemmas.{replay_is}
 use Rattle.engines.proofs.replaying.replay_of.Goals as goal
 
 pub returns : goal.returns
@@ -17,7 +18,9 @@ returns g c = λ bytes options opened.
       opened = opened;
       report = ran.report;
       end = ran.end;
-      replayed = subst (λ (t : Program). IsReplay t (events_of given.schedule) given.limits ran.report ran.end) c.deref.ensures ran.ensures;
+      replayed =
+          replay_is (arc_value given.verified) (events_of given.schedule) given.limits ran.report ran.end
+          (subst (λ (t : Program). IsReplay t (events_of given.schedule) given.limits ran.report ran.end) c.deref.ensures ran.ensures);
       told = c.in_ok-text.ensures.text;
       ended = c.in_ok-text.ensures.status;
     }

@@ -7,6 +7,7 @@ use Rattle.schedule.specs.Joined.{RecordedFile}
 use Rattle.engines.specs.RecordForms.{record_form, recorded_as}
 use Rattle.engines.specs.Stopped.{run_text}
 use Rattle.engines.proofs.RunLemmas.{by_one, by_two, few_files}
+use Rattle.engines.proofs.TheoremLemmas.{record_is}
 use Rattle.engines.proofs.running.ran.Goals as goal
 
 pub tell_growth-requires : goal.tell_growth-requires
@@ -29,7 +30,7 @@ returns-clause-run g c =
       end = run.end;
       spent = within.0;
       of_budget = within.1;
-      recorded = within.2.3;
+      recorded = record_is c.args.verified c.limits-limits.result within.0 (events_of run.schedule) run.report run.end within.2.3;
       as_asked = c.in_ok-recorded.ensures.as_asked;
       told = told ∙ ap (λ b. run_text b run.report run.end) c.budget-budget.ensures;
       ended = same.1 ∙ c.in_ok-outcome.ensures.ended;

@@ -10,6 +10,7 @@ use Rattle.std.specs.Option.{option_map}
 use Rattle.engines.specs.RecordForms.{record_form, recorded_as}
 use Rattle.engines.specs.Searches.{IsFileOf}
 use Rattle.engines.proofs.RunLemmas.{few_files}
+use Rattle.engines.proofs.SearchTheorem.{says}
 use Rattle.engines.proofs.searching.search_of.Goals as goal
 
 pub search_report-requires : goal.search_report-requires
@@ -31,7 +32,9 @@ returns g c =
       chosen = c.limits-limits.ensures;
       answer = found.answer;
       states = found.states;
-      answers = subst (λ m. Answers c.args.verified.now c.limits-limits.result c.args.goal.now (g.P.Progress.may_stop c.args.progress.now) m found.states found.answer) most answers;
+      says =
+          says c.args.verified.now c.limits-limits.result c.args.goal.now (g.P.Progress.may_stop c.args.progress.now) _ found.states found.answer
+          (subst (λ m. Answers c.args.verified.now c.limits-limits.result c.args.goal.now (g.P.Progress.may_stop c.args.progress.now) m found.states found.answer) most answers);
       few = subst (λ m. 1 ≤ m → found.states ≤ m) most c.in_ok-searched.ensures.few;
       told =
           c.in_ok-text.ensures

@@ -23,3 +23,4 @@ returns c =
     let m = reference_of c.args.field in
     field_told files c.requires m c.in_ok-place.place c.in_ok-place.ensures.place (find_field files m) c.in_ok-place.ensures.found _ refl refl
     (rw c.set.ensures at c.is_volatile_at.ensures)
+    (rw c.set-2.ensures at c.is_variable.ensures)

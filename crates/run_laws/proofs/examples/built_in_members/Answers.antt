@@ -25,6 +25,7 @@ returns c =
         system = refl;
         print_stream = refl;
         constructors = refl;
+        others = refl;
         whole = refl;
         no_other = refl;
       };

@@ -20,6 +20,7 @@ returns c =
         files_at_most = refl;
         fields = refl;
         fields_at_most = refl;
+        fields_of_throwable = refl;
         linkable = refl;
         three = refl;
         first_of_three = refl;

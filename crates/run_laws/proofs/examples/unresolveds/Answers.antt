@@ -24,6 +24,7 @@ returns c =
         target = refl;
         no_method = refl;
         no_constructor = refl;
+        described = refl;
         virtual = refl;
         static = refl;
         interface_method = refl;

@@ -2,7 +2,8 @@ use Rattle.std.proofs.Common.{◌∙◌, ap, inl, map, refl, subst, sum_by}
 use Rattle.std.specs.Prelude.{unwrap_or}
 use Rattle.std.proofs.lemmas.Result.{IfErr-weaker, IfOk-weaker, err_from_is_err_and}
 use Rattle.engines.specs.Recordings.{conditions_of}
-use Rattle.engines.specs.Replays.{IsFaulty, Replays}
+use Rattle.engines.specs.Replays.{IsFaulty}
+use Rattle.engines.specs.Theorem.{Replays}
 use Rattle.engines.specs.Failures.{FolderMayFail}
 use Rattle.engines.specs.Files.{IsScheduleAt, failures_of, left_of}
 use Rattle.engines.proofs.FailureLemmas.{failed_of, told_by_more}

@@ -17,5 +17,5 @@ pub returns : goal.returns
 returns c =
     let files = c.args.set.now in
     c.first_above_limit.ensures
-    ∙ ap (position (λ (row : Climb). nat_lt 65535 row.fields)) (c.in-Some.ensures.lookup.0.2 ∙ rest_of c.deref.result.now ∙ ap (drop 37) (c.deref.ensures.value ∙ c.in_ok-rows.ensures))
+    ∙ ap (position (λ (row : Climb). nat_lt 65535 row.cells)) (c.in-Some.ensures.lookup.0.2 ∙ rest_of c.deref.result.now ∙ ap (drop 37) (c.deref.ensures.value ∙ c.in_ok-rows.ensures))
     ∙ too_many_at files

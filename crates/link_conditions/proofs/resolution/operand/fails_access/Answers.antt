@@ -2,7 +2,7 @@ use Rattle.std.proofs.Common.{false, ◌&&◌, ◌||◌, ap, sym, ◌∙◌}
 use Rattle.std.specs.Option.{option_map_or}
 use Rattle.model.specs.Tree.{FieldTree}
 use Rattle.model.specs.AccessFlags.{is_static_field}
-use Rattle.model.specs.HiddenFields.{is_hidden}
+use Rattle.model.specs.HiddenMembers.{is_hidden}
 use Rattle.model.specs.Lookup.{field_of}
 use Rattle.model.specs.Resolution.{differs, is_system_stream}
 use Rattle.constant_pool.specs.View.{reference_of}

@@ -9,6 +9,7 @@ returns-clause-row c =
     let files = c.args.sources.now.set.now in
     let file = file_of c.args.file.now in
     record {
+      name = c.in_ok-dotted_name.ensures;
       superclass = super_numbered files c.requires.sources.linked c.args.class file c.superclass_number.result c.requires.stands c.superclass_number.ensures;
       interface = c.is_interface.ensures ∙ ap (is_interface files) c.class_name.ensures;
       fields = c.field_count.ensures;

@@ -9,5 +9,5 @@ returns-in-Some c = λ trees bounds world program r.
     let p = c.args.program.now in
     let h = c.in-Some.ensures.callee trees program (main trees) program.linked.main in
     c.may_call.ensures
-    ∙ push_enabled c.args.frames 0 world _ _ c.args.shared.now.heap.locks.monitors r.world_is.monitors
+    ∙ push_enabled trees c.args.frames 0 world _ _ c.args.shared.now.heap.locks.monitors r.world_is.monitors
     ∙ sym (ap is_enabled_by (calls trees p program c.args.frames world c.args.class (c.requires trees program) c.class_object_of.result c.class_object_of.ensures c.in-Some.callee h))

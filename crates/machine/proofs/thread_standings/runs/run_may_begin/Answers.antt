@@ -13,7 +13,7 @@ returns-in-Some c = λ trees bounds inflated state stack program lent.
     let is = object_is trees p bounds inflated t c.args.shared.now stack state lent r c.object-object.ensures in
     let h = c.in-Some.ensures.run trees program state.world.heap lent.represents.world_is.objects (instance trees p bounds inflated t c.args.shared.now stack state lent r c.object-object.ensures) in
     c.may_call.ensures
-    ∙ push_enabled c.args.frames t state.world _ _ c.args.shared.now.heap.locks.monitors lent.represents.world_is.monitors
+    ∙ push_enabled trees c.args.frames t state.world _ _ c.args.shared.now.heap.locks.monitors lent.represents.world_is.monitors
     ∙ sym (ap is_enabled_by (calls trees p c.args.frames t state.world r _ c.in-Some.callee h _ refl))
     ∙ ap (λ n. is_enabled_by (run_event words trees c.args.frames t state.world n)) is
 

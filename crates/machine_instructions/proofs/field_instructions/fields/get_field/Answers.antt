@@ -1,5 +1,4 @@
-use Rattle.std.proofs.Common.{refl, sym, ap, ◌∙◌}
-use Rattle.heap.specs.Heap.{word_at}
+use Rattle.std.proofs.Common.{refl, sym, ◌∙◌}
 use Rattle.thread_stacks.specs.Stacks.{shown_frame}
 use Rattle.machine_instructions.proofs.leaving.Left.{placed}
 use Rattle.machine_instructions.proofs.field_instructions.Referred.{refers, null_is}
@@ -20,5 +19,5 @@ returns-in-Some-checked_sub c = λ p t frames trees bounds inflated state frame 
     (get_field_done trees p bounds inflated t c.args.shared.now c.args.stack.now state frame rest code site meaning c.args.slot is (shown_frame c.in-Some.frame) c.in-Some.ensures frames
     c.in-Some-checked_sub.object c.get_field.result
     (sym c.operand.ensures ∙ refers c.operand.result c.in-Some-checked_sub.object c.in-Some-checked_sub.ensures)
-    (c.get_field.ensures ∙ ap (word_at c.args.shared.now.heap.objects c.in-Some-checked_sub.object) c.from.ensures)
+    c.get_field.ensures
     out.frame c.leave.result out.leaves)

@@ -1,6 +1,5 @@
-use Rattle.std.proofs.Common.{refl, sym, ap, ◌∙◌, Ok}
+use Rattle.std.proofs.Common.{refl, sym, ◌∙◌, Ok}
 use Rattle.thread_stacks.specs.Stacks.{shown_frame}
-use Rattle.heap.specs.Heap.{put_field}
 use Rattle.machine_instructions.proofs.leaving.Left.{placed}
 use Rattle.machine_instructions.proofs.field_instructions.Referred.{refers, null_is}
 use Rattle.machine_instructions.proofs.field_instructions.Instances.{put_field_of_null, put_field_done}
@@ -24,5 +23,5 @@ returns-in-Some-checked_sub c = λ p t frames trees bounds inflated state frame 
     (sym c.operand-in-Some-checked_sub.ensures)
     c.kept-word.ensures
     c.put_field.new.self
-    (c.put_field.ensures ∙ ap (λ n. record c.args.shared.now.heap { objects = put_field c.args.shared.now.heap.objects r n c.kept-word.result }) c.from.ensures)
+    c.put_field.ensures
     out.frame c.leave_nothing.result out.leaves)

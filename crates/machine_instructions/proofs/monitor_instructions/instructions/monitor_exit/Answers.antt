@@ -22,7 +22,7 @@ returns-then-not-exit c = λ p frames trees bounds inflated state frame rest cod
     let event = exits trees p bounds inflated c.args.thread c.args.shared.now c.args.stack.now state frame rest code site meaning linked.MonitorExit is frames is.stands.linked.is (Some c.in-Some.object) c.in-Some.ensures in
     let over_is : over state.world old.heap ≡ state.world = λ i. record state.world { monitors = is.lent.represents.world_is.monitors i } in
     let owner = c.exit.ensures.owner state.world ∙ (λ i. is_owner (over_is i) c.args.thread object) in (
-      event ∙ ap (λ b. become trees frames c.args.thread state.world frame rest (left b site.next c.args.thread object state.world frame.place.slots (drop 1 frame.place.slots.stack))) (sym owner ∙ c.if-not-exit.true),
+      event ∙ ap (λ b. become words trees frames c.args.thread state.world frame rest (left b site.next c.args.thread object state.world frame.place.slots (drop 1 frame.place.slots.stack))) (sym owner ∙ c.if-not-exit.true),
       record { shared = ap (λ h. record old { heap = h }) (exit_stays state.world c.args.thread object old.heap new.heap (sym (c.exit.ensures.owner state.world) ∙ c.if-not-exit.true) c.exit.ensures.after); stack = refl },
     )
 
@@ -36,6 +36,6 @@ returns c = λ p frames trees bounds inflated state frame rest code site meaning
     let owner = c.exit.ensures.owner state.world ∙ (λ i. is_owner (over_is i) c.args.thread object) in
     let r = monitors_shown trees p bounds state.world old new is.lent.represents (λ w. with_exit w c.args.thread object) old.heap.locks.fat c.exit.ensures.after refl in
     subst (λ (e : SteppedOf (PartOf ℕ)). IsDone trees p bounds inflated state.world e old new c.go_on.new.stack)
-    (sym (event ∙ ap (λ b. become trees frames c.args.thread state.world frame rest (left b site.next c.args.thread object state.world frame.place.slots (drop 1 frame.place.slots.stack))) (sym owner ∙ c.if-not-exit.false)))
+    (sym (event ∙ ap (λ b. become words trees frames c.args.thread state.world frame rest (left b site.next c.args.thread object state.world frame.place.slots (drop 1 frame.place.slots.stack))) (sym owner ∙ c.if-not-exit.false)))
     (free_done trees p bounds inflated state.world (with_exit state.world c.args.thread object) (gone_on trees p bounds inflated c.args.thread c.args.shared.now c.args.stack.now state frame rest code site meaning linked.MonitorExit is) old new c.go_on.new.stack r
     (went trees p bounds inflated c.args.thread c.args.shared.now c.args.stack.now state frame rest code site meaning linked.MonitorExit is is.stands.linked.to c.go_on.new.stack c.go_on.ensures) c.exit.ensures.after.fat_are refl refl)

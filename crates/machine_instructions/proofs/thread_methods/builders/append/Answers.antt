@@ -1,8 +1,7 @@
-use Rattle.std.proofs.Common.{◌≡◌, ◌+◌, ◌<◌, ◌≤◌, ◌-◌, ◌^◌, length, rules, sym, ap, subst, ◌∙◌}
+use Rattle.std.proofs.Common.{◌+◌, ◌<◌, ◌≤◌, ◌^◌, length, rules, ap, subst, ◌∙◌}
 use Rattle.heap.specs.Heap.{with_object, IsRefused}
 use Rattle.machine_state.specs.allocations.Allocated.{string_of}
 use Rattle.machine_instructions.specs.thread_methods.Builders.{with_kept}
-use Rattle.machine_instructions.specs.thread_methods.Moves.{operand_of}
 use Rattle.machine_instructions.proofs.thread_methods.BuilderCalls.{text_is, makes, unmade, lacks_units}
 use Rattle.machine_instructions.proofs.thread_methods.builders.append.Goals as goal
 

@@ -1,4 +1,4 @@
-use Rattle.std.proofs.Common.{◌≡◌, ◌⊎◌, inl, inr, true, refl, sym, ap, subst, ◌∙◌}
+use Rattle.std.proofs.Common.{◌≡◌, ◌⊎◌, inl, inr, true, refl, sym, ap, subst}
 use Rattle.linked_code.specs.declared.method.BuiltInMethod.TheVariants as method
 use Rattle.model.specs.declared.builder_method.BuilderMethod.{BuilderMethod}
 use Rattle.model.specs.declared.builder_method.BuilderMethod.TheVariants.{AppendString, AppendInt, AppendChar, AppendBuilder}

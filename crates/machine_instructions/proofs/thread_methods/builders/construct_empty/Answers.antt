@@ -1,6 +1,5 @@
-use Rattle.std.proofs.Common.{◌≡◌, ◌-◌, refl, sym, ap, subst, ◌∙◌}
+use Rattle.std.proofs.Common.{refl, sym}
 use Rattle.model.specs.declared.builder_method.BuilderMethod.TheVariants.{ConstructEmpty}
-use Rattle.machine_instructions.specs.thread_methods.Builders.{with_kept}
 use Rattle.machine_instructions.proofs.thread_methods.BuilderCalls.{constructs}
 use Rattle.machine_instructions.proofs.thread_methods.builders.construct_empty.Goals as goal
 

@@ -21,7 +21,7 @@ notify-requires c = let r = c.requires in
 
 pub returns-in_default : goal.returns-in_default
 returns-in_default c = λ trees bounds inflated state frame rest offset is frames. (
-  ap (λ b. enabled_if b (become trees frames c.args.event.thread state.world frame rest
+  ap (λ b. enabled_if b (become words trees frames c.args.event.thread state.world frame rest
       (built_in_does words trees (built_in_of c.args.method) offset c.args.event state.world frame.place.slots (take c.args.operands frame.place.slots.stack) (drop c.args.operands frame.place.slots.stack))))
       (not_notify c.args.method c.in_default.not-ObjectNotify c.args.event c.if-pick-eq0.false state.world (take c.args.operands frame.place.slots.stack)),
   record { shared = refl; stack = refl },

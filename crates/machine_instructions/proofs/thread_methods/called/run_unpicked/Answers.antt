@@ -92,3 +92,18 @@ pub returns-in-StringBuilderBuilds : goal.returns-in-StringBuilderBuilds
 returns-in-StringBuilderBuilds c =
     subst (λ m. DoesCall c.args.program.now m c.args.operands c.args.next (record { thread = c.args.thread; pick = 0 }) c.build.result c.args.shared.now c.build.new.shared c.args.stack.now c.build.new.stack)
     (sym c.in-StringBuilderBuilds.is) (c.build.ensures c.args.thread)
+
+pub returns-in-ConstructWithMessage : goal.returns-in-ConstructWithMessage
+returns-in-ConstructWithMessage c =
+    subst (λ m. DoesCall c.args.program.now m c.args.operands c.args.next (record { thread = c.args.thread; pick = 0 }) c.set_message.result c.args.shared.now c.set_message.new.shared c.args.stack.now c.set_message.new.stack)
+    (sym c.in-ConstructWithMessage.is) (c.set_message.ensures c.args.thread c.args.program.now)
+
+pub returns-in-ConstructWithCause : goal.returns-in-ConstructWithCause
+returns-in-ConstructWithCause c =
+    subst (λ m. DoesCall c.args.program.now m c.args.operands c.args.next (record { thread = c.args.thread; pick = 0 }) c.set_cause.result c.args.shared.now c.set_cause.new.shared c.args.stack.now c.set_cause.new.stack)
+    (sym c.in-ConstructWithCause.is) (c.set_cause.ensures c.args.thread c.args.program.now)
+
+pub returns-in-ObjectAnswers : goal.returns-in-ObjectAnswers
+returns-in-ObjectAnswers c =
+    subst (λ m. DoesCall c.args.program.now m c.args.operands c.args.next (record { thread = c.args.thread; pick = 0 }) c.answer_call-in-ObjectAnswers.result c.args.shared.now c.answer_call-in-ObjectAnswers.new.shared c.args.stack.now c.answer_call-in-ObjectAnswers.new.stack)
+    (sym c.in-ObjectAnswers.is) (c.answer_call-in-ObjectAnswers.ensures c.args.thread)

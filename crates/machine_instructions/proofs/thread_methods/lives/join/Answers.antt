@@ -1,4 +1,5 @@
 use Rattle.std.proofs.Common.{ℕ, Bool, ◌||◌, not, drop, refl, sym, subst, [], ◌∙◌}
+use Rattle.model.specs.Operands.{words}
 use Rattle.model.specs.BuiltInMethods.{join_by}
 use Rattle.model.specs.State.{WorldOf, FrameOf, StackOf}
 use Rattle.model.specs.Classes.{Program}
@@ -13,7 +14,7 @@ use Rattle.machine_instructions.proofs.thread_methods.lives.join.Goals as goal
 -- by whether the target is alive, and whether the thread is interrupted
 abbrev joined : Program → ℕ → ℕ → WorldOf ℕ → FrameOf ℕ → StackOf ℕ → (count offset : ℕ) → (alive interrupted : Bool) → SteppedOf (PartOf ℕ)
 joined trees frames t world frame rest count offset alive interrupted =
-    enabled_if (not alive || interrupted) (become trees frames t world frame rest (join_by alive offset world frame.place.slots (drop count frame.place.slots.stack)))
+    enabled_if (not alive || interrupted) (become words trees frames t world frame rest (join_by alive offset world frame.place.slots (drop count frame.place.slots.stack)))
 
 pub returns-then-interrupted : goal.returns-then-interrupted
 returns-then-interrupted c = λ p trees bounds inflated state frame rest offset is frames.

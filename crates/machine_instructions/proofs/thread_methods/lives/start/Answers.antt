@@ -57,7 +57,7 @@ module _ (trees : Program) (p : LinkedProgram) (bounds : Bounds) (inflated : Lis
     (is : IsCalling trees p bounds inflated t old from state frame rest method.ThreadStart count next offset) (frames object : ℕ)
     (result : Result Effect EventRefusal) (wants : IsErrAnd result (λ told. told ≡ event.Memory)) where
   lacks : (started : Bool) → Does trees p bounds inflated t state.world (Invocation frame ∷ rest)
-      (become trees frames t state.world frame rest (start_by started offset object state.world frame.place.slots (drop count frame.place.slots.stack)))
+      (become words trees frames t state.world frame rest (start_by started offset object state.world frame.place.slots (drop count frame.place.slots.stack)))
       result old old from from
   lacks true = refused trees p bounds inflated t old from state frame rest method.ThreadStart count next offset is old _ (Makes 0) _ refl event.Memory refl refl result wants
   lacks false = refused trees p bounds inflated t old from state frame rest method.ThreadStart count next offset is old _ Starts _ refl event.Memory refl refl result wants
@@ -77,7 +77,7 @@ returns-in_err-started c = λ t p trees bounds inflated state frame rest offset 
     let started = says trees p bounds inflated t c.args.shared.now c.args.stack.now state frame rest method.ThreadStart c.args.operands c.args.next offset is is_any is.arguments c.object.result c.object.ensures (λ world object. is_some (thread_of world object)) false (h.0 state.world) in
     let told = c.in_err-started.field-0.0 in
     let may = may_refuse trees p bounds inflated state.world old is.lent.represents told c.object.result new.threads h.1 in
-    refused trees p bounds inflated t c.args.shared.now c.args.stack.now state frame rest method.ThreadStart c.args.operands c.args.next offset is new _ Starts _ (λ i. become trees frames t state.world frame rest (start_by (sym started i) offset object state.world frame.place.slots (drop c.args.operands frame.place.slots.stack))) (of_threads told) may.0 (λ i. record old { threads = may.1 i })
+    refused trees p bounds inflated t c.args.shared.now c.args.stack.now state frame rest method.ThreadStart c.args.operands c.args.next offset is new _ Starts _ (λ i. become words trees frames t state.world frame rest (start_by (sym started i) offset object state.world frame.place.slots (drop c.args.operands frame.place.slots.stack))) (of_threads told) may.0 (λ i. record old { threads = may.1 i })
     c.from_residual-in_err-started.result c.from_residual-in_err-started.ensures.1
 
 pub returns-then-not-started : goal.returns-then-not-started
@@ -86,7 +86,7 @@ returns-then-not-started c = λ t p trees bounds inflated state frame rest offse
     let object = object_of words (take c.args.operands frame.place.slots.stack) 0 in
     let h = subst (λ b. StartsBy (Ok b) c.object.result old.threads c.start.new.threads) c.if-not-started.true c.in_ok-started.ensures in
     let started = says trees p bounds inflated t c.args.shared.now c.args.stack.now state frame rest method.ThreadStart c.args.operands c.args.next offset is is_any is.arguments c.object.result c.object.ensures (λ world object. is_some (thread_of world object)) true (h.0 state.world) in
-    ((λ i. become trees frames t state.world frame rest (start_by (sym started i) offset object state.world frame.place.slots (drop c.args.operands frame.place.slots.stack))), record { shared = λ i. record old { threads = h.1 i }; stack = refl })
+    ((λ i. become words trees frames t state.world frame rest (start_by (sym started i) offset object state.world frame.place.slots (drop c.args.operands frame.place.slots.stack))), record { shared = λ i. record old { threads = h.1 i }; stack = refl })
 
 pub returns : goal.returns
 returns c = λ t p trees bounds inflated state frame rest offset is frames.
@@ -102,7 +102,7 @@ returns c = λ t p trees bounds inflated state frame rest offset is frames.
     record {
       cost = Starts;
       next = part (with_started state.world object) (gone_on trees p bounds inflated t c.args.shared.now c.args.stack.now state frame rest method.ThreadStart c.args.operands c.args.next offset is []);
-      is = λ i. become trees frames t state.world frame rest (start_by (sym started i) offset object state.world frame.place.slots (drop c.args.operands frame.place.slots.stack));
+      is = λ i. become words trees frames t state.world frame rest (start_by (sym started i) offset object state.world frame.place.slots (drop c.args.operands frame.place.slots.stack));
       becomes = record {
         within = none_stands trees p bounds inflated state.world old is.lent.represents h.2;
         there = tt;

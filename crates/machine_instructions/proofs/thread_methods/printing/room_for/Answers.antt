@@ -1,4 +1,4 @@
-use Rattle.std.proofs.Common.{rules, arith}
+use Rattle.std.proofs.Common.{arith}
 use Rattle.machine_instructions.proofs.thread_methods.Printed.{has_room}
 use Rattle.machine_instructions.proofs.thread_methods.printing.room_for.Goals as goal
 

@@ -20,7 +20,7 @@ use Rattle.machine_instructions.proofs.thread_methods.waiting.notify.Goals as go
 abbrev notifies : Program → ℕ → ℕ → WorldOf ℕ → FrameOf ℕ → StackOf ℕ → (count offset object pick : ℕ) → (may owner : Bool)
     → SteppedOf (PartOf ℕ)
 notifies trees frames t world frame rest count offset object pick may owner =
-    enabled_if may (become trees frames t world frame rest (if_owner owner (pushing offset [] (notified world t object pick) frame.place.slots (drop count frame.place.slots.stack))))
+    enabled_if may (become words trees frames t world frame rest (if_owner owner (pushing offset [] (notified world t object pick) frame.place.slots (drop count frame.place.slots.stack))))
 
 pub returns-then-not-may_pick : goal.returns-then-not-may_pick
 returns-then-not-may_pick c = λ p trees bounds inflated state frame rest offset is frames.

@@ -18,7 +18,7 @@ use Rattle.machine_instructions.proofs.thread_methods.waiting.notify_all.Goals a
 -- by whether the thread is the owner
 abbrev notifies : Program → ℕ → ℕ → WorldOf ℕ → FrameOf ℕ → StackOf ℕ → (count offset object : ℕ) → (owner : Bool) → SteppedOf (PartOf ℕ)
 notifies trees frames t world frame rest count offset object owner =
-    become trees frames t world frame rest (if_owner owner (pushing offset [] (notified_all world t object) frame.place.slots (drop count frame.place.slots.stack)))
+    become words trees frames t world frame rest (if_owner owner (pushing offset [] (notified_all world t object) frame.place.slots (drop count frame.place.slots.stack)))
 
 pub returns-then-not-notify_all : goal.returns-then-not-notify_all
 returns-then-not-notify_all c = λ p trees bounds inflated state frame rest offset is frames.

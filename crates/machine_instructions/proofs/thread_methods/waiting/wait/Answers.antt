@@ -25,7 +25,7 @@ use Rattle.machine_instructions.proofs.thread_methods.waiting.wait.Goals as goal
 -- by whether the thread is the owner, and whether it is interrupted
 abbrev waited : Program → ℕ → ℕ → WorldOf ℕ → FrameOf ℕ → StackOf ℕ → (count object : ℕ) → (owner interrupted : Bool) → SteppedOf (PartOf ℕ)
 waited trees frames t world frame rest count object owner interrupted =
-    become trees frames t world frame rest (wait_by owner interrupted t object world (drop count frame.place.slots.stack))
+    become words trees frames t world frame rest (wait_by owner interrupted t object world (drop count frame.place.slots.stack))
 
 pub returns-then-not-is_owner : goal.returns-then-not-is_owner
 returns-then-not-is_owner c = λ p trees bounds inflated state frame rest offset is frames.

@@ -32,8 +32,8 @@ pub returns-in-Failed : goal.returns-in-Failed
 returns-in-Failed c = λ trees bounds inflated world own program r s class at.
     let found = c.in-Failed.ensures trees c.args.program.now bounds world program r class at in
     instead
-    (λ result. Becomes trees c.args.program.now bounds inflated world (raised c.args.thread NoClassDefFound world own) result c.args.shared.now c.raise.new.shared c.args.stack.now c.args.stack.now)
+    (λ result. Becomes trees c.args.program.now bounds inflated world (raised words trees c.args.thread NoClassDefFound world own) result c.args.shared.now c.raise.new.shared c.args.stack.now c.args.stack.now)
     (λ result. NeedsBy trees c.args.program.now bounds inflated c.args.thread class world own result c.args.shared.now c.raise.new.shared c.args.stack.now c.args.stack.now)
     (λ answer h rest. subst (λ (l : Look). Becomes trees c.args.program.now bounds inflated world (needing words trees c.args.thread class l world own rest) (Ok answer) c.args.shared.now c.raise.new.shared c.args.stack.now c.args.stack.now) found h)
     (λ told h rest. subst (λ (l : Look). Becomes trees c.args.program.now bounds inflated world (needing words trees c.args.thread class l world own rest) (Err told) c.args.shared.now c.raise.new.shared c.args.stack.now c.args.stack.now) found h)
-    c.raise.result c.map-in-Failed.result c.map-in-Failed.ensures.cases (c.raise.ensures trees c.args.program.now bounds inflated world r c.args.stack.now own s)
+    c.raise.result c.map-in-Failed.result c.map-in-Failed.ensures.cases (c.raise.ensures trees c.args.program.now bounds inflated world r refl c.args.stack.now own s)

@@ -44,7 +44,7 @@ returns-in-LoadObject c = own_same c.args.program.now c.args.instruction (linked
 
 -- src/own.rt:20:1
 pub returns-in-New : goal.returns-in-New
-returns-in-New c = own_same c.args.program.now c.args.instruction (linked.New c.in-New.class c.in-New.fields c.in-New.cells) c.args.thread c.new_object.result c.args.shared.now c.new_object.new.shared c.args.stack.now c.new_object.new.stack c.in-New.is (c.new_object.ensures c.args.program.now c.args.thread)
+returns-in-New c = own_same c.args.program.now c.args.instruction (linked.New c.in-New.class c.in-New.cells c.in-New.uncounted) c.args.thread c.new_object.result c.args.shared.now c.new_object.new.shared c.args.stack.now c.new_object.new.stack c.in-New.is (c.new_object.ensures c.args.program.now c.args.thread)
 
 -- src/own.rt:20:1
 pub returns-in-NewArray : goal.returns-in-NewArray

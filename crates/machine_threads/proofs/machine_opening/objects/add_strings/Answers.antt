@@ -1,4 +1,4 @@
-use Rattle.std.proofs.Common.{ℕ, List, [], ◌∷◌, ◌∙◌, ap, subst, vec_items, Vec, Global}
+use Rattle.std.proofs.Common.{ℕ, [], ◌∷◌, subst, Vec, Global}
 use Rattle.model.specs.Texts.{Text}
 use Rattle.machine_threads.specs.machine_opening.Opened.{AddsObjects, string_object}
 use Rattle.machine_threads.proofs.machine_opening.Adding.{adds_one}

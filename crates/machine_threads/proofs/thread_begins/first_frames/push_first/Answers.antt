@@ -12,7 +12,7 @@ pub returns-in-Ok : goal.returns-in-Ok
 returns-in-Ok c = λ trees p bounds inflated world s shows method body is.
     let t = c.args.thread in
     let frame = frame_with words method (c.args.argument ∷ []) c.args.callee.entered body in
-    subst (λ (m : Shared). Does trees p bounds inflated t world [] (pushed c.args.frames t world (with_begun world t) [] [] frame) (Ok c.in-Ok.effect) c.args.shared.now m c.args.stack.now c.first_call.new.stack) (sym c.begin_where_done.ensures)
+    subst (λ (m : Shared). Does trees p bounds inflated t world [] (pushed words trees c.args.frames t world (with_begun world t) [] [] frame) (Ok c.in-Ok.effect) c.args.shared.now m c.args.stack.now c.first_call.new.stack) (sym c.begin_where_done.ensures)
     (begun trees p bounds inflated world t c.args.frames frame c.args.shared.now c.args.stack.now c.if-frames-eq0.false c.in-Ok.effect c.first_call.new.shared c.first_call.new.stack
     (c.in-Ok.ensures trees p bounds inflated world s [] shows method body is))
 

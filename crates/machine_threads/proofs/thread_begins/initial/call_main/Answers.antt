@@ -24,4 +24,4 @@ returns c = λ trees bounds inflated state program lent.
     let h = c.in-Some.ensures.callee trees program (main trees) program.linked.main in
     subst (λ (stepped : SteppedOf (PartOf ℕ)). Becomes trees p bounds inflated state.world stepped c.call_first.result c.args.shared.now c.call_first.new.shared c.args.stack.now c.call_first.new.stack)
     (sym (calls trees p program c.args.frames state.world c.args.class (c.requires.initial trees program) c.class_object_of.result c.class_object_of.ensures c.in-Some.callee h))
-    (c.call_first.ensures trees p bounds inflated state.world (is_shared trees p bounds inflated 0 c.args.shared.now c.args.stack.now state lent) lent.shows_stack (main trees) h.body h.is)
+    (c.call_first.ensures trees bounds inflated state.world program (is_shared trees p bounds inflated 0 c.args.shared.now c.args.stack.now state lent) lent.shows_stack (main trees) h.body h.is)

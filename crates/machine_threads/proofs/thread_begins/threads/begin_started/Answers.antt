@@ -3,5 +3,5 @@ use Rattle.machine_threads.proofs.thread_begins.threads.begin_started.Goals as g
 
 pub returns-in-Ok : goal.returns-in-Ok
 returns-in-Ok c = λ trees bounds inflated state program lent.
-    c.apply.ensures trees c.args.program.now bounds inflated state.world c.args.shared.now lent.represents c.args.stack.now [] lent.shows_stack _ c.begin_run.new.stack
+    c.apply.ensures trees bounds inflated state.world c.args.shared.now program lent.represents c.args.stack.now [] lent.shows_stack _ c.begin_run.new.stack
     (c.in-Ok.ensures trees bounds inflated state program lent)

@@ -16,5 +16,5 @@ pub returns-in_default : goal.returns-in_default
 returns-in_default c = λ trees p bounds inflated state frame rest count next offset frames is.
     let ops = take count frame.place.slots.stack in
     let does = built_in_does words trees (built_in_of c.args.method) offset (event_of c.args.thread) state.world frame.place.slots ops (drop count frame.place.slots.stack) in
-    ap (λ b. is_enabled_by (enabled_if b (become trees frames c.args.thread state.world frame rest does))) (built_in_allowed c.args.method c.in_default.not-ThreadJoin c.args.thread state.world ops)
+    ap (λ b. is_enabled_by (enabled_if b (become words trees frames c.args.thread state.world frame rest does))) (built_in_allowed c.args.method c.in_default.not-ThreadJoin c.args.thread state.world ops)
     ∙ stays_enabled trees frames c.args.thread state.world frame rest does (built_in_stays trees (built_in_of c.args.method) offset c.args.thread state.world frame.place.slots ops (drop count frame.place.slots.stack))

@@ -1,4 +1,5 @@
 use Rattle.std.proofs.Common.{ℕ, Bool, ◌||◌, not, drop, sym, ◌∙◌}
+use Rattle.model.specs.Operands.{words}
 use Rattle.model.specs.BuiltInMethods.{join_by}
 use Rattle.model.specs.Classes.{Program}
 use Rattle.model.specs.State.{WorldOf, FrameOf, StackOf}
@@ -12,7 +13,7 @@ use Rattle.machine_threads.proofs.waiting_instructions.methods.join_standing.Goa
 -- whether it is enabled, by whether the target is alive, and whether the thread is interrupted
 abbrev joined : Program → ℕ → ℕ → WorldOf ℕ → FrameOf ℕ → StackOf ℕ → (count offset : ℕ) → (alive interrupted : Bool) → Bool
 joined trees frames t world frame rest count offset alive interrupted =
-    is_enabled_by (enabled_if (not alive || interrupted) (become trees frames t world frame rest (join_by alive offset world frame.place.slots (drop count frame.place.slots.stack))))
+    is_enabled_by (enabled_if (not alive || interrupted) (become words trees frames t world frame rest (join_by alive offset world frame.place.slots (drop count frame.place.slots.stack))))
 
 pub returns-then-interrupted : goal.returns-then-interrupted
 returns-then-interrupted c = λ trees p bounds inflated state frame rest count next offset frames is.

@@ -34,13 +34,15 @@ returns-in-ObjectNotify c =
 pub returns-in_default : goal.returns-in_default
 returns-in_default c = λ trees p bounds inflated state frame rest operands next offset frames is k.
     let ops = take operands frame.place.slots.stack in
-    ap (λ b. is_enabled_by (enabled_if b (become trees frames c.args.thread state.world frame rest (built_in_does words trees (built_in_of c.args.method) offset (picked c.args.thread (suc k)) state.world frame.place.slots ops (drop operands frame.place.slots.stack)))))
+    ap (λ b. is_enabled_by (enabled_if b (become words trees frames c.args.thread state.world frame rest (built_in_does words trees (built_in_of c.args.method) offset (picked c.args.thread (suc k)) state.world frame.place.slots ops (drop operands frame.place.slots.stack)))))
     (others_may (built_in_of c.args.method) (not_notify c.args.method c.in_default.not-ObjectNotify) c.args.thread k state.world ops)
     ∙ sym (none_below k)
   where
     not_notify : (m : BuiltInMethod) → (m ≡ method.ObjectNotify → ⊥) → built_in_of m ≡ built_in.ObjectNotify → ⊥
     not_notify method.Construct n e = cc
     not_notify method.ConstructWithTarget n e = cc
+    not_notify method.ConstructWithMessage n e = cc
+    not_notify method.ConstructWithCause n e = cc
     not_notify method.ObjectWait n e = cc
     not_notify method.ObjectNotify n e = n refl
     not_notify method.ObjectNotifyAll n e = cc
@@ -55,3 +57,4 @@ returns-in_default c = λ trees p bounds inflated state frame rest operands next
     not_notify (method.PrintStreamPrints print) n e = cc
     not_notify (method.StringAnswers answer) n e = cc
     not_notify (method.StringBuilderBuilds builds) n e = cc
+    not_notify (method.ObjectAnswers builds) n e = cc

@@ -1,7 +1,0 @@
-use Rattle.std.proofs.Common.{refl}
-use Rattle.model.specs.BuiltIn.{built_in_classes}
-use Rattle.class_tree.proofs.builtin.classes.from_print_stream.Goals as goal
-
-pub returns : goal.returns
-unfolding built_in_classes
-returns c = (refl, refl)

@@ -1,0 +1,33 @@
+-- The class java/lang/Error (own).
+-- Made by `tools/build-built-in` of the class files of builtin/classes. Not to be edited.
+use Rattle.std.specs.Prelude.{ℕ, List, [], ◌∷◌, Some, codes}
+use Rattle.model.specs.Tree.{Entry, Utf8, Method, NameAndType, FileTree}
+use Rattle.model.specs.BuiltInForm.{Coded, coded, tree_of, public_class, constructor, with_message, with_cause}
+
+-- Error.<init>(Ljava/lang/Throwable;)V: 0 aload_0, 1 aload_1, 2 invokespecial Throwable.<init>, 5 return
+abbrev pub error_init_code : List ℕ
+error_init_code =
+    0x2a ∷ 0x2b ∷ 0xb7 ∷ 0 ∷ 8 ∷ 0xb1 ∷ []
+
+abbrev pub error_coded : List Coded
+error_coded =
+    coded 0x0001 5 6 2 2 error_init_code
+    ∷ []
+
+abbrev pub error_operands : List Entry
+error_operands =
+    Utf8 (codes "<init>") ∷ Utf8 (codes "(Ljava/lang/Throwable;)V") ∷ NameAndType 5 6 ∷ Method 4 7 ∷ Utf8 (codes "Code")
+    ∷ []
+
+abbrev pub error_class : FileTree
+error_class =
+    tree_of (record {
+      flags = public_class;
+      name = codes "java/lang/Error";
+      superclass = Some (codes "java/lang/Throwable");
+      interfaces = [];
+      operands = error_operands;
+      fields = [];
+      coded = error_coded;
+      natives = constructor ∷ with_message ∷ with_cause ∷ [];
+    })
