@@ -1,9 +1,9 @@
 /*
  * Types and operators: `Integer` and its kin: boxing and unboxing
  *
- * Boxing.java:10: the class java.lang.Integer, of boxing, or of a method of it: take int, char or boolean, or a class
+ * Boxing.java:11: the class java.lang.Integer, of boxing, or of a method of it: take int, char or boolean, or a class
  *     of your own
- * Boxing.java:11: the class java.lang.Boolean, of boxing, or of a method of it: take int, char or boolean, or a class
+ * Boxing.java:12: the class java.lang.Boolean, of boxing, or of a method of it: take int, char or boolean, or a class
  *     of your own
  */
 class Boxing {

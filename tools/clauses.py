@@ -42,8 +42,8 @@ refuses.
 
 A row has the functions that it names; the clauses of their contracts, and the definitions that these name, in brackets
 where they are said; and what they say. What no clause says stands in the last column: it is shown by *cases*, by
-*tests*, or not at all. A case is data: class files, a schedule and a command line, with what must be printed; the
-program `conformance` runs all of them. Tests are code, in crates of their own.
+*tests*, or not at all. A case is data: class files, a schedule and a command line, with what must be printed;
+`tools/try-cases` runs all of them. Tests are code, in crates of their own.
 """
 
 WRONG = """\

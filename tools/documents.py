@@ -5,7 +5,6 @@ import re
 import textwrap
 from typing import Callable, Dict, Iterator, List, NamedTuple, Optional, Sequence, Set, Tuple
 
-from tools.cases import CaseFolder
 from tools.repository import ROOT, crates, scripts
 
 COLUMNS = 120
@@ -184,11 +183,9 @@ def number_of(pattern: str) -> int:
 # What is counted, as documents say it, and how many there are.
 COUNTS: Sequence[Tuple[str, Callable[[], int]]] = [
     (r"([\d,]+) must-fail edits", lambda: number_of("crates/*/must-fail/*.edit")),
-    (r"must-fail edits, in ([\d,]+) crates", lambda: number_of("crates/*/must-fail")),
     (r"([\d,]+) wrong bodies", lambda: number_of("crates/*/wrong-bodies/*.edit")),
     (r"([\d,]+) programs of `programs/`", lambda: number_of("programs/*.java")),
     (r"([\d,]+) lessons\b", lambda: number_of("lessons/*/README.md")),
-    (r"([\d,]+) cases of `conformance`", lambda: len(CaseFolder().words)),
     (r"\b(?:the|The|has|all) ([\d,]+) crates\b(?! that there were)", lambda: len(crates())),
 ]
 
@@ -220,7 +217,8 @@ def wrong_usage(document: Document) -> Iterator[Tuple[int, str]]:
                     yield line.number, f"there is no script {found[1]}"
                 continue
             source = script.read_text(encoding="utf-8")
-            for option in re.findall(r"(?<=\s)--[a-z][a-z-]*", command[found.end() :].split("`")[0].split("|")[0]):
+            words = re.split("[`|;&]", command[found.end() :])[0]
+            for option in re.findall(r"(?<=\s)--[a-z][a-z-]*", words):
                 if option != "--help" and option not in source:
                     yield line.number, f"{found[1]} has no option {option}"
 

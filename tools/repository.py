@@ -5,7 +5,6 @@ import subprocess
 from typing import Dict, List, Sequence, Union
 
 ROOT = pathlib.Path(__file__).resolve().parent.parent
-CONFORMANCE = ROOT / "crates/conformance"
 
 # The class files of the built-in classes, beside their sources.
 BUILT_IN = ROOT / "builtin"
@@ -13,7 +12,7 @@ BUILT_IN = ROOT / "builtin"
 # The built programs. Where these scripts are installed, below PREFIX/share/jvm, `jvm` is the one of PREFIX/bin.
 JVM = ROOT / "crates/jvm/out/jvm" if (ROOT / "crates").is_dir() else ROOT.parent.parent / "bin/jvm"
 BENCH = ROOT / "crates/bench/out/bench"
-TRIALS = ROOT / "crates/conformance/out/conformance"
+RANDOM_PROGRAMS = ROOT / "crates/random_programs/out/random_programs"
 
 FOLDERS_OF_SCRIPTS = ("bench", "cluster", "compare", "oracle", "tests", "tools")
 

@@ -1,4 +1,4 @@
-"""What `conformance sets` says of sets of class files that are made by chance, counted."""
+"""What `tools/fuzz` says of sets of class files that are made by chance, counted."""
 
 import collections
 import re
@@ -15,8 +15,15 @@ class SetCounts:
         self.counts: Counter[str] = collections.Counter()
         self.sets = self.wrong = 0
 
+    def add(self, what: str) -> None:
+        self.counts[what] += 1
+
+    def add_set(self, is_wrong: bool) -> None:
+        self.sets += 1
+        self.wrong += is_wrong
+
     def take(self, said: str) -> List[str]:
-        """Takes what the program says of some sets, and answers the lines of those that are wrong."""
+        """Takes what was said of some sets, and answers the lines of those that are wrong."""
         others: List[str] = []
         for line in said.splitlines():
             count, told = COUNT.fullmatch(line), TOLD.fullmatch(line)

@@ -14,8 +14,8 @@
 //! # Not proved
 //!
 //! - Nothing is proved of the words, nor that only such places are told; nor of files of another version, or with
-//!   constants of a newer kind, which are mended and then told likewise. Shown by the cases of `advice_cases`: what is
-//!   told of the 107 sources of `constructs/`, each of which says it in its first comment.
+//!   constants of a newer kind, which are mended and then told likewise. Shown by cases: what is told of the 107
+//!   sources of `constructs/`, each of which says it in its first comment.
 #![tactic(auto)]
 
 mod advising;

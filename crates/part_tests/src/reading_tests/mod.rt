@@ -1,5 +1,5 @@
-//! Tests of what is read and written, where no case of `conformance` shows it: files that differ in each byte, calls
-//! that the program doesn't make, and texts of what no run comes to today.
+//! Tests of what is read and written, where no case shows it: files that differ in each byte, calls that the program
+//! doesn't make, and texts of what no run comes to today.
 
 #[cfg(test)]
 mod calls;
