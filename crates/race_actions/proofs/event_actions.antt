@@ -1,0 +1,4 @@
+pub mod Right
+pub mod Picks
+pub mod Telling
+pub mod Adding

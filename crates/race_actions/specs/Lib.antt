@@ -1,0 +1,3 @@
+pub mod finds
+pub mod looking
+pub mod event_actions

@@ -1,0 +1,4 @@
+mod Entries
+mod Passed
+mod Replayed
+mod Turned

@@ -1,0 +1,6 @@
+pub mod Rows
+pub mod Named
+pub mod Receiving
+pub mod Calls
+pub mod Instructions
+pub mod Standing
