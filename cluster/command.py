@@ -13,11 +13,11 @@ from cluster.engines import Engine, Job, ParallelEngine
 from cluster.faults import FAILED, USAGE, Fault
 from cluster.folders import Folder
 from cluster.fuzzing import keep_difference, whole_comparison
-from cluster.plans import FUZZ_SETS, SWEEP
+from cluster.plans import SWEEP
 from cluster.sweeping import whole_table, write_schedules
 from cluster.words import LIMITS, Asked, Parser, fuzz_plan, sweep_plan
 from cluster.work import keep_part_of
-from tools.repository import JVM, TRIALS
+from tools.repository import JVM
 
 GREATEST = 2**32 - 1
 FUZZ_BUDGET = 100_000
@@ -97,9 +97,9 @@ def merge_parser(parser: argparse.ArgumentParser) -> None:
     parser.set_defaults(does=lambda options: merge(Folder(options.folder), options.record))
 
 
-def program_path(word: Optional[str], is_of_sets: bool) -> str:
+def program_path(word: Optional[str]) -> str:
     """The path of the program, from the root."""
-    found = word or str(TRIALS if is_of_sets else JVM)
+    found = word or str(JVM)
     found = found if "/" in found else shutil.which(found) or found
     return os.path.abspath(found)
 
@@ -109,7 +109,7 @@ def do_part(options: argparse.Namespace) -> int:
     plan = folder.plan()
     if options.number > plan.parts():
         raise Fault(USAGE, f"error: the plan has {plan.parts()} parts, and no part {options.number}")
-    keep_part_of(folder, options.number, program_path(options.program, plan.task == FUZZ_SETS))
+    keep_part_of(folder, options.number, program_path(options.program))
     return 0
 
 
@@ -125,7 +125,7 @@ def engine_of(options: argparse.Namespace) -> Engine:
 
 def run(options: argparse.Namespace, plan_of: Callable[[argparse.Namespace], Asked]) -> int:
     """Does a plan, and tells what its parts tell. Nothing is written before its words are looked at."""
-    options.program = program_path(options.program, options.sets)
+    options.program = program_path(options.program)
     engine, asked = engine_of(options), plan_of(options)
     job = Job(Folder(options.folder.absolute()), options.program)
     if not options.only_plan:

@@ -1,8 +1,7 @@
 """A part of fuzzing, as a worker does it; and what the parts together tell.
 
 Runs of given class files are compared with those of the oracle, a plain machine of Python (oracle/machine.py): the
-report, the status and the schedule of each seed. Sets of class files that `conformance` makes by chance are tried by it
-alone, as tools/fuzz does it.
+report, the status and the schedule of each seed. Sets of class files that are made by chance are tried by tools/fuzz.
 """
 
 import base64
@@ -21,7 +20,11 @@ from cluster.sweeping import told_of
 from oracle.machine import Machine, status_of, text_of
 from oracle.schedules import entries_of_events, file_of_entries
 from oracle.seeds import Run, mixed, random
+from tools.repository import ROOT
 from tools.set_counts import SetCounts
+
+# It makes the sets by a program that it finds in this repository.
+FUZZ = ROOT / "tools/fuzz"
 
 POLICIES = {"mixed": mixed, "random": random}
 
@@ -94,8 +97,8 @@ def compared(plan: Plan, scratch: pathlib.Path, seeds: Seeds, program: str) -> D
 
 
 def tried(scratch: pathlib.Path, seeds: Seeds, program: str) -> Dict[str, Any]:
-    """What the program says of the sets of some seeds, and the first that is wrong."""
-    command = [program, "--counts", "sets", str(seeds.first), str(seeds.runs())]
+    """What is said of the sets of some seeds, and the first that is wrong."""
+    command = [str(FUZZ), "--program", program, "--jobs", "1", "--seed", str(seeds.first), str(seeds.runs())]
     ran = subprocess.run(command, cwd=scratch, stdin=subprocess.DEVNULL, capture_output=True)
     if ran.returncode in STOPPED:
         raise Fault(FAILED, f"part failed seeds {seeds}", told_of(ran))

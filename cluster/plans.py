@@ -105,12 +105,10 @@ class Program(NamedTuple):
     checksum: str
 
 
-def program_at(path: str, task: str) -> Program:
-    """The program at a path. The one that makes sets of class files has no version of its own."""
+def program_at(path: str) -> Program:
+    """The program at a path."""
     try:
         found = checksum(pathlib.Path(path).read_bytes())
-        if task == FUZZ_SETS:
-            return Program("", found)
         ran = subprocess.run([path, "--version"], stdin=subprocess.DEVNULL, capture_output=True)
     except OSError as fault:
         raise Fault(USAGE, f"program refused Missing {path}", fault.strerror or "") from fault

@@ -7,6 +7,7 @@ import re
 from typing import Dict, Iterable, List, NamedTuple, Sequence, Tuple
 
 OUTCOME = "outcome"
+RACE = "race "
 
 SHARE = re.compile(r"runs (\d+) of (\d+), first seed (\d+)")
 CUT = re.compile(r"(budget|refused) (\d+) runs, first seed (\d+)")
@@ -42,6 +43,7 @@ class Table(NamedTuple):
     events: int
     policy: str
     is_found: bool
+    races: Tuple[str, ...] = ()
 
     def last(self) -> int:
         """The seed of the last run."""
@@ -52,7 +54,7 @@ class Table(NamedTuple):
 
     def text(self, repeated: str) -> str:
         """The text, of which the last line has these words behind the seed where a run shows what is wanted."""
-        lines: List[str] = []
+        lines = [*self.races]
         outcomes = self.outcomes()
         for number, one in enumerate(outcomes, 1):
             lines += [f"{OUTCOME} {number}", *one.lines]
@@ -84,6 +86,8 @@ def read_outcomes(lines: Sequence[str]) -> Tuple[List[Shown], int]:
 def read_table(text: str, schedules: Sequence[bytes] = ()) -> Table:
     """The table of a text, with the schedule files of its outcomes. Raises ValueError where the text is none."""
     lines = text.split("\n")
+    count = next(at for at, line in enumerate(lines) if not line.startswith(RACE))
+    races, lines = tuple(lines[:count]), lines[count:]
     shown, at = read_outcomes(lines)
     if schedules and len(schedules) != len(shown):
         raise ValueError(f"it has {len(shown)} outcomes, and {len(schedules)} schedules")
@@ -97,7 +101,7 @@ def read_table(text: str, schedules: Sequence[bytes] = ()) -> Table:
         raise ValueError("its last lines are not those of a sweep that is done, or has found what is wanted")
     shown.sort(key=lambda one: one.first)
     first, runs, events = int(sums["first"]), int(sums["runs"]), int(sums["events"])
-    table = Table(shown, first, runs, events, sums["policy"], sums["found"] is not None)
+    table = Table(shown, first, runs, events, sums["policy"], sums["found"] is not None, races)
     if table.text(sums["repeated"] or "") != text or sum(one.runs for one in shown) != runs:
         raise ValueError("its numbers don't agree with each other")
     if not all(first <= one.first <= table.last() for one in shown):
@@ -114,7 +118,7 @@ def merged(tables: Iterable[Table]) -> Table:
         for one in table.shown:
             before = shown.get((one.word, one.lines))
             shown[one.word, one.lines] = before._replace(runs=before.runs + one.runs) if before else one
-        whole = Table([], first, runs + table.runs, events + table.events, table.policy, table.is_found)
+        whole = Table([], first, runs + table.runs, events + table.events, table.policy, table.is_found, table.races)
         if table.is_found:
             break
     return whole._replace(shown=sorted(shown.values(), key=lambda one: one.first))

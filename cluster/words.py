@@ -11,6 +11,7 @@ from cluster.plans import FUZZ_RUNS, FUZZ_SETS, MOST_PARTS, SWEEP, Files, Plan, 
 
 LIMITS = ("objects", "cells", "monitors", "threads", "frames")
 DIFFERS = "differs="
+RACE = "race"
 
 # The name of a text that printed numbers are compared with, below the folder of a plan.
 EXPECTED = "expected"
@@ -95,7 +96,8 @@ def sweep_plan(options: argparse.Namespace) -> Asked:
     words = run_words(options, goal, "" if options.budget is None else str(options.budget))
     words += ["--as-version", str(options.as_version)] if options.as_version else []
     policy = ["--policy", "random"] if options.policy == "random" else []
-    repeated = told_words([*policy, *limit_words(options), *options.files])
+    races = ["--races"] if goal == RACE else []
+    repeated = told_words([*races, *policy, *limit_words(options), *options.files])
     return asked(options, SWEEP, seeds, words, Given(given.words, files), repeated)
 
 
@@ -117,7 +119,7 @@ def fuzz_plan(options: argparse.Namespace) -> Asked:
 def asked(
     options: argparse.Namespace, task: str, seeds: str, words: List[str], given: Given, repeated: str
 ) -> Asked:
-    program = program_at(options.program, task)
+    program = program_at(options.program)
     is_recorded = bool(getattr(options, "record", None))
     told = checksums(given.files)
     step = options.seeds_of_a_part

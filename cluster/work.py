@@ -28,7 +28,7 @@ def is_found_in(result: Dict[str, Any], task: str) -> bool:
 
 def made_part(plan: Plan, files: Files, number: int, program: str) -> Part:
     """Does a part. It tells what it was run over: the checksums are those of the files and of the program here."""
-    seeds, found = plan.part_seeds(number), program_at(program, plan.task)
+    seeds, found = plan.part_seeds(number), program_at(program)
     with tempfile.TemporaryDirectory(prefix="jvm-cluster-") as folder:
         scratch = pathlib.Path(folder)
         write_files(files, scratch)

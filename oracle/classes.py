@@ -19,7 +19,8 @@ Resolved = Dict[int, Tuple[str, Any]]
 # Flags, name, descriptor, and the value of a ConstantValue.
 Field = Tuple[int, str, str, Optional[Any]]
 
-PUBLIC, PRIVATE, STATIC, SYNCHRONIZED, NATIVE, INTERFACE, ABSTRACT = 1, 2, 8, 0x20, 0x100, 0x200, 0x400
+PUBLIC, PRIVATE, STATIC, SYNCHRONIZED, VOLATILE = 1, 2, 8, 0x20, 0x40
+NATIVE, INTERFACE, ABSTRACT = 0x100, 0x200, 0x400
 
 
 def narrowed(descriptor: str, value: int) -> int:

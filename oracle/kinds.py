@@ -9,15 +9,13 @@ from itertools import combinations
 from typing import Any, Dict, Iterator, List, NamedTuple, Optional, Sequence, Set, Tuple
 
 from oracle.calls import INVOKEINTERFACE, Called
-from oracle.classes import Class, ClassReader
+from oracle.classes import VOLATILE, Class, ClassReader
 from oracle.frames import Frame, short
 from oracle.machine import ELEMENTS, Machine
 from oracle.state import BUILDER_TEXT, NO_VARIABLES, JavaThread, NotEnabled, Object, Refused, component
 
 # The kinds, in the order in which they are told.
 KINDS = ["race", "uncaught", "deadlock", "endless"]
-
-VOLATILE = 0x0040
 
 GETSTATIC, PUTSTATIC, GETFIELD, PUTFIELD, INVOKEVIRTUAL, AASTORE = 0xB2, 0xB3, 0xB4, 0xB5, 0xB6, 0x53
 

@@ -6,11 +6,12 @@
 Each folder of `lessons/` has a page, README.md, with commands as
 
     $ jvm replay --schedule NAME.schedule [--then-run] FILE.. # status N
+    $ jvm races --schedule NAME.schedule FILE.. # status N
 
 each at the head of a block `text`, and below it what it prints. The Java sources of a folder are compiled by
-`tools/java-classes`; what a command prints is worked out by `oracle/machine.py`, which is the machine once more,
-written by the rules alone. With --write the class files, the blocks and the cases of `crates/conformance` are written;
-without it they are compared, and the status is 1 where one differs.
+`tools/java-classes`; what a command prints is worked out by `oracle/machine.py` or `oracle/races.py`, which is the
+machine once more, written by the rules alone. With --write the class files, the blocks and the cases (cases/lessons.cases, with what they
+must print) are written; without it they are compared, and the status is 1 where one differs.
 """
 
 import argparse
@@ -24,15 +25,17 @@ sys.dont_write_bytecode = True
 sys.path.insert(0, str(pathlib.Path(__file__).resolve().parent.parent))
 
 from oracle.machine import Machine, status_of, text_of
+from oracle.races import races
 from oracle.schedules import Entry, entries_of_text
 from oracle.state import NotEnabled, Refused
-from tools.cases import before_cases, blocks_of, file_lines, store, stored
-from tools.repository import CONFORMANCE, ROOT, compiled
+from tools.cases import differing, file_lines, write_cases
+from tools.repository import ROOT, compiled
 
 LESSONS = ROOT / "lessons"
 
 COMMAND = re.compile(
-    r"```text\n\$ (?P<words>jvm replay --schedule (?P<schedule>\S+)(?P<goes_on> --then-run)? (?P<files>[^#\n]+?))"
+    r"```text\n\$ (?P<words>jvm (?P<command>replay|races) --schedule (?P<schedule>\S+)(?P<goes_on> --then-run)?"
+    r" (?P<files>[^#\n]+?))"
     r" # status (?P<status>\d)\n.*?```\n",
     re.DOTALL,
 )
@@ -62,8 +65,10 @@ def gone_on(machine: Machine) -> str:
     return "quiet"
 
 
-def outcome(files: Sequence[bytes], schedule: str, goes_on: bool) -> Tuple[str, int]:
+def outcome(command: str, files: Sequence[bytes], schedule: str, goes_on: bool) -> Tuple[str, int]:
     """The report of a command, and its status."""
+    if command == "races":
+        return races(files, entries_of_text(schedule))
     machine = Machine(files)
     end = followed(machine, entries_of_text(schedule)) or (gone_on(machine) if goes_on else "schedule")
     return text_of(machine, end), status_of(machine, end)
@@ -94,12 +99,13 @@ class Lesson:
         """A command of the page with what it prints behind it; it is a case, too."""
         names = found["files"].split()
         files = [self.files[name] for name in names]
-        report, status = outcome(files, self.schedules[found["schedule"]], bool(found["goes_on"]))
+        report, status = outcome(found["command"], files, self.schedules[found["schedule"]], bool(found["goes_on"]))
         if str(status) != found["status"]:
             self.wrong.append(f"{self.folder.name}: {found['words']}: status {status}")
         case = f"{self.folder.name}-{found['schedule'][: -len('.schedule')]}-{names[0][: -len('.class')]}"
+        case += "-races" if found["command"] == "races" else ""
         within = [f"{self.folder.name}/{name}" for name in (found["schedule"], *names)]
-        words = ["replay --schedule", within[0], *(["--then-run"] if found["goes_on"] else []), *within[1:]]
+        words = [f"{found['command']} --schedule", within[0], *(["--then-run"] if found["goes_on"] else []), *within[1:]]
         self.cases += [f"case {case}", "  " + " ".join(words)]
         self.printed.append(f"case {case}\n{report}status {status}\n")
         return f"```text\n$ {found['words']} # status {found['status']}\n{report}```\n"
@@ -127,22 +133,6 @@ class Lesson:
             (self.folder / name).write_bytes(data)
 
 
-def written(text: str, printed: str) -> None:
-    """Writes the cases, and what they must print behind that of all others."""
-    before = stored()
-    kept = [block for name, block in blocks_of(before).items() if name not in blocks_of(printed)]
-    store(before_cases(before) + "".join(kept) + printed)
-    (CONFORMANCE / "data/lessons.cases").write_text(text)
-
-
-def is_stored(text: str, printed: str) -> bool:
-    """Whether the cases, and what they must print, stand in crates/conformance."""
-    path = CONFORMANCE / "data/lessons.cases"
-    found = blocks_of(stored())
-    same = all(found.get(name) == block for name, block in blocks_of(printed).items())
-    return same and path.exists() and path.read_text() == text
-
-
 def main() -> None:
     parser = argparse.ArgumentParser(description=__doc__, formatter_class=argparse.RawDescriptionHelpFormatter)
     parser.add_argument("--write", action="store_true")
@@ -153,10 +143,10 @@ def main() -> None:
     if options.write:
         for lesson in lessons:
             lesson.write()
-        written(text, printed)
+        write_cases("lessons", text, printed)
         lessons = [Lesson(lesson.folder) for lesson in lessons]
     found = [name for lesson in lessons for name in lesson.differing()]
-    found += [] if is_stored(text, printed) else ["lessons.cases"]
+    found += differing("lessons", text, printed)
     wrong = [line for lesson in lessons for line in lesson.wrong]
     for line in [*wrong, *(f"{name} differs from what is stored" for name in found)]:
         print(line)

@@ -5,7 +5,7 @@
     oracle/places.py --write
 
 A place lets a thread go on, event by event, until its next bytecode is where docs/REFERENCE.md says. With --write the
-schedules below become cases of `crates/conformance`, over lessons that are compiled with their lines.
+schedules below become cases/places.cases, over lessons that are compiled with their lines.
 """
 
 import argparse
@@ -26,8 +26,8 @@ from oracle.schedules import Entry, Event, entries_of_events, entries_of_text, t
 from oracle.shrinks import Shrunk, joined, lines_of, words_of as entry_words
 from oracle.state import NotEnabled, Refused
 from oracle.traces import trace
-from tools.cases import file_lines, store, stored
-from tools.repository import CONFORMANCE, ROOT, compiled
+from tools.cases import file_lines, write_cases
+from tools.repository import ROOT, compiled
 
 # A method of a class: the names of both, and the descriptor.
 Member = Tuple[str, str, str]
@@ -352,7 +352,7 @@ def placed(files: Dict[str, Dict[str, bytes]]) -> Tuple[List[str], str]:
         lines += [f"# {shows}", f"text placed-{name}.text", f"  {text}", f"case placed-{name}"]
         lines += [f"  schedule --places --schedule placed-{name}.text {paths}"]
         shown += f"case placed-{name}\n{told}status 0\n"
-        report, status = outcome(own, words, False)
+        report, status = outcome("replay", own, words, False)
         again = f"placed-{name}-again.text"
         if told.split():
             lines += [f"text {again}", *(f"  {line}" for line in told.splitlines())]
@@ -430,9 +430,7 @@ def write() -> None:
     others = refused(list(own)), recorded(own), placed(lessons), traced_and_shrunk(lessons), with_library()
     for case, printed in others:
         lines, shown = [*lines, *case], shown + printed
-    (CONFORMANCE / "data/places.cases").write_text("\n".join([*lines, ""]))
-    before, _, after = stored().partition("case sweep-")
-    store(re.split("case place[-d]", before)[0] + shown + "case sweep-" + after)
+    write_cases("places", "\n".join([*lines, ""]), shown)
 
 
 def main() -> int:

@@ -8,9 +8,9 @@ by `oracle/machine.py`, which is the machine once more, written by the rules alo
 exceptions that end its threads, have to be those of `java`; but not of a program that races, as its first line says,
 and not of a run whose schedule or limit ends it before its threads.
 
-The cases that come of it are compared with crates/conformance: the class files, the schedules and what they must
-print. With --write they are written there, into the files java-TOPIC.cases and into stdout. A line is printed for each
-program. The status is 1 where `java` or a case differs.
+The cases that come of it are compared with cases/java-TOPIC.cases: the class files, the schedules and what they must
+print. With --write they are written there. A line is printed for each program. The status is 1 where `java` or a case
+differs.
 
 The schedules are made by running the program:
 
@@ -40,8 +40,8 @@ from oracle.machine import Machine, replay
 from oracle.opcodes import SHARED
 from oracle.schedules import Event, entries_of_events
 from oracle.state import JavaThread, NotEnabled, Refused
-from tools.cases import before_cases, blocks_of, file_lines, grouped, store, stored
-from tools.repository import CONFORMANCE, ROOT, compiled
+from tools.cases import answers, blocks_of, differing, file_lines, grouped, write_cases
+from tools.repository import ROOT, compiled
 
 # What java prints, a character for each byte, and the exceptions that end its threads.
 Java = Tuple[str, List[str]]
@@ -276,32 +276,14 @@ def made(names: Sequence[str], folder: str) -> Tuple[Dict[str, str], Dict[str, s
     return texts, printed, is_wrong
 
 
-def written(texts: Dict[str, str], printed: Dict[str, str]) -> None:
-    """Writes cases and what they must print: those of these files behind those of programs.cases."""
-    before = stored()
-    own = {name for one in printed.values() for name in blocks_of(one)}
-    lines = (CONFORMANCE / "data/programs.cases").read_text().splitlines()
-    programs = [line[5:] for line in lines if line.startswith("case ")]
-    blocks = [before_cases(before)]
-    for name, block in blocks_of(before).items():
-        if name not in own:
-            blocks.append(block)
-        if name == programs[-1]:
-            blocks += printed.values()
-    store("".join(blocks))
-    for topic, text in texts.items():
-        (CONFORMANCE / f"data/java-{topic}.cases").write_text(text)
-
-
 def differing_cases(texts: Dict[str, str], printed: Dict[str, str], names: Sequence[str]) -> List[str]:
-    """What stands otherwise in crates/conformance."""
-    kept = blocks_of(stored())
-    found = [name for one in printed.values() for name, block in blocks_of(one).items() if kept.get(name) != block]
+    """What stands otherwise in cases/: files, or cases where names are given."""
     if not names:
-        for topic, text in texts.items():
-            path = CONFORMANCE / f"data/java-{topic}.cases"
-            if not path.exists() or path.read_text() != text:
-                found.append(path.name)
+        return [name for topic in texts for name in differing(f"java-{topic}", texts[topic], printed[topic])]
+    found: List[str] = []
+    for topic, shown in printed.items():
+        kept = blocks_of(answers(f"java-{topic}"))
+        found += [name for name, block in blocks_of(shown).items() if kept.get(name) != block]
     return found
 
 
@@ -315,7 +297,8 @@ def main() -> None:
     with tempfile.TemporaryDirectory() as folder:
         texts, printed, is_wrong = made(options.names, folder)
     if options.write:
-        written(texts, printed)
+        for topic, text in texts.items():
+            write_cases(f"java-{topic}", text, printed[topic])
     found = differing_cases(texts, printed, options.names)
     for name in found:
         print(f"{name} differs from what is stored")

@@ -8,9 +8,10 @@ States are searched breadth first, the events of each in the order of threads an
 those of its thread are done, too, that are alone: local instructions, at most 1,024 in a row, calls and returns by which
 no monitor is entered or left, and what leaves a monitor for good. They are told by what they did. A state is told apart from others by its objects in
 the order in which they were made, its classes, threads and stacks, and what was printed. A state is kept as the events
-that lead to it. With --write the searches of the lessons below become cases of `crates/conformance`, with what they
-have to print. The schedule of a run that was found is recorded and replayed. So are those of the programs in
-`programs/races/` and `programs/kinds/`, whose first lines say which variables race, or which kinds of states there are.
+that lead to it. With --write the searches of the lessons below become cases/searches.cases, with what they have to
+print. The schedule of a run that was found is recorded and replayed. So are those of the programs in `programs/races/`
+and `programs/kinds/`, in cases/kinds.cases: their first lines say which variables race, or which kinds of states there
+are.
 
 With --all-events each event is a step by itself, and each state that any run comes to is looked at.
 """
@@ -32,8 +33,8 @@ from oracle.machine import Machine, status_of, text_of, thread_lines
 from oracle.schedules import Event
 from oracle.state import Initialisation, JavaThread, NotEnabled, Object, Refused, Value
 from oracle.texts import in_utf8, printed_lines, spelled_units, text_order
-from tools.cases import file_lines, store, stored
-from tools.repository import CONFORMANCE, ROOT, compiled
+from tools.cases import file_lines, write_cases
+from tools.repository import ROOT, compiled
 
 # How the words of a report are ordered.
 RANKS = ["ended", "threw", "blocked", "waiting", "joining", "initialising"]
@@ -437,13 +438,12 @@ def of_program(source: pathlib.Path) -> Tuple[List[str], str]:
 
 def write() -> None:
     lines, shown = of_lessons()
-    (CONFORMANCE / "data/searches.cases").write_text("\n".join([*lines, ""]))
-    lines = [*KINDS_HEAD]
+    write_cases("searches", "\n".join([*lines, ""]), shown)
+    lines, shown = [*KINDS_HEAD], ""
     for source in [*sorted((ROOT / "programs/races").iterdir()), *sorted((ROOT / "programs/kinds").iterdir())]:
         text, printed = of_program(source)
         lines, shown = [*lines, *text], shown + printed
-    (CONFORMANCE / "data/kinds.cases").write_text("\n".join(lines))
-    store(stored().split("case search-lost-update-")[0] + shown)
+    write_cases("kinds", "\n".join(lines), shown)
 
 
 def main() -> int:

@@ -5,8 +5,8 @@
     oracle/shrinks.py --write
 
 Which schedules are tried, and in which order, is that of docs/REFERENCE.md ("Shrink"); each is done by the plain
-machine alone. With --write schedules of seeds over the lessons below become cases of `crates/conformance`, with what
-they have to print. What is left of a schedule is recorded, and replayed.
+machine alone. With --write schedules of seeds over the lessons below become cases/shrinks.cases, with what they have
+to print. What is left of a schedule is recorded, and replayed.
 """
 
 import argparse
@@ -24,8 +24,7 @@ from oracle.schedules import Entry, entries_of_events, entries_of_text
 from oracle.searches import is_wanted
 from oracle.seeds import Run, mixed, random
 from oracle.state import Refused
-from tools.cases import store, stored
-from tools.repository import CONFORMANCE
+from tools.cases import write_cases
 
 # So many words stand in a line.
 IN_A_LINE = 16
@@ -142,7 +141,7 @@ def cases_of(folder: str, names: List[str], goal: str, policy: str, seed: int) -
         return text, f"case shrink-{name}\n  outcome: a run behind the schedule hasn't got it\nstatus 1\n"
     shown = "".join(f"{line}\n" for line in lines_of(best))
     printed = f"case shrink-{name}\n{shown}  words: {len(given)} before, {len(best)} after\nstatus 0\n"
-    report, status = outcome(files, shown, True)
+    report, status = outcome("replay", files, shown, True)
     text += [f"case shrunk-{name}", f"  replay --then-run --schedule {name}.schedule {paths}"]
     return text, printed + f"case shrunk-{name}\n{report}status {status}\n"
 
@@ -152,9 +151,7 @@ def write() -> None:
     for row in SHRUNK:
         text, printed = cases_of(*row)
         lines, shown = [*lines, *text], shown + printed
-    (CONFORMANCE / "data/shrinks.cases").write_text("\n".join([*lines, ""]))
-    before, _, after = stored().partition("case sweep-")
-    store(before.split("case shrink-")[0] + shown + "case sweep-" + after)
+    write_cases("shrinks", "\n".join([*lines, ""]), shown)
 
 
 def main() -> int:

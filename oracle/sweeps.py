@@ -5,7 +5,7 @@
     oracle/sweeps.py --write
 
 There is a run for each seed, by docs/REFERENCE.md ("The schedule of a seed") and the plain machine alone. With --write
-the sweeps of the lessons below become cases of `crates/conformance`, with what they have to print.
+the sweeps of the lessons below become cases/sweeps.cases, with what they have to print.
 """
 
 import argparse
@@ -18,11 +18,11 @@ sys.dont_write_bytecode = True
 sys.path.insert(0, str(pathlib.Path(__file__).resolve().parent.parent))
 
 from oracle.lessons import LESSONS, class_files
+from oracle.races import race_lines
 from oracle.searches import TEXTS, Outcome, is_wanted, lines_of
 from oracle.schedules import recorded_lines
 from oracle.seeds import Run, mixed, random
-from tools.cases import store, stored
-from tools.repository import CONFORMANCE
+from tools.cases import write_cases
 
 # What a run shows: its outcome, or why it has none.
 Shown = Tuple[str, Optional[Outcome]]
@@ -45,6 +45,7 @@ class Sweep:
         self.first_runs: Dict[Shown, Run] = {}
         self.runs = self.events = 0
         self.is_found = False
+        self.race_lines: List[str] = []
         self.sweep()
 
     def sweep(self) -> None:
@@ -55,8 +56,12 @@ class Sweep:
             shown = shown_by(run)
             self.shown.setdefault(shown, []).append(seed)
             self.first_runs.setdefault(shown, run)
-            if shown[1] is not None and is_wanted(self.words.goal, shown[1]):
+            if self.words.goal == "race":
+                self.race_lines = race_lines(self.files, run.events)
+                self.is_found = bool(self.race_lines)
+            elif shown[1] is not None and is_wanted(self.words.goal, shown[1]):
                 self.is_found = True
+            if self.is_found:
                 return
 
     def schedules(self) -> List[str]:
@@ -81,7 +86,7 @@ class Sweep:
         lines += [f"runs {self.runs}, seeds {self.first}..{last}", f"events {self.events}", f"once {once}"]
         lines += [f"unseen at most {min(once + 3, self.runs)} in {self.runs} runs of {self.words.policy}"]
         lines += ["sweep found", f"jvm run --seed {last}{repeated}"] if self.is_found else ["sweep done"]
-        return "".join([*parts, *(f"{line}\n" for line in lines)])
+        return "".join([*self.race_lines, *parts, *(f"{line}\n" for line in lines)])
 
 
 # The lessons that are swept: folder, class files, and options.
@@ -96,6 +101,11 @@ SWEPT = [
     ("lost-update", ["LostUpdate"], "--seeds 1..20 --policy random --for differs=two"),
     ("lost-update", ["LostUpdate"], "--seeds 1..20 --policy random --workers 3"),
     ("lost-update", ["LostUpdate"], "--seeds 1..20 --workers 64 --for output=1"),
+    ("lost-update", ["LostUpdate"], "--seeds 1..20 --for race"),
+    ("lost-update", ["LostUpdate"], "--seeds 1..20 --policy random --workers 3 --for race --record outcomes"),
+    ("lost-update", ["Repaired"], "--seeds 1..20 --for race"),
+    ("bounded-buffer", ["IfForWhile"], "--seeds 1..5 --for race"),
+    ("class-initialisation", ["Initialisers", "Left", "Right"], "--seeds 1..5 --for race"),
     ("lost-update", ["LostUpdate"], "--seeds 7..7"),
     ("lost-update", ["LostUpdate"], "--seeds 1..20 --budget 33"),
     ("lost-update", ["LostUpdate"], "--seeds 18446744073709551610..18446744073709551615"),
@@ -132,9 +142,10 @@ def words_of(words: Sequence[str]) -> argparse.Namespace:
     return parser.parse_args(words)
 
 
-def repeated(policy: str, paths: str) -> str:
+def repeated(words: argparse.Namespace, paths: str) -> str:
     """The words behind the seed that repeat a run."""
-    return (" --policy random " if policy == "random" else " ") + paths
+    races = " --races" if words.goal == "race" else ""
+    return races + (" --policy random " if words.policy == "random" else " ") + paths
 
 
 def cases_of(folder: str, names: List[str], options: str) -> Tuple[List[str], str]:
@@ -146,7 +157,7 @@ def cases_of(folder: str, names: List[str], options: str) -> Tuple[List[str], st
     name = "-".join([folder, names[0], re.sub(r"[ =\\]", "-", asked)])
     paths = " ".join(f"{folder}/{one}.class" for one in names)
     text = [f"case sweep-{name}", f"  run {options} {paths}"]
-    told = f"case sweep-{name}\n{sweep.text(repeated(words.policy, paths))}status {int(sweep.is_found)}\n"
+    told = f"case sweep-{name}\n{sweep.text(repeated(words, paths))}status {int(sweep.is_found)}\n"
     for number, schedule in enumerate(sweep.schedules() if words.record else [], 1):
         text += [f"case sweep-{name}-outcome-{number}", f"  schedule {words.record}/outcome-{number}.schedule"]
         told += f"case sweep-{name}-outcome-{number}\n{schedule}status 0\n"
@@ -161,10 +172,7 @@ def write() -> None:
     for row in SWEPT:
         text, printed = cases_of(*row)
         lines, shown = [*lines, *text], shown + printed
-    (CONFORMANCE / "data/sweeps.cases").write_text("\n".join([*lines, ""]))
-    before, _, after = stored().partition("case search-lost-update-")
-    before = before.split("case sweep-")[0]
-    store(before + shown + "case search-lost-update-" + after)
+    write_cases("sweeps", "\n".join([*lines, ""]), shown)
 
 
 def main() -> int:
@@ -173,7 +181,7 @@ def main() -> int:
         return 0
     words = words_of(sys.argv[1:])
     sweep = Sweep([pathlib.Path(path).read_bytes() for path in words.files], words)
-    sys.stdout.write(sweep.text(repeated(words.policy, " ".join(words.files))))
+    sys.stdout.write(sweep.text(repeated(words, " ".join(words.files))))
     return int(sweep.is_found)
 
 

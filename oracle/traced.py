@@ -2,6 +2,7 @@
 
 from typing import Dict, List, NamedTuple, Optional, Sequence, Tuple, Union
 
+from oracle.classes import VOLATILE
 from oracle.frames import Frame
 from oracle.listing import Lines, instruction
 from oracle.machine import Machine
@@ -198,7 +199,9 @@ class Traced(Machine):
             thing = before.stack[-1] if name == "getfield" else before.stack[-2]
             where, value = f" of {self.thing(thing)}", thing.fields[one.name, field, descriptor]
         verb = "reads" if name.startswith("get") else "writes"
-        return f"{verb} {owner}.{field}{where} = {self.value(value, descriptor)}"
+        flags = next(declared[0] for declared in one.fields if declared[1:3] == (field, descriptor))
+        sort = "volatile " if flags & VOLATILE else ""
+        return f"{verb} {sort}{owner}.{field}{where} = {self.value(value, descriptor)}"
 
     def thread_word(self, thing: Object) -> str:
         found = self.of_object(thing)

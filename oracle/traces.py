@@ -5,7 +5,7 @@
     oracle/traces.py --write
 
 The schedule is a text. What an event did is told by the state before it and the state after it, as docs/REFERENCE.md
-says. With --write the traces of the lessons below become cases of `crates/conformance`, with what they have to print.
+says. With --write the traces of the lessons below become cases/traces.cases, with what they have to print.
 """
 
 import argparse
@@ -24,10 +24,10 @@ from oracle.schedules import Entry, entries_of_text
 from oracle.state import NotEnabled, Refused
 from oracle.told import Folded, Told
 from oracle.traced import Traced
-from tools.cases import file_lines, store, stored
+from tools.cases import file_lines, write_cases
 from tools.class_files import METHODREF, NAME_AND_TYPE, Handler, attribute, class_file, code_attribute, counted, member
 from tools.class_files import named_class, pair, stored_utf8, u2, utf8
-from tools.repository import CONFORMANCE, ROOT, compiled
+from tools.repository import ROOT, compiled
 
 
 def numbers_of(text: Optional[str]) -> Optional[List[int]]:
@@ -221,6 +221,7 @@ PROGRAMS = [
     ("prints", "Quoted", 37, "What is printed is told in quotation marks, but for a println of an int."),
     ("strings", "Asked", 54, "A method of String makes a String, or pushes what is there, or throws."),
     ("builders", "Told", 68, "A method of StringBuilder makes a String, and pushes what is there; both streams print."),
+    ("volatile", "races/VolatileFlag", 18, "A field that is volatile is said to be so."),
 ]
 
 # In the place of a method that javac takes there stands another one, which no class of Java has for others to call.
@@ -246,18 +247,9 @@ def traced_program(folder: str, name: str, events: int, comment: str) -> Tuple[L
     return text, printed
 
 
-def write() -> None:
-    text, printed = cases()
-    (CONFORMANCE / "data/traces.cases").write_text(text)
-    blocks = re.split(r"(?m)^(?=case )", stored())
-    places = [place for place, block in enumerate(blocks) if block.startswith("case trace-")]
-    blocks[places[0] : places[-1] + 1] = [printed]
-    store("".join(blocks))
-
-
 def main() -> int:
     if sys.argv[1:] == ["--write"]:
-        write()
+        write_cases("traces", *cases())
         return 0
     parser = argparse.ArgumentParser()
     parser.add_argument("--schedule", required=True)

@@ -14,7 +14,8 @@ use Rattle.clap.specs.declared.parser.matches.SubCommand.{SubCommand}
 use Rattle.clap.specs.declared.error.Error.{Error}
 use Rattle.clap.specs.declared.error.kind.ErrorKind.{ErrorKind}
 use Rattle.clap.specs.declared.error.kind.ErrorKind.TheVariants as errors
-use Rattle.command_line.specs.CommandLine.{AreNumbers, AreNumerals, AreValuesOf, Asks, Fails, IsMadeVersion, IsNumber, IsRecordedVersion, IsThenRun, Refuses, Spells, SpellsNothing, jvm, name_of, is_set, parts_of, usage_by, usage_of}
+use Rattle.command_line.specs.CommandLine.{AreNumbers, AreNumerals, AreValuesOf, Asks, Fails, IsMadeVersion, IsNumber, IsRecordedVersion, IsThenRun, Refuses, Spells, SpellsNothing, name_of, is_set, parts_of, usage_by, usage_of}
+use Rattle.command_line.specs.Parsers.{jvm}
 use Rattle.command_line.specs.Numerals.{IsNumeralWithin}
 use Rattle.command_line.specs.declared.usage.Usage.{Usage}
 use Rattle.command_line.specs.declared.usage.Usage.TheVariants.{Parser, Number, Asked, OutOfMemory}

@@ -6,7 +6,7 @@ use Rattle.clap.specs.Walk.{Rule}
 use Rattle.clap.specs.Words.{AddsArg, rule_of, with_rule}
 use Rattle.clap.specs.declared.builder.arg.Arg.{Arg}
 use Rattle.clap.specs.declared.builder.command.Command.{Command}
-use Rattle.command_line.specs.CommandLine.{IsParser}
+use Rattle.command_line.specs.Parsers.{IsParser}
 
 -- one argument more
 pub with_argument : (old : Command) (argument : Arg) (new : Command) (app : App) (rule : Rule) → IsParser old app → rule_of argument ≡ rule

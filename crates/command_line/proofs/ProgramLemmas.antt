@@ -4,8 +4,9 @@ use Rattle.std.specs.Prelude.{IfErr, IsErrAnd}
 use Rattle.std.proofs.lemmas.Result.{err_from_is_err_and}
 use Rattle.clap.specs.Words.{Row}
 use Rattle.command_line.proofs.CommandLineLemmas.{refuses_more}
-use Rattle.command_line.specs.CommandLine.{AreRunValues, AreSearchValues, AreShrinkValues, AreTraceValues, AreValues, Refuses}
+use Rattle.command_line.specs.CommandLine.{AreRunValues, AreSearchValues, AreShrinkValues, AreRacesValues, AreTraceValues, AreValues, Refuses}
 use Rattle.command_line.specs.Programs.{AreApartValues, AreProgramValues}
+use Rattle.command_line.specs.declared.options.Races.{Races}
 use Rattle.command_line.specs.declared.options.Replay.{Replay}
 use Rattle.command_line.specs.declared.options.Run.{Run}
 use Rattle.command_line.specs.declared.options.Search.{Search}
@@ -42,6 +43,11 @@ module _ (rows : List Row) where
   pub no_trace : ((program : ProgramOptions) → AreProgramValues rows program → ⊥) → (trace : Trace) → AreTraceValues rows trace → ⊥
   no_trace none trace are =
       none (record { limits = trace.limits; main = trace.main; files = trace.files; explain = trace.explain; quiet = trace.quiet; files_alone = trace.files_alone })
+      (record { limits = are.limits; main = are.main; files = are.files; explain = are.explain; quiet = are.quiet; files_alone = are.files_alone })
+
+  pub no_races : ((program : ProgramOptions) → AreProgramValues rows program → ⊥) → (races : Races) → AreRacesValues rows races → ⊥
+  no_races none races are =
+      none (record { limits = races.limits; main = races.main; files = races.files; explain = races.explain; quiet = races.quiet; files_alone = races.files_alone })
       (record { limits = are.limits; main = are.main; files = are.files; explain = are.explain; quiet = are.quiet; files_alone = are.files_alone })
 
   pub no_search : ((program : ProgramOptions) → AreApartValues rows program → ⊥) → (search : Search) → AreSearchValues rows search → ⊥

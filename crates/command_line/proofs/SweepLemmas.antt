@@ -1,9 +1,12 @@
 -- The sweep of a run, by its words.
 use Rattle.std.proofs.Common.{◌≡◌, ◌∙◌, ◌==◌, ℕ, Bool, Bor, List, [], ◌∷◌, Option, Some, None, ap, codes, get_or, map, refl, subst, suc, sym, true, false, zero}
 use Rattle.std.specs.List.{slice_split}
+use Rattle.std.proofs.lemmas.Bool.{true≢false}
 use Rattle.clap.specs.Words.{Row, Text, first_of}
-use Rattle.command_line.specs.CommandLine.{IsFollow, is_set}
-use Rattle.command_line.specs.Sweeps.{AreSeeds, IsSeedRange, IsSweepBy, IsSweepOf}
+use Rattle.command_line.specs.CommandLine.{IsFollow, IsRaceFlag, is_set}
+use Rattle.command_line.specs.Sweeps.{AreSeeds, IsSeedRange, IsSweepBy, IsSweepGoal, IsSweepOf}
+use Rattle.command_line.specs.Goals.{IsGoal}
+use Rattle.command_line.specs.declared.options.Goal.{Goal}
 use Rattle.command_line.specs.declared.sweep_options.SeedRange.{SeedRange}
 use Rattle.command_line.specs.declared.sweep_options.SweepOptions.{SweepOptions}
 
@@ -18,6 +21,24 @@ pub not_followed : (rows : List Row) (found : Bool) → found ≡ is_set (first_
     → (found ≡ false → ⊥) → (follow : Bool) → IsFollow rows follow → ⊥
 not_followed rows found is word seeds asked true are = isnt_there _ word seeds (are.alone refl)
 not_followed rows found is word seeds asked false are = asked (is ∙ sym are.flag)
+
+-- ---- a run of which races are told, where seeds are named, or its lines are printed before its end
+
+pub raced_sweep : (rows : List Row) (set : Bool) → set ≡ is_set (first_of (codes "races") rows) → set ≡ true → (first_of (codes "seeds") rows ≡ None → ⊥)
+    → (races : Bool) → IsRaceFlag rows races → ⊥
+raced_sweep rows set is on seeds races are = seeds (are.one (are.flag ∙ sym is ∙ on))
+
+pub raced_follow : (rows : List Row) (set : Bool) → set ≡ is_set (first_of (codes "races") rows) → set ≡ true
+    → (follow : Bool) → follow ≡ is_set (first_of (codes "follow") rows) → follow ≡ true → (races : Bool) → IsRaceFlag rows races → ⊥
+raced_follow rows set is on follow is_follow both races are =
+    true≢false (sym both ∙ is_follow ∙ are.behind (are.flag ∙ sym is ∙ on))
+
+-- ---- what is to be found, where it is no race
+
+pub no_sweep_goal : (word : Option Text) → (word ≡ Some (codes "race") → ⊥) → ((goal : Option Goal) → IsGoal word goal → ⊥)
+    → (for_race : Bool) (goal : Option Goal) → IsSweepGoal word for_race goal → ⊥
+no_sweep_goal word other none true goal is = other is.0
+no_sweep_goal word other none false goal is = none goal is
 
 -- ---- seeds, by the parts of their word
 

@@ -1,21 +1,17 @@
--- The command line (own), in the words of the crate `clap`: which options there are, and which command the words
--- spell.
-use Rattle.std.specs.Prelude.{◌≡◌, ◌≤◌, ◌⊎◌, ℕ, ◌-◌, ◌^◌, ◌==◌, Bool, List, [], ◌∷◌, map, true, false, codes, Option, Some, None, string_bytes, vec_items}
+-- The command line (own), in the words of the crate `clap`: which command the words spell, with which values.
+use Rattle.std.specs.Prelude.{◌≡◌, ◌≤◌, ◌⊎◌, ℕ, ◌==◌, Bool, List, [], ◌∷◌, map, true, false, codes, Option, Some, None, string_bytes, vec_items}
 use Rattle.std.specs.List.{All, slice_split}
 use Rattle.std.specs.Option.{option_map, option_map_or}
 use Rattle.std.specs.Str.{bytes_eq}
 use Rattle.std.specs.Str.Parse.{IsNumeral, digits_value}
 use Rattle.model.specs.BuiltInNumbers.{most_threads}
-use Rattle.clap.specs.Words.{App, IsAmong, Row, Rule, Shape, Text, all_of, app_of, fault_of, first_of, kind_of, new_app, new_rule, subcommand_of, takes, with_rule, with_subcommand}
+use Rattle.clap.specs.Words.{IsAmong, Row, Text, all_of, fault_of, first_of, kind_of, subcommand_of, takes}
 use Rattle.clap.specs.declared.error.Error.{Error}
 use Rattle.clap.specs.declared.error.kind.ErrorKind.{ErrorKind}
 use Rattle.clap.specs.declared.error.kind.ErrorKind.TheVariants as errors
-use Rattle.clap.specs.declared.builder.command.Command as parser
-use Rattle.clap.specs.declared.builder.command.Command.TheViews.{out-Command}
-use Rattle.clap.specs.declared.builder.ArgAction.TheVariants.{Set, SetTrue, Append}
-use Rattle.clap.specs.declared.builder.value_parser.ValueParser.TheVariants.{Unsigned}
 use Rattle.command_line.specs.Goals.{IsGoal, IsSearchGoal}
 use Rattle.command_line.specs.Numerals.{IsNumeralWithin}
+use Rattle.command_line.specs.Parsers.{jvm}
 use Rattle.command_line.specs.Paths.{IsApart, IsGoalApart, IsSearchGoalApart}
 use Rattle.command_line.specs.Policies.{GoTogether, IsPolicy}
 use Rattle.command_line.specs.Sweeps.{IsSweep}
@@ -27,6 +23,7 @@ use Rattle.command_line.specs.declared.options.Disasm.{Disasm}
 use Rattle.command_line.specs.declared.options.Goal.{Goal}
 use Rattle.command_line.specs.declared.options.LimitOptions.{LimitOptions}
 use Rattle.command_line.specs.declared.options.Places.{Places}
+use Rattle.command_line.specs.declared.options.Races.{Races}
 use Rattle.command_line.specs.declared.options.Replay.{Replay}
 use Rattle.command_line.specs.declared.options.Run.{Run}
 use Rattle.command_line.specs.declared.options.Schedule.{Schedule}
@@ -38,207 +35,6 @@ use Rattle.command_line.specs.declared.options.TraceForm.{TraceForm}
 use Rattle.command_line.specs.declared.options.TraceForm.TheVariants as forms
 use Rattle.command_line.specs.declared.options.Verify.{Verify}
 use Rattle.command_line.specs.declared.run_options.RunOptions.{RunOptions}
-
--- `--NAME NUMBER`, a number from least to most
-abbrev pub number_option : Text → ℕ → ℕ → Rule
-number_option name least most = record (new_rule name) {
-  long = Some name;
-  value_names = 1;
-  action = Some Set;
-  parser = Some (Unsigned least most);
-}
-
--- `--NAME FILE`
-abbrev pub path_option : Text → Rule
-path_option name = record (new_rule name) {
-  long = Some name;
-  value_names = 1;
-  action = Some Set;
-}
-
-abbrev pub record_option : Rule
-record_option = path_option (codes "record")
-
--- `--for OUTCOME`
-abbrev pub goal_option : Rule
-goal_option = path_option (codes "for")
-
--- the same, which has to be there
-abbrev pub required_goal_option : Rule
-required_goal_option = record goal_option { required = true }
-
--- the version that a schedule file is of at most
-abbrev pub version_option : Rule
-version_option = number_option (codes "as-version") 1 3
-
--- `--schedule FILE`, which has to be there
-abbrev pub schedule_option : Rule
-schedule_option = record (path_option (codes "schedule")) { required = true }
-
--- `--NAME`
-abbrev pub flag : Text → Rule
-flag name = record (new_rule name) {
-  long = Some name;
-  action = Some SetTrue;
-}
-
--- `FILE..`, at least one
-abbrev pub class_files : Rule
-class_files = record (new_rule (codes "files")) {
-  value_names = 1;
-  required = true;
-  range = Some (record { start_inclusive = 1; end_inclusive = 2 ^ 64 - 1 });
-  action = Some Append;
-}
-
-abbrev pub with_limits : App → App
-with_limits app = with_rule (with_rule (with_rule (with_rule (with_rule app
-    (number_option (codes "objects") 0 4000000000))
-    (number_option (codes "cells") 0 4294967295))
-    (number_option (codes "monitors") 0 8388608))
-    (number_option (codes "threads") 1 most_threads))
-    (number_option (codes "frames") 1 65535)
-
--- `--main NAME`, the class whose main is run
-abbrev pub main_option : Rule
-main_option = path_option (codes "main")
-
--- that no class is added from the library
-abbrev pub alone_flag : Rule
-alone_flag = flag (codes "files-alone")
-
--- within which limits a program is run, and from which class on
-abbrev pub with_main : App → App
-with_main app = with_rule (with_limits app) main_option
-
--- the same, and whether with the library
-abbrev pub with_program : App → App
-with_program app = with_rule (with_main app) alone_flag
-
--- how many workers, how many events in all and in a row, by which seed and policy, and in how many seconds
-abbrev pub with_run_options : App → App
-with_run_options app = with_rule (with_rule (with_rule (with_rule (with_rule (with_rule app
-    (number_option (codes "workers") 1 64))
-    (number_option (codes "budget") 0 4294967295))
-    (number_option (codes "quantum") 1 4294967295))
-    (number_option (codes "seed") 0 18446744073709551615))
-    (path_option (codes "policy")))
-    (number_option (codes "seconds") 1 4294967295)
-
--- over which seeds, and which outcome is to be found
-abbrev pub with_sweep_options : App → App
-with_sweep_options app = with_rule (with_rule app (path_option (codes "seeds"))) goal_option
-
--- where schedules are recorded, and in which version at most
-abbrev pub with_record : App → App
-with_record app = with_rule (with_rule app record_option) version_option
-
--- where a run goes on behind its schedule, up to how many events in all, and where it is recorded
-abbrev pub with_then_run : App → App
-with_then_run app = with_record (with_rule (with_rule app (flag (codes "then-run"))) (number_option (codes "budget") 0 4294967295))
-
--- `--explain`, `--quiet`, and files behind all options
-abbrev pub with_files : App → Rule → App
-with_files app files = with_rule (with_rule (with_rule app (flag (codes "explain"))) (flag (codes "quiet"))) files
-
--- the same, and whether each line is printed as soon as the run prints it
-abbrev pub with_follow : App → App
-with_follow app = with_rule (with_program app) (flag (codes "follow"))
-
-abbrev pub jvm_run : App
-jvm_run = with_files (with_follow (with_record (with_sweep_options (with_run_options (new_app (codes "run")))))) class_files
-
--- under which schedule they run, and whether over any class files
-abbrev pub with_schedule : App → App
-with_schedule app = with_rule (with_rule app schedule_option) (flag (codes "any-files"))
-
-abbrev pub jvm_replay : App
-jvm_replay = with_files (with_follow (with_then_run (with_schedule (new_app (codes "replay"))))) class_files
-
--- which events are told: from one number up to another, of some threads
-abbrev pub with_window : App → App
-with_window app = with_rule (with_rule (with_rule app
-    (number_option (codes "from") 0 4294967295))
-    (number_option (codes "to") 0 4294967295))
-    (path_option (codes "only"))
-
--- in which form they are told
-abbrev pub with_form : App → App
-with_form app = with_rule (with_rule (with_rule app (flag (codes "columns"))) (flag (codes "json"))) (flag (codes "summary"))
-
-abbrev pub jvm_trace : App
-jvm_trace = with_files (with_program (with_form (with_window (with_schedule (new_app (codes "trace")))))) class_files
-
--- which outcome is to be found, among how many states, in how much memory and how many seconds, and where its schedule is recorded
-abbrev pub with_search_options : App → App
-with_search_options app = with_record (with_rule (with_rule (with_rule (with_rule app
-    goal_option)
-    (number_option (codes "states") 0 4294967295))
-    (number_option (codes "memory") 0 4294967295))
-    (number_option (codes "seconds") 1 4294967295))
-
-abbrev pub jvm_search : App
-jvm_search = with_files (with_program (with_search_options (new_app (codes "search")))) class_files
-
--- which outcome is to be kept, under which schedule, with how many events a try, and where the schedule is recorded
-abbrev pub with_shrink_options : App → App
-with_shrink_options app = with_record (with_rule (with_schedule (with_rule app required_goal_option)) (number_option (codes "budget") 0 4294967295))
-
-abbrev pub jvm_shrink : App
-jvm_shrink = with_files (with_program (with_shrink_options (new_app (codes "shrink")))) class_files
-
-abbrev pub jvm_verify : App
-jvm_verify = with_files (with_rule (with_rule (with_rule (new_app (codes "verify")) (flag (codes "library"))) main_option) alone_flag) class_files
-
-abbrev pub jvm_disasm : App
-jvm_disasm = with_files (with_rule (new_app (codes "disasm")) (flag (codes "names"))) class_files
-
--- a schedule as text; with `--write` a file of a text
-abbrev pub with_made_file : App → App
-with_made_file app = with_rule (with_rule app (flag (codes "write"))) version_option
-
--- with `--places` a text with places, of a schedule of class files
-abbrev pub with_places : App → App
-with_places app = with_rule (with_rule (with_rule (with_rule (with_rule app
-    (flag (codes "places")))
-    (path_option (codes "schedule")))
-    (flag (codes "any-files")))
-    main_option)
-    alone_flag
-
--- the options of `schedule`
-abbrev pub with_schedule_options : App → App
-with_schedule_options app = with_places (with_made_file app)
-
-abbrev pub jvm_schedule : App
-jvm_schedule = with_files (with_schedule_options (new_app (codes "schedule"))) class_files
-
--- it has `--version`, and a command has to be there
-abbrev pub with_version : Shape → Shape
-with_version shape = record shape { has_version = true; subcommand_required = true }
-
--- all subcommands
-abbrev pub with_subcommands : App → App
-with_subcommands app = with_subcommand (with_subcommand (with_subcommand (with_subcommand (with_subcommand (with_subcommand (with_subcommand (with_subcommand app
-    jvm_run.top)
-    jvm_replay.top)
-    jvm_trace.top)
-    jvm_search.top)
-    jvm_shrink.top)
-    jvm_verify.top)
-    jvm_disasm.top)
-    jvm_schedule.top
-
-abbrev pub jvm : App
-jvm = with_subcommands (record (new_app (codes "jvm")) { top = with_version (new_app (codes "jvm")).top })
-
--- no argument of the parser is one of its subcommands' too
-abbrev pub IsLocal : parser.Command → Type 0
-IsLocal command = (out-Command command).has_globals ≡ false
-
--- the parser is of this command, and none of its arguments is its subcommands' too
-abbrev pub IsParser : parser.Command → App → Type 0
-IsParser command app = (app_of command ≡ app) × IsLocal command
 
 -- the number of an option, where it is there: digits alone spell it
 abbrev pub IsNumber : ℕ → ℕ → Option Text → Option ℕ → Type 0
@@ -289,6 +85,12 @@ pub record IsFollow (rows : List Row) (follow : Bool) : Type 0 where
   pub flag : follow ≡ is_set (first_of (codes "follow") rows)
   pub alone : follow ≡ true → first_of (codes "seeds") rows ≡ None
 
+-- whether the data races of a run are told, which they never are of a sweep, nor where its lines are printed before its end
+pub record IsRaceFlag (rows : List Row) (races : Bool) : Type 0 where
+  pub flag : races ≡ is_set (first_of (codes "races") rows)
+  pub one : races ≡ true → first_of (codes "seeds") rows ≡ None
+  pub behind : races ≡ true → is_set (first_of (codes "follow") rows) ≡ false
+
 -- who gives the threads turns, and up to how many events, by the words of a run
 pub record AreRunNumbers (rows : List Row) (options : RunOptions) : Type 0 where
   pub workers : IsNumber 1 64 (first_of (codes "workers") rows) options.workers
@@ -313,6 +115,7 @@ pub record AreRunValues (rows : List Row) (run : Run) : Type 0 where
   pub quiet : run.quiet ≡ is_set (first_of (codes "quiet") rows)
   pub files_alone : run.files_alone ≡ is_set (first_of (codes "files-alone") rows)
   pub follow : IsFollow rows run.follow
+  pub races : IsRaceFlag rows run.races
 
 -- the values that the words give to a run behind a schedule
 pub record AreThenRunValues (rows : List Row) (then_run : ThenRun) : Type 0 where
@@ -362,6 +165,17 @@ pub record AreTraceValues (rows : List Row) (trace : Trace) : Type 0 where
   pub explain : trace.explain ≡ is_set (first_of (codes "explain") rows)
   pub quiet : trace.quiet ≡ is_set (first_of (codes "quiet") rows)
   pub files_alone : trace.files_alone ≡ is_set (first_of (codes "files-alone") rows)
+
+-- the values that the words give to `jvm races`
+pub record AreRacesValues (rows : List Row) (races : Races) : Type 0 where
+  pub schedule : first_of (codes "schedule") rows ≡ Some (string_bytes races.schedule)
+  pub any_files : races.any_files ≡ is_set (first_of (codes "any-files") rows)
+  pub limits : AreLimitNumbers rows races.limits
+  pub main : first_of (codes "main") rows ≡ option_map string_bytes races.main
+  pub files : all_of (codes "files") rows ≡ Some (map string_bytes races.files.items)
+  pub explain : races.explain ≡ is_set (first_of (codes "explain") rows)
+  pub quiet : races.quiet ≡ is_set (first_of (codes "quiet") rows)
+  pub files_alone : races.files_alone ≡ is_set (first_of (codes "files-alone") rows)
 
 -- the values that the words give to `jvm search`
 pub record AreSearchValues (rows : List Row) (search : Search) : Type 0 where
@@ -453,6 +267,7 @@ abbrev pub name_of : Command → Text
 name_of (commands.Run run) = codes "run"
 name_of (commands.Replay replay) = codes "replay"
 name_of (commands.Trace trace) = codes "trace"
+name_of (commands.Races races) = codes "races"
 name_of (commands.Search search) = codes "search"
 name_of (commands.Shrink shrink) = codes "shrink"
 name_of (commands.Verify verify) = codes "verify"
@@ -465,6 +280,7 @@ abbrev pub AreValuesOf : List Row → Command → Type 0
 AreValuesOf rows (commands.Run run) = AreRunValues rows run
 AreValuesOf rows (commands.Replay replay) = AreValues rows replay
 AreValuesOf rows (commands.Trace trace) = AreTraceValues rows trace
+AreValuesOf rows (commands.Races races) = AreRacesValues rows races
 AreValuesOf rows (commands.Search search) = AreSearchValues rows search
 AreValuesOf rows (commands.Shrink shrink) = AreShrinkValues rows shrink
 AreValuesOf rows (commands.Verify verify) = AreVerifyValues rows verify

@@ -3,6 +3,7 @@ pub mod CommandLine
 pub mod EscapedTexts
 pub mod Goals
 pub mod Numerals
+pub mod Parsers
 pub mod Paths
 pub mod Policies
 pub mod Programs

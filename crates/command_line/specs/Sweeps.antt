@@ -1,10 +1,11 @@
 -- Sweeps over seeds, by the options of a run (own).
-use Rattle.std.specs.Prelude.{◌≡◌, ◌==◌, ℕ, List, [], ◌∷◌, Option, Some, None, codes}
+use Rattle.std.specs.Prelude.{◌≡◌, ◌==◌, ℕ, Bool, true, false, List, [], ◌∷◌, Option, Some, None, codes}
 use Rattle.std.specs.List.{slice_split}
 use Rattle.std.specs.Str.Parse.{digits_value}
 use Rattle.clap.specs.Words.{Row, Text, first_of}
 use Rattle.command_line.specs.Goals.{IsGoal}
 use Rattle.command_line.specs.Numerals.{IsNumeralWithin}
+use Rattle.command_line.specs.declared.options.Goal.{Goal}
 use Rattle.command_line.specs.declared.sweep_options.SeedRange.{SeedRange}
 use Rattle.command_line.specs.declared.sweep_options.SweepOptions.{SweepOptions}
 use Rattle.command_line.specs.declared.sweep_options.SweepPolicy.{SweepPolicy}
@@ -32,6 +33,13 @@ IsSweepPolicy None policies.Random = ⊥
 IsSweepPolicy (Some word) policies.Mixed = word ≡ codes "mixed"
 IsSweepPolicy (Some word) policies.Random = word ≡ codes "random"
 
+-- ---- what is to be found
+
+-- a data race, which is no outcome; or an outcome, where one is asked for
+abbrev pub IsSweepGoal : Option Text → (for_race : Bool) → Option Goal → Type 0
+IsSweepGoal word true goal = (word ≡ Some (codes "race")) × (goal ≡ None)
+IsSweepGoal word false goal = IsGoal word goal
+
 -- ---- the sweep
 
 -- beside the seeds of this word there is no seed and no quantum
@@ -40,7 +48,7 @@ pub record IsSweepOf (word : Text) (rows : List Row) (sweep : SweepOptions) : Ty
   pub no_seed : first_of (codes "seed") rows ≡ None
   pub no_quantum : first_of (codes "quantum") rows ≡ None
   pub policy : IsSweepPolicy (first_of (codes "policy") rows) sweep.policy
-  pub goal : IsGoal (first_of (codes "for") rows) sweep.goal
+  pub goal : IsSweepGoal (first_of (codes "for") rows) sweep.for_race sweep.goal
 
 abbrev pub IsSweepBy : Option Text → List Row → Option SweepOptions → Type 0
 IsSweepBy (Some word) rows (Some sweep) = IsSweepOf word rows sweep

@@ -2,7 +2,7 @@
 
 ghost use Rattle.std.specs.Prelude.{◌≡◌, codes, false};
 ghost use Rattle.clap.specs.Words.{rule_of};
-ghost use Rattle.command_line.specs.CommandLine.{alone_flag, class_files, flag, goal_option, main_option, number_option, path_option, record_option, required_goal_option, schedule_option};
+ghost use Rattle.command_line.specs.Parsers.{alone_flag, class_files, flag, goal_option, main_option, number_option, path_option, record_option, required_goal_option, schedule_option};
 
 use crate::help::OUTCOME_HELP;
 use clap::builder::ValueParser;

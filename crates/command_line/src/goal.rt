@@ -19,6 +19,10 @@ const SEARCH_GOALS: &str =
 /// The outcomes of runs that may be to be found, as the text of a fault tells them.
 pub(crate) const OUTCOMES: &str = "deadlock, uncaught, output=NUMBERS, text=TEXT, differs=FILE";
 
+/// What a sweep may be to find, as the text of a fault tells it.
+pub(crate) const SWEEP_GOALS: &str =
+    "race, deadlock, uncaught, output=NUMBERS, text=TEXT, differs=FILE";
+
 /// What a search is to find, by the word that names it.
 pub(crate) fn search_goal_by(alloc: Global, word: &str) -> Result<SearchGoal, Usage>
     ensures named { IfOk result (IsSearchGoalWord word.now) }

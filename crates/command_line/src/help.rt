@@ -44,6 +44,10 @@ pub(crate) const RUN_RECORD_HELP: &str =
 pub(crate) const OUTCOME_HELP: &str =
     "The outcome: deadlock, uncaught, output=NUMBERS, text=TEXT or differs=FILE";
 
+/// What a sweep is to find.
+pub(crate) const SWEEP_GOAL_HELP: &str =
+    "What is to be found: race, deadlock, uncaught, output=NUMBERS, text=TEXT or differs=FILE";
+
 /// What a search is to find.
 pub(crate) const SEARCH_GOAL_HELP: &str =
     "What is to be found: race, uncaught, deadlock, endless, any, output=NUMBERS, text=TEXT or differs=FILE";
@@ -77,13 +81,18 @@ What it does:
   the sweep at the first seed that shows an outcome: deadlock, uncaught,
   output=NUMBERS (what is printed, with commas), text=TEXT (what is printed, with
   \\n for a line feed, \\\\ and \\uXXXX), or differs=FILE (another text).
+  With --for race it ends at the first seed whose run has a data race, and tells
+  the races of that run as --races does.
   --record FOLDER keeps the first schedule of each: FOLDER/outcome-1.schedule ..
   With --seconds the run ends behind so many, or the sweep behind the run that it
   is at, and says so: `end seconds`, `sweep gave up: seconds`.
+  With --races each data race of the run is told on a line before the report, as
+  `jvm races` tells those of a schedule.
 
 Statuses:
   0  all threads have ended; or a run for each seed is done
-  1  all threads have ended, some by an exception; or a seed shows what is wanted
+  1  all threads have ended, some by an exception; or a seed shows what is
+     wanted; or --races tells a race
   2  a class file is refused
   3  an event was refused for a limit, or memory was missing
   4  nothing can go on, and a thread hasn't ended
@@ -140,6 +149,31 @@ Statuses:
 
 Example:
   jvm trace --schedule a.schedule --from 100 --to 120 A.class";
+
+/// What stands below the options of `races`.
+pub(crate) const RACES_PAGE: &str = "\
+What it does:
+  Runs class files under a schedule as `jvm replay` does, and tells each data race
+  of the run on a line: the variable, and the two accesses of it, at least one of
+  them a write, that nothing orders. A lock, a start, a join, a volatile variable
+  and the like order what stands before them and what comes behind. A race is told
+  once for a variable, its two places and its two threads. Behind the lines it
+  prints the report. A run without a race says nothing of other runs of the same
+  class files: of all of them tells `jvm search`. Of the words of a schedule, and of
+  places among them, tells `jvm replay --help`.
+
+Statuses:
+  0  all threads have ended, and there is no race
+  1  there is a race; or all threads have ended, some by an exception
+  2  a class file or the schedule is refused
+  3  an event was not enabled, or was refused for a limit, or a place gave up; or
+     memory was missing
+  4  nothing can go on, and a thread hasn't ended, and there is no race
+  5  the schedule is used up, and a thread can go on, and there is no race
+  6  the command is wrong, or a file can't be read, or the output not written
+
+Example:
+  jvm races --schedule a.schedule A.class";
 
 /// What stands below the options of `search`.
 pub(crate) const SEARCH_PAGE: &str = "\

@@ -14,7 +14,8 @@
 //! - In both clauses: `schedule` has one file, and a version beside `--write` alone (`AreScheduleValues`,
 //!   `IsMadeVersion`); or with `--places` class files, a schedule of them, and neither `--write` nor a version
 //!   (`ArePlacesValues`). Of all others `--as-version` stands beside `--record` alone (`IsRecordedVersion`).
-//! - In both clauses: `--follow` is there where the words have it, and no run of a sweep has it (`IsFollow`).
+//! - In both clauses: `--follow` is there where the words have it, and no run of a sweep has it (`IsFollow`). So is
+//!   `--races` of a run, which has no `--follow` beside it (`IsRaceFlag`).
 //! - In both clauses: the file that `--record` names is none that the command reads, by the words alone (`IsApart`);
 //!   there is no command where it is one.
 //! - The limits are the options or the defaults (`LimitOptions::limits`); `LimitOptions::allow` tells whether none is
@@ -50,8 +51,8 @@ mod usage;
 mod values;
 
 pub use options::{
-    Command, Disasm, Goal, LimitOptions, Places, Replay, Run, Schedule, Search, SearchGoal, Shrink,
-    ThenRun, Trace, TraceForm, Verify,
+    Command, Disasm, Goal, LimitOptions, Places, Races, Replay, Run, Schedule, Search, SearchGoal,
+    Shrink, ThenRun, Trace, TraceForm, Verify,
 };
 pub use parse::command;
 pub use paths::{is_absolute, is_same_path, steps_of};

@@ -4,7 +4,8 @@ ghost use Rattle.std.specs.Prelude.{◌≡◌, false, map, vec_items, IfOk, IfEr
 ghost use Rattle.std.specs.Option.{SomeIff, option_map};
 ghost use Rattle.std.specs.Str.Parse.{digits_value};
 ghost use Rattle.clap.specs.Words.{first_of, found_of, rows_of, rule_of};
-ghost use Rattle.command_line.specs.CommandLine.{AreNumbers, AreNumerals, Asks, IsNumber, Refuses, number_option, parts_of, path_option};
+ghost use Rattle.command_line.specs.CommandLine.{AreNumbers, AreNumerals, Asks, IsNumber, Refuses, parts_of};
+ghost use Rattle.command_line.specs.Parsers.{number_option, path_option};
 ghost use Rattle.command_line.specs.Numerals.{IsNumeralWithin};
 
 use crate::arguments::{number_argument, value_argument};

@@ -13,6 +13,7 @@ pub enum Command {
     Run(Run),
     Replay(Replay),
     Trace(Trace),
+    Races(Races),
     Search(Search),
     Shrink(Shrink),
     Verify(Verify),
@@ -57,6 +58,8 @@ pub struct Run {
     pub files_alone: bool,
     /// Whether each line is printed as soon as the run prints it, and not behind the run.
     pub follow: bool,
+    /// Whether the data races of the run are told before its report.
+    pub races: bool,
 }
 
 /// `jvm replay`: class files are run under a schedule, and what comes of it is reported.
@@ -101,6 +104,26 @@ pub struct Trace {
     pub form: TraceForm,
     /// Whether a run of local instructions is told in one line.
     pub summary: bool,
+    pub limits: LimitOptions,
+    /// The name of the class whose `main` is run, with dots or slashes, if it is given.
+    pub main: Option<String>,
+    /// The paths of the class files, and of folders of them.
+    pub files: Vec<String>,
+    /// Whether a refusal is explained, and what threads are about, whatever that costs.
+    pub explain: bool,
+    /// Whether standard error tells no more than why there is no report.
+    pub quiet: bool,
+    /// Whether no class is added from the library.
+    pub files_alone: bool,
+}
+
+/// `jvm races`: class files are run under a schedule, and the data races of the run are told.
+#[derive(Drop)]
+pub struct Races {
+    /// The path of the schedule file, or the schedule itself.
+    pub schedule: String,
+    /// Whether any class files will do, whatever the schedule was recorded over.
+    pub any_files: bool,
     pub limits: LimitOptions,
     /// The name of the class whose `main` is run, with dots or slashes, if it is given.
     pub main: Option<String>,

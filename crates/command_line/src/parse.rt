@@ -3,16 +3,18 @@
 ghost use Rattle.std.specs.Prelude.{◌≡◌, ◌⊎◌, List, codes, map, string_bytes, IfOk, IfErr, MatchOption};
 ghost use Rattle.clap.specs.Words.{HasMatchesOf, first_of, found_of, kind_of, rows_of, Text};
 ghost use Rattle.clap.specs.declared.error.kind.ErrorKind.TheVariants.{UnknownArgument as unknown_argument};
-ghost use Rattle.command_line.specs.CommandLine.{AreDisasmValues, AreRunNumbers, AreRunValues, AreSearchValues, AreShrinkValues, AreTraceValues, AreValues, AreValuesOf, AreVerifyValues, Asks, Fails, IsRequiredGoal, IsThenRun, IsTraceForm, Refuses, Spells, UnlessSweep, jvm, name_of, usage_of};
+ghost use Rattle.command_line.specs.CommandLine.{AreDisasmValues, AreRacesValues, AreRunNumbers, AreRunValues, AreSearchValues, AreShrinkValues, AreTraceValues, AreValues, AreValuesOf, AreVerifyValues, Asks, Fails, IsRequiredGoal, IsThenRun, IsTraceForm, Refuses, Spells, UnlessSweep, name_of, usage_of};
+ghost use Rattle.command_line.specs.Parsers.{jvm};
 ghost use Rattle.command_line.specs.Policies.{GoTogether};
 
+use crate::goal::OUTCOMES;
 use crate::numbers::{
     BUDGET, FROM, MEMORY, ONLY, QUANTUM, SECONDS, STATES, TO, WHOLE_BUDGET, WORKERS,
     negative_number,
 };
 use crate::options;
 use crate::options::{
-    Disasm, Goal, Replay, Run, Search, Shrink, ThenRun, Trace, TraceForm, Verify,
+    Disasm, Goal, Races, Replay, Run, Search, Shrink, ThenRun, Trace, TraceForm, Verify,
 };
 use crate::parsers::program;
 use crate::paths::{check_file, check_goal, check_search_goal};
@@ -20,7 +22,7 @@ use crate::program_options::{apart_program_of, program_options_of};
 use crate::run_arguments::{policy_of, seed_of};
 use crate::run_options::{Clash, RunOptions};
 use crate::schedule_arguments::listed_of;
-use crate::sweep_arguments::{SEEDS, follow_of, sweep_of};
+use crate::sweep_arguments::{SEEDS, follow_of, race_flag_of, sweep_of};
 use crate::usage::Usage;
 use crate::values::{
     check_beside, files_of, goal_of, is_set, missing, path_of, recorded_version_of, recording_of,
@@ -65,6 +67,7 @@ fn named_command_of(
         "run" => Ok(options::Command::Run(run_of(alloc, matches)?)),
         "replay" => Ok(options::Command::Replay(replay_of(alloc, matches)?)),
         "trace" => Ok(options::Command::Trace(trace_of(alloc, matches)?)),
+        "races" => Ok(options::Command::Races(races_of(alloc, matches)?)),
         "search" => Ok(options::Command::Search(search_of(alloc, matches)?)),
         "shrink" => Ok(options::Command::Shrink(shrink_of(alloc, matches)?)),
         "verify" => Ok(options::Command::Verify(verify_of(alloc, matches)?)),
@@ -108,6 +111,7 @@ fn run_of(alloc: Global, matches: &ArgMatches<'_>) -> Result<Run, Usage>
     let recording = recording_of(alloc, matches)?;
     let program = apart_program_of(alloc, matches)?;
     let follow = follow_of(alloc, matches)?;
+    let races = race_flag_of(alloc, matches)?;
     Ok(Run {
         options,
         seconds,
@@ -121,6 +125,7 @@ fn run_of(alloc: Global, matches: &ArgMatches<'_>) -> Result<Run, Usage>
         quiet: program.quiet,
         files_alone: program.files_alone,
         follow,
+        races,
     })
 }
 
@@ -168,6 +173,25 @@ fn trace_of(alloc: Global, matches: &ArgMatches<'_>) -> Result<Trace, Usage>
         only,
         form,
         summary: is_set(matches, "summary"),
+        limits: program.limits,
+        main: program.main,
+        files: program.files,
+        explain: program.explain,
+        quiet: program.quiet,
+        files_alone: program.files_alone,
+    })
+}
+
+fn races_of(alloc: Global, matches: &ArgMatches<'_>) -> Result<Races, Usage>
+    ensures values { IfOk result (AreRacesValues (rows_of (found_of matches.now))) }
+    ensures none { IfErr result (λ usage. Refuses usage ((races : _)
+        → AreRacesValues (rows_of (found_of matches.now)) races → ⊥)) }
+{
+    let schedule = required_path_of(alloc, matches, "schedule")?;
+    let program = program_options_of(alloc, matches)?;
+    Ok(Races {
+        schedule,
+        any_files: is_set(matches, "any-files"),
         limits: program.limits,
         main: program.main,
         files: program.files,
@@ -238,7 +262,7 @@ fn required_goal_of(alloc: Global, matches: &ArgMatches<'_>) -> Result<Goal, Usa
     ensures none { IfErr result (λ usage. Refuses usage ((goal : _)
         → IsRequiredGoal (rows_of (found_of matches.now)) goal → ⊥)) }
 {
-    let goal = goal_of(alloc, matches)?;
+    let goal = goal_of(alloc, matches, OUTCOMES)?;
     check_goal(alloc, matches, &goal)?;
     match goal {
         Some(goal) => Ok(goal),

@@ -3,24 +3,24 @@
 ghost use Rattle.std.specs.Prelude.{◌≡◌, false, IfOk, IfErr};
 ghost use Rattle.clap.specs.Words.{App, Rule, app_of, kind_of, new_app, rule_of, with_rule, with_subcommand};
 ghost use Rattle.clap.specs.declared.error.kind.ErrorKind.TheVariants.{OutOfMemory as no_memory};
-ghost use Rattle.command_line.specs.CommandLine.{IsParser, class_files, jvm, jvm_disasm, jvm_replay, jvm_run, jvm_schedule, jvm_search, jvm_shrink, jvm_trace, jvm_verify};
-ghost use Rattle.command_line.specs.CommandLine as spec;
+ghost use Rattle.command_line.specs.Parsers.{IsParser, class_files, jvm, jvm_disasm, jvm_races, jvm_replay, jvm_run, jvm_schedule, jvm_search, jvm_shrink, jvm_trace, jvm_verify};
+ghost use Rattle.command_line.specs.Parsers as spec;
 
 use crate::arguments::{
     alone_argument, any_files_argument, files_argument, flag_argument, goal_argument,
     main_argument, path_argument, record_argument, required_goal_argument, schedule_argument,
 };
 use crate::help::{
-    ABOUT, AFTER, DISASM_PAGE, FILES_HELP, LISTED_HELP, OUTCOME_HELP, RECORD_HELP, REPLAY_PAGE,
+    ABOUT, AFTER, DISASM_PAGE, FILES_HELP, LISTED_HELP, RACES_PAGE, RECORD_HELP, REPLAY_PAGE,
     RUN_PAGE, RUN_RECORD_HELP, SCHEDULE_HELP, SCHEDULE_PAGE, SEARCH_GOAL_HELP, SEARCH_PAGE,
-    SHRINK_PAGE, TRACE_PAGE, VERIFY_PAGE, VERSION,
+    SHRINK_PAGE, SWEEP_GOAL_HELP, TRACE_PAGE, VERIFY_PAGE, VERSION,
 };
 use crate::numbers::{
     AS_VERSION, BUDGET, CELLS, FRAMES, FROM, MEMORY, MONITORS, OBJECTS, ONLY, QUANTUM, SECONDS,
     STATES, THREADS, TO, WHOLE_BUDGET, WORKERS,
 };
 use crate::run_arguments::{policy_argument, seed_argument};
-use crate::sweep_arguments::seeds_argument;
+use crate::sweep_arguments::{RACES, seeds_argument};
 use clap::Arg;
 use std::alloc::{AllocError, Global};
 
@@ -47,6 +47,7 @@ fn with_parsers<'a>(
     let program = with_parser(program, run_parser(alloc))?;
     let program = with_parser(program, replay_parser(alloc))?;
     let program = with_parser(program, trace_parser(alloc))?;
+    let program = with_parser(program, races_parser(alloc))?;
     let program = with_parser(program, search_parser(alloc))?;
     let program = with_parser(program, shrink_parser(alloc))?;
     let program = with_parser(program, verify_parser(alloc))?;
@@ -90,6 +91,7 @@ fn run_parser<'a>(alloc: Global) -> Result<clap::Command<'a>, AllocError>
     let run = with_sweep_options(alloc, run);
     let run = with_record(alloc, run, RUN_RECORD_HELP);
     let run = with_follow(alloc, run);
+    let run = with_races(alloc, run);
     with_files(alloc, run, FILES_HELP)
 }
 
@@ -122,6 +124,20 @@ fn trace_parser<'a>(alloc: Global) -> Result<clap::Command<'a>, AllocError>
     let trace = with_form(alloc, trace);
     let trace = with_program(alloc, trace);
     with_files(alloc, trace, FILES_HELP)
+}
+
+fn races_parser<'a>(alloc: Global) -> Result<clap::Command<'a>, AllocError>
+    ensures { IfOk result (λ races. IsParser races jvm_races) }
+{
+    let races = Ok(titled(
+        alloc,
+        "races",
+        "Runs class files under the schedule of a file, and tells the data races of the run",
+        RACES_PAGE,
+    ));
+    let races = with_schedule(alloc, races);
+    let races = with_program(alloc, races);
+    with_files(alloc, races, FILES_HELP)
 }
 
 fn search_parser<'a>(alloc: Global) -> Result<clap::Command<'a>, AllocError>
@@ -239,7 +255,7 @@ fn with_sweep_options<'a>(
         → IfOk result (λ whole. IsParser whole (spec.with_sweep_options app)) }
 {
     let command = with_argument(command, seeds_argument(alloc));
-    with_argument(command, goal_argument(alloc, OUTCOME_HELP))
+    with_argument(command, goal_argument(alloc, SWEEP_GOAL_HELP))
 }
 
 /// The command with a schedule, and the flag that takes it for any class files.
@@ -447,6 +463,24 @@ fn with_follow<'a>(
             alloc,
             "follow",
             "Prints each line as soon as the run prints it, not behind the run",
+        ),
+    )
+}
+
+/// The same command with the flag that has the races of the run told.
+fn with_races<'a>(
+    alloc: Global,
+    command: Result<clap::Command<'a>, AllocError>,
+) -> Result<clap::Command<'a>, AllocError>
+    ensures { (app : App) → IfOk command.entry (λ made. IsParser made app)
+        → IfOk result (λ whole. IsParser whole (spec.with_races app)) }
+{
+    with_argument(
+        command,
+        flag_argument(
+            alloc,
+            RACES,
+            "Tells each data race of the run on a line, before the report",
         ),
     )
 }

@@ -4,7 +4,8 @@ ghost use Rattle.std.specs.Prelude.{◌≡◌, false, IfOk, IfErr, codes};
 ghost use Rattle.std.specs.Option.{SomeIff};
 ghost use Rattle.std.specs.Str.Parse.{digits_value};
 ghost use Rattle.clap.specs.Words.{first_of, found_of, rows_of, rule_of};
-ghost use Rattle.command_line.specs.CommandLine.{IsNumber, Refuses, number_option, path_option};
+ghost use Rattle.command_line.specs.CommandLine.{IsNumber, Refuses};
+ghost use Rattle.command_line.specs.Parsers.{number_option, path_option};
 ghost use Rattle.command_line.specs.Numerals.{IsNumeralWithin};
 ghost use Rattle.command_line.specs.Policies.{IsPolicy, IsPolicyWord};
 

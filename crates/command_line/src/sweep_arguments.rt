@@ -1,12 +1,15 @@
 //! The sweep of a run, as options.
 
-ghost use Rattle.std.specs.Prelude.{◌≡◌, ◌≤◌, ◌==◌, false, IfErr, IfOk, codes, map};
+ghost use Rattle.std.specs.Prelude.{◌≡◌, ◌≤◌, ◌==◌, Some, false, true, IfErr, IfOk, codes, map};
 ghost use Rattle.std.specs.List.{slice_split};
 ghost use Rattle.clap.specs.Words.{first_of, found_of, rows_of, rule_of};
-ghost use Rattle.command_line.specs.CommandLine.{IsFollow, Refuses, path_option};
-ghost use Rattle.command_line.specs.Sweeps.{AreSeeds, IsSeedRange, IsSweep, IsSweepOf, IsSweepPolicy};
+ghost use Rattle.command_line.specs.CommandLine.{IsFollow, IsRaceFlag, Refuses};
+ghost use Rattle.command_line.specs.Parsers.{path_option};
+ghost use Rattle.command_line.specs.Sweeps.{AreSeeds, IsSeedRange, IsSweep, IsSweepGoal, IsSweepOf, IsSweepPolicy};
 
 use crate::arguments::value_argument;
+use crate::goal::SWEEP_GOALS;
+use crate::options::Goal;
 use crate::run_arguments::{SEED, seed_by};
 use crate::sweep_options::{SeedRange, SweepOptions, SweepPolicy};
 use crate::usage::Usage;
@@ -16,6 +19,9 @@ use std::alloc::{AllocError, Global};
 
 /// The name of the option that takes seeds.
 pub(crate) const SEEDS: &str = "seeds";
+
+/// The name of the flag that has races told.
+pub(crate) const RACES: &str = "races";
 
 /// The option that takes seeds, for the parser, which takes any text for them.
 pub(crate) fn seeds_argument<'a>(alloc: Global) -> Arg<'a>
@@ -64,12 +70,47 @@ fn sweep_by(alloc: Global, matches: &ArgMatches<'_>, word: &str) -> Result<Sweep
         "--seeds <A..B>",
     )?;
     let policy = sweep_policy_of(alloc, matches)?;
-    let goal = goal_of(alloc, matches)?;
+    let (for_race, goal) = sweep_goal_of(alloc, matches)?;
     Ok(SweepOptions {
         seeds,
         policy,
+        for_race,
         goal,
     })
+}
+
+/// Whether a sweep is for a data race, and else for which outcome, where one is asked for.
+fn sweep_goal_of(alloc: Global, matches: &ArgMatches<'_>) -> Result<(bool, Option<Goal>), Usage>
+    ensures goal { IfOk result (λ found.
+        IsSweepGoal (first_of (codes "for") (rows_of (found_of matches.now))) found.0 found.1) }
+    ensures none { IfErr result (λ usage. Refuses usage ((for_race : _) (goal : _)
+        → IsSweepGoal (first_of (codes "for") (rows_of (found_of matches.now))) for_race goal → ⊥)) }
+{
+    if is_for_race(matches) {
+        return Ok((true, None));
+    }
+    let goal = goal_of(alloc, matches, SWEEP_GOALS)?;
+    Ok((false, goal))
+}
+
+/// Whether a data race is to be found.
+fn is_for_race(matches: &ArgMatches<'_>) -> bool
+    ensures race { result ≡ true → first_of (codes "for") (rows_of (found_of matches.now)) ≡ Some (codes "race") }
+    ensures other { result ≡ false
+        → first_of (codes "for") (rows_of (found_of matches.now)) ≡ Some (codes "race") → ⊥ }
+{
+    match matches.get_str("for") {
+        Some(word) => is_race_word(word),
+        None => false,
+    }
+}
+
+/// Whether a word is that of a data race.
+fn is_race_word(word: &str) -> bool
+    ensures race { result ≡ true → word.now ≡ codes "race" }
+    ensures other { result ≡ false → word.now ≡ codes "race" → ⊥ }
+{
+    word == "race"
 }
 
 /// Refuses an option beside another one. As help tells them, these are their names.
@@ -113,6 +154,23 @@ fn unfollowed(alloc: Global, follow: bool) -> Result<bool, Usage>
     } else {
         Ok(false)
     }
+}
+
+/// Whether the races of a run are told. Those of a sweep never are, nor those of a run whose lines are printed before
+/// its end.
+pub(crate) fn race_flag_of(alloc: Global, matches: &ArgMatches<'_>) -> Result<bool, Usage>
+    ensures races { IfOk result (IsRaceFlag (rows_of (found_of matches.now))) }
+    ensures none { IfErr result (λ usage. Refuses usage ((races : _)
+        → IsRaceFlag (rows_of (found_of matches.now)) races → ⊥)) }
+{
+    if !is_set(matches, RACES) {
+        return Ok(false);
+    }
+    check_alone(alloc, matches, SEEDS, "--seeds <A..B>", "--races")?;
+    if is_set(matches, "follow") {
+        return Err(Usage::not_together(alloc, "--follow", "--races"));
+    }
+    Ok(true)
 }
 
 /// The policy of a sweep.

@@ -26,6 +26,8 @@ pub enum SweepPolicy {
 pub struct SweepOptions {
     pub seeds: SeedRange,
     pub policy: SweepPolicy,
+    /// Whether a run with a data race (JLS 17.4.5) is to be found. No outcome is then.
+    pub for_race: bool,
     /// The outcome that is to be found, and `None` where all are asked for.
     pub goal: Option<Goal>,
 }

@@ -7,7 +7,7 @@ ghost use Rattle.command_line.specs.CommandLine.{AreLimitNumbers, Asks, IsRecord
 ghost use Rattle.command_line.specs.Goals.{IsGoal, IsSearchGoal};
 ghost use Rattle.command_line.specs.Programs.{IsRecording};
 
-use crate::goal::{OUTCOMES, goal_by, search_goal_by};
+use crate::goal::{goal_by, search_goal_by};
 use crate::numbers::{AS_VERSION, CELLS, FRAMES, MONITORS, OBJECTS, THREADS};
 use crate::options::{Goal, LimitOptions, SearchGoal};
 use crate::parsers::program;
@@ -56,15 +56,20 @@ pub(crate) fn search_goal_of(
     }
 }
 
-/// The outcome of a run that is to be found, or to be kept, where one is asked for.
-pub(crate) fn goal_of(alloc: Global, matches: &ArgMatches<'_>) -> Result<Option<Goal>, Usage>
+/// The outcome of a run that is to be found, or to be kept, where one is asked for. The possible words are told where
+/// it is none of them.
+pub(crate) fn goal_of(
+    alloc: Global,
+    matches: &ArgMatches<'_>,
+    possible: &str,
+) -> Result<Option<Goal>, Usage>
     ensures goal { IfOk result (IsGoal (first_of (codes "for") (rows_of (found_of matches.now)))) }
     ensures none { IfErr result (λ usage. Refuses usage ((goal : _)
         → IsGoal (first_of (codes "for") (rows_of (found_of matches.now))) goal → ⊥)) }
 {
     match matches.get_str("for") {
         None => Ok(None),
-        Some(word) => Ok(Some(goal_by(alloc, word, OUTCOMES)?)),
+        Some(word) => Ok(Some(goal_by(alloc, word, possible)?)),
     }
 }
 

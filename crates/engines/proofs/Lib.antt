@@ -11,6 +11,8 @@ pub mod OutcomeFileLemmas
 pub mod OutcomeLemmas
 pub mod OutcomePathLemmas
 pub mod PlaceLemmas
+pub mod RaceLemmas
+pub mod RacedRunLemmas
 pub mod RecordLemmas
 pub mod RunLemmas
 pub mod ScheduleLemmas

@@ -33,15 +33,15 @@ all_front old new text all = (text, [], sym (append-nil text), all)
 
 -- ---- the command is done, but for the record
 
-whole_is_unrun : (form : RecordForm) (lefts : List (Option (List ℕ))) (asked : LimitOptions) (options : RunOptions) (may_stop : Bool) (old new made : Option (List ℕ)) (fault : Fault)
-    → IsUnable fault → (text : List ℕ) × (status : Status) × Runs form lefts asked options may_stop text made status × Appends old new text
-    → IsUnrun form lefts asked options may_stop old new None made fault
-whole_is_unrun form lefts asked options may_stop old new made faults.Device unable (text, status, runs, all) = inr (text, status, runs, all_front old new text all)
-whole_is_unrun form lefts asked options may_stop old new made faults.Memory unable (text, status, runs, all) = inr (text, status, runs, all_front old new text all)
-whole_is_unrun form lefts asked options may_stop old new made (faults.Refusal refusal) unable whole = absurd unable
-whole_is_unrun form lefts asked options may_stop old new made (faults.Schedule fault) unable whole = absurd unable
-whole_is_unrun form lefts asked options may_stop old new made (faults.Text fault) unable whole = absurd unable
-whole_is_unrun form lefts asked options may_stop old new made (faults.Place missing) unable whole = absurd unable
+whole_is_unrun : (form : RecordForm) (lefts : List (Option (List ℕ))) (asked : LimitOptions) (options : RunOptions) (may_stop races : Bool) (old new made : Option (List ℕ)) (fault : Fault)
+    → IsUnable fault → (text : List ℕ) × (status : Status) × Runs form lefts asked options may_stop races text made status × Appends old new text
+    → IsUnrun form lefts asked options may_stop races old new None made fault
+whole_is_unrun form lefts asked options may_stop races old new made faults.Device unable (text, status, runs, all) = inr (text, status, runs, all_front old new text all)
+whole_is_unrun form lefts asked options may_stop races old new made faults.Memory unable (text, status, runs, all) = inr (text, status, runs, all_front old new text all)
+whole_is_unrun form lefts asked options may_stop races old new made (faults.Refusal refusal) unable whole = absurd unable
+whole_is_unrun form lefts asked options may_stop races old new made (faults.Schedule fault) unable whole = absurd unable
+whole_is_unrun form lefts asked options may_stop races old new made (faults.Text fault) unable whole = absurd unable
+whole_is_unrun form lefts asked options may_stop races old new made (faults.Place missing) unable whole = absurd unable
 
 whole_is_uncontinued : (left : Option (List ℕ)) (lefts : List (Option (List ℕ))) (asked : Conditions) (then_run : ThenRun) (old new made : Option (List ℕ))
     (fault : Fault) → IsUnable fault → (text : List ℕ) × (status : Status) × Continues left lefts asked then_run text made status × Appends old new text
@@ -68,13 +68,13 @@ whole_is_unsearched form lefts asked goal may_stop most recorded old new made (f
 module _ (held holds : Held) (given : ℕ) (lefts : List (Option (List ℕ))) (old new made : Option (List ℕ)) (outcome : Result Status Fault) (fault : Fault) where
   module _ (run : Run) where
     abbrev RunDone : Status → Type 0
-    RunDone status = (text : List ℕ) × Runs (record_form given run.as_version) lefts run.limits run.options (is_some run.seconds) text made status × Appends old new text
+    RunDone status = (text : List ℕ) × Runs (record_form given run.as_version) lefts run.limits run.options (is_some run.seconds) run.races text made status × Appends old new text
 
     abbrev RunUndone : Fault → Type 0
-    RunUndone told = IsUnrun (record_form given run.as_version) lefts run.limits run.options (is_some run.seconds) old new None made told
+    RunUndone told = IsUnrun (record_form given run.as_version) lefts run.limits run.options (is_some run.seconds) run.races old new None made told
 
     run_whole : (status : Status) → IsUnable fault → RunDone status → RunUndone fault
-    run_whole status unable (text, runs, all) = whole_is_unrun _ _ _ _ _ old new made fault unable (text, status, runs, all)
+    run_whole status unable (text, runs, all) = whole_is_unrun _ _ _ _ _ _ old new made fault unable (text, status, runs, all)
 
     pub run_undone : IsUnrecorded outcome held holds (written_at run.record made) fault → IfOk outcome RunDone → IfErr outcome RunUndone
         → LeavesAt (IsRunUndone given lefts run old new) held holds fault

@@ -32,22 +32,22 @@ few_files files trees accepted =
     omega (arith, few, spelled_count files trees accepted.linkable.spelled)
 
 -- a class file isn't read, and nothing is written
-pub unread_is_unrun : (fault : Fault) (form : RecordForm) (lefts : List (Option (List ℕ))) (asked : LimitOptions) (options : RunOptions) (may_stop : Bool)
+pub unread_is_unrun : (fault : Fault) (form : RecordForm) (lefts : List (Option (List ℕ))) (asked : LimitOptions) (options : RunOptions) (may_stop races : Bool)
     (held : Option (List ℕ)) (kept : Option (List ℕ)) (file : ℕ)
-    → file < length lefts → IsOfFile file fault → IsUnrun form lefts asked options may_stop held held kept kept fault
-unread_is_unrun faults.Device form lefts asked options may_stop held kept file within of_file = inl (refl, refl)
-unread_is_unrun faults.Memory form lefts asked options may_stop held kept file within of_file = absurd of_file
-unread_is_unrun (faults.Schedule fault) form lefts asked options may_stop held kept file within of_file = absurd of_file
-unread_is_unrun (faults.Text fault) form lefts asked options may_stop held kept file within of_file = absurd of_file
-unread_is_unrun (faults.Place missing) form lefts asked options may_stop held kept file within of_file = absurd of_file
-unread_is_unrun (faults.Refusal refusal) form lefts asked options may_stop held kept file within of_file = (refl, refl, inl (file, within, of_file))
+    → file < length lefts → IsOfFile file fault → IsUnrun form lefts asked options may_stop races held held kept kept fault
+unread_is_unrun faults.Device form lefts asked options may_stop races held kept file within of_file = inl (refl, refl)
+unread_is_unrun faults.Memory form lefts asked options may_stop races held kept file within of_file = absurd of_file
+unread_is_unrun (faults.Schedule fault) form lefts asked options may_stop races held kept file within of_file = absurd of_file
+unread_is_unrun (faults.Text fault) form lefts asked options may_stop races held kept file within of_file = absurd of_file
+unread_is_unrun (faults.Place missing) form lefts asked options may_stop races held kept file within of_file = absurd of_file
+unread_is_unrun (faults.Refusal refusal) form lefts asked options may_stop races held kept file within of_file = (refl, refl, inl (file, within, of_file))
 
 -- the writing stops
-pub part_is_unrun : (fault : DeviceFault) (form : RecordForm) (lefts : List (Option (List ℕ))) (asked : LimitOptions) (options : RunOptions) (may_stop : Bool)
+pub part_is_unrun : (fault : DeviceFault) (form : RecordForm) (lefts : List (Option (List ℕ))) (asked : LimitOptions) (options : RunOptions) (may_stop races : Bool)
     (old new : Option (List ℕ)) (kept made : Option (List ℕ))
-    → RunsPart form lefts asked options may_stop old new kept made → IsUnrun form lefts asked options may_stop old new kept made (fault_of fault)
-part_is_unrun devices.Device form lefts asked options may_stop old new kept made part = part
-part_is_unrun devices.Memory form lefts asked options may_stop old new kept made part = part
+    → RunsPart form lefts asked options may_stop races old new kept made → IsUnrun form lefts asked options may_stop races old new kept made (fault_of fault)
+part_is_unrun devices.Device form lefts asked options may_stop races old new kept made part = part
+part_is_unrun devices.Memory form lefts asked options may_stop races old new kept made part = part
 
 -- what is so of an answer by its clauses
 pub by_one : {A E : Type 0} (result : Result A E) (p all : A → Type 0) → ((value : A) → p value → all value) → IfOk result p → IfOk result all

@@ -59,7 +59,7 @@ memory_below trees limits done event causes.Memory is = is
 
 -- ---- replays
 
-end_fits : (trees : Program) (limits : Limits) (state : State) (done left : List Event) (end : End)
+pub end_fits : (trees : Program) (limits : Limits) (state : State) (done left : List Event) (end : End)
     → machine.EndFits trees (bounds_of limits) state done left end → EndFits trees limits done left state end
 end_fits trees limits state done [] ends.Schedule is = is.1
 end_fits trees limits state done (next ∷ left) ends.Schedule is = absurd (let h : next ∷ left ≡ [] = is.0 in cc)

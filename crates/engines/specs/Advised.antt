@@ -28,6 +28,7 @@ abbrev pub is_quiet : Command → Bool
 is_quiet (commands.Run run) = run.quiet
 is_quiet (commands.Replay replay) = replay.quiet
 is_quiet (commands.Trace trace) = trace.quiet
+is_quiet (commands.Races races) = races.quiet
 is_quiet (commands.Search search) = search.quiet
 is_quiet (commands.Shrink shrink) = shrink.quiet
 is_quiet (commands.Verify verify) = verify.quiet

@@ -14,6 +14,7 @@ use Rattle.command_line.specs.declared.options.Command.{Command}
 use Rattle.command_line.specs.declared.options.Command.TheVariants as commands
 use Rattle.command_line.specs.declared.options.Goal.{Goal}
 use Rattle.command_line.specs.declared.options.Goal.TheVariants as goals
+use Rattle.command_line.specs.declared.options.Races.{Races}
 use Rattle.command_line.specs.declared.options.Replay.{Replay}
 use Rattle.command_line.specs.declared.options.Run.{Run}
 use Rattle.command_line.specs.declared.options.Schedule.{Schedule}
@@ -45,8 +46,9 @@ use Rattle.engines.specs.Searches.{IsUnsearched, Searches, most_states}
 use Rattle.engines.specs.Placings.{IsPlacesDone, IsPlacesUndone}
 use Rattle.engines.specs.Shrinks.{IsShrinkDone, IsShrinkUndone}
 use Rattle.engines.specs.Sweeps.{IsUnswept, SweepsOver}
-use Rattle.engines.specs.Theorem.{Replays}
+use Rattle.engines.specs.Theorem.{Replays, TellsRaces}
 use Rattle.engines.specs.Traces.{IsUntraced, Traces}
+use Rattle.engines.specs.Races.{IsUnraced}
 use Rattle.engines.specs.Transcriptions.{IsUnprinted, IsUntranscribed, Prints, Transcribes}
 use Rattle.engines.specs.Verifications.{IsUnaccepted, Verifies}
 use Rattle.engines.specs.declared.complaint.Complaint.{Complaint}
@@ -73,6 +75,7 @@ abbrev pub AreFiles : Held → Listed → Command → List Path → Type 0
 AreFiles held listed (commands.Run run) files = AreHandedOn held listed (option_map string_bytes run.main) (map string_bytes run.files.items) files
 AreFiles held listed (commands.Replay replay) files = AreHandedOn held listed (option_map string_bytes replay.main) (map string_bytes replay.files.items) files
 AreFiles held listed (commands.Trace trace) files = AreHandedOn held listed (option_map string_bytes trace.main) (map string_bytes trace.files.items) files
+AreFiles held listed (commands.Races races) files = AreHandedOn held listed (option_map string_bytes races.main) (map string_bytes races.files.items) files
 AreFiles held listed (commands.Search search) files = AreHandedOn held listed (option_map string_bytes search.main) (map string_bytes search.files.items) files
 AreFiles held listed (commands.Shrink shrink) files = AreHandedOn held listed (option_map string_bytes shrink.main) (map string_bytes shrink.files.items) files
 AreFiles held listed (commands.Verify verify) files = AreVerified held listed verify.library (option_map string_bytes verify.main) (map string_bytes verify.files.items) files
@@ -85,6 +88,7 @@ abbrev pub HasNoFiles : Held → Listed → Command → FilesFault → Type 0
 HasNoFiles held listed (commands.Run run) fault = IsUnhanded held listed (option_map string_bytes run.main) (map string_bytes run.files.items) fault
 HasNoFiles held listed (commands.Replay replay) fault = IsUnhanded held listed (option_map string_bytes replay.main) (map string_bytes replay.files.items) fault
 HasNoFiles held listed (commands.Trace trace) fault = IsUnhanded held listed (option_map string_bytes trace.main) (map string_bytes trace.files.items) fault
+HasNoFiles held listed (commands.Races races) fault = IsUnhanded held listed (option_map string_bytes races.main) (map string_bytes races.files.items) fault
 HasNoFiles held listed (commands.Search search) fault = IsUnhanded held listed (option_map string_bytes search.main) (map string_bytes search.files.items) fault
 HasNoFiles held listed (commands.Shrink shrink) fault = IsUnhanded held listed (option_map string_bytes shrink.main) (map string_bytes shrink.files.items) fault
 HasNoFiles held listed (commands.Verify verify) fault = IsUnverified held listed verify.library (option_map string_bytes verify.main) (map string_bytes verify.files.items) fault
@@ -97,6 +101,7 @@ abbrev pub record_path : Command → Option Path
 record_path (commands.Run run) = option_map string_bytes run.record
 record_path (commands.Replay replay) = option_and_then (λ (then_run : ThenRun). option_map string_bytes then_run.record) replay.then_run
 record_path (commands.Trace trace) = None
+record_path (commands.Races races) = None
 record_path (commands.Search search) = option_map string_bytes search.record
 record_path (commands.Shrink shrink) = option_map string_bytes shrink.record
 record_path (commands.Verify verify) = None
@@ -119,6 +124,7 @@ abbrev pub outcome_folder : Command → Option Path
 outcome_folder (commands.Run run) = option_and_then (λ (sweep : SweepOptions). option_map string_bytes run.record) run.sweep
 outcome_folder (commands.Replay replay) = None
 outcome_folder (commands.Trace trace) = None
+outcome_folder (commands.Races races) = None
 outcome_folder (commands.Search search) = None
 outcome_folder (commands.Shrink shrink) = None
 outcome_folder (commands.Verify verify) = None
@@ -146,6 +152,7 @@ abbrev pub sweep_texts : Command → List Path
 sweep_texts (commands.Run run) = unwrap_or (option_map (λ (sweep : SweepOptions). goal_texts sweep.goal) run.sweep) []
 sweep_texts (commands.Replay replay) = []
 sweep_texts (commands.Trace trace) = []
+sweep_texts (commands.Races races) = []
 sweep_texts (commands.Search search) = []
 sweep_texts (commands.Shrink shrink) = []
 sweep_texts (commands.Verify verify) = []
@@ -178,14 +185,14 @@ IsUnrecorded outcome held holds written fault = ((outcome ≡ Err fault) × (IsW
 
 pub record IsRunDone (given : ℕ) (lefts : List (Option (List ℕ))) (run : Run) (text : List ℕ) (written : Written) (status : Status) : Type 0 where
   pub file : Option (List ℕ)
-  pub runs : Runs (record_form given run.as_version) lefts run.limits run.options (is_some run.seconds) text file status
+  pub runs : Runs (record_form given run.as_version) lefts run.limits run.options (is_some run.seconds) run.races text file status
   pub made : IsTrue (is_some run.record) → IsTrue (is_some file)
   pub recorded : written ≡ written_at run.record file
 
 -- what was made may be recorded though the output failed
 pub record IsRunUndone (given : ℕ) (lefts : List (Option (List ℕ))) (run : Run) (old new : Option (List ℕ)) (fault : Fault) (written : Written) : Type 0 where
   pub file : Option (List ℕ)
-  pub unrun : IsUnrun (record_form given run.as_version) lefts run.limits run.options (is_some run.seconds) old new None file fault
+  pub unrun : IsUnrun (record_form given run.as_version) lefts run.limits run.options (is_some run.seconds) run.races old new None file fault
   pub recorded : (written ≡ None) ⊎ (written ≡ written_at run.record file)
 
 -- ---- run over seeds
@@ -277,6 +284,16 @@ abbrev pub IsTraceUndone : Held → (given : ℕ) → (lefts : List (Option (Lis
 IsTraceUndone held given lefts trace old new fault written = (window : Window) × IsWindow trace window
     × OfSchedule held (string_bytes trace.schedule) (λ left. IsUntraced left lefts (conditions_of trace.limits trace.any_files given 10000000) window old new fault) × (written ≡ None)
 
+-- ---- races
+
+abbrev pub IsRacesDone : Held → (given : ℕ) → (lefts : List (Option (List ℕ))) → Races → List ℕ → Written → Status → Type 0
+IsRacesDone held given lefts races text written status =
+    OfSchedule held (string_bytes races.schedule) (λ left. TellsRaces left lefts (conditions_of races.limits races.any_files given 10000000) text status) × (written ≡ None)
+
+abbrev pub IsRacesUndone : Held → (given : ℕ) → (lefts : List (Option (List ℕ))) → Races → (old new : Option (List ℕ)) → Fault → Written → Type 0
+IsRacesUndone held given lefts races old new fault written =
+    OfSchedule held (string_bytes races.schedule) (λ left. IsUnraced left lefts (conditions_of races.limits races.any_files given 10000000) old new fault) × (written ≡ None)
+
 -- ---- search
 
 pub record IsSearchDone (held : Held) (given : ℕ) (lefts : List (Option (List ℕ))) (search : Search) (text : List ℕ) (written : Written) (status : Status) : Type 0 where
@@ -333,6 +350,7 @@ abbrev pub IsDoneOver : Held → (given : ℕ) → (own : List LibraryFile) → 
 IsDoneOver held given own lefts input (commands.Run run) text written status = IsRunDoneBy held given lefts run run.sweep text written status
 IsDoneOver held given own lefts input (commands.Replay replay) text written status = IsReplayDone held given lefts replay replay.then_run text written status
 IsDoneOver held given own lefts input (commands.Trace trace) text written status = IsTraceDone held given lefts trace text written status
+IsDoneOver held given own lefts input (commands.Races races) text written status = IsRacesDone held given lefts races text written status
 IsDoneOver held given own lefts input (commands.Search search) text written status = IsSearchDone held given lefts search text written status
 IsDoneOver held given own lefts input (commands.Shrink shrink) text written status = IsShrinkDone held given lefts shrink text written status
 IsDoneOver held given own lefts input (commands.Verify verify) text written status =
@@ -348,6 +366,7 @@ abbrev pub IsUndoneOver : Held → (given : ℕ) → (own : List LibraryFile) �
 IsUndoneOver held given own lefts input (commands.Run run) old new fault written = IsRunUndoneBy held given lefts run run.sweep old new fault written
 IsUndoneOver held given own lefts input (commands.Replay replay) old new fault written = IsReplayUndone held given lefts replay replay.then_run old new fault written
 IsUndoneOver held given own lefts input (commands.Trace trace) old new fault written = IsTraceUndone held given lefts trace old new fault written
+IsUndoneOver held given own lefts input (commands.Races races) old new fault written = IsRacesUndone held given lefts races old new fault written
 IsUndoneOver held given own lefts input (commands.Search search) old new fault written =
     (IsUnable fault × (new ≡ old) × (written ≡ None)) ⊎ IsSearchUndone held given lefts search old new fault written
 IsUndoneOver held given own lefts input (commands.Shrink shrink) old new fault written =
@@ -380,6 +399,7 @@ KeepsSchedule held word fault = OfSchedule held word (λ left. (lefts : List (Op
 abbrev pub IsKeptFirst : Held → Command → Fault → Type 0
 IsKeptFirst held (commands.Replay replay) fault = KeepsSchedule held (string_bytes replay.schedule) fault
 IsKeptFirst held (commands.Trace trace) fault = KeepsSchedule held (string_bytes trace.schedule) fault
+IsKeptFirst held (commands.Races races) fault = KeepsSchedule held (string_bytes races.schedule) fault
 IsKeptFirst held (commands.Places places) fault = KeepsSchedule held (string_bytes places.schedule) fault
 IsKeptFirst held (commands.Shrink shrink) fault = KeepsSchedule held (string_bytes shrink.schedule) fault
 IsKeptFirst held command fault = ⊥

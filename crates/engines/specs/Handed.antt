@@ -22,6 +22,7 @@ abbrev pub library_of : Command → List LibraryFile → List LibraryFile
 library_of (commands.Run run) library = unless_alone run.files_alone library
 library_of (commands.Replay replay) library = unless_alone replay.files_alone library
 library_of (commands.Trace trace) library = unless_alone trace.files_alone library
+library_of (commands.Races races) library = unless_alone races.files_alone library
 library_of (commands.Search search) library = unless_alone search.files_alone library
 library_of (commands.Shrink shrink) library = unless_alone shrink.files_alone library
 library_of (commands.Verify verify) library = unless_alone verify.files_alone library

@@ -27,6 +27,8 @@ pub mod Sweeps
 pub mod Statuses
 pub mod Stopped
 pub mod Traces
+pub mod RacedRuns
+pub mod Races
 pub mod Transcriptions
 pub mod Verifications
 pub mod Handed

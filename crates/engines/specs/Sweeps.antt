@@ -16,12 +16,14 @@ use Rattle.command_line.specs.declared.sweep_options.SweepOptions.{SweepOptions}
 use Rattle.command_line.specs.declared.sweep_options.SweepPolicy.{SweepPolicy}
 use Rattle.command_line.specs.declared.sweep_options.SweepPolicy.TheVariants as asked
 use Rattle.search.specs.declared.run_outcomes.wanted.Wanted.{Wanted}
-use Rattle.sweeps.specs.Policies.{IsRunWith}
+use Rattle.sweeps.specs.Policies.{IsRunWith, RunsBy}
 use Rattle.sweeps.specs.Sweeps.{Sweeps}
 use Rattle.sweeps.specs.Texts.{sweep_text}
 use Rattle.sweeps.specs.declared.policy_runs.SeededPolicy.{SeededPolicy}
 use Rattle.sweeps.specs.declared.policy_runs.SeededPolicy.TheVariants as seeded
 use Rattle.sweeps.specs.declared.sweeping.SweepReport.{SweepReport}
+use Rattle.race_sweeps.specs.declared.race_sweeping.RaceSweep.{RaceSweep}
+use Rattle.race_sweeps.specs.race_sweeping.Swept.{SweepsForRace}
 use Rattle.engines.specs.Engines.{ReadsEach}
 use Rattle.engines.specs.OutcomeFiles.{AreOutcomeFiles}
 use Rattle.engines.specs.RecordForms.{record_form, recorded_as}
@@ -66,12 +68,24 @@ main_words (Some name) = codes " --main " ++ string_bytes name
 abbrev pub file_words : List (String Global) → List ℕ
 file_words files = flat_map (λ file. 32 ∷ string_bytes file) files
 
--- the policy, the limits that are asked for, whether the files stand alone, the class whose main is run, and the files
+-- the flag that has the races of a run told
+abbrev pub race_words : (for_race : Bool) → List ℕ
+race_words true = codes " --races"
+race_words false = []
+
+-- whether it is for a race, the policy, the limits that are asked for, whether the files stand alone, the class whose main is run, and the files
 abbrev pub repeat_words : Run → SweepOptions → List ℕ
 repeat_words run sweep =
-    policy_words sweep.policy ++ (limit_words run.limits ++ (alone_words run.files_alone ++ (main_words run.main ++ file_words run.files.items)))
+    race_words sweep.for_race
+    ++ (policy_words sweep.policy ++ (limit_words run.limits ++ (alone_words run.files_alone ++ (main_words run.main ++ file_words run.files.items))))
 
 -- ---- what is written
+
+-- A sweep ends at a run that shows what is wanted, and has no lines of its own; or, for a race, at one that has a data race
+-- (JLS 17.4.5), and its lines are those of the races of its last run.
+abbrev pub SweepsBy : (for_race : Bool) → RunsBy → (may_stop : Bool) → Wanted → (first last : ℕ) → SweepReport → (lines : List ℕ) → Type 0
+SweepsBy false by may_stop want first last swept lines = Sweeps (IsRunWith by) may_stop want first last swept × (lines ≡ [])
+SweepsBy true by may_stop want first last swept lines = (s : RaceSweep) × (s.report ≡ swept) × (s.races.lines.items ≡ lines) × SweepsForRace by may_stop first last s
 
 -- A sweep by the policy over the seeds, within the limits and with the budget for each run, comes to this; and this is its text, and
 -- its status. Where they are asked for, the bytes of files spell the schedules of the first runs of the outcomes, as they are recorded.
@@ -80,8 +94,10 @@ pub record IsSwept (given : ℕ) (files : List (List ℕ)) (trees : Program) (ru
   pub limits : Limits
   pub chosen : AreChosen run.limits limits
   pub swept : SweepReport
-  pub sweeps : Sweeps (IsRunWith (record { policy = seeded_policy sweep.policy; trees = trees; limits = limits; budget = unwrap_or run.options.budget 10000000 })) may_stop want sweep.seeds.first sweep.seeds.last swept
-  pub told : text ≡ sweep_text (seeded_policy sweep.policy) swept.first (repeat_words run sweep) swept.tally swept.end
+  pub lines : List ℕ
+  pub sweeps : SweepsBy sweep.for_race (record { policy = seeded_policy sweep.policy; trees = trees; limits = limits; budget = unwrap_or run.options.budget 10000000 }) may_stop want sweep.seeds.first sweep.seeds.last
+      swept lines
+  pub told : text ≡ lines ++ sweep_text (seeded_policy sweep.policy) swept.first (repeat_words run sweep) swept.tally swept.end
   pub spelled : AreOutcomeFiles (is_some run.record) (recorded_as limits (record_form given run.as_version) files) swept.tally.same schedules
   pub ended : status ≡ sweep_status swept.end
 

@@ -1,9 +1,9 @@
--- The theorem on one page: what `replay`, `run` and `search` say of class files, whatever the files, the schedule and the limits.
+-- The theorem on one page: what `replay`, `races`, `run` and `search` say of class files, whatever the files, the schedule and the limits.
 --
 -- The JVMS and the JLS are in `model`. `IsAccepted files trees`: the bytes spell these class files, no condition of linking stands in
 -- them, and each method with code has a typing (JVMS 4, 5). `run`: the state to which events lead from the opening one, where each is
 -- enabled (JVMS 2, 5, 6; JLS 17). `meaning`: the text that is told of that state. `limit_after`: the limit that an event would pass.
-use Rattle.std.specs.Prelude.{◌≡◌, ◌⊎◌, ◌<◌, ◌≤◌, ◌++◌, ℕ, Bool, List, [], ◌∷◌, Option, Some, IsTrue, IsFalse, length, map, slice_get}
+use Rattle.std.specs.Prelude.{◌≡◌, ◌⊎◌, ◌<◌, ◌≤◌, ◌++◌, ℕ, Bool, true, false, List, [], ◌∷◌, Option, Some, IsTrue, IsFalse, length, map, slice_get}
 use Rattle.std.specs.List.{list_any}
 use Rattle.std.specs.Io.KnownBytes.{Appends}
 use Rattle.model.specs.declared.end.End.{End}
@@ -26,7 +26,10 @@ use Rattle.model.specs.State.{State}
 use Rattle.model.specs.Step.{WrongKind, stepped, is_enabled}
 use Rattle.machine_state.specs.Memory.{takes_memory_after}
 use Rattle.run_laws.specs.interleavings.Ends.{Outcome, EndsWith, Has, outcome_of}
-use Rattle.data_races.specs.Races.{IsRacy}
+use Rattle.data_races.specs.Races.{HasRace, IsRacy}
+use Rattle.run_races.specs.declared.told_races.Race.{Race}
+use Rattle.run_races.specs.named_races.Named.{AreRaces}
+use Rattle.race_runs.specs.race_lines.Lines.{AreRaceLines}
 use Rattle.waiting_circles.specs.Circles.{HasCircle}
 use Rattle.schedule.specs.Joined.{AreJoined}
 use Rattle.search.specs.Kinds.{is_sought, is_told, wanted_of}
@@ -44,6 +47,7 @@ use Rattle.engines.specs.GivenPlaces.{told_status, told_text}
 use Rattle.engines.specs.Opening.{IsOpened}
 use Rattle.engines.specs.declared.recording.Conditions.{Conditions}
 use Rattle.engines.specs.declared.status.Status.{Status}
+use Rattle.engines.specs.declared.status.Status.TheVariants as statuses
 
 -- ---- the report is what the events mean
 
@@ -122,6 +126,44 @@ Replays left lefts options text status = (schedule : List ℕ) × (files : List 
 -- it is written behind what was there, and nothing else
 abbrev pub WritesReplay : Option (List ℕ) → List (Option (List ℕ)) → Conditions → (old new : Option (List ℕ)) → Status → Type 0
 WritesReplay left lefts options old new status = (text : List ℕ) × Replays left lefts options text status × Appends old new text
+
+-- ---- what `races` writes
+
+-- a race counts as an uncaught exception does, but where the run stopped
+abbrev pub raced_status : Status → (has_race : Bool) → Status
+raced_status statuses.Stopped has_race = statuses.Stopped
+raced_status status true = statuses.Threw
+raced_status status false = status
+
+-- The same, and the data races of the events that were done (JLS 17.4.5). `AreRaces`: each that is told is a race of theirs, by its variable,
+-- its two accesses and the places of these in code; and each access that races with an earlier one is the second one of a race that is
+-- told. A line for each stands before the report (`AreRaceLines`). The status tells whether these events have a race.
+pub record IsRaced (schedule : List ℕ) (files : List (List ℕ)) (options : Conditions) (text : List ℕ) (status : Status) : Type 0 where
+  pub trees : Program
+  pub events : List Event
+  pub limits : Limits
+  pub gives_up : Bool
+  pub opened : IsOpened schedule files options trees events limits gives_up
+  pub report : Report
+  pub end : End
+  pub replayed : IsReplay trees events limits report end
+  pub races : List Race
+  pub told : AreRaces trees limits.frames replayed.done races
+  pub lines : List ℕ
+  pub spelled : AreRaceLines trees races lines
+  pub text_is : text ≡ lines ++ told_text gives_up report end
+  pub has_race : Bool
+  pub raced : IsTrue has_race → HasRace trees limits.frames replayed.done
+  pub free : IsFalse has_race → HasRace trees limits.frames replayed.done → ⊥
+  pub ended : status ≡ raced_status (told_status gives_up report end) has_race
+
+-- of what these sources hold
+abbrev pub TellsRaces : Option (List ℕ) → List (Option (List ℕ)) → Conditions → List ℕ → Status → Type 0
+TellsRaces left lefts options text status = (schedule : List ℕ) × (files : List (List ℕ)) × Reads left schedule × ReadsEach lefts files × IsRaced schedule files options text status
+
+-- it is written behind what was there, and nothing else
+abbrev pub WritesRaces : Option (List ℕ) → List (Option (List ℕ)) → Conditions → (old new : Option (List ℕ)) → Status → Type 0
+WritesRaces left lefts options old new status = (text : List ℕ) × TellsRaces left lefts options text status × Appends old new text
 
 -- ---- a run
 

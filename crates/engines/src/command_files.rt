@@ -28,6 +28,7 @@ pub(crate) fn command_files<F: Folder>(
         Command::Run(options) => handed_on(alloc, folder, &options.files, &options.main),
         Command::Replay(options) => handed_on(alloc, folder, &options.files, &options.main),
         Command::Trace(options) => handed_on(alloc, folder, &options.files, &options.main),
+        Command::Races(options) => handed_on(alloc, folder, &options.files, &options.main),
         Command::Search(options) => handed_on(alloc, folder, &options.files, &options.main),
         Command::Shrink(options) => handed_on(alloc, folder, &options.files, &options.main),
         Command::Verify(options) => verified_files(alloc, folder, options),
@@ -141,6 +142,7 @@ fn outcome_folder(command: &Command) -> Option<&str>
         },
         Command::Replay(_)
         | Command::Trace(_)
+        | Command::Races(_)
         | Command::Search(_)
         | Command::Shrink(_)
         | Command::Verify(_)
@@ -161,6 +163,7 @@ fn sweep_texts(command: &Command) -> &[String]
         },
         Command::Replay(_)
         | Command::Trace(_)
+        | Command::Races(_)
         | Command::Search(_)
         | Command::Shrink(_)
         | Command::Verify(_)
@@ -193,6 +196,7 @@ pub(crate) fn record_path(command: &Command) -> Option<&str>
         Command::Search(options) => options.record.as_deref(),
         Command::Shrink(options) => options.record.as_deref(),
         Command::Trace(_)
+        | Command::Races(_)
         | Command::Verify(_)
         | Command::Disasm(_)
         | Command::Schedule(_)

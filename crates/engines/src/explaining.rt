@@ -141,6 +141,7 @@ fn flags_of(command: &Command) -> (bool, bool)
         Command::Run(options) => (options.explain, options.quiet),
         Command::Replay(options) => (options.explain, options.quiet),
         Command::Trace(options) => (options.explain, options.quiet),
+        Command::Races(options) => (options.explain, options.quiet),
         Command::Search(options) => (options.explain, options.quiet),
         Command::Shrink(options) => (options.explain, options.quiet),
         Command::Verify(options) => (options.explain, options.quiet),
@@ -163,6 +164,7 @@ fn schedule_of(command: &Command) -> Option<&str> {
     match command {
         Command::Replay(options) => Some(options.schedule.as_str()),
         Command::Trace(options) => Some(options.schedule.as_str()),
+        Command::Races(options) => Some(options.schedule.as_str()),
         Command::Shrink(options) => Some(options.schedule.as_str()),
         Command::Places(options) => Some(options.schedule.as_str()),
         Command::Schedule(options) if !options.write => Some(options.file.as_str()),
@@ -217,6 +219,7 @@ fn words_of(command: &Command) -> &[String] {
         Command::Run(options) => options.files.as_slice(),
         Command::Replay(options) => options.files.as_slice(),
         Command::Trace(options) => options.files.as_slice(),
+        Command::Races(options) => options.files.as_slice(),
         Command::Search(options) => options.files.as_slice(),
         Command::Shrink(options) => options.files.as_slice(),
         Command::Verify(options) => options.files.as_slice(),

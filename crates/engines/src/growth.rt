@@ -6,6 +6,9 @@ pub trait Growth {
     /// The lines that the run prints are to be shown as they are printed.
     fn follow(&self) {}
 
+    /// No line is to be shown before the run ends: others stand before those that it prints.
+    fn show_none(&self) {}
+
     /// Whether a record can grow beside the file at this path.
     fn can_grow(&self, _path: &str) -> bool {
         true

@@ -47,6 +47,7 @@ fn library_of<'a, 'b>(command: &Command, library: &'a [LibraryClass<'b>]) -> &'a
         Command::Run(options) => unless_alone(options.files_alone, library),
         Command::Replay(options) => unless_alone(options.files_alone, library),
         Command::Trace(options) => unless_alone(options.files_alone, library),
+        Command::Races(options) => unless_alone(options.files_alone, library),
         Command::Search(options) => unless_alone(options.files_alone, library),
         Command::Shrink(options) => unless_alone(options.files_alone, library),
         Command::Verify(options) => unless_alone(options.files_alone, library),

@@ -64,6 +64,10 @@
 //!   lines of the events and of the report behind them (`traced`, `IsTraced`, with `IsTrace` of `traced_runs`); and
 //!   after `device` and `memory` a beginning was written, of that text, or of the lines of a beginning of the events
 //!   (`faulty`, `IsUntraced`).
+//! - `races_engine`, over any readers and writer: what is proved of `replay_engine`, but that the text is that of the
+//!   data races of the events that were done, a line for each, and of the report behind them (`raced`, `WritesRaces` of
+//!   `Theorem`). Each race that is told is one of these events, and each access that races with an earlier one is the
+//!   second one of a race that is told (`AreRaces`). The status tells whether there is a race.
 //! - `search_engine`, over any readers and writers:
 //!   - with a status, one text was appended and nothing else: what a search over all schedules of the program of these
 //!     bytes answers, within the limits of the options (`searched`, `IsSearched`, with `Says` of `Theorem`).
@@ -99,6 +103,8 @@
 //!   - the text is the report's, the status is its own; and the file spells the events, the limits and what is recorded
 //!     of the class files: the lengths and checksums of those that are given, and the checksum of those that the library
 //!     adds (`recording_over`), as far as a file of the version that is asked for tells them (`recorded_as`);
+//!   - with `--races` a line for each data race of all events of the record stands before the report, and the status
+//!     is 1 where there is one, unless it is 3 (`AreRacesTold` of `recorded_races`, `raced_status`);
 //!   - with a refusal nothing was written, and it is one that linking or verification may give of these bytes; with
 //!     `memory` or `device` nothing was written or made, or the file was made and a beginning of the text was written
 //!     (`faulty`, `IsUnrun`);
@@ -181,6 +187,8 @@ mod place_ends;
 mod place_schedules;
 mod placing;
 mod program;
+mod racing;
+mod racing_runs;
 mod recording;
 mod repeat_words;
 mod replaying;
@@ -217,6 +225,7 @@ pub use placing::places_engine;
 pub use program::run;
 pub use program_files::{FilesFault, Folder};
 pub use program_runs::workers::Gate;
+pub use racing::races_engine;
 pub use recording::Conditions;
 pub use replaying::replay_engine;
 pub use running::run_engine;

@@ -11,7 +11,8 @@ ghost use Rattle.engines.specs.Failures.{FolderMayFail, TellsComplaint, TellsFai
 
 use crate::command_files::{check_record, command_files};
 use crate::commands::{
-    disasm, places, replay, run as run_command, schedule, search, shrink, trace, unread, verify,
+    disasm, places, races, replay, run as run_command, schedule, search, shrink, trace, unread,
+    verify,
 };
 use crate::complaint::Complaint;
 use crate::deadline::Deadline;
@@ -235,6 +236,7 @@ fn done_over<
             explanation,
         ),
         Command::Trace(options) => trace(alloc, folder, files, given, options, output, explanation),
+        Command::Races(options) => races(alloc, folder, files, given, options, output, explanation),
         Command::Search(options) => search(
             alloc,
             gate,

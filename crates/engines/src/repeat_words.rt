@@ -76,6 +76,16 @@ fn push_policy(words: &mut String, policy: SweepPolicy) -> Result<(), AllocError
     }
 }
 
+/// The flag that has the races of the run told, where the sweep is for one.
+fn push_race_flag(words: &mut String, for_race: bool) -> Result<(), AllocError>
+    ensures { OnOk result (string_bytes words.new ≡ string_bytes words.old ++ spec.race_words for_race) }
+{
+    if for_race {
+        return words.push_str(" --races");
+    }
+    Ok(())
+}
+
 /// The words behind `jvm run --seed N` that repeat a run of a sweep. The only error is a want of memory.
 pub(crate) fn repeat_words(
     alloc: Global,
@@ -85,6 +95,7 @@ pub(crate) fn repeat_words(
     ensures { IfOk result (λ words. string_bytes words ≡ spec.repeat_words run.now sweep.now) }
 {
     let mut words = String::new(alloc);
+    push_race_flag(&mut words, sweep.for_race)?;
     push_policy(&mut words, sweep.policy)?;
     push_limits(alloc, &mut words, &run.limits)?;
     push_alone(&mut words, run.files_alone)?;

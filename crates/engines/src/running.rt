@@ -18,6 +18,7 @@ use crate::class_files::read_class_files;
 use crate::deadline::{Deadline, Until};
 use crate::fault::Fault;
 use crate::growth::Growth;
+use crate::racing_runs::behind_races;
 use crate::recording::{RecordForm, recorded_as};
 use crate::seeds::{Seeds, policy_for};
 use crate::status::Status;
@@ -36,9 +37,10 @@ use std::thread::Threads;
 use verifier::Verified;
 
 /// Runs the class files, by workers or, by a policy, by one; makes the schedule file where it is asked for, and where
-/// the run does not end normally; writes the report, and answers its status. The gate is told what the workers do,
-/// and where a policy wants a seed for which the options don't ask, it draws one, and is told so unless the options
-/// have it quiet.
+/// the run does not end normally; writes the report, and answers its status. Where the options ask for the races of
+/// the run, a line for each stands before the report, and the status is 1 where there is one, unless it is 3. The gate
+/// is told what the workers do, and where a policy wants a seed for which the options don't ask, it draws one, and is
+/// told so unless the options have it quiet.
 ///
 /// The first so many of the class files are given, and a library adds the others: the schedule file tells them so.
 ///
@@ -63,12 +65,12 @@ pub fn run_engine<
     ensures ran { IfOk result (λ status. (text : _)
         × Runs (record_form given options.now.as_version)
         (map S.remaining files.old) options.now.limits options.now.options
-        (is_some options.now.seconds) text (option_map vec_items file.new) status
+        (is_some options.now.seconds) options.now.races text (option_map vec_items file.new) status
         × Appends (W.contents report.old) (W.contents report.new) text) }
     ensures asked { IfOk result (λ _. IsTrue (is_some options.now.record) → IsTrue (is_some file.new)) }
     ensures faulty { IfErr result (IsUnrun (record_form given options.now.as_version)
         (map S.remaining files.old) options.now.limits options.now.options
-        (is_some options.now.seconds) (W.contents report.old) (W.contents report.new)
+        (is_some options.now.seconds) options.now.races (W.contents report.old) (W.contents report.new)
         (option_map vec_items file.old) (option_map vec_items file.new)) }
     ensures counted { CountsFailure result
         (sum_by S.failures files.old + W.failures report.old)
@@ -104,7 +106,8 @@ fn ran<R: Threads + Wait + Sync, G: Gate + Seeds + Deadline + Growth + Sync>(
     requires { IsAccepted (map vec_items files.now) verified }
     ensures run { IfOk result (λ ran. IsRun (record_form given options.now.as_version)
         (map vec_items files.now) options.now.limits options.now.options
-        (is_some options.now.seconds) ran.text.items (option_map vec_items ran.file) ran.status) }
+        (is_some options.now.seconds) options.now.races ran.text.items (option_map vec_items ran.file)
+        ran.status) }
     ensures asked { IfOk result (λ ran. IsTrue (is_some options.now.record) → IsTrue (is_some ran.file)) }
 {
     let limits = options.limits.limits();
@@ -125,7 +128,8 @@ fn ran<R: Threads + Wait + Sync, G: Gate + Seeds + Deadline + Growth + Sync>(
         options.record.is_some(),
     )?;
     let budget = options.options.budget();
-    unless_stopped(alloc, outcome, &recorded.report, recorded.end, budget)
+    let whole = unless_stopped(alloc, outcome, &recorded.report, recorded.end, budget)?;
+    behind_races(alloc, &recorded, options.races, whole)
 }
 
 /// Tells the gate what is to be seen of a run while it goes on. The only error is a want of memory.
@@ -141,6 +145,9 @@ fn tell_growth<G: Growth>(
 {
     if options.follow {
         gate.follow();
+    }
+    if options.races {
+        gate.show_none();
     }
     if let Some(path) = &options.record {
         let told = recorded_as(alloc, limits, form, files)?;

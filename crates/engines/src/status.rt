@@ -18,7 +18,7 @@ pub enum Status {
     /// No thread can go on, and all have ended, none with an exception. Of what runs nothing: it is done.
     Returned,
     /// No thread can go on, and all have ended, some with an exception. Of a search or a sweep: it found what it was
-    /// asked for.
+    /// asked for. Of races: there is one.
     Threw,
     /// A class file or the schedule is refused.
     Refused,

@@ -1,11 +1,13 @@
 //! A sweep over seeds, over any readers and writers.
 
-ghost use Rattle.std.specs.Prelude.{◌≡◌, ◌+◌, ◌<◌, ◌^◌, IfErr, IfOk, length, map, sum_by, vec_items};
+ghost use Rattle.std.specs.Prelude.{◌≡◌, ◌++◌, ◌+◌, ◌<◌, ◌^◌, IfErr, IfOk, length, map, sum_by, vec_items};
 ghost use Rattle.std.specs.Arc.{arc_value};
 ghost use Rattle.std.specs.Io.KnownBytes.{Appends};
 ghost use Rattle.machine.specs.Machines.{IsProgramOf};
 ghost use Rattle.engines.specs.Engines.{CountsFailure};
-ghost use Rattle.engines.specs.Sweeps.{IsSwept, IsUnswept, SweepsOver, seeded_policy};
+ghost use Rattle.race_sweeps.specs.race_sweeping.Swept.{AreAccepted};
+ghost use Rattle.sweeps.specs.Texts as spec;
+ghost use Rattle.engines.specs.Sweeps.{IsSwept, IsUnswept, SweepsBy, SweepsOver, seeded_policy};
 
 use crate::class_files::read_class_files;
 use crate::fault::Fault;
@@ -18,11 +20,12 @@ use command_line::{Run, SweepOptions, SweepPolicy};
 use linked_code::LinkedProgram;
 use model::{Sink, Source};
 use program_runs::verified_programs::verified_program;
+use race_sweeps::race_sweeping::race_sweep;
 use search::run_outcomes::Wanted;
 use std::alloc::{AllocError, Global};
 use std::sync::{Arc, Wait};
 use std::thread::Threads;
-use sweeps::{PolicyRuns, SeededPolicy, SideBySide, Watch, sweep_text};
+use sweeps::{PolicyRuns, SeededPolicy, SideBySide, SweepReport, Watch, sweep_text};
 use verifier::Verified;
 
 /// What a sweep over class files is to be, of which the first so many are given, and a library adds the others.
@@ -42,7 +45,8 @@ pub struct MadeSweep {
     pub schedules: Vec<Vec<u8>>,
 }
 
-/// Runs the class files once for each seed that is asked for, until a run shows what is wanted. Writes what the runs
+/// Runs the class files once for each seed that is asked for, until a run shows what is wanted, or, in a sweep for
+/// a race, has a data race (JLS 17.4.5). Writes the races of the last run then, and in each sweep what the runs
 /// show, makes the schedule files of the outcomes where they are asked for, and answers these and the status. The watch
 /// is told how many runs are done, and may stop the sweep.
 ///
@@ -128,23 +132,73 @@ fn swept_over<R: Threads + Wait + Sync, P: Watch>(
     let limits = options.limits.limits();
     let budget = options.options.sweep_budget();
     let runs = PolicyRuns::new(verified, program, limits, budget, policy);
-    let seeds = sweep.seeds;
     let workers = options.options.workers().unwrap_or(1);
-    let mut runs = SideBySide::new(alloc, runs, workers, seeds.last);
-    let swept = sweeps::sweep(rt, alloc, &mut runs, watch, wanted, seeds.first, seeds.last)?;
+    let mut runs = SideBySide::new(alloc, runs, workers, sweep.seeds.last);
+    let swept = runs_swept(rt, alloc, &mut runs, watch, sweep, wanted)?;
     let words = repeat_words(alloc, options, sweep)?;
-    let text = sweep_text(alloc, &swept, policy, words.as_str())?;
+    let text = text_of(alloc, &swept, policy, words.as_str())?;
     let form = RecordForm {
         given,
         as_version: options.as_version,
     };
     let is_recorded = options.record.is_some();
-    let schedules = outcome_files(alloc, is_recorded, files, form, limits, swept.tally.same())?;
-    let status = Status::of_sweep(swept.end);
+    let same = swept.report.tally.same();
+    let schedules = outcome_files(alloc, is_recorded, files, form, limits, same)?;
+    let status = Status::of_sweep(swept.report.end);
     Ok(ToldSweep {
         text,
         swept: MadeSweep { status, schedules },
     })
+}
+
+/// What a sweep has come to, with the lines of the races of its last run, where it is for a race.
+#[derive(Drop)]
+struct SweptRuns {
+    report: SweepReport,
+    lines: Vec<u8>,
+}
+
+/// Does the runs of a sweep, until one has a data race, or shows what is wanted.
+fn runs_swept<R: Threads + Wait + Sync, P: Watch>(
+    rt: &R,
+    alloc: Global,
+    runs: &mut SideBySide<'_>,
+    watch: &P,
+    sweep: &SweepOptions,
+    wanted: &Wanted,
+) -> Result<SweptRuns, AllocError>
+    requires { AreAccepted runs.old.trees }
+    ensures { IfOk result (λ swept. SweepsBy sweep.now.for_race runs.old (P.may_stop watch.now) wanted.now
+        sweep.now.seeds.first sweep.now.seeds.last swept.report swept.lines.items) }
+{
+    let seeds = sweep.seeds;
+    if sweep.for_race {
+        let found = race_sweep(rt, alloc, runs, watch, seeds.first, seeds.last)?;
+        return Ok(SweptRuns {
+            report: found.report,
+            lines: found.races.lines,
+        });
+    }
+    let report = sweeps::sweep(rt, alloc, runs, watch, wanted, seeds.first, seeds.last)?;
+    let lines = Vec::new(alloc);
+    Ok(SweptRuns { report, lines })
+}
+
+/// The text of what a sweep has come to: the lines of races, and what all runs show.
+fn text_of(
+    alloc: Global,
+    swept: &SweptRuns,
+    policy: SeededPolicy,
+    words: &str,
+) -> Result<Vec<u8>, AllocError>
+    ensures { IfOk result (λ text. text.items ≡ swept.now.lines.items
+        ++ spec.sweep_text policy swept.now.report.first words.now swept.now.report.tally swept.now.report.end) }
+{
+    let mut text = Vec::new(alloc);
+    text.extend_from_slice(swept.lines.as_slice())?;
+    let told = sweep_text(alloc, &swept.report, policy, words)?;
+    text.extend_from_slice(told.as_slice())?;
+    Ok(text)
 }
 
 /// The policy that is asked for.

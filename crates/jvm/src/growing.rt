@@ -92,6 +92,11 @@ impl<'a, R: Clock + Print + Files + AllocGlobal> Growing<'a, R> {
         self.follows.store(true, Ordering::SeqCst);
     }
 
+    /// No printed line is shown before the run ends.
+    pub fn show_none(&self) {
+        self.follows.store(false, Ordering::SeqCst);
+    }
+
     /// Looks at the clock where enough events are done since the last look, and anything is to be shown.
     pub fn turn_ends(&self, events: u32) {
         if !self.follows.load(Ordering::SeqCst) && !self.grows.load(Ordering::SeqCst) {

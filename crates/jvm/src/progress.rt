@@ -162,6 +162,10 @@ impl<R: Clock + Print + Files + AllocGlobal> Growth for Progress<'_, R> {
         self.growing.follow();
     }
 
+    fn show_none(&self) {
+        self.growing.show_none();
+    }
+
     fn can_grow(&self, path: &str) -> bool {
         self.growing.can_grow(path)
     }

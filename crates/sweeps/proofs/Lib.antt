@@ -1,6 +1,6 @@
 mod Adding
 mod Places
-mod Tallying
+pub mod Tallying
 mod RunsSwept
 mod Counting
 mod Telling

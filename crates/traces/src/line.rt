@@ -13,6 +13,9 @@ use crate::sorts::{Sort, sort_of};
 use crate::traced_events::{Before, told_of};
 use crate::words::Words;
 use classfile::Reference;
+use classfile::access_flags::has;
+use hierarchy::{ClassSet, MemberPlace};
+use linker::Linked;
 use machine_state::Shared;
 use model::{Event, Instr};
 use opcodes::decode_at;
@@ -26,6 +29,9 @@ pub struct Line {
     pub event: Event,
     pub form: Form,
 }
+
+/// ACC_VOLATILE (JVMS table 4.5-A).
+const VOLATILE: u16 = 0x0040;
 
 const SOURCE: Part = Part {
     mark: " ",
@@ -42,6 +48,28 @@ fn field_of<'a>(method: &MethodCode<'a>, instr: Instr) -> Option<Reference<'a>> 
     match instr {
         Instr::Field { index, .. } => method.file.field_reference(index),
         _ => None,
+    }
+}
+
+/// The flags of the field at a place (JVMS table 4.5-A); none where there is no field.
+fn flags_at(set: &ClassSet, place: MemberPlace) -> u16 {
+    match set.class_at(place.class) {
+        Some(class) => match class.fields.get(place.member) {
+            Some(field) => field.flags,
+            None => 0,
+        },
+        None => 0,
+    }
+}
+
+/// Whether the field that is named is volatile (JLS 8.3.1.4).
+fn is_volatile(linked: &Linked, field: Option<Reference<'_>>) -> bool {
+    let Some(field) = field else {
+        return false;
+    };
+    match linked.hierarchy().find_field(field) {
+        Some(place) => has(flags_at(linked.set(), place), VOLATILE),
+        None => false,
     }
 }
 
@@ -72,6 +100,7 @@ fn push_deed(
         names,
         shared,
         field,
+        is_volatile: is_volatile(names.linked, field),
         sort,
     };
     words.push(said, before, told_of(before, shared, names.program, event))

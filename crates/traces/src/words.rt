@@ -13,13 +13,14 @@ use machine_state::Shared;
 use model::built_in::STRING;
 use std::alloc::AllocError;
 
-/// What the words are made of: the names, the state after the event, and of the instruction the field that it names
-/// and what its word is.
+/// What the words are made of: the names, the state after the event, and of the instruction the field that it names,
+/// whether that is volatile, and what its word is.
 #[derive(Clone, Copy)]
 pub(crate) struct Words<'t, 'l, 's, 'f> {
     pub(crate) names: &'t ProgramNames<'l>,
     pub(crate) shared: &'s Shared,
     pub(crate) field: Option<Reference<'f>>,
+    pub(crate) is_volatile: bool,
     pub(crate) sort: Sort,
 }
 
@@ -55,7 +56,7 @@ impl Words<'_, '_, '_, '_> {
         said.quote(self.shared.printed.get(before.printed..).unwrap_or(&[]))
     }
 
-    /// `reads Counter.n = 1`, `writes Point.x of Point #34 = 1`.
+    /// `reads Counter.n = 1`, `writes Point.x of Point #34 = 1`, `reads volatile Flag.ready = true`.
     fn field(
         &self,
         said: &mut Said,
@@ -64,6 +65,9 @@ impl Words<'_, '_, '_, '_> {
         word: u32,
     ) -> Result<(), AllocError> {
         push_words(&mut said.words, verb)?;
+        if self.is_volatile {
+            push_words(&mut said.words, "volatile ")?;
+        }
         if let Some(field) = self.field {
             said.words.extend_from_slice(field.class)?;
             said.words.push(b'.')?;

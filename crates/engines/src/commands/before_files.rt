@@ -49,6 +49,7 @@ fn check_first<F: Folder>(
         Command::Run(options) => check_run(alloc, folder, options, explanation),
         Command::Replay(options) => check_replay(alloc, folder, options, explanation),
         Command::Trace(options) => check_schedule(alloc, folder, options.schedule.as_str()),
+        Command::Races(options) => check_schedule(alloc, folder, options.schedule.as_str()),
         Command::Places(options) => check_schedule(alloc, folder, options.schedule.as_str()),
         Command::Search(options) => check_search(alloc, folder, options, explanation),
         Command::Shrink(options) => check_shrink(alloc, folder, options, explanation),

@@ -170,12 +170,12 @@ fn ran<R: Threads + Wait + Sync, G: Gate + Seeds + Deadline + Growth + Sync, F: 
     ensures ran { IfOk result (λ status. (text : _)
         × Runs (record_form given options.now.as_version)
         (known (map vec_items files.now)) options.now.limits options.now.options
-        (is_some options.now.seconds) text (option_map vec_items file.new) status
+        (is_some options.now.seconds) options.now.races text (option_map vec_items file.new) status
         × Appends (W.contents output.old) (W.contents output.new) text) }
     ensures asked { IfOk result (λ _. IsTrue (is_some options.now.record) → IsTrue (is_some file.new)) }
     ensures faulty { IfErr result (IsUnrun (record_form given options.now.as_version) (known (map vec_items files.now))
-        options.now.limits options.now.options (is_some options.now.seconds) (W.contents output.old)
-        (W.contents output.new) (option_map vec_items file.old) (option_map vec_items file.new)) }
+        options.now.limits options.now.options (is_some options.now.seconds) options.now.races
+        (W.contents output.old) (W.contents output.new) (option_map vec_items file.old) (option_map vec_items file.new)) }
     ensures told { TellsFailures (FolderMayFail F.may_fail) result (W.failures output.old) (W.failures output.new) }
 {
     let mut sources = sources(alloc, folder, files)?;

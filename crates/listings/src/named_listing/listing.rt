@@ -5,8 +5,12 @@ use crate::named_listing::debug::source_of;
 use crate::named_listing::instruction::{push_instruction, without_end};
 use crate::named_listing::text::Comment;
 use crate::printed_names::push_printed;
-use classfile::{ClassFile, Code, Method, MethodAttribute};
+use classfile::access_flags::{FINAL, has};
+use classfile::{ClassFile, Code, Field, Method, MethodAttribute};
 use std::alloc::{AllocError, Global};
+
+/// ACC_VOLATILE (JVMS table 4.5-A; JLS 8.3.1.4).
+const VOLATILE: u16 = 0x0040;
 
 /// The listings of class files, one behind the other.
 pub fn named_listings(alloc: Global, files: &[ClassFile]) -> Result<Vec<u8>, AllocError> {
@@ -18,7 +22,7 @@ pub fn named_listings(alloc: Global, files: &[ClassFile]) -> Result<Vec<u8>, All
 }
 
 /// The listing of a class file, with ` // ` behind a line where more is known: behind the class its source file;
-/// behind an instruction the line that begins there, the name of its local variable, and the constant that it loads.
+/// behind a field `volatile` and `final`; behind an instruction the line that begins there, the name of its local variable, and the constant that it loads.
 /// An instruction that this machine leaves out is told by its mnemonic (JVMS 6.5), over its whole length.
 fn named_listing(alloc: Global, file: &ClassFile) -> Result<Vec<u8>, AllocError> {
     let mut text = Vec::new(alloc);
@@ -29,12 +33,32 @@ fn named_listing(alloc: Global, file: &ClassFile) -> Result<Vec<u8>, AllocError>
     }
     text.push(b'\n')?;
     for field in &file.fields {
-        text.extend_from_slice(&field_line(alloc, file, field)?)?;
+        push_field(alloc, &mut text, file, field)?;
     }
     for method in &file.methods {
         push_method(alloc, &mut text, file, method)?;
     }
     Ok(text)
+}
+
+/// Adds the line of a field, with `volatile` and `final` behind it where its flags say so (JVMS 4.5).
+fn push_field(
+    alloc: Global,
+    text: &mut Vec<u8>,
+    file: &ClassFile,
+    field: &Field,
+) -> Result<(), AllocError> {
+    let line = field_line(alloc, file, field)?;
+    text.extend_from_slice(without_end(&line))?;
+    let mut comment = Comment::new(text);
+    if has(field.flags, VOLATILE) {
+        comment.part()?.extend_from_slice(b"volatile")?;
+    }
+    if has(field.flags, FINAL) {
+        comment.part()?.extend_from_slice(b"final")?;
+    }
+    text.push(b'\n')?;
+    Ok(())
 }
 
 /// The code that a method has.

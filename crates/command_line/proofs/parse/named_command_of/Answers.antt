@@ -2,7 +2,7 @@ use Rattle.std.proofs.Common.{◌∙◌, sym}
 use Rattle.std.proofs.lemmas.Result.{IfOk-weaker}
 use Rattle.clap.specs.Words.{found_of, rows_of}
 use Rattle.command_line.proofs.CommandLineLemmas.{refused_more, refuses}
-use Rattle.command_line.proofs.CommandNames.{none_named, only_disasm, only_replay, only_run, only_search, only_shrink, only_trace, only_verify}
+use Rattle.command_line.proofs.CommandNames.{none_named, only_disasm, only_races, only_replay, only_run, only_search, only_shrink, only_trace, only_verify}
 use Rattle.command_line.proofs.ProgramLemmas.{handed_on}
 use Rattle.command_line.proofs.parse.named_command_of.Goals as goal
 
@@ -29,6 +29,14 @@ pub returns-in_err-trace_of-in-trace-clause-none : goal.returns-in_err-trace_of-
 returns-in_err-trace_of-in-trace-clause-none c =
     handed_on c.from_residual-in_err-trace_of-in-trace.result c.in_err-trace_of-in-trace.field-0.0 _ _ c.from_residual-in_err-trace_of-in-trace.ensures.1 c.in_err-trace_of-in-trace.ensures.none
     (λ none command named. only_trace (rows_of (found_of c.args.matches.now)) none command (named ∙ c.in-trace.is))
+
+pub returns-in_ok-races_of-in-races-clause-values : goal.returns-in_ok-races_of-in-races-clause-values
+returns-in_ok-races_of-in-races-clause-values c = (sym c.in-races.is, c.in_ok-races_of-in-races.ensures.values)
+
+pub returns-in_err-races_of-in-races-clause-none : goal.returns-in_err-races_of-in-races-clause-none
+returns-in_err-races_of-in-races-clause-none c =
+    handed_on c.from_residual-in_err-races_of-in-races.result c.in_err-races_of-in-races.field-0.0 _ _ c.from_residual-in_err-races_of-in-races.ensures.1 c.in_err-races_of-in-races.ensures.none
+    (λ none command named. only_races (rows_of (found_of c.args.matches.now)) none command (named ∙ c.in-races.is))
 
 pub returns-in_ok-search_of-in-search-clause-values : goal.returns-in_ok-search_of-in-search-clause-values
 returns-in_ok-search_of-in-search-clause-values c = (sym c.in-search.is, c.in_ok-search_of-in-search.ensures.values)
@@ -73,5 +81,5 @@ returns-in-schedule-clause-none c =
 pub returns-in_default-clause-none : goal.returns-in_default-clause-none
 returns-in_default-clause-none c =
     refuses c.missing.result _ c.missing.ensures
-    (none_named (rows_of (found_of c.args.matches.now)) c.args.name.now c.in_default.not-run c.in_default.not-replay c.in_default.not-trace c.in_default.not-search
+    (none_named (rows_of (found_of c.args.matches.now)) c.args.name.now c.in_default.not-run c.in_default.not-replay c.in_default.not-trace c.in_default.not-races c.in_default.not-search
     c.in_default.not-shrink c.in_default.not-verify c.in_default.not-disasm c.in_default.not-schedule)

@@ -31,6 +31,11 @@ returns-in_err-follow-clause-none c =
     handed_on c.from_residual-in_err-follow.result c.in_err-follow.field-0.0 _ _ c.from_residual-in_err-follow.ensures.1 c.in_err-follow.ensures.none
     (λ none run are. none run.follow are.follow)
 
+pub returns-in_err-races-clause-none : goal.returns-in_err-races-clause-none
+returns-in_err-races-clause-none c =
+    handed_on c.from_residual-in_err-races.result c.in_err-races.field-0.0 _ _ c.from_residual-in_err-races.ensures.1 c.in_err-races.ensures.none
+    (λ none run are. none run.races are.races)
+
 pub returns-clause-values : goal.returns-clause-values
 returns-clause-values c =
     let program = c.in_ok-program.ensures.values in
@@ -48,4 +53,5 @@ returns-clause-values c =
       quiet = program.values.quiet;
       files_alone = program.values.files_alone;
       follow = c.in_ok-follow.ensures.follow;
+      races = c.in_ok-races.ensures.races;
     }

@@ -1,7 +1,7 @@
 use Rattle.std.proofs.Common.{◌≡◌, ◌∙◌, ap, codes, true}
 use Rattle.clap.specs.Simple.{app_of_fields}
 use Rattle.clap.specs.Words.{App, app_of, new_app}
-use Rattle.command_line.specs.CommandLine.{with_subcommands, with_version}
+use Rattle.command_line.specs.Parsers.{with_subcommands, with_version}
 use Rattle.command_line.proofs.parsers.program.Goals as goal
 
 pub returns-clause-app : goal.returns-clause-app

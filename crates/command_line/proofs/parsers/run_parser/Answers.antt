@@ -6,4 +6,5 @@ returns c =
     let two = c.with_sweep_options-run.ensures _ one in
     let three = c.with_record-run.ensures _ two in
     let four = c.with_follow-run.ensures _ three in
-    c.with_files.ensures _ four
+    let five = c.with_races-run.ensures _ four in
+    c.with_files.ensures _ five

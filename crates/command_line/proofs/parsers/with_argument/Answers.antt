@@ -1,7 +1,7 @@
 use Rattle.std.proofs.Common.{subst}
 use Rattle.std.specs.Prelude.{IfOk}
 use Rattle.std.proofs.lemmas.Result.{IfOk-weaker}
-use Rattle.command_line.specs.CommandLine.{IsParser}
+use Rattle.command_line.specs.Parsers.{IsParser}
 use Rattle.command_line.proofs.ParserLemmas.{with_argument}
 use Rattle.command_line.proofs.parsers.with_argument.Goals as goal
 

@@ -2,7 +2,7 @@ use Rattle.std.proofs.Common.{◌∙◌, ap, subst}
 use Rattle.std.specs.Prelude.{IfOk}
 use Rattle.std.proofs.lemmas.Result.{IfOk-weaker}
 use Rattle.clap.specs.Words.{App, app_of, with_subcommand}
-use Rattle.command_line.specs.CommandLine.{IsParser}
+use Rattle.command_line.specs.Parsers.{IsParser}
 use Rattle.command_line.proofs.parsers.with_parser.Goals as goal
 
 pub returns-in-Ok : goal.returns-in-Ok

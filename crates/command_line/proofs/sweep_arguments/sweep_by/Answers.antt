@@ -21,10 +21,10 @@ returns-in_err-policy-clause-none c =
     handed_on c.from_residual-in_err-policy.result c.in_err-policy.field-0.0 _ _ c.from_residual-in_err-policy.ensures.1 c.in_err-policy.ensures.none
     (λ none sweep is. none sweep.policy is.policy)
 
-pub returns-in_err-goal-clause-none : goal.returns-in_err-goal-clause-none
-returns-in_err-goal-clause-none c =
-    handed_on c.from_residual-in_err-goal.result c.in_err-goal.field-0.0 _ _ c.from_residual-in_err-goal.ensures.1 c.in_err-goal.ensures.none
-    (λ none sweep is. none sweep.goal is.goal)
+pub returns-in_err-for_race-clause-none : goal.returns-in_err-for_race-clause-none
+returns-in_err-for_race-clause-none c =
+    handed_on c.from_residual-in_err-for_race.result c.in_err-for_race.field-0.0 _ _ c.from_residual-in_err-for_race.ensures.1 c.in_err-for_race.ensures.none
+    (λ none sweep is. none sweep.for_race sweep.goal is.goal)
 
 pub returns-clause-sweep : goal.returns-clause-sweep
 returns-clause-sweep c = record {
@@ -32,5 +32,5 @@ returns-clause-sweep c = record {
   no_seed = c.in_ok-check_alone.ensures.ok;
   no_quantum = c.in_ok-check_alone-2.ensures.ok;
   policy = c.in_ok-policy.ensures.policy;
-  goal = c.in_ok-goal.ensures.goal;
+  goal = c.in_ok-for_race.ensures.goal;
 }

@@ -1,9 +1,7 @@
-use Rattle.std.proofs.Common.{inl, inr, map, refl, subst, vec_items}
+use Rattle.std.proofs.Common.{inl, inr, refl, subst}
 use Rattle.std.proofs.lemmas.Result.{err_from_is_err_and}
 use Rattle.std.specs.Io.KnownBytes.{Appends}
-use Rattle.std.specs.Option.{option_map}
 use Rattle.model.specs.Devices.{AppendsFront}
-use Rattle.engines.specs.Continuations.{ContinuesBy}
 use Rattle.engines.proofs.OpeningLemmas.{kept_is_uncontinued, of_no_schedule, part_is_uncontinued}
 use Rattle.engines.proofs.continuing.continue_engine.Goals as goal
 

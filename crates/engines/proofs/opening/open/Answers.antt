@@ -1,4 +1,4 @@
-use Rattle.std.proofs.Common.{◌+◌, ◌∙◌, ap, inl, inr, map, subst, sym, vec_items}
+use Rattle.std.proofs.Common.{◌+◌, ◌∙◌, ap, inr, map, subst, sym, vec_items}
 use Rattle.std.specs.Prelude.{sum_by}
 use Rattle.std.specs.Arc.{arc_value}
 use Rattle.std.proofs.lemmas.Result.{err_from_is_err_and}

@@ -18,7 +18,7 @@ returns-in_err-read-clause-faulty g c =
     let of_file = c.in_err-read.ensures.of_file in
     let remaining = g.S.Source.remaining in
     let within : of_file.0 < length (map remaining c.args.files.now) = omega (arith, of_file.1, length-map c.args.files.now remaining) in
-    rw (p.1, p.2) (unread_is_unrun _ _ _ _ _ _ _ _ of_file.0 within of_file.2)
+    rw (p.1, p.2) (unread_is_unrun _ _ _ _ _ _ _ _ _ of_file.0 within of_file.2)
 
 pub returns-in_err-verified-clause-faulty : goal.returns-in_err-verified-clause-faulty
 returns-in_err-verified-clause-faulty g c =
@@ -36,10 +36,10 @@ returns-in_err-write_all-clause-faulty g c =
     let p = err_from_is_err_and c.from_residual-in_err-write_all.result c.from_residual-in_err-write_all.ensures.1 in
     let ran = c.in_ok-ran.ran in
     let options = c.args.options.now in
-    let run = subst (λ files. IsRun (record_form c.args.given options.as_version) (map vec_items files) options.limits options.options (is_some options.seconds) ran.text.items (option_map vec_items ran.file) ran.status) c.as_slice-files.ensures.value c.in_ok-ran.ensures.run in
+    let run = subst (λ files. IsRun (record_form c.args.given options.as_version) (map vec_items files) options.limits options.options (is_some options.seconds) options.races ran.text.items (option_map vec_items ran.file) ran.status) c.as_slice-files.ensures.value c.in_ok-ran.ensures.run in
     let contents = g.W.Sink.contents in
     let written = subst (AppendsFront (contents c.args.report.now) (contents c.write_all.new.self)) c.as_slice.ensures.value c.in_err-write_all.ensures.part in
-    rw (p.1, p.2) (part_is_unrun _ _ _ _ _ _ _ _ _ _ (inr (_, _, (_, c.in_ok-read.ensures.read, run), written)))
+    rw (p.1, p.2) (part_is_unrun _ _ _ _ _ _ _ _ _ _ _ (inr (_, _, (_, c.in_ok-read.ensures.read, run), written)))
 
 pub returns-in_err-write_all-clause-counted : goal.returns-in_err-write_all-clause-counted
 returns-in_err-write_all-clause-counted g c =
@@ -50,7 +50,7 @@ pub returns-clause-ran : goal.returns-clause-ran
 returns-clause-ran g c =
     let ran = c.in_ok-ran.ran in
     let options = c.args.options.now in
-    let run = subst (λ files. IsRun (record_form c.args.given options.as_version) (map vec_items files) options.limits options.options (is_some options.seconds) ran.text.items (option_map vec_items ran.file) ran.status) c.as_slice-files.ensures.value c.in_ok-ran.ensures.run in
+    let run = subst (λ files. IsRun (record_form c.args.given options.as_version) (map vec_items files) options.limits options.options (is_some options.seconds) options.races ran.text.items (option_map vec_items ran.file) ran.status) c.as_slice-files.ensures.value c.in_ok-ran.ensures.run in
     let contents = g.W.Sink.contents in
     let written = subst (Appends (contents c.args.report.now) (contents c.write_all.new.self)) c.as_slice.ensures.value c.in_ok-write_all.ensures.written in
     (_, (_, c.in_ok-read.ensures.read, run), written)

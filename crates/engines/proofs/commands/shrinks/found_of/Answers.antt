@@ -1,5 +1,5 @@
-use Rattle.std.proofs.Common.{arith, ◌<◌, ◌^◌, ℕ, length, map, subst, vec_items, List, Bool}
-use Rattle.std.specs.Prelude.{IfOk, is_some}
+use Rattle.std.proofs.Common.{arith, map, subst, vec_items}
+use Rattle.std.specs.Prelude.{IfOk}
 use Rattle.std.proofs.lemmas.List.{length-map}
 use Rattle.std.proofs.lemmas.Result.{IfOk-weaker}
 use Rattle.std.specs.Arc.{arc_value}

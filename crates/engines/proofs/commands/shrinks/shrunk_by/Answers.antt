@@ -1,5 +1,5 @@
 use Rattle.std.proofs.Common.{◌∙◌, ap, subst, ℕ}
-use Rattle.std.specs.Prelude.{IfOk, unwrap_or}
+use Rattle.std.specs.Prelude.{IfOk}
 use Rattle.std.specs.Arc.{arc_value}
 use Rattle.model.specs.Schedule.{events_of}
 use Rattle.shrinking.specs.Shrunk.{Has, IsShrunk, Lacks, TriesFor}
