@@ -1,6 +1,6 @@
 package java.lang;
 
-/** What is closed behind its use. (A try with resources needs `Throwable.addSuppressed`, which isn't there.) */
+/** What is closed behind its use. */
 public interface AutoCloseable {
     void close() throws Exception;
 }

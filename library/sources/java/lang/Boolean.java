@@ -1,6 +1,6 @@
 package java.lang;
 
-/** A boolean as an object: boxing gives TRUE or FALSE. Left out: all that makes or reads text. */
+/** A boolean as an object: boxing gives TRUE or FALSE. Left out: TYPE, `getBoolean`. */
 public final class Boolean implements Comparable<Boolean>, java.io.Serializable {
     public static final Boolean TRUE = new Boolean(true);
     public static final Boolean FALSE = new Boolean(false);
@@ -11,12 +11,41 @@ public final class Boolean implements Comparable<Boolean>, java.io.Serializable 
         this.value = value;
     }
 
+    public Boolean(String text) {
+        this(parseBoolean(text));
+    }
+
+    /** Whether a text is that of true, in small or capital letters. */
+    public static boolean parseBoolean(String text) {
+        if (text == null || text.length() != 4) {
+            return false;
+        }
+        for (int at = 0; at < 4; at++) {
+            if (Character.toLowerCase(text.charAt(at)) != "true".charAt(at)) {
+                return false;
+            }
+        }
+        return true;
+    }
+
+    public static Boolean valueOf(String text) {
+        return valueOf(parseBoolean(text));
+    }
+
     public static Boolean valueOf(boolean value) {
         return value ? TRUE : FALSE;
     }
 
     public boolean booleanValue() {
         return value;
+    }
+
+    public String toString() {
+        return String.valueOf(value);
+    }
+
+    public static String toString(boolean value) {
+        return String.valueOf(value);
     }
 
     public boolean equals(Object other) {

@@ -4,12 +4,16 @@ package java.lang;
  * A char as an object.
  *
  * Boxing gives one object for each of 0 to 127 (JLS 5.1.7), which is made where it is first asked for, under the
- * lock of the class; and a new one for each other char. Letters and digits are those of ASCII alone. Left out:
- * text, code points.
+ * lock of the class; and a new one for each other char. Letters and digits are those of Latin-1 alone. Left out:
+ * code points, but for `isAlphabetic`; TYPE, names, categories and blocks.
  */
 public final class Character implements Comparable<Character>, java.io.Serializable {
     public static final char MIN_VALUE = 0;
     public static final char MAX_VALUE = 0xffff;
+    public static final int MIN_RADIX = 2;
+    public static final int MAX_RADIX = 36;
+    public static final int SIZE = 16;
+    public static final int BYTES = 2;
 
     private static Character[] kept;
 
@@ -39,6 +43,14 @@ public final class Character implements Comparable<Character>, java.io.Serializa
         return value;
     }
 
+    public String toString() {
+        return String.valueOf(value);
+    }
+
+    public static String toString(char value) {
+        return String.valueOf(value);
+    }
+
     public boolean equals(Object other) {
         return other instanceof Character && ((Character) other).value == value;
     }
@@ -64,11 +76,12 @@ public final class Character implements Comparable<Character>, java.io.Serializa
     }
 
     public static boolean isUpperCase(char value) {
-        return value >= 'A' && value <= 'Z';
+        return value >= 'A' && value <= 'Z' || value >= 0xc0 && value <= 0xde && value != 0xd7;
     }
 
     public static boolean isLowerCase(char value) {
-        return value >= 'a' && value <= 'z';
+        return value >= 'a' && value <= 'z' || value >= 0xdf && value <= 0xff && value != 0xf7
+                || value == 0xaa || value == 0xb5 || value == 0xba;
     }
 
     public static boolean isLetter(char value) {
@@ -79,12 +92,47 @@ public final class Character implements Comparable<Character>, java.io.Serializa
         return isLetter(value) || isDigit(value);
     }
 
+    public static boolean isAlphabetic(int point) {
+        return point >= 0 && point <= MAX_VALUE && isLetter((char) point);
+    }
+
     public static boolean isWhitespace(char value) {
         return value >= 9 && value <= 13 || value >= 28 && value <= 32;
     }
 
+    public static boolean isSpaceChar(char value) {
+        return value == 32 || value == 0xa0;
+    }
+
+    public static boolean isISOControl(char value) {
+        return value <= 31 || value >= 127 && value <= 159;
+    }
+
+    public static boolean isHighSurrogate(char value) {
+        return value >= 0xd800 && value <= 0xdbff;
+    }
+
+    public static boolean isLowSurrogate(char value) {
+        return value >= 0xdc00 && value <= 0xdfff;
+    }
+
+    public static boolean isSurrogate(char value) {
+        return value >= 0xd800 && value <= 0xdfff;
+    }
+
+    public static boolean isSurrogatePair(char high, char low) {
+        return isHighSurrogate(high) && isLowSurrogate(low);
+    }
+
     public static char toUpperCase(char value) {
-        return isLowerCase(value) ? (char) (value - 32) : value;
+        if (value == 0xb5) {
+            return 0x39c;
+        }
+        if (value == 0xff) {
+            return 0x178;
+        }
+        boolean hasOther = isLowerCase(value) && value != 0xaa && value != 0xba && value != 0xdf;
+        return hasOther ? (char) (value - 32) : value;
     }
 
     public static char toLowerCase(char value) {
@@ -92,11 +140,33 @@ public final class Character implements Comparable<Character>, java.io.Serializa
     }
 
     public static int digit(char value, int radix) {
-        int found = isDigit(value) ? value - '0' : isLetter(value) ? toLowerCase(value) - 'a' + 10 : -1;
-        return radix >= 2 && radix <= 36 && found < radix ? found : -1;
+        int found = -1;
+        if (isDigit(value)) {
+            found = value - '0';
+        } else if (value < 128 && isLetter(value)) {
+            found = toLowerCase(value) - 'a' + 10;
+        }
+        return radix >= MIN_RADIX && radix <= MAX_RADIX && found < radix ? found : -1;
+    }
+
+    public static char forDigit(int digit, int radix) {
+        if (radix < MIN_RADIX || radix > MAX_RADIX || digit < 0 || digit >= radix) {
+            return 0;
+        }
+        return (char) (digit < 10 ? '0' + digit : 'a' + digit - 10);
     }
 
     public static int getNumericValue(char value) {
-        return digit(value, 36);
+        if (value == 0xb2 || value == 0xb3) {
+            return value - 0xb0;
+        }
+        if (value == 0xb9) {
+            return 1;
+        }
+        return value >= 0xbc && value <= 0xbe ? -2 : digit(value, MAX_RADIX);
+    }
+
+    public static char reverseBytes(char value) {
+        return (char) (value << 8 | value >> 8);
     }
 }

@@ -29,7 +29,7 @@ public final class Math {
     public static int addExact(int a, int b) {
         int sum = a + b;
         if (((a ^ sum) & (b ^ sum)) < 0) {
-            throw new ArithmeticException();
+            throw new ArithmeticException("integer overflow");
         }
         return sum;
     }
@@ -37,7 +37,7 @@ public final class Math {
     public static int subtractExact(int a, int b) {
         int difference = a - b;
         if (((a ^ b) & (a ^ difference)) < 0) {
-            throw new ArithmeticException();
+            throw new ArithmeticException("integer overflow");
         }
         return difference;
     }
@@ -45,7 +45,7 @@ public final class Math {
     public static int multiplyExact(int a, int b) {
         int product = a * b;
         if (b == -1 ? a == 0x80000000 : b != 0 && product / b != a) {
-            throw new ArithmeticException();
+            throw new ArithmeticException("integer overflow");
         }
         return product;
     }

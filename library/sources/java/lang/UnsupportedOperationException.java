@@ -1,21 +1,19 @@
 package java.lang;
 
-/**
- * Thrown where a collection can't do what is asked.
- * It keeps its message, if it has one. No text is made of it.
- */
+/** Thrown where a collection can't do what is asked. */
 public class UnsupportedOperationException extends RuntimeException {
-    private final String message;
-
     public UnsupportedOperationException() {
-        message = null;
     }
 
     public UnsupportedOperationException(String message) {
-        this.message = message;
+        super(message);
     }
 
-    public String getMessage() {
-        return message;
+    public UnsupportedOperationException(String message, Throwable cause) {
+        super(message, cause);
+    }
+
+    public UnsupportedOperationException(Throwable cause) {
+        super(cause);
     }
 }

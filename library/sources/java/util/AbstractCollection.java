@@ -1,6 +1,6 @@
 package java.util;
 
-/** What a collection has by its iterator and its size alone. Left out: `toString`. */
+/** What a collection has by its iterator and its size alone. */
 public abstract class AbstractCollection<E> implements Collection<E> {
     protected AbstractCollection() {
     }
@@ -84,19 +84,32 @@ public abstract class AbstractCollection<E> implements Collection<E> {
         return made;
     }
 
-    /** The given array has to have room: none can be made of its class. */
+    /** Where the given array has no room, it has to be of Strings, Integers, Characters or Booleans. */
     @SuppressWarnings("unchecked")
     public <T> T[] toArray(T[] array) {
+        int size = size();
+        T[] made = array.length < size ? Objects.arrayLike(array, size) : array;
+        if (made == null) {
+            throw new UnsupportedOperationException("no array of this class is made: give one that has room");
+        }
         int at = 0;
-        if (array.length < size()) {
-            throw new UnsupportedOperationException();
-        }
         for (Iterator<E> each = iterator(); each.hasNext();) {
-            array[at++] = (T) each.next();
+            made[at++] = (T) each.next();
         }
-        if (at < array.length) {
-            array[at] = null;
+        if (at < made.length) {
+            made[at] = null;
         }
-        return array;
+        return made;
+    }
+
+    public String toString() {
+        StringBuilder made = new StringBuilder("[");
+        String between = "";
+        for (Iterator<E> each = iterator(); each.hasNext();) {
+            E element = each.next();
+            made.append(between).append(element == this ? "(this Collection)" : element);
+            between = ", ";
+        }
+        return made.append(']').toString();
     }
 }

@@ -75,11 +75,14 @@ public abstract class AbstractList<E> extends AbstractCollection<E> implements L
     }
 
     public List<E> subList(int from, int to) {
-        if (from < 0 || to > size()) {
-            throw new IndexOutOfBoundsException();
+        if (from < 0) {
+            throw new IndexOutOfBoundsException("fromIndex = " + from);
+        }
+        if (to > size()) {
+            throw new IndexOutOfBoundsException("toIndex = " + to);
         }
         if (from > to) {
-            throw new IllegalArgumentException();
+            throw new IllegalArgumentException("fromIndex(" + from + ") > toIndex(" + to + ")");
         }
         List<E> made = new ArrayList<E>(to - from);
         for (int at = from; at < to; at++) {
@@ -119,7 +122,7 @@ public abstract class AbstractList<E> extends AbstractCollection<E> implements L
 
     public ListIterator<E> listIterator(int index) {
         if (index < 0 || index > size()) {
-            throw new IndexOutOfBoundsException();
+            throw new IndexOutOfBoundsException("Index: " + index);
         }
         return new Walk<E>(this, index);
     }

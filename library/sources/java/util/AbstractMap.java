@@ -1,6 +1,6 @@
 package java.util;
 
-/** What a map has by its set of entries alone. Its views go through that. Left out: `toString`. */
+/** What a map has by its set of entries alone. Its views go through that. */
 public abstract class AbstractMap<K, V> implements Map<K, V> {
     protected AbstractMap() {
     }
@@ -128,10 +128,23 @@ public abstract class AbstractMap<K, V> implements Map<K, V> {
     public int hashCode() {
         int sum = 0;
         for (Iterator<Map.Entry<K, V>> each = entrySet().iterator(); each.hasNext();) {
-            Map.Entry<K, V> entry = each.next();
-            sum += Objects.hashCode(entry.getKey()) ^ Objects.hashCode(entry.getValue());
+            sum += each.next().hashCode();
         }
         return sum;
+    }
+
+    public String toString() {
+        StringBuilder made = new StringBuilder("{");
+        String between = "";
+        for (Iterator<Map.Entry<K, V>> each = entrySet().iterator(); each.hasNext();) {
+            Map.Entry<K, V> entry = each.next();
+            K key = entry.getKey();
+            V value = entry.getValue();
+            made.append(between).append(key == this ? "(this Map)" : key).append('=');
+            made.append(value == this ? "(this Map)" : value);
+            between = ", ";
+        }
+        return made.append('}').toString();
     }
 
     /** A key with its value, by itself. */
@@ -142,6 +155,10 @@ public abstract class AbstractMap<K, V> implements Map<K, V> {
         public SimpleEntry(K key, V value) {
             this.key = key;
             this.value = value;
+        }
+
+        public SimpleEntry(Map.Entry<? extends K, ? extends V> entry) {
+            this(entry.getKey(), entry.getValue());
         }
 
         public K getKey() {
@@ -168,6 +185,10 @@ public abstract class AbstractMap<K, V> implements Map<K, V> {
 
         public int hashCode() {
             return Objects.hashCode(key) ^ Objects.hashCode(value);
+        }
+
+        public String toString() {
+            return key + "=" + value;
         }
     }
 

@@ -7,7 +7,7 @@ public abstract class AbstractQueue<E> extends AbstractCollection<E> implements 
 
     public boolean add(E element) {
         if (!offer(element)) {
-            throw new IllegalStateException();
+            throw new IllegalStateException("Queue full");
         }
         return true;
     }

@@ -1,8 +1,7 @@
 package java.util;
 
 /**
- * A list over an array that grows. Not for several threads at once. Left out: `trimToSize`, `clone`, what takes a
- * function.
+ * A list over an array that grows. Not for several threads at once. Left out: `clone`, what takes a function.
  */
 public class ArrayList<E> extends AbstractList<E> implements RandomAccess, java.io.Serializable {
     private Object[] elements;
@@ -14,7 +13,7 @@ public class ArrayList<E> extends AbstractList<E> implements RandomAccess, java.
 
     public ArrayList(int capacity) {
         if (capacity < 0) {
-            throw new IllegalArgumentException();
+            throw new IllegalArgumentException("Illegal Capacity: " + capacity);
         }
         elements = new Object[capacity];
     }
@@ -30,7 +29,7 @@ public class ArrayList<E> extends AbstractList<E> implements RandomAccess, java.
 
     private void check(int index, int end) {
         if (index < 0 || index >= end) {
-            throw new IndexOutOfBoundsException();
+            throw new IndexOutOfBoundsException("Index: " + index + ", Size: " + size);
         }
     }
 

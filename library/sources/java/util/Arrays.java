@@ -1,10 +1,10 @@
 package java.util;
 
 /**
- * Functions of arrays of ints, chars, booleans and references. Sorting is stable insertion.
+ * Functions of arrays of ints, chars, booleans, bytes, shorts and references. Sorting is stable insertion.
  *
- * `asList` is a list over the array itself. Left out: text, streams, long, float, double, byte and short; a copy
- * of an array of references is an array of Object, so `copyOf` of them is left out, too.
+ * `asList` is a list over the array itself. A copy of an array of references is one of Strings, Integers, Characters or
+ * Booleans where that is one, and an Object[] else. Left out: what takes a function, streams; long, float and double.
  */
 public final class Arrays {
     private Arrays() {
@@ -12,9 +12,18 @@ public final class Arrays {
 
     private static void check(int from, int to, int length) {
         if (from > to) {
-            throw new IllegalArgumentException();
+            throw new IllegalArgumentException("fromIndex(" + from + ") > toIndex(" + to + ")");
         }
         if (from < 0 || to > length) {
+            throw new ArrayIndexOutOfBoundsException(from < 0 ? from : to);
+        }
+    }
+
+    private static void checkCopy(int from, int to, int length) {
+        if (from > to) {
+            throw new IllegalArgumentException(from + " > " + to);
+        }
+        if (from < 0 || from > length) {
             throw new ArrayIndexOutOfBoundsException();
         }
     }
@@ -31,55 +40,142 @@ public final class Arrays {
     }
 
     public static void fill(char[] array, char value) {
-        for (int at = 0; at < array.length; at++) {
+        fill(array, 0, array.length, value);
+    }
+
+    public static void fill(char[] array, int from, int to, char value) {
+        check(from, to, array.length);
+        for (int at = from; at < to; at++) {
             array[at] = value;
         }
     }
 
     public static void fill(boolean[] array, boolean value) {
-        for (int at = 0; at < array.length; at++) {
+        fill(array, 0, array.length, value);
+    }
+
+    public static void fill(boolean[] array, int from, int to, boolean value) {
+        check(from, to, array.length);
+        for (int at = from; at < to; at++) {
+            array[at] = value;
+        }
+    }
+
+    public static void fill(byte[] array, byte value) {
+        fill(array, 0, array.length, value);
+    }
+
+    public static void fill(byte[] array, int from, int to, byte value) {
+        check(from, to, array.length);
+        for (int at = from; at < to; at++) {
+            array[at] = value;
+        }
+    }
+
+    public static void fill(short[] array, short value) {
+        fill(array, 0, array.length, value);
+    }
+
+    public static void fill(short[] array, int from, int to, short value) {
+        check(from, to, array.length);
+        for (int at = from; at < to; at++) {
             array[at] = value;
         }
     }
 
     public static void fill(Object[] array, Object value) {
-        for (int at = 0; at < array.length; at++) {
+        fill(array, 0, array.length, value);
+    }
+
+    public static void fill(Object[] array, int from, int to, Object value) {
+        check(from, to, array.length);
+        for (int at = from; at < to; at++) {
             array[at] = value;
         }
     }
 
     public static int[] copyOf(int[] array, int length) {
-        return copyOfRange(array, 0, length);
+        int[] made = new int[length];
+        System.arraycopy(array, 0, made, 0, length < array.length ? length : array.length);
+        return made;
     }
 
     public static int[] copyOfRange(int[] array, int from, int to) {
-        if (from > to) {
-            throw new IllegalArgumentException();
-        }
-        if (from < 0 || from > array.length) {
-            throw new ArrayIndexOutOfBoundsException();
-        }
+        checkCopy(from, to, array.length);
         int[] made = new int[to - from];
-        for (int at = from; at < to && at < array.length; at++) {
-            made[at - from] = array[at];
-        }
+        System.arraycopy(array, from, made, 0, (to < array.length ? to : array.length) - from);
         return made;
     }
 
     public static char[] copyOf(char[] array, int length) {
         char[] made = new char[length];
-        for (int at = 0; at < length && at < array.length; at++) {
-            made[at] = array[at];
-        }
+        System.arraycopy(array, 0, made, 0, length < array.length ? length : array.length);
+        return made;
+    }
+
+    public static char[] copyOfRange(char[] array, int from, int to) {
+        checkCopy(from, to, array.length);
+        char[] made = new char[to - from];
+        System.arraycopy(array, from, made, 0, (to < array.length ? to : array.length) - from);
         return made;
     }
 
     public static boolean[] copyOf(boolean[] array, int length) {
         boolean[] made = new boolean[length];
-        for (int at = 0; at < length && at < array.length; at++) {
-            made[at] = array[at];
-        }
+        System.arraycopy(array, 0, made, 0, length < array.length ? length : array.length);
         return made;
+    }
+
+    public static boolean[] copyOfRange(boolean[] array, int from, int to) {
+        checkCopy(from, to, array.length);
+        boolean[] made = new boolean[to - from];
+        System.arraycopy(array, from, made, 0, (to < array.length ? to : array.length) - from);
+        return made;
+    }
+
+    public static byte[] copyOf(byte[] array, int length) {
+        byte[] made = new byte[length];
+        System.arraycopy(array, 0, made, 0, length < array.length ? length : array.length);
+        return made;
+    }
+
+    public static byte[] copyOfRange(byte[] array, int from, int to) {
+        checkCopy(from, to, array.length);
+        byte[] made = new byte[to - from];
+        System.arraycopy(array, from, made, 0, (to < array.length ? to : array.length) - from);
+        return made;
+    }
+
+    public static short[] copyOf(short[] array, int length) {
+        short[] made = new short[length];
+        System.arraycopy(array, 0, made, 0, length < array.length ? length : array.length);
+        return made;
+    }
+
+    public static short[] copyOfRange(short[] array, int from, int to) {
+        checkCopy(from, to, array.length);
+        short[] made = new short[to - from];
+        System.arraycopy(array, from, made, 0, (to < array.length ? to : array.length) - from);
+        return made;
+    }
+
+    public static <T> T[] copyOf(T[] array, int length) {
+        T[] made = likeOf(array, length);
+        System.arraycopy(array, 0, made, 0, length < array.length ? length : array.length);
+        return made;
+    }
+
+    public static <T> T[] copyOfRange(T[] array, int from, int to) {
+        checkCopy(from, to, array.length);
+        T[] made = likeOf(array, to - from);
+        System.arraycopy(array, from, made, 0, (to < array.length ? to : array.length) - from);
+        return made;
+    }
+
+    @SuppressWarnings("unchecked")
+    private static <T> T[] likeOf(T[] array, int length) {
+        T[] made = Objects.arrayLike(array, length);
+        return made == null ? (T[]) new Object[length] : made;
     }
 
     public static boolean equals(int[] a, int[] b) {
@@ -112,6 +208,51 @@ public final class Arrays {
         return true;
     }
 
+    public static boolean equals(boolean[] a, boolean[] b) {
+        if (a == b) {
+            return true;
+        }
+        if (a == null || b == null || a.length != b.length) {
+            return false;
+        }
+        for (int at = 0; at < a.length; at++) {
+            if (a[at] != b[at]) {
+                return false;
+            }
+        }
+        return true;
+    }
+
+    public static boolean equals(byte[] a, byte[] b) {
+        if (a == b) {
+            return true;
+        }
+        if (a == null || b == null || a.length != b.length) {
+            return false;
+        }
+        for (int at = 0; at < a.length; at++) {
+            if (a[at] != b[at]) {
+                return false;
+            }
+        }
+        return true;
+    }
+
+    public static boolean equals(short[] a, short[] b) {
+        if (a == b) {
+            return true;
+        }
+        if (a == null || b == null || a.length != b.length) {
+            return false;
+        }
+        for (int at = 0; at < a.length; at++) {
+            if (a[at] != b[at]) {
+                return false;
+            }
+        }
+        return true;
+    }
+
     public static boolean equals(Object[] a, Object[] b) {
         if (a == b) {
             return true;
@@ -128,6 +269,53 @@ public final class Arrays {
     }
 
     public static int hashCode(int[] array) {
+        if (array == null) {
+            return 0;
+        }
+        int made = 1;
+        for (int at = 0; at < array.length; at++) {
+            made = 31 * made + array[at];
+        }
+        return made;
+    }
+
+    public static int hashCode(char[] array) {
+        if (array == null) {
+            return 0;
+        }
+        int made = 1;
+        for (int at = 0; at < array.length; at++) {
+            made = 31 * made + array[at];
+        }
+        return made;
+    }
+
+    public static int hashCode(boolean[] array) {
+        if (array == null) {
+            return 0;
+        }
+        int made = 1;
+        for (int at = 0; at < array.length; at++) {
+            made = 31 * made + Boolean.hashCode(array[at]);
+        }
+        return made;
+    }
+
+    public static int hashCode(byte[] array) {
+        if (array == null) {
+            return 0;
+        }
+        int made = 1;
+        for (int at = 0; at < array.length; at++) {
+            made = 31 * made + array[at];
+        }
+        return made;
+    }
+
+    public static int hashCode(short[] array) {
+        if (array == null) {
+            return 0;
+        }
         int made = 1;
         for (int at = 0; at < array.length; at++) {
             made = 31 * made + array[at];
@@ -136,7 +324,92 @@ public final class Arrays {
     }
 
     public static int hashCode(Object[] array) {
-        return Objects.hash(array);
+        if (array == null) {
+            return 0;
+        }
+        int made = 1;
+        for (int at = 0; at < array.length; at++) {
+            made = 31 * made + Objects.hashCode(array[at]);
+        }
+        return made;
+    }
+
+    public static String toString(int[] array) {
+        if (array == null) {
+            return "null";
+        }
+        StringBuilder made = new StringBuilder("[");
+        for (int at = 0; at < array.length; at++) {
+            made.append(at == 0 ? "" : ", ").append(array[at]);
+        }
+        return made.append(']').toString();
+    }
+
+    public static String toString(char[] array) {
+        if (array == null) {
+            return "null";
+        }
+        StringBuilder made = new StringBuilder("[");
+        for (int at = 0; at < array.length; at++) {
+            made.append(at == 0 ? "" : ", ").append(array[at]);
+        }
+        return made.append(']').toString();
+    }
+
+    public static String toString(boolean[] array) {
+        if (array == null) {
+            return "null";
+        }
+        StringBuilder made = new StringBuilder("[");
+        for (int at = 0; at < array.length; at++) {
+            made.append(at == 0 ? "" : ", ").append(array[at]);
+        }
+        return made.append(']').toString();
+    }
+
+    public static String toString(byte[] array) {
+        if (array == null) {
+            return "null";
+        }
+        StringBuilder made = new StringBuilder("[");
+        for (int at = 0; at < array.length; at++) {
+            made.append(at == 0 ? "" : ", ").append(array[at]);
+        }
+        return made.append(']').toString();
+    }
+
+    public static String toString(short[] array) {
+        if (array == null) {
+            return "null";
+        }
+        StringBuilder made = new StringBuilder("[");
+        for (int at = 0; at < array.length; at++) {
+            made.append(at == 0 ? "" : ", ").append(array[at]);
+        }
+        return made.append(']').toString();
+    }
+
+    public static String toString(Object[] array) {
+        if (array == null) {
+            return "null";
+        }
+        StringBuilder made = new StringBuilder("[");
+        for (int at = 0; at < array.length; at++) {
+            made.append(at == 0 ? "" : ", ").append(array[at]);
+        }
+        return made.append(']').toString();
+    }
+
+    public static boolean deepEquals(Object[] a, Object[] b) {
+        return DeepArrays.areEqual(a, b);
+    }
+
+    public static int deepHashCode(Object[] array) {
+        return DeepArrays.hash(array);
+    }
+
+    public static String deepToString(Object[] array) {
+        return array == null ? "null" : DeepArrays.text(array, new ArrayList<Object>());
     }
 
     public static void sort(int[] array) {
@@ -156,10 +429,47 @@ public final class Arrays {
     }
 
     public static void sort(char[] array) {
-        for (int end = 1; end < array.length; end++) {
+        sort(array, 0, array.length);
+    }
+
+    public static void sort(char[] array, int from, int to) {
+        check(from, to, array.length);
+        for (int end = from + 1; end < to; end++) {
             char value = array[end];
             int at = end;
-            for (; at > 0 && array[at - 1] > value; at--) {
+            for (; at > from && array[at - 1] > value; at--) {
+                array[at] = array[at - 1];
+            }
+            array[at] = value;
+        }
+    }
+
+    public static void sort(byte[] array) {
+        sort(array, 0, array.length);
+    }
+
+    public static void sort(byte[] array, int from, int to) {
+        check(from, to, array.length);
+        for (int end = from + 1; end < to; end++) {
+            byte value = array[end];
+            int at = end;
+            for (; at > from && array[at - 1] > value; at--) {
+                array[at] = array[at - 1];
+            }
+            array[at] = value;
+        }
+    }
+
+    public static void sort(short[] array) {
+        sort(array, 0, array.length);
+    }
+
+    public static void sort(short[] array, int from, int to) {
+        check(from, to, array.length);
+        for (int end = from + 1; end < to; end++) {
+            short value = array[end];
+            int at = end;
+            for (; at > from && array[at - 1] > value; at--) {
                 array[at] = array[at - 1];
             }
             array[at] = value;
@@ -167,15 +477,24 @@ public final class Arrays {
     }
 
     public static void sort(Object[] array) {
-        sort(array, null);
+        sort(array, 0, array.length, null);
+    }
+
+    public static void sort(Object[] array, int from, int to) {
+        sort(array, from, to, null);
+    }
+
+    public static <T> void sort(T[] array, Comparator<? super T> order) {
+        sort(array, 0, array.length, order);
     }
 
     @SuppressWarnings("unchecked")
-    public static <T> void sort(T[] array, Comparator<? super T> order) {
-        for (int end = 1; end < array.length; end++) {
+    public static <T> void sort(T[] array, int from, int to, Comparator<? super T> order) {
+        check(from, to, array.length);
+        for (int end = from + 1; end < to; end++) {
             T value = array[end];
             int at = end;
-            for (; at > 0 && compare((Comparator<T>) order, array[at - 1], value) > 0; at--) {
+            for (; at > from && compare((Comparator<T>) order, array[at - 1], value) > 0; at--) {
                 array[at] = array[at - 1];
             }
             array[at] = value;
@@ -183,7 +502,7 @@ public final class Arrays {
     }
 
     @SuppressWarnings("unchecked")
-    private static <T> int compare(Comparator<T> order, T a, T b) {
+    static <T> int compare(Comparator<T> order, T a, T b) {
         return order != null ? order.compare(a, b) : ((Comparable<Object>) a).compareTo(b);
     }
 
@@ -196,6 +515,80 @@ public final class Arrays {
                 return middle;
             }
             if (array[middle] < key) {
+                from = middle + 1;
+            } else {
+                to = middle - 1;
+            }
+        }
+        return -from - 1;
+    }
+
+    public static int binarySearch(char[] array, char key) {
+        int from = 0;
+        int to = array.length - 1;
+        while (from <= to) {
+            int middle = from + to >>> 1;
+            if (array[middle] == key) {
+                return middle;
+            }
+            if (array[middle] < key) {
+                from = middle + 1;
+            } else {
+                to = middle - 1;
+            }
+        }
+        return -from - 1;
+    }
+
+    public static int binarySearch(byte[] array, byte key) {
+        int from = 0;
+        int to = array.length - 1;
+        while (from <= to) {
+            int middle = from + to >>> 1;
+            if (array[middle] == key) {
+                return middle;
+            }
+            if (array[middle] < key) {
+                from = middle + 1;
+            } else {
+                to = middle - 1;
+            }
+        }
+        return -from - 1;
+    }
+
+    public static int binarySearch(short[] array, short key) {
+        int from = 0;
+        int to = array.length - 1;
+        while (from <= to) {
+            int middle = from + to >>> 1;
+            if (array[middle] == key) {
+                return middle;
+            }
+            if (array[middle] < key) {
+                from = middle + 1;
+            } else {
+                to = middle - 1;
+            }
+        }
+        return -from - 1;
+    }
+
+    public static int binarySearch(Object[] array, Object key) {
+        return binarySearch(array, key, null);
+    }
+
+    @SuppressWarnings("unchecked")
+    public static <T> int binarySearch(T[] array, T key, Comparator<? super T> order) {
+        int from = 0;
+        int to = array.length - 1;
+        while (from <= to) {
+            int middle = from + to >>> 1;
+            int compared = compare((Comparator<T>) order, array[middle], key);
+            if (compared == 0) {
+                return middle;
+            }
+            if (compared < 0) {
                 from = middle + 1;
             } else {
                 to = middle - 1;

@@ -113,6 +113,9 @@ public class Collections {
     }
 
     public static <T> List<T> nCopies(int count, T element) {
+        if (count < 0) {
+            throw new IllegalArgumentException("List length = " + count);
+        }
         Object[] all = new Object[count];
         Arrays.fill(all, element);
         return new FixedList<T>(all);
@@ -166,7 +169,7 @@ public class Collections {
         @SuppressWarnings("unchecked")
         public E get(int index) {
             if (index < 0 || index >= elements.length) {
-                throw new IndexOutOfBoundsException();
+                throw new IndexOutOfBoundsException("Index: " + index + ", Size: " + elements.length);
             }
             return (E) elements[index];
         }
@@ -229,6 +232,10 @@ public class Collections {
 
         public Iterator<E> iterator() {
             return all.iterator();
+        }
+
+        public synchronized String toString() {
+            return all.toString();
         }
     }
 
@@ -367,6 +374,10 @@ public class Collections {
 
         public synchronized int hashCode() {
             return map.hashCode();
+        }
+
+        public synchronized String toString() {
+            return map.toString();
         }
 
         public synchronized V getOrDefault(Object key, V other) {

@@ -1,12 +1,12 @@
 package java.util;
 
 /**
- * Values by keys that are found by their hash. Not for several threads at once.
+ * Values by keys that are found by their hash codes. Not for several threads at once.
  *
- * Keys are compared as Objects tells. Those that are Integers, Characters or Booleans come in the order of Java 8:
- * buckets by the hash, doubled where three quarters are used, each a chain in the order of insertion. All others
- * stand in the first bucket, in the order of insertion. Iterators throw ConcurrentModificationException where the
- * map was changed by others since. Left out: load factors (a float), `clone`, what takes a function.
+ * Entries come in the order of Java 8: buckets by the hash code, doubled where three quarters are used, or where one
+ * of fewer than 64 has nine entries; each bucket is a chain in the order of insertion, and never a tree. Iterators
+ * throw ConcurrentModificationException where the map was changed by others since. Left out: load factors (a float),
+ * `clone`, what takes a function.
  */
 public class HashMap<K, V> extends AbstractMap<K, V> implements java.io.Serializable {
     static class Node<K, V> extends AbstractMap.SimpleEntry<K, V> {
@@ -22,28 +22,34 @@ public class HashMap<K, V> extends AbstractMap<K, V> implements java.io.Serializ
         }
     }
 
+    /** None before the first entry. */
     private Node<K, V>[] table;
+    /** How long the first table is to be; 0 where nobody has said it. */
+    private int capacity;
     private int size;
     int modCount;
 
     public HashMap() {
-        this(16);
     }
 
     public HashMap(int capacity) {
         if (capacity < 0) {
-            throw new IllegalArgumentException();
+            throw new IllegalArgumentException("Illegal initial capacity: " + capacity);
         }
-        int length = 1;
-        while (length < capacity) {
-            length *= 2;
-        }
-        table = newTable(length);
+        this.capacity = lengthFrom(capacity);
     }
 
     public HashMap(Map<? extends K, ? extends V> others) {
-        this(16);
         putAll(others);
+    }
+
+    /** The least power of two that isn't less. */
+    private static int lengthFrom(int least) {
+        int length = 1;
+        while (length < least) {
+            length *= 2;
+        }
+        return length;
     }
 
     @SuppressWarnings("unchecked")
@@ -72,6 +78,9 @@ public class HashMap<K, V> extends AbstractMap<K, V> implements java.io.Serializ
     }
 
     private Node<K, V> node(int hash, Object key) {
+        if (table == null) {
+            return null;
+        }
         for (Node<K, V> node = table[hash & table.length - 1]; node != null; node = node.next) {
             if (node.hash == hash && Objects.equals(key, node.key)) {
                 return node;
@@ -81,33 +90,72 @@ public class HashMap<K, V> extends AbstractMap<K, V> implements java.io.Serializ
     }
 
     public V put(K key, V value) {
+        return put(key, value, false);
+    }
+
+    public V putIfAbsent(K key, V value) {
+        return put(key, value, true);
+    }
+
+    /** Puts a value in, or only where there is none. */
+    private V put(K key, V value, boolean onlyIfAbsent) {
         int hash = hash(key);
         Node<K, V> node = node(hash, key);
         if (node != null) {
-            return node.setValue(value);
+            V old = node.value;
+            if (!onlyIfAbsent || old == null) {
+                node.value = value;
+            }
+            return old;
         }
         node = new Node<K, V>(hash, key, value);
-        insert(node);
+        if (table == null) {
+            table = newTable(capacity == 0 ? 16 : capacity);
+        }
+        if (insert(node) > 8 && table.length < 64) {
+            grow();
+        }
         size++;
         modCount++;
-        if (size > table.length - (table.length >> 2)) {
+        if (size > threeQuarters()) {
             grow();
         }
         linked(node);
         return null;
     }
 
-    private void insert(Node<K, V> node) {
+    private int threeQuarters() {
+        return table.length - (table.length + 3 >> 2);
+    }
+
+    public void putAll(Map<? extends K, ? extends V> others) {
+        int count = others.size();
+        int wanted = count + count / 3 + 1;
+        if (table != null) {
+            if (count > threeQuarters()) {
+                grow();
+            }
+        } else if (count > 0 && wanted > capacity) {
+            capacity = lengthFrom(wanted);
+        }
+        super.putAll(others);
+    }
+
+    /** How many stand in the bucket then. */
+    private int insert(Node<K, V> node) {
         int at = node.hash & table.length - 1;
         Node<K, V> last = table[at];
         if (last == null) {
             table[at] = node;
-            return;
+            return 1;
         }
+        int count = 2;
         while (last.next != null) {
             last = last.next;
+            count++;
         }
         last.next = node;
+        return count;
     }
 
     private void grow() {
@@ -125,6 +173,9 @@ public class HashMap<K, V> extends AbstractMap<K, V> implements java.io.Serializ
 
     public V remove(Object key) {
         int hash = hash(key);
+        if (table == null) {
+            return null;
+        }
         int at = hash & table.length - 1;
         Node<K, V> before = null;
         for (Node<K, V> node = table[at]; node != null; before = node, node = node.next) {
@@ -144,7 +195,7 @@ public class HashMap<K, V> extends AbstractMap<K, V> implements java.io.Serializ
     }
 
     public void clear() {
-        for (int at = 0; at < table.length; at++) {
+        for (int at = 0; size > 0 && at < table.length; at++) {
             table[at] = null;
         }
         size = 0;
@@ -162,7 +213,7 @@ public class HashMap<K, V> extends AbstractMap<K, V> implements java.io.Serializ
     }
 
     private Node<K, V> fromBucket(int from) {
-        for (int at = from; at < table.length; at++) {
+        for (int at = from; table != null && at < table.length; at++) {
             if (table[at] != null) {
                 return table[at];
             }

@@ -13,8 +13,14 @@ public class HashSet<E> extends AbstractSet<E> implements java.io.Serializable {
     }
 
     public HashSet(Collection<? extends E> others) {
-        this(new HashMap<E, Object>());
+        this(new HashMap<E, Object>(capacityFor(others.size())));
         addAll(others);
+    }
+
+    /** Room for so many elements, of at least 16. */
+    private static int capacityFor(int count) {
+        int wanted = count + count / 3 + 1;
+        return wanted < 16 ? 16 : wanted;
     }
 
     HashSet(HashMap<E, Object> map) {

@@ -31,7 +31,7 @@ public class LinkedList<E> extends AbstractList<E> implements Deque<E>, java.io.
 
     private Node node(int index) {
         if (index < 0 || index >= size) {
-            throw new IndexOutOfBoundsException();
+            throw new IndexOutOfBoundsException("Index: " + index + ", Size: " + size);
         }
         Node node = ends.behind;
         for (int at = 0; at < index; at++) {

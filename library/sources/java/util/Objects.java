@@ -1,45 +1,35 @@
 package java.util;
 
-/**
- * Functions of objects that may be null.
- *
- * Two objects are equal here, and for all collections, where they are one object, or Integers, Characters or
- * Booleans of one value: `equals` and `hashCode` of other classes can't be called through Object. Left out: text.
- */
+/** Functions of objects that may be null. Left out: `deepEquals`, what takes a function. */
 public final class Objects {
     private Objects() {
     }
 
     public static boolean equals(Object a, Object b) {
-        if (a == b) {
-            return true;
-        }
-        if (a instanceof Integer) {
-            return ((Integer) a).equals(b);
-        }
-        if (a instanceof Character) {
-            return ((Character) a).equals(b);
-        }
-        return a instanceof Boolean && ((Boolean) a).equals(b);
+        return a == b || a != null && a.equals(b);
     }
 
-    /** That of an Integer, Character or Boolean; 0 of every other object. */
     public static int hashCode(Object object) {
-        if (object instanceof Integer) {
-            return ((Integer) object).hashCode();
-        }
-        if (object instanceof Character) {
-            return ((Character) object).hashCode();
-        }
-        return object instanceof Boolean ? ((Boolean) object).hashCode() : 0;
+        return object == null ? 0 : object.hashCode();
     }
 
     public static int hash(Object... values) {
+        if (values == null) {
+            return 0;
+        }
         int made = 1;
         for (int at = 0; at < values.length; at++) {
             made = 31 * made + hashCode(values[at]);
         }
         return made;
+    }
+
+    public static String toString(Object object) {
+        return String.valueOf(object);
+    }
+
+    public static String toString(Object object, String other) {
+        return object == null ? other : object.toString();
     }
 
     public static <T> int compare(T a, T b, Comparator<? super T> order) {
@@ -54,7 +44,10 @@ public final class Objects {
     }
 
     public static <T> T requireNonNull(T object, String message) {
-        return requireNonNull(object);
+        if (object == null) {
+            throw new NullPointerException(message);
+        }
+        return object;
     }
 
     public static boolean isNull(Object object) {
@@ -63,5 +56,24 @@ public final class Objects {
 
     public static boolean nonNull(Object object) {
         return object != null;
+    }
+
+    /**
+     * An array of the class of another one, of this library's own; null where that isn't String[], Integer[],
+     * Character[] or Boolean[].
+     */
+    @SuppressWarnings("unchecked")
+    static <T> T[] arrayLike(T[] array, int length) {
+        Object[] made = null;
+        if (array instanceof String[]) {
+            made = new String[length];
+        } else if (array instanceof Integer[]) {
+            made = new Integer[length];
+        } else if (array instanceof Character[]) {
+            made = new Character[length];
+        } else if (array instanceof Boolean[]) {
+            made = new Boolean[length];
+        }
+        return (T[]) made;
     }
 }

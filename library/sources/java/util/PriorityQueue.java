@@ -30,9 +30,32 @@ public class PriorityQueue<E> extends AbstractQueue<E> implements java.io.Serial
         heap = new Object[capacity];
     }
 
+    public PriorityQueue(PriorityQueue<? extends E> others) {
+        this((Collection<? extends E>) others);
+    }
+
+    public PriorityQueue(SortedSet<? extends E> others) {
+        this((Collection<? extends E>) others);
+    }
+
+    /** In the order of the others where they have one. */
+    @SuppressWarnings("unchecked")
     public PriorityQueue(Collection<? extends E> others) {
-        this(others.size() + 1, null);
-        addAll(others);
+        if (others instanceof SortedSet) {
+            order = ((SortedSet<E>) others).comparator();
+        } else {
+            order = others instanceof PriorityQueue ? ((PriorityQueue<E>) others).comparator() : null;
+        }
+        heap = others.toArray();
+        size = heap.length;
+        for (int at = 0; at < size; at++) {
+            if (heap[at] == null) {
+                throw new NullPointerException();
+            }
+        }
+        for (int at = (size >>> 1) - 1; at >= 0; at--) {
+            down(at, heap[at]);
+        }
     }
 
     public Comparator<? super E> comparator() {

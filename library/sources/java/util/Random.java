@@ -29,7 +29,7 @@ public class Random implements java.io.Serializable {
 
     public int nextInt(int bound) {
         if (bound <= 0) {
-            throw new IllegalArgumentException();
+            throw new IllegalArgumentException("bound must be positive");
         }
         int bits = next(31);
         if ((bound & -bound) == bound) {

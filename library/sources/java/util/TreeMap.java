@@ -25,6 +25,11 @@ public class TreeMap<K, V> extends AbstractMap<K, V> implements NavigableMap<K, 
         putAll(others);
     }
 
+    public TreeMap(SortedMap<K, ? extends V> others) {
+        this(others.comparator());
+        putAll(others);
+    }
+
     public Comparator<? super K> comparator() {
         return order;
     }

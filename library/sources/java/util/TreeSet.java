@@ -17,6 +17,11 @@ public class TreeSet<E> extends AbstractSet<E> implements NavigableSet<E>, java.
         addAll(others);
     }
 
+    public TreeSet(SortedSet<E> others) {
+        this(others.comparator());
+        addAll(others);
+    }
+
     public Comparator<? super E> comparator() {
         return map.comparator();
     }

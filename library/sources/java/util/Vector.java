@@ -30,13 +30,21 @@ public class Vector<E> extends AbstractList<E> implements RandomAccess, java.io.
     }
 
     public synchronized E elementAt(int index) {
-        checkBound(index);
+        checkAt(index, ">=", list.size());
         return list.get(index);
     }
 
     private void checkBound(int index) {
         if (index < 0 || index >= list.size()) {
-            throw new ArrayIndexOutOfBoundsException();
+            throw new ArrayIndexOutOfBoundsException(index);
+        }
+    }
+
+    /** Throws where an index is less than 0, or is, as the sign says, not below an end. */
+    private static void checkAt(int index, String sign, int end) {
+        if (index < 0 || index >= end) {
+            int size = sign.equals(">") ? end - 1 : end;
+            throw new ArrayIndexOutOfBoundsException(index < 0 ? "" + index : index + " " + sign + " " + size);
         }
     }
 
@@ -70,10 +78,13 @@ public class Vector<E> extends AbstractList<E> implements RandomAccess, java.io.
         list.add(element);
     }
 
+    public synchronized void setElementAt(E element, int index) {
+        checkAt(index, ">=", list.size());
+        list.set(index, element);
+    }
+
     public synchronized void add(int index, E element) {
-        if (index < 0 || index > list.size()) {
-            throw new ArrayIndexOutOfBoundsException();
-        }
+        checkAt(index, ">", list.size() + 1);
         modCount++;
         list.add(index, element);
     }
@@ -88,8 +99,10 @@ public class Vector<E> extends AbstractList<E> implements RandomAccess, java.io.
         return list.remove(index);
     }
 
-    public void removeElementAt(int index) {
-        remove(index);
+    public synchronized void removeElementAt(int index) {
+        checkAt(index, ">=", list.size());
+        modCount++;
+        list.remove(index);
     }
 
     public synchronized boolean remove(Object element) {
@@ -114,12 +127,36 @@ public class Vector<E> extends AbstractList<E> implements RandomAccess, java.io.
         return list.indexOf(element);
     }
 
+    public synchronized int lastIndexOf(Object element) {
+        return list.lastIndexOf(element);
+    }
+
     public synchronized boolean contains(Object element) {
         return list.contains(element);
     }
 
+    public synchronized boolean addAll(Collection<? extends E> others) {
+        return super.addAll(others);
+    }
+
     public synchronized Object[] toArray() {
         return list.toArray();
+    }
+
+    public synchronized <T> T[] toArray(T[] array) {
+        return list.toArray(array);
+    }
+
+    public synchronized boolean equals(Object other) {
+        return super.equals(other);
+    }
+
+    public synchronized int hashCode() {
+        return super.hashCode();
+    }
+
+    public synchronized String toString() {
+        return super.toString();
     }
 
     public Enumeration<E> elements() {

@@ -5,7 +5,7 @@ import java.util.Collection;
 /**
  * A blocking queue with room for so many elements, first in, first out.
  *
- * It waits and wakes as a MonitorQueue does; asked to be fair it does the same. Left out: times, `toString`.
+ * It waits and wakes as a MonitorQueue does; asked to be fair it does the same. Left out: times.
  */
 public class ArrayBlockingQueue<E> extends MonitorQueue<E> {
     private final Object[] ring;

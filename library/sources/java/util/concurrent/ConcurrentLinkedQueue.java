@@ -6,9 +6,10 @@ import java.util.Iterator;
 import java.util.LinkedList;
 
 /**
- * A queue for several threads, first in, first out, that never waits: each operation is done under its lock.
+ * A queue for several threads, first in, first out, that never waits: each operation is done under its lock. An
+ * `equals` that `contains` or `remove` calls isn't.
  *
- * Iterators go over what was there when they were made. Left out: streams, `toString`.
+ * Iterators go over what was there when they were made. Left out: streams.
  */
 public class ConcurrentLinkedQueue<E> extends AbstractQueue<E> implements java.io.Serializable {
     private final LinkedList<E> list = new LinkedList<E>();
@@ -45,12 +46,26 @@ public class ConcurrentLinkedQueue<E> extends AbstractQueue<E> implements java.i
         return list.size();
     }
 
-    public synchronized boolean contains(Object element) {
-        return list.contains(element);
+    /** The first equal one that is still there when it is to be taken out. */
+    public boolean remove(Object element) {
+        Object[] all = toArray();
+        for (int at = 0; at < all.length; at++) {
+            if (element != null && element.equals(all[at]) && unlinked(all[at])) {
+                return true;
+            }
+        }
+        return false;
     }
 
-    public synchronized boolean remove(Object element) {
-        return list.remove(element);
+    /** Takes out the first that is the given object; tells whether there was one. */
+    private synchronized boolean unlinked(Object element) {
+        for (Iterator<E> each = list.iterator(); each.hasNext();) {
+            if (each.next() == element) {
+                each.remove();
+                return true;
+            }
+        }
+        return false;
     }
 
     public synchronized Object[] toArray() {

@@ -5,6 +5,7 @@ import java.util.Collection;
 import java.util.Iterator;
 import java.util.List;
 import java.util.NoSuchElementException;
+import java.util.Objects;
 import java.util.RandomAccess;
 
 /**
@@ -47,7 +48,7 @@ public class CopyOnWriteArrayList<E> extends AbstractList<E> implements List<E>,
 
     private static void check(int index, int end) {
         if (index < 0 || index >= end) {
-            throw new IndexOutOfBoundsException();
+            throw new IndexOutOfBoundsException("Index: " + index + ", Size: " + (end - 1));
         }
     }
 
@@ -73,8 +74,14 @@ public class CopyOnWriteArrayList<E> extends AbstractList<E> implements List<E>,
         elements = made;
     }
 
-    public synchronized boolean addIfAbsent(E element) {
-        return !contains(element) && add(element);
+    /** An `equals` is called under the lock only where the list was changed meanwhile. */
+    public boolean addIfAbsent(E element) {
+        Object[] seen = elements;
+        return indexIn(seen, element) < 0 && addedTo(seen, element);
+    }
+
+    private synchronized boolean addedTo(Object[] seen, E element) {
+        return (elements == seen || indexOf(element) < 0) && add(element);
     }
 
     @SuppressWarnings("unchecked")
@@ -85,8 +92,43 @@ public class CopyOnWriteArrayList<E> extends AbstractList<E> implements List<E>,
         return element;
     }
 
-    public synchronized boolean remove(Object element) {
-        return super.remove(element);
+    /** An `equals` is called under the lock only where the list was changed meanwhile. */
+    public boolean remove(Object element) {
+        Object[] seen = elements;
+        int index = indexIn(seen, element);
+        return index >= 0 && removedFrom(seen, index, element);
+    }
+
+    private synchronized boolean removedFrom(Object[] seen, int index, Object element) {
+        int found = elements == seen ? index : indexOf(element);
+        if (found < 0) {
+            return false;
+        }
+        remove(found);
+        return true;
+    }
+
+    private static int indexIn(Object[] all, Object element) {
+        for (int at = 0; at < all.length; at++) {
+            if (Objects.equals(element, all[at])) {
+                return at;
+            }
+        }
+        return -1;
+    }
+
+    public int indexOf(Object element) {
+        return indexIn(elements, element);
+    }
+
+    public int lastIndexOf(Object element) {
+        Object[] all = elements;
+        for (int at = all.length - 1; at >= 0; at--) {
+            if (Objects.equals(element, all[at])) {
+                return at;
+            }
+        }
+        return -1;
     }
 
     public synchronized boolean addAll(Collection<? extends E> others) {

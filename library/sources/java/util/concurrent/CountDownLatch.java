@@ -10,7 +10,7 @@ public class CountDownLatch {
 
     public CountDownLatch(int count) {
         if (count < 0) {
-            throw new IllegalArgumentException();
+            throw new IllegalArgumentException("count < 0");
         }
         this.count = count;
     }

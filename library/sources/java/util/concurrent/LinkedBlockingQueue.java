@@ -5,7 +5,7 @@ import java.util.Collection;
 /**
  * A blocking queue of nodes, first in, first out, with room for so many elements, or for all.
  *
- * It waits and wakes as a MonitorQueue does, with one lock for both ends. Left out: times, `toString`.
+ * It waits and wakes as a MonitorQueue does, with one lock for both ends. Left out: times.
  */
 public class LinkedBlockingQueue<E> extends MonitorQueue<E> {
     static final class Node {

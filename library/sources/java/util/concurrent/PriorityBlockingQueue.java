@@ -8,7 +8,7 @@ import java.util.PriorityQueue;
 /**
  * A blocking queue with room for all, the least element first, as a PriorityQueue gives them.
  *
- * It waits and wakes as a MonitorQueue does. Left out: times, `toString`.
+ * It waits and wakes as a MonitorQueue does. Left out: times.
  */
 public class PriorityBlockingQueue<E> extends MonitorQueue<E> {
     private final PriorityQueue<E> queue;
@@ -27,8 +27,10 @@ public class PriorityBlockingQueue<E> extends MonitorQueue<E> {
     }
 
     public PriorityBlockingQueue(Collection<? extends E> others) {
-        this();
-        addAll(others);
+        super(0x7fffffff);
+        PriorityQueue<E> heap = new PriorityQueue<E>(others);
+        queue = new PriorityQueue<E>(11, heap.comparator());
+        addAll(heap);
     }
 
     public Comparator<? super E> comparator() {

@@ -1,21 +1,19 @@
 package java.util.concurrent;
 
-/**
- * Thrown by an executor that takes no more tasks.
- * It keeps its message, if it has one. No text is made of it.
- */
+/** Thrown by an executor that takes no more tasks. */
 public class RejectedExecutionException extends RuntimeException {
-    private final String message;
-
     public RejectedExecutionException() {
-        message = null;
     }
 
     public RejectedExecutionException(String message) {
-        this.message = message;
+        super(message);
     }
 
-    public String getMessage() {
-        return message;
+    public RejectedExecutionException(String message, Throwable cause) {
+        super(message, cause);
+    }
+
+    public RejectedExecutionException(Throwable cause) {
+        super(cause);
     }
 }

@@ -44,4 +44,8 @@ public class AtomicBoolean implements java.io.Serializable {
     public boolean weakCompareAndSet(boolean expected, boolean value) {
         return compareAndSet(expected, value);
     }
+
+    public String toString() {
+        return String.valueOf(get());
+    }
 }

@@ -77,4 +77,8 @@ public class AtomicInteger extends Number {
     public final int decrementAndGet() {
         return addAndGet(-1);
     }
+
+    public String toString() {
+        return String.valueOf(get());
+    }
 }

@@ -78,4 +78,12 @@ public class AtomicIntegerArray implements java.io.Serializable {
     public final int decrementAndGet(int at) {
         return getAndAdd(at, -1) - 1;
     }
+
+    public String toString() {
+        StringBuilder made = new StringBuilder("[");
+        for (int at = 0; at < values.length; at++) {
+            made.append(at == 0 ? "" : ", ").append(get(at));
+        }
+        return made.append(']').toString();
+    }
 }

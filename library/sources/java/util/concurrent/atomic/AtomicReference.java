@@ -45,4 +45,8 @@ public class AtomicReference<V> implements java.io.Serializable {
     public final boolean weakCompareAndSet(V expected, V value) {
         return compareAndSet(expected, value);
     }
+
+    public String toString() {
+        return String.valueOf(get());
+    }
 }

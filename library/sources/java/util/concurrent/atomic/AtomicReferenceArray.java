@@ -54,4 +54,12 @@ public class AtomicReferenceArray<E> implements java.io.Serializable {
     public final boolean weakCompareAndSet(int at, E expected, E value) {
         return compareAndSet(at, expected, value);
     }
+
+    public String toString() {
+        StringBuilder made = new StringBuilder("[");
+        for (int at = 0; at < values.length; at++) {
+            made.append(at == 0 ? "" : ", ").append(get(at));
+        }
+        return made.append(']').toString();
+    }
 }

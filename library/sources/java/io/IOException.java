@@ -1,0 +1,19 @@
+package java.io;
+
+/** For input and output that failed. Nothing here throws it by itself. */
+public class IOException extends Exception {
+    public IOException() {
+    }
+
+    public IOException(String message) {
+        super(message);
+    }
+
+    public IOException(String message, Throwable cause) {
+        super(message, cause);
+    }
+
+    public IOException(Throwable cause) {
+        super(cause);
+    }
+}
