@@ -1,5 +1,5 @@
 #!/usr/bin/env python3
-"""Measures the programs `jvm replay` and `jvm trace`, process and all.
+"""Measures the programs `jvm replay`, `jvm trace` and `jvm races`, process and all.
 
     bench/replay.py [--program PROGRAM] [NAME..]
 
@@ -15,6 +15,8 @@ switches  10,000,000 events of two threads, another thread at each: the nanoseco
           event, by a run of as many events with one switch, and peak resident memory. `javac` has to be there
 trace     the first 1,000,000 events of Fib, Fields, Locks and Throws of bench/java, traced to a file: seconds, the
           least of three runs, next to those of the replay alone, and the size of the file. `javac` has to be there
+races     the data races of the same events: seconds of the processor, next to those of the replay alone, and peak
+          resident memory. `javac` has to be there
 """
 
 import argparse
@@ -41,6 +43,8 @@ STARTS = 200
 SWITCHES = 10_000_000
 
 TRACED = 1_000_000
+
+TRACED_PROGRAMS = ("Fib", "Fields", "Locks", "Throws")
 
 # So many events of main come first where there are two threads; the other one is started among them.
 FIRST = 20
@@ -119,7 +123,7 @@ def seconds_of(command: Sequence[object], folder: pathlib.Path, output: pathlib.
 
 def trace(program: pathlib.Path, folder: pathlib.Path) -> None:
     (folder / "schedule").write_text(f"0*{TRACED}")
-    for name in "Fib", "Fields", "Locks", "Throws":
+    for name in TRACED_PROGRAMS:
         files = [path.name for path in compiled([ROOT / f"bench/java/{name}.java"], folder)]
         words = ["--schedule", "schedule", *files]
         replay = seconds_of([program, "replay", *words], folder, folder / "report")
@@ -134,12 +138,25 @@ def trace(program: pathlib.Path, folder: pathlib.Path) -> None:
         print(f"{name}: {seconds}, a file of {size // 1_000} kB")
 
 
+def races(program: pathlib.Path, folder: pathlib.Path) -> None:
+    (folder / "schedule").write_text(f"0*{TRACED}")
+    for name in TRACED_PROGRAMS:
+        files = [path.name for path in compiled([ROOT / f"bench/java/{name}.java"], folder)]
+        words = ["--schedule", "schedule", *files]
+        replay, raced = (measured([program, command, *words], folder) for command in ("replay", "races"))
+        if raced.status != USED_UP or raced.written != replay.written:
+            sys.exit(f"{name}: status {raced.status}, report:\n{raced.written}")
+        seconds = f"{raced.processor:.2f} s of a processor, replayed in {replay.processor:.2f} s"
+        print(f"{name}: races of {TRACED} events told in {seconds}, peak resident memory {raced.kilobytes} kB")
+
+
 MEASURES: Dict[str, Callable[[pathlib.Path, pathlib.Path], None]] = {
     "start": start,
     "loop": loop,
     "long": long,
     "switches": switches,
     "trace": trace,
+    "races": races,
 }
 
 

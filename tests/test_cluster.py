@@ -20,7 +20,7 @@ from cluster.tables import merged, read_table
 from oracle.lessons import LESSONS, class_files
 from oracle.sweeps import Sweep, words_of
 from tests.cluster_scratch import LOCK_ORDER, LOST_UPDATE, Scratch, Told
-from tools.cases import stored
+from tools.cases import answers
 from tools.class_files import class_file, named_class
 
 REPEATED = " A.class"
@@ -33,7 +33,7 @@ def swept(path: str, options: str) -> str:
 class Tables(unittest.TestCase):
     def test_the_tables_of_all_cases_are_read_and_written(self) -> None:
         told = r"^case sweep-\S+\n((?:outcome|outcomes) .*?^sweep .*?)(?:status|device)"
-        texts = re.findall(told, stored(), re.M | re.S)
+        texts = re.findall(told, answers("sweeps"), re.M | re.S)
         self.assertGreater(len(texts), 15)
         for text in texts:
             repeated = re.search(r"jvm run --seed \d+(.*)", text)

@@ -10,7 +10,9 @@ import shutil
 import subprocess
 import unittest
 from typing import List
+from unittest import mock
 
+from cluster import fuzzing
 from tests.cluster_scratch import LOST_UPDATE, STAND_IN, Scratch
 from tools.repository import JVM
 
@@ -103,16 +105,18 @@ class Fuzzing(Scratch):
 
     def test_sets(self) -> None:
         said = "# seed 7: it differs\\nfile A\\n  cafe\\n5 sets of class files, 1 wrong\\n"
-        wrong = f"[ $3 = 6 ] && printf '{said}' && exit 1\n"
-        text = "echo \"$4 sets of class files, 0 wrong\"; echo '  2 run accepted'\n"
-        self.program = self.script("conformance", text)
+        wrong = f"[ $6 = 6 ] && printf '{said}' && exit 1\n"
+        text = "echo \"$7 sets of class files, 0 wrong\"; echo '  2 run accepted'\n"
+        fuzz = mock.patch.object(fuzzing, "FUZZ", self.script("fuzz", text))
+        fuzz.start()
+        self.addCleanup(fuzz.stop)
         numbers = self.planned("fuzz", "--seeds", "1..9", "--sets", step=5)
         self.do_parts(numbers)
         told = self.told("merge", self.folder())
         whole = b"9 sets of class files, 0 wrong\n  4 run accepted\nfuzz done\n"
         self.assertEqual((told.status, told.output), (0, whole))
         shutil.rmtree(self.folder())
-        self.program = self.script("conformance", wrong + text)
+        self.script("fuzz", wrong + text)
         self.do_parts(self.planned("fuzz", "--seeds", "1..10", "--sets", step=5))
         told = self.told("merge", self.folder())
         self.assertEqual((told.status, told.output.splitlines()[0]), (1, b"10 sets of class files, 1 wrong"))

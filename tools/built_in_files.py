@@ -169,7 +169,7 @@ class Told:
         return Declared(one["flags"], self.text(one["name"]), self.text(one["descriptor"]), one["parts"])
 
     def lines(self) -> Iterator[str]:
-        """The lines of the listing that `advice_cases` has."""
+        """The class, its interfaces and its members, a line each, with their flags."""
         yield f"class {self.flags:04x} {self.name.decode()} {self.superclass.decode() if self.superclass else '-'}"
         yield from (f"interface 0000 {name.decode()}" for name in self.interfaces)
         for word, members in (("field", self.fields), ("method", self.methods)):

@@ -3,11 +3,11 @@
 
     tools/screens.py PROGRAM [DOCUMENT..]
 
-PROGRAM is the built program `jvm`; without a document these are docs/TUTORIAL.md and docs/ERRORS.md. A document is run
-by one bash, from its first line to its last, at the top of a copy of tools/, lessons/, programs/ and library/. In its
-blocks `text` a line that begins with `$ ` is a command, and the lines up to the next one are its screen, standard error
-included. Its blocks `sh` are run as they stand, but one that begins with `#!`, which becomes the file test.sh. There
-has to be a javac.
+PROGRAM is the built program `jvm`; without a document these are docs/TUTORIAL.md, docs/ERRORS.md and
+docs/FOR-TEACHERS.md. A document is run by one bash, from its first line to its last, at the top of a copy of tools/,
+lessons/, programs/ and library/. In its blocks `text` a line that begins with `$ ` is a command, and the lines up to
+the next one are its screen, standard error included. Its blocks `sh` are run as they stand, but one that begins with
+`#!`, which becomes the file test.sh. There has to be a javac.
 
 Each screen that differs is shown. The status is 0 where none does.
 """
@@ -26,7 +26,7 @@ sys.path.insert(0, str(pathlib.Path(__file__).resolve().parent.parent))
 
 from tools.repository import ROOT
 
-DOCUMENTS = ["docs/TUTORIAL.md", "docs/ERRORS.md"]
+DOCUMENTS = ["docs/TUTORIAL.md", "docs/ERRORS.md", "docs/FOR-TEACHERS.md"]
 MARK = "== the next screen =="
 
 # A command, and the lines of its screen.
