@@ -19,7 +19,7 @@ import pathlib
 import re
 import sys
 import tempfile
-from typing import Dict, List, NamedTuple, Optional, Sequence, Set, Tuple, Union
+from typing import Any, Dict, List, NamedTuple, Optional, Sequence, Set, Tuple, Union
 
 sys.dont_write_bytecode = True
 sys.path.insert(0, str(pathlib.Path(__file__).resolve().parent.parent))
@@ -27,7 +27,7 @@ sys.path.insert(0, str(pathlib.Path(__file__).resolve().parent.parent))
 from oracle.calls import INVOKEINTERFACE, Called
 from oracle.classes import VOLATILE, Class
 from oracle.frames import Frame, short
-from oracle.kinds import INVOKEVIRTUAL, of_call
+from oracle.kinds import INVOKEVIRTUAL, is_volatile, of_call
 from oracle.machine import ELEMENTS, status_of, text_of
 from oracle.programs import scheduled
 from oracle.schedules import Entry, Event, entries_of_events, entries_of_text
@@ -244,18 +244,26 @@ class Raced(Traced):
             return self.found_method(*named).owner
         return self.found_field(*named)
 
-    def texts(self, thread: JavaThread, frame: Frame) -> List[Wanted]:
-        """The texts of StringBuilders that a call reads and writes in its own event."""
-        name = ".".join(BUILDER_TEXT[:2])
-        return [
-            ("write" if one.is_write else "read", ("text", *one.variable), name, False)
-            for one in of_call(self, thread, frame)
-        ]
+    def told_access(self, frame: Frame, variable: Tuple[Any, ...]) -> Tuple[Tuple[object, ...], str, bool]:
+        """A variable that a call accesses in its own event, its name, and whether it is volatile."""
+        thing, *rest = variable
+        if tuple(rest) == BUILDER_TEXT:
+            return ("text", *variable), ".".join(BUILDER_TEXT[:2]), False
+        if len(rest) == 1:
+            array = next(one for one in frame.stack if id(one) == thing)
+            return ("element", thing, rest[0]), f"[{rest[0]}] of {self.thing(array)}", False
+        owner, field, descriptor = rest
+        return ("field", *variable), f"{owner}.{field}", is_volatile(self, (owner, field, descriptor))
+
+    def called_accesses(self, thread: JavaThread, frame: Frame) -> List[Wanted]:
+        """What a call reads and writes in its own event."""
+        found = of_call(self, thread, frame)
+        return [("write" if one.is_write else "read", *self.told_access(frame, one.variable)) for one in found]
 
     def wanted(self, thread: JavaThread, frame: Frame) -> List[Wanted]:
         """What the instruction of a frame reads and writes, where it goes on, in its order."""
         if INVOKEVIRTUAL <= frame.opcode() <= INVOKEINTERFACE:
-            return self.texts(thread, frame)
+            return self.called_accesses(thread, frame)
         found = self.variable(frame)
         return [found] if found else []
 

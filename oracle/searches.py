@@ -31,7 +31,7 @@ from oracle.kinds import KINDS, first_endless, kinds_of, race_line
 from oracle.lessons import LESSONS, class_files
 from oracle.machine import Machine, status_of, text_of, thread_lines
 from oracle.schedules import Event
-from oracle.state import Initialisation, JavaThread, NotEnabled, Object, Refused, Value
+from oracle.state import THREAD_NUMBER, Initialisation, JavaThread, NotEnabled, Object, Refused, Value
 from oracle.texts import in_utf8, printed_lines, spelled_units, text_order
 from tools.cases import file_lines, write_cases
 from tools.repository import ROOT, compiled
@@ -53,6 +53,10 @@ class Numbered(Machine):
     def __init__(self, files: Sequence[bytes]) -> None:
         self.numbers: Dict[Object, int] = {}
         super().__init__(files)
+        # Where no file names these, nothing can tell which of the Threads without a name one is.
+        given = list(self.classes.values())[-len(files) :]
+        members = [value for one in given for _, value in one.pool.values() if isinstance(value, tuple)]
+        self.tells_numbers = any(value[1:2] in (("getName",), ("toString",)) for value in members)
 
     def allocated(self, thing: Object, cells: int) -> Object:
         self.numbers[thing] = len(self.numbers)
@@ -103,7 +107,9 @@ class Numbered(Machine):
         """What tells the state apart from others."""
         things = []
         for thing in [*self.numbers, *(one.object for one in self.classes.values())]:
-            parts = thing.elements if thing.elements is not None else thing.fields.values()
+            hidden = set() if self.tells_numbers else {THREAD_NUMBER}
+            fields = [value for field, value in thing.fields.items() if field not in hidden]
+            parts = thing.elements if thing.elements is not None else fields
             things.append((thing.kind, tuple(map(self.word, parts)), tuple(thing.text), self.monitor(thing)))
         # Of a constant nothing but its monitor changes.
         strings = {text: self.monitor(one) for text, one in sorted(self.strings.items()) if one.owner or one.waiters}
@@ -112,7 +118,8 @@ class Numbered(Machine):
             by = self.threads.index(one.by) if one.state == "begun" and one.by else None
             classes.append((one.state, by, tuple(map(self.word, one.statics.values()))))
         threads = tuple(map(self.thread, self.threads))
-        return tuple(things), tuple(strings.items()), tuple(classes), threads, tuple(self.printed)
+        kept = self.unnamed if self.tells_numbers else 0, tuple(map(self.word, self.interned))
+        return tuple(things), tuple(strings.items()), tuple(classes), threads, tuple(self.printed), kept
 
     def is_quiet(self) -> bool:
         return all(self.state(number) != "runnable" for number in range(len(self.threads)))

@@ -225,6 +225,8 @@ class Traced(Machine):
             return [f"{verb} {self.thread_word(this)}"]
         if name == "<init>":
             return [f"runs {self.found_method(owner, name, descriptor).owner.name}.<init>"]
+        if descriptor.endswith("V"):
+            return [f"runs {self.found_method(owner, name, descriptor).owner.name}.{name}"]
         given = before.frame().stack[-1]
         is_made = self.objects > before.objects and isinstance(given, Object)
         if is_made and given.number == self.opening + before.objects:

@@ -3,3 +3,4 @@
 #![tactic(auto)]
 
 pub mod named_fields;
+mod variables;

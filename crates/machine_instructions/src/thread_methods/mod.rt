@@ -1,5 +1,6 @@
 //! What calls of built-in methods do, which have no code: waiting and notifying, threads, printing, what Strings
-//! answer, what StringBuilders do, what objects tell of themselves, and messages and causes of exceptions.
+//! answer and how they get their texts, what StringBuilders do, what objects tell of themselves, copies of objects, names
+//! of threads, and messages and causes of exceptions.
 //!
 //! # Proved
 //!
@@ -25,15 +26,20 @@
 
 mod builders;
 mod called;
+mod chars;
+mod clones;
 mod growth;
+mod interned;
 mod lives;
 mod messages;
 mod moves;
+mod names;
 mod new_strings;
 mod objects;
+mod passing;
 mod printing;
 mod strings;
-mod targets;
+mod text_writes;
 mod texts;
 mod type_names;
 mod waiting;

@@ -188,6 +188,8 @@ module _ (trees : Program) (p : LinkedProgram) (bounds : Bounds) (world : WorldO
               ready = λ n other there. ap (λ l. slice_get l n) ready_now ∙ ready_at n other there (name_eq class other) refl;
               threads = r.world_is.threads;
               printed = r.world_is.printed;
+              interned = r.world_is.interned;
+              unnamed = r.world_is.unnamed;
             };
             limits = record {
               opening = r.limits.opening;

@@ -74,6 +74,8 @@ module _ (trees : Program) (p : LinkedProgram) (bounds : Bounds) (inflated : Lis
                 ready = m.represents.world_is.ready;
                 threads = threads_are ∙ (λ i. pending_in change t (r.world_is.threads i) (m.next i));
                 printed = m.represents.world_is.printed;
+                interned = m.represents.world_is.interned;
+                unnamed = m.represents.world_is.unnamed;
               };
               limits = record {
                 opening = m.represents.limits.opening;

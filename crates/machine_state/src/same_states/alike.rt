@@ -44,6 +44,8 @@ fn same_worlds(one: &Shared, other: &Shared) -> bool
     ensures statics { IsTrue result → one.now.statics.items ≡ other.now.statics.items }
     ensures statuses { IsTrue result → one.now.statuses.items ≡ other.now.statuses.items }
     ensures printed { IsTrue result → one.now.printed.items ≡ other.now.printed.items }
+    ensures interned { IsTrue result → one.now.interned.items ≡ other.now.interned.items }
+    ensures unnamed { IsTrue result → one.now.unnamed ≡ other.now.unnamed }
     ensures told { AreAlike one.now other.now → IsTrue result }
 {
     same_heap(&one.heap, &other.heap)
@@ -51,6 +53,8 @@ fn same_worlds(one: &Shared, other: &Shared) -> bool
         && same_numbers(&one.statics, &other.statics)
         && same_statuses(&one.statuses, &other.statuses)
         && same_printed(&one.printed, &other.printed)
+        && same_numbers(&one.interned, &other.interned)
+        && one.unnamed == other.unnamed
 }
 
 /// Whether two states are the same, but for which locks are inflated and how many events led there (JVMS 2.5; JLS

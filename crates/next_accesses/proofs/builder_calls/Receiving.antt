@@ -10,7 +10,7 @@ use Rattle.model.specs.declared.instr.Instr.{Instr}
 use Rattle.model.specs.declared.instr.Instr.TheVariants as instr
 use Rattle.model.specs.declared.instr.Invocation.TheVariants as invocation
 use Rattle.model.specs.declared.value.Value.{Value}
-use Rattle.model.specs.Calls.{Chosen, Fails, Runs, parameter_count, argument_wants, is_one, is_instance_one, if_method, selected, its_class, of_receiver, if_implements, special_class, call_on, of_class, leads_after, constructed_leads, static_call, virtual_call, virtual_of, special_call, constructor_call, special_of, interface_call, interface_of}
+use Rattle.model.specs.Calls.{Chosen, Fails, Runs, parameter_count, argument_wants, is_one, is_instance_one, if_method, selected, its_class, of_receiver, if_implements, special_class, call_on, of_class, leads_after, constructed_leads, static_call, virtual_call, virtual_of, special_call, constructor_call, special_of, interface_call, interface_of, of_named}
 use Rattle.model.specs.Classes.{Program, body_of}
 use Rattle.model.specs.DescribedTypes.{declared_want, parameters_declared}
 use Rattle.model.specs.Lookup.{method_of, find_method, find_interface_method, is_static_method}
@@ -246,7 +246,7 @@ module _ (trees : Program) (site : Site) (world : World) (max_stack : ℕ) (slot
     virtual_same f =
         ap virtual_found f.found
         ∙ (chosen_same trees world (referent values ops (parameter_count f.method)) (object_under operands (parameter_count f.method)) (virtual_choice f.method world) (virtual_there f.method)
-        (reads_receiver f.method (of_class trees named.class) (leads_after trees site f.method) (virtual_choice f.method) f.is refl)
+        (reads_receiver f.method (of_named trees named.class) (leads_after trees site f.method) (virtual_choice f.method) f.is refl)
         (λ r. ap (λ c. selected trees c f.method) (class_same trees world r))
         ∙ sym (ap virtual_called f.found))
 

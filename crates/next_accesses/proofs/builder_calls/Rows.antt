@@ -47,7 +47,7 @@ use Rattle.next_accesses.specs.builder_calls.Called.{as_builder, builder_run, bu
 
 same_builder : (b : BuiltInMethod) → builder_of b ≡ as_builder (built_in_of b)
 same_builder called.Construct = refl
-same_builder called.ConstructWithTarget = refl
+same_builder called.ObjectClone = refl
 same_builder called.ConstructWithMessage = refl
 same_builder called.ConstructWithCause = refl
 same_builder called.ObjectWait = refl
@@ -61,8 +61,10 @@ same_builder called.ThreadYield = refl
 same_builder called.ThreadCurrentThread = refl
 same_builder called.ThreadJoin = refl
 same_builder called.ThreadIsAlive = refl
+same_builder (called.ThreadNames names) = refl
 same_builder (called.PrintStreamPrints print) = refl
 same_builder (called.StringAnswers answer) = refl
+same_builder (called.StringWrites writes) = refl
 same_builder (called.StringBuilderBuilds method) = refl
 same_builder (called.ObjectAnswers method) = refl
 

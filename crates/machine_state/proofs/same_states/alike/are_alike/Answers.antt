@@ -10,6 +10,8 @@ returns c = (
     statuses = c.if-not-same_worlds.ensures.statuses refl;
     threads = c.if-not-same_worlds.ensures.threads refl;
     printed = c.if-not-same_worlds.ensures.printed refl;
+    interned = c.if-not-same_worlds.ensures.interned refl;
+    unnamed = c.if-not-same_worlds.ensures.unnamed refl;
     stacks = c.same_stacks.ensures.0 yes;
   },
   λ alike. c.same_stacks.ensures.1 alike.stacks,
