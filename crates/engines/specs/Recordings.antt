@@ -1,5 +1,5 @@
 -- A run and with what its schedule was recorded, if the schedule file says so (own).
-use Rattle.std.specs.Prelude.{◌≡◌, ℕ, Bool, true, false, List, Option, Some, None, drop, take}
+use Rattle.std.specs.Prelude.{◌≡◌, ℕ, Bool, true, false, List, [], Option, Some, None, drop, take}
 use Rattle.model.specs.declared.limits.Limits.{Limits}
 use Rattle.command_line.specs.Choices.{AreAsked, AreChosen}
 use Rattle.command_line.specs.declared.options.LimitOptions.{LimitOptions}
@@ -10,7 +10,7 @@ use Rattle.engines.specs.declared.recording.Conditions.{Conditions}
 
 -- of class files the first so many are given, and a library adds the others: with what a run of them is recorded
 abbrev pub recording_over : Limits → (given : ℕ) → List (List ℕ) → Recording
-recording_over limits given files = recording_of limits (take given files) (drop given files)
+recording_over limits given files = recording_of limits (take given files) (drop given files) []
 
 -- they are those that were recorded, as far as that is told; or any will do
 abbrev pub FitsFiles : (any : Bool) → (given : ℕ) → Option Recording → List (List ℕ) → Type 0

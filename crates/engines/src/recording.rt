@@ -59,6 +59,7 @@ pub(crate) fn recording_over(
         limits,
         given_files(files, given),
         added_files(files, given),
+        Vec::new(alloc),
     )
 }
 

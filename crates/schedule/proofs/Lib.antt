@@ -1,4 +1,5 @@
 pub mod Fewest
+pub mod FittingWords
 pub mod FileNumbers
 pub mod JoinedEntries
 pub mod Laws

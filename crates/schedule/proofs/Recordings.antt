@@ -1,20 +1,22 @@
 -- With what events were recorded: what is read was spelled so, and what is spelled is read again.
-use Rattle.std.proofs.Common.{◌≡◌, ℕ, ◌^◌, ◌<◌, ◌≤◌, Bool, true, false, cond, eqb, ltb, is_some, List, [], ◌∷◌, ◌++◌, length, get_or, Ok, refl, sym, ap, subst, ◌∙◌, append_assoc, arith, inl, inr}
+use Rattle.std.proofs.Common.{◌≡◌, ℕ, ◌^◌, ◌<◌, ◌≤◌, Bool, true, false, cond, eqb, ltb, is_some, List, [], ◌∷◌, ◌++◌, length, length-append, length-take, take, drop, get_or, Ok, refl, sym, ap, subst, ◌∙◌, append_assoc, arith, inl, inr}
 use Rattle.std.specs.Prelude.{Option, Some, None, ◌||◌}
 use Rattle.std.specs.List.{flat_map, AllByRecursion}
 use Rattle.std.specs.Option.{option_map}
 use Rattle.std.proofs.Math.Bridge.{le_prop}
-use Rattle.std.proofs.lemmas.Bool.{eqb-true}
+use Rattle.std.specs.Str.{is_utf8}
+use Rattle.std.proofs.lemmas.Bool.{le-ltb, ltb-false}
+use Rattle.std.proofs.lemmas.List.{drop_at, take-append-drop, take_at}
 use Rattle.std.proofs.lemmas.Bool.Decides.{nat_tests}
 use Rattle.std.proofs.lemmas.List.Concat.{flat_map-cons}
 use Rattle.std.proofs.lemmas.Option.{same_Some}
 use Rattle.byteorder.specs.Endian.{big_bytes}
 use Rattle.model.specs.declared.limits.Limits.{Limits}
 use Rattle.model.specs.Schedule.{limits}
-use Rattle.schedule.specs.Files.{CheckedFits, Checksums, ChecksumsFit, Recording, RecordingFits, checked, checksums, recording, version_of}
+use Rattle.schedule.specs.Files.{ArgumentFits, ArgumentsFit, CheckedFits, Checksums, ChecksumsFit, Recording, RecordingFits, argument, argument_table, checked, checksums, recording, version_of}
 use Rattle.schedule.specs.declared.fault.ScheduleFault.TheVariants as faults
-use Rattle.schedule.specs.Reading.{◌>>=◌, Read, Numbers, number_at, many_at, limit_at, limits_at, limit_ranges, limit_numbers, numbers_of, checked_at, checksums_at, recording_at}
-use Rattle.schedule.proofs.Laws.{IsBytes, Takes, Stops, Reads, ReadsBack, bind_ok, bind_err, done, failed, ok_is, passed, unpassed, guard_ok, guard_err, back4, back8, number_takes, number_again, number_stops, as_field_fault, many_take, many_again, many_stop}
+use Rattle.schedule.specs.Reading.{◌>>=◌, Read, Numbers, number_at, bytes_at, argument_at, arguments_at, many_at, limit_at, limits_at, limit_ranges, limit_numbers, numbers_of, checked_at, checksums_at, recording_at}
+use Rattle.schedule.proofs.Laws.{IsBytes, IsBytes-drop, Takes, Stops, Reads, ReadsBack, bind_ok, bind_err, done, failed, ok_is, passed, unpassed, guard_ok, guard_err, back4, back8, number_takes, number_again, number_stops, as_field_fault, many_take, many_again, many_stop}
 
 -- ---- a limit
 
@@ -164,53 +166,122 @@ lengths_again n rest lt = number_again 8 n rest lt
 lengths_stop : Stops (number_at 8)
 lengths_stop bytes f e = as_field_fault faults.Truncated f refl (number_stops 8 bytes f e)
 
+-- ---- words
+
+abbrev of_word : List ℕ × List ℕ → Read (List ℕ)
+of_word word = cond (is_utf8 word.0) (done word) (failed faults.Arguments)
+
+arguments_read : Reads argument_at argument ArgumentFits
+unfolding argument_at
+arguments_read bytes word rest small e =
+    let a = bind_ok (number_at 4 bytes) (λ count. bytes_at count.0 count.1 >>= λ word. of_word word) (word, rest) e in
+    let b = bind_ok (bytes_at a.0.0 a.0.1) (λ word. of_word word) (word, rest) a.2 in
+    let g = guard_ok (ltb (length a.0.1) a.0.0) faults.Truncated (take a.0.0 a.0.1, drop a.0.0 a.0.1) b.0 b.1 in
+    let u = passed (is_utf8 b.0.0) faults.Arguments b.0 (word, rest) b.2 in
+    let t = number_takes 4 back4 bytes a.0.0 a.0.1 small a.1 in
+    let long : a.0.0 ≤ length a.0.1 = ltb-false _ _ g.0 in
+    let count : length (take a.0.0 a.0.1) ≡ a.0.0 = omega (arith, length-take a.0.0 a.0.1) in
+    let parts : bytes ≡ argument (take a.0.0 a.0.1) ++ drop a.0.0 a.0.1 =
+    t.0.parts ∙ ap (λ (l : List ℕ). big_bytes 4 a.0.0 ++ l) (sym (take-append-drop a.0.0 a.0.1))
+    ∙ ap (λ (n : ℕ). big_bytes 4 n ++ (take a.0.0 a.0.1 ++ drop a.0.0 a.0.1)) (sym count)
+    ∙ sym (append_assoc (big_bytes 4 (length (take a.0.0 a.0.1))) (take a.0.0 a.0.1) (drop a.0.0 a.0.1)) in
+    let few : length (take a.0.0 a.0.1) < 2 ^ 32 = rw count t.1 in
+    let utf8 : is_utf8 (take a.0.0 a.0.1) ≡ true = ap (λ (p : List ℕ × List ℕ). is_utf8 p.0) g.1 ∙ u.0 in
+    let taken : Takes bytes (argument (take a.0.0 a.0.1)) (drop a.0.0 a.0.1) = record { parts = parts; rest_fits = IsBytes-drop a.0.0 a.0.1 t.0.rest_fits } in
+    subst (λ (p : List ℕ × List ℕ). Takes bytes (argument p.0) p.1 × ArgumentFits p.0) (g.1 ∙ u.1) (taken, (few, utf8))
+
+arguments_again : ReadsBack argument_at argument ArgumentFits
+unfolding argument_at
+arguments_again word rest fits =
+    let long : ltb (length (word ++ rest)) (length word) ≡ false = le-ltb _ _ (omega (arith, length-append word rest)) in
+    let regrouped : argument word ++ rest ≡ big_bytes 4 (length word) ++ (word ++ rest) = append_assoc (big_bytes 4 (length word)) word rest in
+    ap argument_at regrouped
+    ∙ rw (number_again 4 (length word) (word ++ rest) fits.0, long, take_at word rest (length word) refl, drop_at word rest (length word) refl, fits.1) refl
+
+arguments_stop : Stops argument_at
+unfolding argument_at
+arguments_stop bytes f e =
+    elim (bind_err (number_at 4 bytes) (λ count. bytes_at count.0 count.1 >>= λ word. of_word word) f e) [
+      | inl h ↦ as_field_fault faults.Truncated f refl (number_stops 4 bytes f h)
+      | inr h ↦ elim (bind_err (bytes_at h.0.0 h.0.1) (λ word. of_word word) f h.2) [
+        | inl g ↦ as_field_fault faults.Truncated f refl (guard_err (ltb (length h.0.1) h.0.0) faults.Truncated f (take h.0.0 h.0.1, drop h.0.0 h.0.1) g)
+        | inr g ↦ as_field_fault faults.Arguments f refl (unpassed (is_utf8 g.0.0) faults.Arguments f g.0 g.2)
+      ]
+    ]
+
+pub all_arguments_take : (bytes : List ℕ) (words : List (List ℕ)) (rest : List ℕ) → IsBytes bytes → arguments_at bytes ≡ Ok (words, rest)
+    → Takes bytes (argument_table words) rest × ArgumentsFit words
+unfolding arguments_at
+all_arguments_take bytes words rest small e =
+    let a = bind_ok (number_at 4 bytes) (λ count. many_at argument_at count.0 count.1) (words, rest) e in
+    let t = number_takes 4 back4 bytes a.0.0 a.0.1 small a.1 in
+    let u = many_take argument_at argument ArgumentFits arguments_read a.0.0 a.0.1 words rest t.0.rest_fits a.2 in
+    let parts : bytes ≡ argument_table words ++ rest =
+    t.0.parts ∙ ap (λ (l : List ℕ). big_bytes 4 a.0.0 ++ l) u.0.parts
+    ∙ ap (λ (n : ℕ). big_bytes 4 n ++ (flat_map argument words ++ rest)) (sym u.1.0)
+    ∙ sym (append_assoc (big_bytes 4 (length words)) (flat_map argument words) rest) in
+    (record { parts = parts; rest_fits = u.0.rest_fits }, record { count = rw u.1.0 t.1; each = u.1.1 })
+
+all_arguments_again : (words : List (List ℕ)) (rest : List ℕ) → ArgumentsFit words → arguments_at (argument_table words ++ rest) ≡ Ok (words, rest)
+unfolding arguments_at
+all_arguments_again words rest fits =
+    let regrouped : argument_table words ++ rest ≡ big_bytes 4 (length words) ++ (flat_map argument words ++ rest) = append_assoc (big_bytes 4 (length words)) (flat_map argument words) rest in
+    ap arguments_at regrouped
+    ∙ rw (number_again 4 (length words) (flat_map argument words ++ rest) fits.count, many_again argument_at argument ArgumentFits arguments_again words rest fits.each) refl
+
+all_arguments_stop : Stops arguments_at
+unfolding arguments_at
+all_arguments_stop bytes f e =
+    elim (bind_err (number_at 4 bytes) (λ count. many_at argument_at count.0 count.1) f e) [
+      | inl h ↦ as_field_fault faults.Truncated f refl (number_stops 4 bytes f h)
+      | inr h ↦ many_stop argument_at arguments_stop h.0.0 h.0.1 f h.2
+    ]
+
 -- ---- checksums
 
-abbrev no_arguments : List ℕ → ℕ → ℕ × List ℕ → Read Checksums
-no_arguments files library arguments = cond (eqb arguments.0 0) (done (record { files = files; library = library }, arguments.1)) (failed faults.Arguments)
+abbrev with_words : List ℕ → ℕ → List (List ℕ) × List ℕ → Read Checksums
+with_words files library arguments = done (record { files = files; library = library; arguments = arguments.0 }, arguments.1)
 
 checksums_take : (count : ℕ) (bytes : List ℕ) (c : Checksums) (rest : List ℕ) → IsBytes bytes → checksums_at count bytes ≡ Ok (c, rest)
     → Takes bytes (checksums c) rest × ChecksumsFit count c
 unfolding checksums_at
 checksums_take count bytes c rest small e =
-    let a = bind_ok (many_at (number_at 8) count bytes) (λ files. number_at 8 files.1 >>= λ library. number_at 4 library.1 >>= λ arguments. no_arguments files.0 library.0 arguments) (c, rest) e in
-    let b = bind_ok (number_at 8 a.0.1) (λ library. number_at 4 library.1 >>= λ arguments. no_arguments a.0.0 library.0 arguments) (c, rest) a.2 in
-    let d = bind_ok (number_at 4 b.0.1) (λ arguments. no_arguments a.0.0 b.0.0 arguments) (c, rest) b.2 in
-    let read : Checksums = record { files = a.0.0; library = b.0.0 } in
-    let g = passed (eqb d.0.0 0) faults.Arguments (read, d.0.1) (c, rest) d.2 in
+    let a = bind_ok (many_at (number_at 8) count bytes) (λ files. number_at 8 files.1 >>= λ library. arguments_at library.1 >>= λ arguments. with_words files.0 library.0 arguments) (c, rest) e in
+    let b = bind_ok (number_at 8 a.0.1) (λ library. arguments_at library.1 >>= λ arguments. with_words a.0.0 library.0 arguments) (c, rest) a.2 in
+    let d = bind_ok (arguments_at b.0.1) (λ arguments. with_words a.0.0 b.0.0 arguments) (c, rest) b.2 in
+    let read : Checksums = record { files = a.0.0; library = b.0.0; arguments = d.0.0 } in
     let t = many_take (number_at 8) (big_bytes 8) length_fits lengths_read count bytes a.0.0 a.0.1 small a.1 in
     let u = number_takes 8 back8 a.0.1 b.0.0 b.0.1 t.0.rest_fits b.1 in
-    let v = number_takes 4 back4 b.0.1 d.0.0 d.0.1 u.0.rest_fits d.1 in
-    let none : b.0.1 ≡ big_bytes 4 0 ++ d.0.1 = v.0.parts ∙ ap (λ (k : ℕ). big_bytes 4 k ++ d.0.1) (eqb-true _ _ g.0) in
-    let behind : a.0.1 ≡ (big_bytes 8 b.0.0 ++ big_bytes 4 0) ++ d.0.1 =
-    u.0.parts ∙ ap (λ (l : List ℕ). big_bytes 8 b.0.0 ++ l) none ∙ sym (append_assoc (big_bytes 8 b.0.0) (big_bytes 4 0) d.0.1) in
+    let v = all_arguments_take b.0.1 d.0.0 d.0.1 u.0.rest_fits d.1 in
+    let behind : a.0.1 ≡ (big_bytes 8 b.0.0 ++ argument_table d.0.0) ++ d.0.1 =
+    u.0.parts ∙ ap (λ (l : List ℕ). big_bytes 8 b.0.0 ++ l) v.0.parts ∙ sym (append_assoc (big_bytes 8 b.0.0) (argument_table d.0.0) d.0.1) in
     let whole : bytes ≡ checksums read ++ d.0.1 =
-    t.0.parts ∙ ap (λ (l : List ℕ). flat_map (big_bytes 8) a.0.0 ++ l) behind ∙ sym (append_assoc (flat_map (big_bytes 8) a.0.0) (big_bytes 8 b.0.0 ++ big_bytes 4 0) d.0.1) in
+    t.0.parts ∙ ap (λ (l : List ℕ). flat_map (big_bytes 8) a.0.0 ++ l) behind ∙ sym (append_assoc (flat_map (big_bytes 8) a.0.0) (big_bytes 8 b.0.0 ++ argument_table d.0.0) d.0.1) in
     let taken : Takes bytes (checksums read) d.0.1 = record { parts = whole; rest_fits = v.0.rest_fits } in
-    let fits : ChecksumsFit count read = record { count_is = t.1.0; files = t.1.1; library = u.1 } in
-    subst (λ (p : Checksums × List ℕ). Takes bytes (checksums p.0) p.1 × ChecksumsFit count p.0) g.1 (taken, fits)
+    let fits : ChecksumsFit count read = record { count_is = t.1.0; files = t.1.1; library = u.1; arguments = v.1 } in
+    subst (λ (p : Checksums × List ℕ). Takes bytes (checksums p.0) p.1 × ChecksumsFit count p.0) (ok_is (read, d.0.1) (c, rest) d.2) (taken, fits)
 
 checksums_again : (count : ℕ) (c : Checksums) (rest : List ℕ) → ChecksumsFit count c → checksums_at count (checksums c ++ rest) ≡ Ok (c, rest)
 unfolding checksums_at
 checksums_again count c rest f =
     let files = flat_map (big_bytes 8) c.files in
-    let behind = big_bytes 8 c.library ++ (big_bytes 4 0 ++ rest) in
+    let behind = big_bytes 8 c.library ++ (argument_table c.arguments ++ rest) in
     let regrouped : checksums c ++ rest ≡ files ++ behind =
-    append_assoc files (big_bytes 8 c.library ++ big_bytes 4 0) rest ∙ ap (λ (l : List ℕ). files ++ l) (append_assoc (big_bytes 8 c.library) (big_bytes 4 0) rest) in
+    append_assoc files (big_bytes 8 c.library ++ argument_table c.arguments) rest ∙ ap (λ (l : List ℕ). files ++ l) (append_assoc (big_bytes 8 c.library) (argument_table c.arguments) rest) in
     let first : many_at (number_at 8) count (files ++ behind) ≡ Ok (c.files, behind) =
     ap (λ (n : ℕ). many_at (number_at 8) n (files ++ behind)) (sym f.count_is) ∙ many_again (number_at 8) (big_bytes 8) length_fits lengths_again c.files behind f.files in
-    ap (checksums_at count) regrouped ∙ rw (first, number_again 8 c.library (big_bytes 4 0 ++ rest) f.library, number_again 4 0 rest (omega arith)) refl
+    ap (checksums_at count) regrouped ∙ rw (first, number_again 8 c.library (argument_table c.arguments ++ rest) f.library, all_arguments_again c.arguments rest f.arguments) refl
 
 checksums_stop : (count : ℕ) → Stops (checksums_at count)
 unfolding checksums_at
 checksums_stop count bytes f e =
-    elim (bind_err (many_at (number_at 8) count bytes) (λ files. number_at 8 files.1 >>= λ library. number_at 4 library.1 >>= λ arguments. no_arguments files.0 library.0 arguments) f e) [
+    elim (bind_err (many_at (number_at 8) count bytes) (λ files. number_at 8 files.1 >>= λ library. arguments_at library.1 >>= λ arguments. with_words files.0 library.0 arguments) f e) [
       | inl h ↦ many_stop (number_at 8) lengths_stop count bytes f h
-      | inr h ↦ elim (bind_err (number_at 8 h.0.1) (λ library. number_at 4 library.1 >>= λ arguments. no_arguments h.0.0 library.0 arguments) f h.2) [
+      | inr h ↦ elim (bind_err (number_at 8 h.0.1) (λ library. arguments_at library.1 >>= λ arguments. with_words h.0.0 library.0 arguments) f h.2) [
         | inl g ↦ as_field_fault faults.Truncated f refl (number_stops 8 h.0.1 f g)
-        | inr g ↦ elim (bind_err (number_at 4 g.0.1) (λ arguments. no_arguments h.0.0 g.0.0 arguments) f g.2) [
-          | inl k ↦ as_field_fault faults.Truncated f refl (number_stops 4 g.0.1 f k)
-          | inr k ↦ as_field_fault faults.Arguments f refl (unpassed (eqb k.0.0 0) faults.Arguments f (record { files = h.0.0; library = g.0.0 }, k.0.1) k.2)
+        | inr g ↦ elim (bind_err (arguments_at g.0.1) (λ arguments. with_words h.0.0 g.0.0 arguments) f g.2) [
+          | inl k ↦ all_arguments_stop g.0.1 f k
+          | inr k ↦ absurd cc
         ]
       ]
     ]

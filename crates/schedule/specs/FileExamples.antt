@@ -38,7 +38,7 @@ recorded = record { limits = usual; lengths = 241 ∷ []; checksums = None }
 
 -- the same, where the checksum of the class file is told
 abbrev pub checked : Recording
-checked = record { limits = usual; lengths = 241 ∷ []; checksums = Some (record { files = 0x0123456789abcdef ∷ []; library = 0 }) }
+checked = record { limits = usual; lengths = 241 ∷ []; checksums = Some (record { files = 0x0123456789abcdef ∷ []; library = 0; arguments = [] }) }
 
 -- the limits, how many files, and the length of each
 abbrev pub limits_and_lengths : List ℕ

@@ -1,6 +1,8 @@
 -- Schedule files of three versions (own). Numbers are big-endian.
-use Rattle.std.specs.Prelude.{◌≡◌, ◌<◌, ℕ, ◌^◌, List, [], ◌∷◌, ◌++◌, length, map, codes, Option, Some, None, refl}
+use Rattle.std.specs.Prelude.{◌≡◌, ◌<◌, ℕ, ◌^◌, List, [], ◌∷◌, ◌++◌, length, map, codes, Option, Some, None, true, refl}
+use Rattle.std.specs.Str.{is_utf8}
 use Rattle.std.specs.List.{concat, flat_map, AllByRecursion}
+use Rattle.std.specs.Option.{option_map_or}
 use Rattle.std.proofs.Math.Dec.{lit≤}
 use Rattle.byteorder.specs.Endian.{big_bytes, big_number}
 use Rattle.sha2.specs.Sha256.{sha256}
@@ -11,10 +13,12 @@ use Rattle.model.specs.Schedule.{AreEntries, events_of, limits, table}
 
 -- ---- with what a schedule was recorded
 
--- the checksum of each class file, and that of what a library adds to them, 0 where that is nothing
+-- the checksum of each class file, and that of what a library adds to them, 0 where that is nothing, and the words that main
+-- is given
 pub record Checksums : Type 0 where
   pub files : List ℕ
   pub library : ℕ
+  pub arguments : List (List ℕ)
 
 -- the limits, the length of each class file in bytes, and, in version 3, their checksums
 pub record Recording : Type 0 where
@@ -22,11 +26,20 @@ pub record Recording : Type 0 where
   pub lengths : List ℕ
   pub checksums : Option Checksums
 
+-- a word that main is given is one of UTF-8
+abbrev pub ArgumentFits : List ℕ → Type 0
+ArgumentFits word = (length word < 2 ^ 32) × (is_utf8 word ≡ true)
+
+pub record ArgumentsFit (arguments : List (List ℕ)) : Type 0 where
+  pub count : length arguments < 2 ^ 32
+  pub each : AllByRecursion ArgumentFits arguments
+
 -- so many files have one of 64 bits each
 pub record ChecksumsFit (count : ℕ) (c : Checksums) : Type 0 where
   pub count_is : length c.files ≡ count
   pub files : AllByRecursion (λ n. n < 2 ^ 64) c.files
   pub library : c.library < 2 ^ 64
+  pub arguments : ArgumentsFit c.arguments
 
 abbrev pub CheckedFits : (count : ℕ) → Option Checksums → Type 0
 CheckedFits count None = Unit {0}
@@ -46,9 +59,17 @@ RecordedFits (Some r) = RecordingFits r
 
 -- ---- the bytes of a schedule
 
--- the checksums, and how many arguments main is given: none
+-- how many bytes a word has, and these
+abbrev pub argument : List ℕ → List ℕ
+argument word = big_bytes 4 (length word) ++ word
+
+-- how many words there are, and each
+abbrev pub argument_table : List (List ℕ) → List ℕ
+argument_table arguments = big_bytes 4 (length arguments) ++ flat_map argument arguments
+
+-- the checksums, and the words that main is given
 abbrev pub checksums : Checksums → List ℕ
-checksums c = flat_map (big_bytes 8) c.files ++ (big_bytes 8 c.library ++ big_bytes 4 0)
+checksums c = flat_map (big_bytes 8) c.files ++ (big_bytes 8 c.library ++ argument_table c.arguments)
 
 abbrev pub checked : Option Checksums → List ℕ
 checked None = []
@@ -90,15 +111,19 @@ abbrev pub library_checksum : List (List ℕ) → ℕ
 library_checksum [] = 0
 library_checksum (file ∷ files) = checksum_of (concat (file ∷ files))
 
--- of a run of these class files, to which a library adds those, within these limits
-abbrev pub recording_of : Limits → (files added : List (List ℕ)) → Recording
-recording_of limits files added = record {
+-- of a run of these class files, to which a library adds those, within these limits, where main is given these words
+abbrev pub recording_of : Limits → (files added arguments : List (List ℕ)) → Recording
+recording_of limits files added arguments = record {
   limits = limits;
   lengths = map length files;
-  checksums = Some (record { files = map checksum_of files; library = library_checksum added });
+  checksums = Some (record { files = map checksum_of files; library = library_checksum added; arguments = arguments });
 }
 
--- the same as version 2 tells it
+-- the words that a file tells: none in version 2
+abbrev pub arguments_of : Recording → List (List ℕ)
+arguments_of r = option_map_or (λ (c : Checksums). c.arguments) r.checksums []
+
+-- the same as version 2 tells it, which is of no words
 abbrev pub without_checksums : Recording → Recording
 without_checksums r = record { limits = r.limits; lengths = r.lengths; checksums = None }
 
@@ -142,7 +167,7 @@ unfolding eight usual
 eight_recorded = refl
 
 -- and in version 3, where the checksum of the file is 0x0123456789abcdef
-eight_checked : schedule (Some (record { limits = usual; lengths = 241 ∷ []; checksums = Some (record { files = 0x0123456789abcdef ∷ []; library = 0 }) })) eight
+eight_checked : schedule (Some (record { limits = usual; lengths = 241 ∷ []; checksums = Some (record { files = 0x0123456789abcdef ∷ []; library = 0; arguments = [] }) })) eight
     ≡ 0x4a ∷ 0x53 ∷ 0x43 ∷ 0x48 ∷ 3
     ∷ 0x00 ∷ 0x0f ∷ 0x42 ∷ 0x40 ∷ 0x00 ∷ 0xf4 ∷ 0x24 ∷ 0x00 ∷ 0x00 ∷ 0x01 ∷ 0x00 ∷ 0x00 ∷ 0x00 ∷ 0x00 ∷ 0x01 ∷ 0x00 ∷ 0x00 ∷ 0x00 ∷ 0x04 ∷ 0x00
     ∷ 0 ∷ 0 ∷ 0 ∷ 1 ∷ 0 ∷ 0 ∷ 0 ∷ 0 ∷ 0 ∷ 0 ∷ 0 ∷ 0xf1
@@ -150,3 +175,7 @@ eight_checked : schedule (Some (record { limits = usual; lengths = 241 ∷ []; c
     ∷ 0 ∷ 0 ∷ 0 ∷ 1 ∷ 0 ∷ 0 ∷ 0 ∷ 0 ∷ 0 ∷ 0 ∷ 0 ∷ 8 ∷ []
 unfolding eight usual
 eight_checked = refl
+
+-- two words: `ab`, and the empty one
+two_arguments : argument_table (codes "ab" ∷ [] ∷ []) ≡ 0 ∷ 0 ∷ 0 ∷ 2 ∷ 0 ∷ 0 ∷ 0 ∷ 2 ∷ 97 ∷ 98 ∷ 0 ∷ 0 ∷ 0 ∷ 0 ∷ []
+two_arguments = refl

@@ -1,5 +1,6 @@
 -- Reading a schedule file from left to right, with the first fault that is met.
-use Rattle.std.specs.Prelude.{◌≡◌, ℕ, zero, suc, List, [], ◌∷◌, length, drop, Option, Some, None, Result, Ok, Err, Bool, true, false, nat_lt, ◌==◌, ◌&&◌, ◌||◌, if◌then◌else◌}
+use Rattle.std.specs.Prelude.{◌≡◌, ℕ, zero, suc, List, [], ◌∷◌, length, drop, Option, Some, None, Result, Ok, Err, Bool, take, true, false, nat_lt, ◌==◌, ◌&&◌, ◌||◌, if◌then◌else◌}
+use Rattle.std.specs.Str.{is_utf8}
 use Rattle.model.specs.BuiltInNumbers.{most_threads}
 use Rattle.byteorder.specs.Endian.{big_number}
 use Rattle.model.specs.declared.event.ScheduleEntry.{ScheduleEntry}
@@ -78,13 +79,30 @@ Numbers = List ℕ × List ℕ × Option Checksums
 abbrev pub numbers_of : Recording → Numbers
 numbers_of r = (limit_numbers r.limits, r.lengths, r.checksums)
 
--- so many checksums, that of a library, and no arguments
+-- so many bytes
+abbrev pub bytes_at : ℕ → List ℕ → Read (List ℕ)
+bytes_at n bytes = if nat_lt (length bytes) n then Err faults.Truncated else Ok (take n bytes, drop n bytes)
+
+-- how many bytes a word has, and these, which are UTF-8
+unfoldable pub argument_at : List ℕ → Read (List ℕ)
+argument_at bytes = do
+  count ← number_at 4 bytes
+  word ← bytes_at count.0 count.1
+  if is_utf8 word.0 then Ok word else Err faults.Arguments
+
+-- a count, and so many words
+unfoldable pub arguments_at : List ℕ → Read (List (List ℕ))
+arguments_at bytes = do
+  count ← number_at 4 bytes
+  many_at argument_at count.0 count.1
+
+-- so many checksums, that of a library, and the words that main is given
 unfoldable pub checksums_at : ℕ → List ℕ → Read Checksums
 checksums_at count bytes = do
   files ← many_at (number_at 8) count bytes
   library ← number_at 8 files.1
-  arguments ← number_at 4 library.1
-  if arguments.0 == 0 then Ok (record { files = files.0; library = library.0 }, arguments.1) else Err faults.Arguments
+  arguments ← arguments_at library.1
+  Ok (record { files = files.0; library = library.0; arguments = arguments.0 }, arguments.1)
 
 -- where they are told
 unfoldable pub checked_at : Bool → ℕ → List ℕ → Read (Option Checksums)

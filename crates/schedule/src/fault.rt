@@ -25,7 +25,7 @@ pub enum ScheduleFault {
     /// The class files are not as many as the file says, or one has another length or another checksum. Reading the
     /// file alone never answers it.
     Files,
-    /// It gives arguments to main, and no run gives any.
+    /// A word that it gives to main isn't UTF-8, or main is given other words.
     Arguments,
 }
 

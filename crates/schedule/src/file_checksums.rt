@@ -1,7 +1,7 @@
 //! What is recorded of class files.
 
 ghost use Rattle.std.specs.Prelude.{◌≡◌, ◌↔◌, ◌<◌, ◌^◌, IfOk, IfSome, IsNone, Some, length, map, vec_items};
-ghost use Rattle.schedule.specs.Files.{AreChecked, AreRecorded, checksum_of, library_checksum, recording_of};
+ghost use Rattle.schedule.specs.Files.{AreChecked, AreRecorded, ArgumentsFit, checksum_of, library_checksum, recording_of};
 
 use crate::recording::{Checksums, Recording};
 use byteorder::{BigEndian, ByteOrder};
@@ -126,19 +126,26 @@ impl Recording {
         self.checksums()?.difference(files, added)
     }
 
-    /// The recording of a run of these class files, to which a library adds those, within these limits. The only error
-    /// is a want of memory.
+    /// The recording of a run of these class files, to which a library adds those, within these limits, where main is
+    /// given these words. The only error is a want of memory.
     pub fn of_files(
         alloc: Global,
         limits: Limits,
         files: &[Vec<u8>],
         added: &[Vec<u8>],
+        arguments: Vec<Vec<u8>>,
     ) -> Result<Recording, AllocError>
-        requires { length files.now < 2 ^ 32 }
-        ensures { IfOk result (λ r. r ≡ recording_of limits (map vec_items files.now) (map vec_items added.now)) }
+        requires count { length files.now < 2 ^ 32 }
+        requires arguments { ArgumentsFit (map vec_items arguments.items) }
+        ensures { IfOk result (λ r. r ≡ recording_of limits (map vec_items files.now) (map vec_items added.now)
+            (map vec_items arguments.items)) }
     {
         let lengths = lengths(alloc, files)?;
-        let checksums = Checksums::new(checksums(alloc, files)?, checksum_of_library(added));
+        let checksums = Checksums::new(
+            checksums(alloc, files)?,
+            checksum_of_library(added),
+            arguments,
+        );
         Ok(Recording::new(limits, lengths, Some(checksums)))
     }
 }

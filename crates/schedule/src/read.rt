@@ -1,12 +1,14 @@
 //! Reading schedule files, of both versions.
 
-ghost use Rattle.std.specs.Prelude.{◌≡◌, ◌≤◌, ◌<◌, ◌^◌, List, Option, IfOk, IfErr, length};
+ghost use Rattle.std.specs.Prelude.{◌≡◌, ◌≤◌, ◌<◌, ◌^◌, List, Option, IfOk, IfErr, length, map, vec_items};
+ghost use Rattle.std.specs.Str.{is_utf8 as is_text};
+ghost use Rattle.std.specs.List.{AllByRecursion};
 ghost use Rattle.std.specs.Option.{option_map};
 ghost use Rattle.model.specs.Schedule.{events_of};
 ghost use Rattle.model.specs.declared.event.Event.{Event};
-ghost use Rattle.schedule.specs.Files.{CheckedFits, ChecksumsFit, Recording as Recorded, ScheduleFile, schedule};
+ghost use Rattle.schedule.specs.Files.{ArgumentFits, ArgumentsFit, CheckedFits, ChecksumsFit, Recording as Recorded, ScheduleFile, schedule};
 ghost use Rattle.schedule.specs.Outcomes.{Answers, IsFaultOf};
-ghost use Rattle.schedule.specs.Reading.{Gives, checked_at, checksums_at, entry_at, limit_at, limit_numbers, limit_ranges, limits_at, many_at, number_at, numbers_of, recorded_at, recording_at, schedule_at, table_at, version_at};
+ghost use Rattle.schedule.specs.Reading.{Gives, argument_at, arguments_at, checked_at, checksums_at, entry_at, limit_at, limit_numbers, limit_ranges, limits_at, many_at, number_at, numbers_of, recorded_at, recording_at, schedule_at, table_at, version_at};
 
 use crate::fault::ScheduleFault;
 use crate::reader::Reader;
@@ -109,7 +111,58 @@ fn read_numbers(
     Ok(numbers)
 }
 
-/// So many checksums, that of a library, and no arguments.
+/// Whether these bytes are UTF-8.
+pub(crate) fn is_utf8(word: &[u8]) -> bool
+    ensures { result ≡ is_text word.now }
+{
+    match std::str::from_utf8(word) {
+        Ok(_) => true,
+        Err(_) => false,
+    }
+}
+
+/// A word that main is given, behind the number of its bytes.
+#[tactic(auto, unfolding(crate::specs::Reading::argument_at))]
+fn read_argument(alloc: Global, reader: &mut Reader<'_>) -> Result<Vec<u8>, ScheduleFault>
+    ensures read { Gives (λ word. (word.items, reader.new)) result (argument_at reader.old) }
+    ensures fit { IfOk result (λ word. ArgumentFits word.items) }
+{
+    let count = reader.u32()?;
+    let word = reader.bytes(count as usize)?;
+    if !is_utf8(word) {
+        return Err(ScheduleFault::Arguments);
+    }
+    Ok(Vec::from_slice(alloc, word)?)
+}
+
+/// So many words. The count is one that the bytes claim, so room is made as they come.
+fn read_words(
+    alloc: Global,
+    count: u32,
+    reader: &mut Reader<'_>,
+) -> Result<Vec<Vec<u8>>, ScheduleFault>
+    ensures read { Gives (λ v. (map vec_items v.items, reader.new)) result (many_at argument_at count reader.old) }
+    ensures count { IfOk result (λ v. length (map vec_items v.items) ≡ count) }
+    ensures fit { IfOk result (λ v. AllByRecursion ArgumentFits (map vec_items v.items)) }
+{
+    let mut words = Vec::new(alloc);
+    'words: for _ in 0..count {
+        words.push(read_argument(alloc, reader)?)?;
+    }
+    Ok(words)
+}
+
+/// The words that main is given, behind their number.
+#[tactic(auto, unfolding(crate::specs::Reading::arguments_at))]
+fn read_arguments(alloc: Global, reader: &mut Reader<'_>) -> Result<Vec<Vec<u8>>, ScheduleFault>
+    ensures read { Gives (λ v. (map vec_items v.items, reader.new)) result (arguments_at reader.old) }
+    ensures fit { IfOk result (λ v. ArgumentsFit (map vec_items v.items)) }
+{
+    let count = reader.u32()?;
+    read_words(alloc, count, reader)
+}
+
+/// So many checksums, that of a library, and the words that main is given.
 #[tactic(auto, unfolding(crate::specs::Reading::checksums_at))]
 fn read_checksums(
     alloc: Global,
@@ -121,10 +174,8 @@ fn read_checksums(
 {
     let files = read_numbers(alloc, count, reader)?;
     let library = reader.u64()?;
-    if reader.u32()? != 0 {
-        return Err(ScheduleFault::Arguments);
-    }
-    Ok(Checksums::new(files, library))
+    let arguments = read_arguments(alloc, reader)?;
+    Ok(Checksums::new(files, library, arguments))
 }
 
 /// The same, where they are told.
@@ -196,14 +247,15 @@ fn read_all(
 /// entries in four, and the entries, each a thread and a pick of two bytes and a repeat of four. One of version 2 has
 /// between the version and the number of entries five limits (objects, cells, monitors, threads, frames) and the
 /// number of class files in four bytes each, and the length of each class file in eight. In version 3 there stand
-/// behind the lengths the checksum of each class file and that of a library in eight bytes each, and the number of
-/// arguments, 0, in four.
+/// behind the lengths the checksum of each class file and that of a library in eight bytes each, the number of the words
+/// that main is given in four, and each of these words behind the number of its bytes in four.
 ///
 /// # Errors
 ///
 /// The first fault in the order of the file: `Truncated` where a field is cut, `Magic` and `Version` where these are
-/// others, `Limits` at a limit outside its range, `Arguments` where it has any, `Repeat` at an entry with a repeat of 0, or with one above 1 and a
-/// pick that isn't 0, `Trailing` where bytes follow the last entry, and `OutOfMemory`.
+/// others, `Limits` at a limit outside its range, `Arguments` at a word that isn't UTF-8, `Repeat` at an entry with a
+/// repeat of 0, or with one above 1 and a pick that isn't 0, `Trailing` where bytes follow the last entry, and
+/// `OutOfMemory`.
 pub fn read_schedule(
     alloc: Global,
     bytes: &[u8],

@@ -1,7 +1,7 @@
 //! Reading numbers from left to right.
 
-ghost use Rattle.std.specs.Prelude.{◌≡◌, ◌==◌, ℕ, List, length};
-ghost use Rattle.schedule.specs.Reading.{Gives, number_at};
+ghost use Rattle.std.specs.Prelude.{◌≡◌, ◌==◌, ℕ, List, IfOk, length};
+ghost use Rattle.schedule.specs.Reading.{Gives, bytes_at, number_at};
 
 use crate::fault::ScheduleFault;
 use byteorder::{BigEndian, ByteOrder};
@@ -74,5 +74,18 @@ impl<'a> Reader<'a> {
         let number = BigEndian::read_u64(self.rest);
         self.rest = &self.rest[8..];
         Ok(number)
+    }
+
+    /// So many bytes.
+    pub(crate) fn bytes(&mut self, count: usize) -> Result<&'a [u8], ScheduleFault>
+        ensures read { Gives (λ word. (word.now, self.new)) result (bytes_at count self.old) }
+        ensures count { IfOk result (λ word. length word.now ≡ count) }
+    {
+        if self.rest.len() < count {
+            return Err(ScheduleFault::Truncated);
+        }
+        let word = &self.rest[..count];
+        self.rest = &self.rest[count..];
+        Ok(word)
     }
 }

@@ -1,39 +1,52 @@
 //! With what a schedule was recorded.
 
-ghost use Rattle.std.specs.Prelude.{◌≡◌, ◌<◌, ◌^◌, length};
+ghost use Rattle.std.specs.Prelude.{◌≡◌, ◌<◌, ◌^◌, length, map, vec_items};
 ghost use Rattle.std.specs.Option.{option_map};
 ghost use Rattle.schedule.specs.Files as file;
-ghost use Rattle.schedule.specs.Files.{CheckedFits, ChecksumsFit, RecordingFits};
+ghost use Rattle.schedule.specs.Files.{ArgumentsFit, CheckedFits, ChecksumsFit, RecordingFits};
 
 use model::Limits;
 use std::marker::Model;
 
-/// The checksum of each class file, in their order, and that of what a library adds to them, 0 where that is nothing.
+/// The checksum of each class file, in their order, and that of what a library adds to them, 0 where that is nothing;
+/// and the words that main is given, each in UTF-8.
 #[derive(Drop)]
 pub struct Checksums {
     files: Vec<u64>,
     library: u64,
+    arguments: Vec<Vec<u8>>,
 }
 
 impl Model for Checksums {
-    ghost use Rattle.std.specs.Prelude.{◌<◌, ◌^◌};
+    ghost use Rattle.std.specs.Prelude.{◌<◌, ◌^◌, map, vec_items};
     ghost use Rattle.std.specs.List.{AllByRecursion};
     ghost use Rattle.schedule.specs.Files as file;
 
     ghost Value = { file.Checksums };
 
-    ghost view = { λ c. record { files = c.files.items; library = c.library } };
+    ghost view = { λ c. record {
+      files = c.files.items;
+      library = c.library;
+      arguments = map vec_items c.arguments.items;
+    } };
 
-    ghost invariant = { λ c. AllByRecursion (λ n. n < 2 ^ 64) c.files.items × (c.library < 2 ^ 64) };
+    ghost invariant = { λ c. AllByRecursion (λ n. n < 2 ^ 64) c.files.items × (c.library < 2 ^ 64)
+        × file.ArgumentsFit (map vec_items c.arguments.items) };
 }
 
 impl Checksums {
-    /// These checksums.
-    pub fn new(files: Vec<u64>, library: u64) -> Checksums
+    /// These checksums, and words that main is given.
+    pub fn new(files: Vec<u64>, library: u64, arguments: Vec<Vec<u8>>) -> Checksums
+        requires { ArgumentsFit (map vec_items arguments.items) }
         ensures of_files { result.files ≡ files.items }
         ensures of_library { result.library ≡ library }
+        ensures of_arguments { result.arguments ≡ map vec_items arguments.items }
     {
-        Checksums { files, library }
+        Checksums {
+            files,
+            library,
+            arguments,
+        }
     }
 
     /// That of each class file.
@@ -49,6 +62,14 @@ impl Checksums {
         ensures { result ≡ self.now.library }
     {
         self.library
+    }
+
+    /// The words that main is given.
+    pub fn arguments(&self) -> &[Vec<u8>]
+        ensures are { map vec_items result.now ≡ self.now.arguments }
+        ensures fit { ArgumentsFit self.now.arguments }
+    {
+        self.arguments.as_slice()
     }
 }
 

@@ -1,7 +1,7 @@
 //! Writing schedule files, of both versions.
 
-ghost use Rattle.std.specs.Prelude.{◌≡◌, ◌<◌, ◌^◌, ◌∷◌, [], ◌++◌, IfOk, OnOk, length};
-ghost use Rattle.std.specs.List.{flat_map};
+ghost use Rattle.std.specs.Prelude.{◌≡◌, ◌<◌, ◌^◌, ◌∷◌, [], ◌++◌, IfOk, OnOk, length, map, vec_items};
+ghost use Rattle.std.specs.List.{AllByRecursion, flat_map};
 ghost use Rattle.std.specs.Option.{option_map};
 ghost use Rattle.byteorder.specs.Endian.{big_bytes};
 ghost use Rattle.model.specs.Schedule.{entry as entry_bytes, events_of, limits as limit_bytes};
@@ -80,13 +80,42 @@ fn push_longs(bytes: &mut Vec<u8>, numbers: &[u64]) -> Result<(), AllocError>
     Ok(())
 }
 
-/// Checksums, and that main is given no arguments.
+/// A word that main is given, behind the number of its bytes.
+fn push_argument(bytes: &mut Vec<u8>, word: &[u8]) -> Result<(), AllocError>
+    requires { length word.now < 2 ^ 32 }
+    ensures { OnOk result (bytes.new.items ≡ bytes.old.items ++ file.argument word.now) }
+{
+    push_number(bytes, word.len() as u32)?;
+    bytes.extend_from_slice(word)
+}
+
+/// Words, one behind another.
+fn push_words(bytes: &mut Vec<u8>, words: &[Vec<u8>]) -> Result<(), AllocError>
+    requires { AllByRecursion file.ArgumentFits (map vec_items words.now) }
+    ensures { OnOk result (bytes.new.items ≡ bytes.old.items ++ flat_map file.argument (map vec_items words.now)) }
+{
+    'words: for word in words {
+        push_argument(bytes, word.as_slice())?;
+    }
+    Ok(())
+}
+
+/// The words that main is given, behind their number.
+fn push_arguments(bytes: &mut Vec<u8>, words: &[Vec<u8>]) -> Result<(), AllocError>
+    requires { file.ArgumentsFit (map vec_items words.now) }
+    ensures { OnOk result (bytes.new.items ≡ bytes.old.items ++ file.argument_table (map vec_items words.now)) }
+{
+    push_number(bytes, words.len() as u32)?;
+    push_words(bytes, words)
+}
+
+/// Checksums, and the words that main is given.
 fn push_checksums(bytes: &mut Vec<u8>, checksums: &Checksums) -> Result<(), AllocError>
     ensures { OnOk result (bytes.new.items ≡ bytes.old.items ++ file.checksums checksums.now) }
 {
     push_longs(bytes, checksums.files())?;
     push_long(bytes, checksums.library())?;
-    push_number(bytes, 0)?;
+    push_arguments(bytes, checksums.arguments())?;
     Ok(())
 }
 

@@ -8,5 +8,6 @@ text_fault_name (faults.Entry line) = codes "Entry line " ++ decimal line
 text_fault_name (faults.Limits line) = codes "Limits line " ++ decimal line
 text_fault_name (faults.Lengths line) = codes "Lengths line " ++ decimal line
 text_fault_name (faults.Checksums line) = codes "Checksums line " ++ decimal line
+text_fault_name (faults.Arguments line) = codes "Arguments line " ++ decimal line
 text_fault_name (faults.TooMany line) = codes "TooMany line " ++ decimal line
 text_fault_name faults.OutOfMemory = codes "OutOfMemory"

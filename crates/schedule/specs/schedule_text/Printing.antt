@@ -2,7 +2,7 @@
 use Rattle.std.specs.Prelude.{◌≡◌, ◌+◌, ◌%◌, ℕ, List, [], ◌∷◌, ◌++◌, map, length, codes, Option, Some, None, ◌==◌, ◌||◌, if◌then◌else◌, decimal, refl}
 use Rattle.model.specs.declared.event.ScheduleEntry.{ScheduleEntry}
 use Rattle.schedule.specs.Files.{Checksums, Recording}
-use Rattle.schedule.specs.schedule_text.Text.{entry_word, hex_word, limit_words}
+use Rattle.schedule.specs.schedule_text.Text.{argument_word, entry_word, hex_word, limit_words}
 
 -- What stands behind a word, by its place, counted from 0, and the number of words left: a line feed behind each 16th
 -- word and the last one, and a space behind each other one.
@@ -22,10 +22,15 @@ in_lines words = laid_out 0 words
 abbrev pub printed_library : ℕ → List ℕ
 printed_library library = if library == 0 then [] else codes "#library " ++ (hex_word library ++ 10 ∷ [])
 
--- checksums, if they are told
+-- the words that main is given, if it is given any
+abbrev pub printed_arguments : List (List ℕ) → List ℕ
+printed_arguments [] = []
+printed_arguments (argument ∷ arguments) = codes "#arguments " ++ in_lines (map argument_word (argument ∷ arguments))
+
+-- checksums, if they are told, and the words that main is given
 abbrev pub printed_checksums : Option Checksums → List ℕ
 printed_checksums None = []
-printed_checksums (Some c) = codes "#checksums " ++ (in_lines (map hex_word c.files) ++ printed_library c.library)
+printed_checksums (Some c) = codes "#checksums " ++ (in_lines (map hex_word c.files) ++ (printed_library c.library ++ printed_arguments c.arguments))
 
 -- with what a schedule was recorded, if that is told
 abbrev pub printed_recording : Option Recording → List ℕ

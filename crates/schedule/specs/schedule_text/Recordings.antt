@@ -9,6 +9,10 @@ BeginWith word words = (rest : List (List ℕ)) × (words ≡ word ∷ rest)
 abbrev pub EndLengths : List (List ℕ) → Type 0
 EndLengths words = BeginWith (codes "#events") words ⊎ BeginWith (codes "#checksums") words
 
--- behind checksums the events
+-- behind them the words that main is given, or the events
+abbrev pub EndChecksums : List (List ℕ) → Type 0
+EndChecksums words = BeginWith (codes "#events") words ⊎ BeginWith (codes "#arguments") words
+
+-- behind these words the events
 abbrev pub EndRecording : List (List ℕ) → Type 0
 EndRecording words = BeginWith (codes "#events") words

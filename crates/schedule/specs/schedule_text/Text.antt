@@ -2,6 +2,7 @@
 use Rattle.std.specs.Prelude.{◌≡◌, ℕ, List, [], ◌∷◌, ◌++◌, map, drop, codes, Option, Some, None, Bool, true, false, nat_lt, ◌==◌, ◌&&◌, ◌||◌, if◌then◌else◌, not, decimal, refl}
 use Rattle.std.specs.Str.{bytes_eq}
 use Rattle.byteorder.specs.Endian.{big_bytes}
+use Rattle.std.specs.List.{flat_map}
 use Rattle.hex.specs.Hex.{encode_lower, encode_with}
 use Rattle.model.specs.declared.event.ScheduleEntry.{ScheduleEntry}
 use Rattle.model.specs.declared.limits.Limits.{Limits}
@@ -111,10 +112,28 @@ hex_word n = encode_lower (big_bytes 8 n)
 abbrev pub library_words : ℕ → List (List ℕ)
 library_words library = if library == 0 then [] else codes "#library" ∷ hex_word library ∷ []
 
--- the checksum of each class file, if they are told
+-- whether a byte of a word that main is given stands for itself: those from `!` to `~` but `#` and `%`
+abbrev pub is_plain : ℕ → Bool
+is_plain b = nat_lt 32 b && nat_lt b 127 && not (b == 35) && not (b == 37)
+
+-- another one stands behind `%`, in two hexadecimal digits
+abbrev pub argument_byte : ℕ → List ℕ
+argument_byte b = if is_plain b then b ∷ [] else 37 ∷ encode_lower (b ∷ [])
+
+-- a word that main is given; the empty one is `%`
+abbrev pub argument_word : List ℕ → List ℕ
+argument_word [] = 37 ∷ []
+argument_word (b ∷ bs) = flat_map argument_byte (b ∷ bs)
+
+-- the words that main is given, where it is given any
+abbrev pub argument_words : List (List ℕ) → List (List ℕ)
+argument_words [] = []
+argument_words (argument ∷ arguments) = codes "#arguments" ∷ map argument_word (argument ∷ arguments)
+
+-- the checksum of each class file, if they are told, and the words that main is given
 abbrev pub checked_words : Option Checksums → List (List ℕ)
 checked_words None = []
-checked_words (Some c) = codes "#checksums" ∷ (map hex_word c.files ++ library_words c.library)
+checked_words (Some c) = codes "#checksums" ∷ (map hex_word c.files ++ (library_words c.library ++ argument_words c.arguments))
 
 -- what stands behind the lengths of the class files
 abbrev pub last_words : Option Checksums → List (List ℕ)
@@ -164,3 +183,7 @@ grown = refl
 a_checksum : hex_word 0x0123456789abcdef ≡ codes "0123456789abcdef"
 unfolding encode_with
 a_checksum = refl
+
+an_argument : argument_word (codes "a b#") ≡ codes "a%20b%23"
+unfolding encode_with
+an_argument = refl

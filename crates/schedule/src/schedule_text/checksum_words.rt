@@ -4,10 +4,11 @@ ghost use Rattle.std.specs.Prelude.{◌≡◌, ◌∷◌, ◌++◌, ◌<◌, ◌
 ghost use Rattle.std.specs.List.{AllByRecursion};
 ghost use Rattle.schedule.specs.Files as file;
 ghost use Rattle.schedule.specs.schedule_text.Outcomes.{Reads};
-ghost use Rattle.schedule.specs.schedule_text.Recordings.{EndRecording};
+ghost use Rattle.schedule.specs.schedule_text.Recordings.{EndChecksums, EndRecording};
 ghost use Rattle.schedule.specs.schedule_text.Text.{checked_words, hex_word, library_words};
 
 use crate::Checksums;
+use crate::schedule_text::argument_words::arguments;
 use crate::schedule_text::fault::TextFault;
 use crate::schedule_text::hex_words::hex_number;
 use crate::schedule_text::words::Words;
@@ -45,7 +46,7 @@ fn checksums(alloc: Global, count: usize, words: &mut Words<'_>) -> Result<Vec<u
 /// What a library adds: 0 where that isn't told. Where it is told, it is another number.
 fn library(words: &mut Words<'_>) -> Option<u64>
     ensures found { IfSome result (λ n. words.old ≡ library_words n ++ words.new) }
-    ensures only { (n : ℕ) (rest : List (List ℕ)) → n < 2 ^ 64 → EndRecording rest
+    ensures only { (n : ℕ) (rest : List (List ℕ)) → n < 2 ^ 64 → EndChecksums rest
         → words.old ≡ library_words n ++ rest
         → (result ≡ Some n) × (words.new ≡ rest) }
 {
@@ -57,7 +58,7 @@ fn library(words: &mut Words<'_>) -> Option<u64>
     if number == 0 { None } else { Some(number) }
 }
 
-/// The checksums of so many class files, where they are told.
+/// The checksums of so many class files, where they are told, and the words that main is given.
 pub(crate) fn checked(
     alloc: Global,
     count: usize,
@@ -76,5 +77,6 @@ pub(crate) fn checked(
     let Some(library) = library(words) else {
         return Err(TextFault::Checksums(words.line()));
     };
-    Ok(Some(Checksums::new(files, library)))
+    let arguments = arguments(alloc, words)?;
+    Ok(Some(Checksums::new(files, library, arguments)))
 }

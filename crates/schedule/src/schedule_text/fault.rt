@@ -18,6 +18,8 @@ pub enum TextFault {
     Lengths(u64),
     /// Behind `#checksums` there are not as many as lengths, or `#library` has no checksum, or `#events` is missing.
     Checksums(u64),
+    /// Behind `#arguments` there is no word, or a word is none that main may be given.
+    Arguments(u64),
     /// There are more entries or lengths than a schedule may have.
     TooMany(u64),
     OutOfMemory,
@@ -36,6 +38,7 @@ impl fmt::Display for TextFault {
             TextFault::Limits(line) => write!(f, "Limits line {line}"),
             TextFault::Lengths(line) => write!(f, "Lengths line {line}"),
             TextFault::Checksums(line) => write!(f, "Checksums line {line}"),
+            TextFault::Arguments(line) => write!(f, "Arguments line {line}"),
             TextFault::TooMany(line) => write!(f, "TooMany line {line}"),
             TextFault::OutOfMemory => f.write_str("OutOfMemory"),
         }

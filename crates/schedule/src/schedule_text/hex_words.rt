@@ -1,6 +1,7 @@
 //! Numbers of 64 bits in sixteen hexadecimal digits.
 
-ghost use Rattle.std.specs.Prelude.{◌≡◌, ◌<◌, ◌^◌, ◌++◌, ℕ, Some, IfSome, OnOk};
+ghost use Rattle.std.specs.Prelude.{◌≡◌, ◌<◌, ◌^◌, ◌++◌, ◌∷◌, [], ℕ, Some, IfSome, OnOk};
+ghost use Rattle.hex.specs.Hex.{encode_lower};
 ghost use Rattle.schedule.specs.schedule_text.Text.{hex_word as word_of};
 
 use byteorder::{BigEndian, ByteOrder};
@@ -30,6 +31,32 @@ pub(crate) fn hex_number(word: &[u8]) -> Option<u64>
     let number = BigEndian::read_u64(&bytes);
     if hex_word(number).as_slice() == word {
         Some(number)
+    } else {
+        None
+    }
+}
+
+/// The digits of a byte, the letters small.
+pub(crate) fn hex_digits(byte: u8) -> [u8; 2]
+    ensures { result ≡ encode_lower (byte ∷ []) }
+{
+    let mut digits = [0u8; 2];
+    let _ = hex::encode_to_slice(&[byte], &mut digits);
+    digits
+}
+
+/// The byte that two digits spell so.
+pub(crate) fn hex_byte(digits: &[u8]) -> Option<u8>
+    ensures found { IfSome result (λ b. digits.now ≡ encode_lower (b ∷ [])) }
+    ensures only { (b : ℕ) → b < 256 → digits.now ≡ encode_lower (b ∷ []) → result ≡ Some b }
+{
+    let mut bytes = [0u8; 1];
+    match hex::decode_to_slice(digits, &mut bytes) {
+        Ok(()) => {}
+        Err(_) => return None,
+    }
+    if hex_digits(bytes[0]).as_slice() == digits {
+        Some(bytes[0])
     } else {
         None
     }

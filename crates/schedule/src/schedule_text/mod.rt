@@ -31,6 +31,7 @@
 //!
 //! - Shown by cases alone: which fault of a text is answered, and its line.
 
+mod argument_words;
 mod checksum_words;
 mod command_word;
 mod either;

@@ -1,13 +1,14 @@
 //! Writing the text of a schedule.
 
-ghost use Rattle.std.specs.Prelude.{◌≡◌, ◌++◌, ◌∷◌, [], Some, map, IfOk, OnOk, decimal};
+ghost use Rattle.std.specs.Prelude.{◌≡◌, ◌++◌, ◌∷◌, [], Some, map, vec_items, IfOk, OnOk, decimal};
 ghost use Rattle.std.specs.Option.{option_map};
 ghost use Rattle.schedule.specs.Files.{RecordedFits, RecordingFits};
 ghost use Rattle.schedule.specs.schedule_text.Printing as printing;
-ghost use Rattle.schedule.specs.schedule_text.Printing.{in_lines, printed_checksums, printed_library, printed_recording, printed_schedule};
-ghost use Rattle.schedule.specs.schedule_text.Text.{SpellsSchedule, entry_word, hex_word, limit_words, unless_usual};
+ghost use Rattle.schedule.specs.schedule_text.Printing.{in_lines, printed_arguments, printed_checksums, printed_library, printed_recording, printed_schedule};
+ghost use Rattle.schedule.specs.schedule_text.Text.{SpellsSchedule, argument_byte, argument_word, entry_word, hex_word, limit_words, unless_usual};
 
-use crate::schedule_text::hex_words::push_hex_word;
+use crate::schedule_text::argument_words::is_plain;
+use crate::schedule_text::hex_words::{hex_digits, push_hex_word};
 use crate::schedule_text::numbers::push_number;
 use crate::{Checksums, Recording, Schedule};
 use model::{Limits, ScheduleEntry};
@@ -119,13 +120,62 @@ fn push_library(text: &mut Vec<u8>, library: u64) -> Result<(), AllocError>
     Ok(())
 }
 
+/// A byte of a word that main is given.
+fn push_argument_byte(text: &mut Vec<u8>, byte: u8) -> Result<(), AllocError>
+    ensures { OnOk result (text.new.items ≡ text.old.items ++ argument_byte byte) }
+{
+    if is_plain(byte) {
+        text.push(byte)?;
+        return Ok(());
+    }
+    text.push(b'%')?;
+    text.extend_from_slice(&hex_digits(byte))
+}
+
+/// A word that main is given.
+fn push_argument(text: &mut Vec<u8>, argument: &[u8]) -> Result<(), AllocError>
+    ensures { OnOk result (text.new.items ≡ text.old.items ++ argument_word argument.now) }
+{
+    if argument.is_empty() {
+        text.push(b'%')?;
+        return Ok(());
+    }
+    'bytes: for byte in argument {
+        push_argument_byte(text, *byte)?;
+    }
+    Ok(())
+}
+
+/// Words that main is given, in lines.
+fn push_argument_words(text: &mut Vec<u8>, arguments: &[Vec<u8>]) -> Result<(), AllocError>
+    ensures { OnOk result (text.new.items ≡ text.old.items ++ in_lines (map argument_word (map vec_items arguments.now))) }
+{
+    'arguments: for place in 0..arguments.len() {
+        let left = arguments.len() - 1 - place;
+        push_argument(text, arguments[place].as_slice())?;
+        text.push(gap_after(place, left))?;
+    }
+    Ok(())
+}
+
+/// The words that main is given, where it is given any.
+fn push_arguments(text: &mut Vec<u8>, arguments: &[Vec<u8>]) -> Result<(), AllocError>
+    ensures { OnOk result (text.new.items ≡ text.old.items ++ printed_arguments (map vec_items arguments.now)) }
+{
+    if arguments.is_empty() {
+        return Ok(());
+    }
+    text.extend_from_slice(b"#arguments ")?;
+    push_argument_words(text, arguments)
+}
+
 fn push_checksums(text: &mut Vec<u8>, checksums: &Checksums) -> Result<(), AllocError>
     ensures { OnOk result (text.new.items ≡ text.old.items ++ printed_checksums (Some checksums.now)) }
 {
     text.extend_from_slice(b"#checksums ")?;
     push_hex_words(text, checksums.files())?;
     push_library(text, checksums.library())?;
-    Ok(())
+    push_arguments(text, checksums.arguments())
 }
 
 fn push_checked(text: &mut Vec<u8>, checksums: Option<&Checksums>) -> Result<(), AllocError>
