@@ -20,7 +20,7 @@ SPECS, TABLES = ROOT / "crates/model/specs", ROOT / "crates/class_tree/src/built
 WIDTH, LINES = 120, 450
 
 # How many classes a part of the tables has at most, and how many bytes of code a class has that doesn't begin one.
-CLASSES_OF_A_PART, LITTLE_CODE = 8, 60
+CLASSES_OF_A_PART, LITTLE_CODE = 8, 80
 
 # Flags by their names in `BuiltInForm`, and the name of a member that stands often.
 CLASS_FLAGS = {0x0021: "public_class", 0x0031: "final_class", 0x0421: "abstract_class", 0x0601: "public_interface"}

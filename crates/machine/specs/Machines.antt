@@ -12,6 +12,7 @@ use Rattle.model.specs.Outcomes.{Cost}
 use Rattle.model.specs.State.{StateOf}
 use Rattle.model.specs.Step.{NotEnabled, Next, stepped}
 use Rattle.linked_code.specs.declared.program.LinkedProgram.{LinkedProgram}
+use Rattle.linked_code.specs.Programs.{arguments_of}
 use Rattle.thread_stacks.specs.Stacks.{ShownEntry}
 use Rattle.machine_state.specs.declared.answers.Answer.{Answer}
 use Rattle.machine_state.specs.declared.refusals.EventRefusal.{EventRefusal}
@@ -55,12 +56,12 @@ pub record IsProgramOf (trees : Program) (p : LinkedProgram) : Type 0 where
   pub accepted : IsAccepted files trees
   pub program : IsProgram trees p
 
--- the machine of a program before any event, with no lock inflated
+-- the machine of a program, with its arguments, before any event, with no lock inflated
 abbrev pub Opens : LinkedProgram → Limits → MachineOf → Type 0
 Opens p limits m =
     (m ≡ record { program = p; limits = limits; shared = m.shared })
     × ((files : List (List ℕ)) (trees : Program) → IsAccepted files trees → IsProgram trees p
-    → Shows m files trees [] (opening words trees))
+    → Shows m files trees [] (opening words trees (arguments_of p)))
 
 -- Whatever state of whatever files was shown, the answer tells what becomes of it by the event, and that state is shown: the program
 -- and the limits stay.
@@ -88,7 +89,7 @@ pub record IsDoneAgain (trees : Program) (bounds : Bounds) (event : Event) (infl
     (then : StateOf ℕ) : Type 0 where
   pub cost : Cost
   pub is : stepped words trees bounds.frames state event ≡ Next cost then
-  pub within : limit_of trees bounds inflated state.world cost ≡ None
+  pub within : limit_of bounds inflated state.world cost ≡ None
   pub locks : inflated_then ≡ inflated_by cost inflated
 
 -- so many times it leads from a state to another, the last time outermost

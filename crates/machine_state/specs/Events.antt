@@ -39,14 +39,14 @@ abbrev pub AreStacksAdded : Shared → Shared → Type 0
 AreStacksAdded old new = AreOthersKept old new ⊎ IsOneStarted old new
 
 -- the limit that stands where an event takes something
-abbrev pub limit_of : Program → Bounds → List ℕ → WorldOf ℕ → Cost → Option RunCause
-limit_of trees bounds inflated world cost = limit_in trees bounds (is_crowded bounds.monitors inflated) world cost
+abbrev pub limit_of : Bounds → List ℕ → WorldOf ℕ → Cost → Option RunCause
+limit_of bounds inflated world cost = limit_in bounds (is_crowded bounds.monitors inflated) world cost
 
 -- What is shown is the part after the event: no limit stood, the object whose monitor it takes is there, and the fat locks are those
 -- before it, with the one that it makes fat.
 pub record HasBecome (trees : Program) (p : LinkedProgram) (bounds : Bounds) (inflated : List ℕ) (world : WorldOf ℕ) (cost : Cost)
     (next : PartOf ℕ) (old new : Shared) (to : List ShownEntry) : Type 0 where
-  pub within : limit_of trees bounds inflated world cost ≡ None
+  pub within : limit_of bounds inflated world cost ≡ None
   pub there : IsOneOf cost (length old.heap.locks.monitors)
   pub represents : Represents trees p bounds new next.world
   pub stack : ShowsStack trees p to next.stack
@@ -56,7 +56,7 @@ pub record HasBecome (trees : Program) (p : LinkedProgram) (bounds : Bounds) (in
 -- an enabled event may be refused for want of memory, if it takes some, and else at a limit that stands
 abbrev pub MayBeRefused : Program → Bounds → List ℕ → WorldOf ℕ → Cost → (takes_memory : Bool) → EventRefusal → Type 0
 MayBeRefused trees bounds inflated world cost takes_memory refusal.Memory = takes_memory ≡ true
-MayBeRefused trees bounds inflated world cost takes_memory told = limit_of trees bounds inflated world cost ≡ limit_told told
+MayBeRefused trees bounds inflated world cost takes_memory told = limit_of bounds inflated world cost ≡ limit_told told
 
 pub record IsDone (trees : Program) (p : LinkedProgram) (bounds : Bounds) (inflated : List ℕ) (world : WorldOf ℕ)
     (stepped : SteppedOf (PartOf ℕ)) (old new : Shared) (to : List ShownEntry) : Type 0 where

@@ -5,7 +5,7 @@ use Rattle.model.specs.Classes.{Program, name_of}
 use Rattle.model.specs.Linkable.{IsLinkable}
 use Rattle.model.specs.State as model
 use Rattle.model.specs.State.{StackOf, WorldOf, StateOf}
-use Rattle.model.specs.LimitStands.{Bounds, opening_count, cells_made}
+use Rattle.model.specs.LimitStands.{Bounds, cells_made}
 use Rattle.model.specs.ClassInitialisation.{status_of}
 use Rattle.model.specs.Words.{AreWellTypedWords}
 use Rattle.run_laws.specs.monitor_counts.Counts.{is_inflated, AreMonitorsCounted}
@@ -56,17 +56,20 @@ AreInitialised trees ready world =
 
 pub record ShowsWorld (trees : Program) (p : LinkedProgram) (shared : Shared) (world : WorldOf ℕ) : Type 0 where
   pub objects : ShowsObjects trees p.components.items shared.heap.objects world.heap
-  pub counted : shared.heap.counted ≡ cells_made trees world
+  pub counted : shared.heap.counted ≡ cells_made world
   pub monitors : shared.heap.locks.monitors ≡ world.monitors
   pub statics : ShowsStatics trees shared.statics.items world.statics
   pub statuses : ShowsStatuses trees shared.statuses.items world.classes
   pub ready : AreInitialised trees shared.ready.items world
   pub threads : shared.threads.threads ≡ world.threads
   pub printed : shared.printed.items ≡ world.printed
+  pub interned : shared.interned.items ≡ world.interned
+  pub unnamed : shared.unnamed ≡ world.unnamed
 
--- the machine's limits are those of the run; that of frames is the machine's own
-pub record HasBounds (trees : Program) (bounds : Bounds) (shared : Shared) : Type 0 where
-  pub opening : shared.heap.opening ≡ opening_count trees
+-- the machine's limits are those of the run, and hold for what is behind the objects of the opening state; that of frames is the
+-- machine's own
+pub record HasBounds (bounds : Bounds) (shared : Shared) (world : WorldOf ℕ) : Type 0 where
+  pub opening : shared.heap.opening ≡ world.opened
   pub objects : shared.heap.object_limit ≡ bounds.objects
   pub cells : shared.heap.cell_limit ≡ bounds.cells
   pub monitors : shared.heap.locks.limit ≡ bounds.monitors
@@ -74,7 +77,7 @@ pub record HasBounds (trees : Program) (bounds : Bounds) (shared : Shared) : Typ
 
 pub record Represents (trees : Program) (p : LinkedProgram) (bounds : Bounds) (shared : Shared) (world : WorldOf ℕ) : Type 0 where
   pub world_is : ShowsWorld trees p shared world
-  pub limits : HasBounds trees bounds shared
+  pub limits : HasBounds bounds shared world
 
 -- ---- a state
 

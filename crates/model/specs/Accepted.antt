@@ -6,6 +6,7 @@ use Rattle.model.specs.Linkable.{IsLinkable}
 use Rattle.model.specs.Typing.{AreTyped}
 use Rattle.model.specs.State.{State}
 use Rattle.model.specs.Run.{run}
+use Rattle.model.specs.Texts.{Text}
 use Rattle.model.specs.WrongKind.{has_wrong_kind}
 
 -- the files are class files with these trees, no condition of linking stands in them, and each method with code has a typing
@@ -13,9 +14,9 @@ pub record IsAccepted (files : List (List ℕ)) (trees : Program) : Type 0 where
   pub linkable : IsLinkable files trees
   pub typed : AreTyped trees
 
--- What is to be shown of them: whatever the events, no thread of a state that a run of accepted files reaches meets an operand
+-- What is to be shown of them: whatever the arguments and the events, no thread of a state that a run of accepted files reaches meets an operand
 -- of a wrong kind.
 abbrev pub IsSound : Type 0
 IsSound =
-    (files : List (List ℕ)) (trees : Program) → IsAccepted files trees → (frames : ℕ) (events : List Event) (state : State)
-    → run trees frames events ≡ Some state → (t : ℕ) → IsFalse (has_wrong_kind trees state t)
+    (files : List (List ℕ)) (trees : Program) → IsAccepted files trees → (arguments : List Text) (frames : ℕ) (events : List Event) (state : State)
+    → run trees arguments frames events ≡ Some state → (t : ℕ) → IsFalse (has_wrong_kind trees state t)

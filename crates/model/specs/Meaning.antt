@@ -16,6 +16,7 @@ use Rattle.model.specs.Meanings.{MeaningOf, Site, site_at, meaning_of}
 use Rattle.model.specs.Step.{ops_of, initial_class}
 use Rattle.model.specs.Report.{ThreadEnd, Ended, Threw, Blocked, Waiting, Joining, Initialising, Runnable, report_text}
 use Rattle.model.specs.Run.{run, may_step}
+use Rattle.model.specs.Texts.{Text}
 
 -- the class of an object that is no array
 abbrev pub class_name_in : {A : Type 0} → ObjectOf A → Name
@@ -79,6 +80,6 @@ abbrev pub thread_ends : Program → ℕ → State → List ThreadEnd
 thread_ends files frames s = ends_from files frames s 0 s.world.threads
 
 -- the text of the report after the events, which ended for this reason
-abbrev pub meaning : Program → ℕ → List Event → End → Option (List ℕ)
-meaning files frames events end =
-    option_map (λ (s : State). report_text s.world.printed (thread_ends files frames s) (length events) end) (run files frames events)
+abbrev pub meaning : Program → List Text → ℕ → List Event → End → Option (List ℕ)
+meaning files arguments frames events end =
+    option_map (λ (s : State). report_text s.world.printed (thread_ends files frames s) (length events) end) (run files arguments frames events)

@@ -1,18 +1,20 @@
--- The opening state of a program (own): the objects, fields and classes that there are before any event.
+-- The opening state of a program and of the arguments of its main (own): the objects, fields and classes that there are before any event.
 use Rattle.std.specs.Prelude.{if◌then◌else◌, ℕ, ◌+◌, List, [], ◌∷◌, ◌++◌, map, filter, length}
 use Rattle.std.specs.List.{flat_map, position_or_len}
 use Rattle.model.specs.BuiltInNumbers.{first_class_reference}
-use Rattle.model.specs.Names.{Name, name_eq, Member, java_lang_class, java_lang_string, java_lang_thread, java_io_print_stream}
+use Rattle.model.specs.Names.{Name, name_eq, Member, thread_name, java_lang_class, java_lang_string, java_lang_thread, java_io_print_stream}
 use Rattle.model.specs.Tree.{FileTree}
 use Rattle.model.specs.Classes.{Program, name_of, is_named, classes_of}
 use Rattle.model.specs.ReferenceTypes.{ClassType}
 use Rattle.model.specs.DescribedTypes.{DeclaredType, DeclaredInt, DeclaredReference, field_declared}
 use Rattle.model.specs.Lookup.{is_static_field, field_member, instance_fields}
-use Rattle.model.specs.StringConstants.{string_texts}
-use Rattle.model.specs.Texts.{decoded}
-use Rattle.model.specs.Operands.{Carrier}
+use Rattle.model.specs.StringConstants.{string_texts, main_text}
+use Rattle.model.specs.Rows.{counting}
+use Rattle.model.specs.Texts.{Text, decoded}
+use Rattle.model.specs.Operands.{Carrier, values}
 use Rattle.model.specs.State.{ObjectOf, Instance, References, Characters, NotInitialised, StateOf, new_thread}
 use Rattle.model.specs.Monitors.{unlocked}
+use Rattle.model.specs.Worlds.{with_field}
 
 -- ---- fields and what they begin with (JVMS 2.3, 2.4)
 
@@ -48,7 +50,7 @@ static_fields files = flat_map static_fields_in files
 abbrev pub print_stream_reference : ℕ
 print_stream_reference = 0
 
--- the empty array that main gets
+-- the array of the arguments, which main gets
 abbrev pub arguments_reference : ℕ
 arguments_reference = 1
 
@@ -63,33 +65,53 @@ class_reference files name = first_class_reference + position_or_len (is_named n
 abbrev pub string_reference : Program → List ℕ → ℕ
 string_reference files text = first_class_reference + length (classes_of files) + position_or_len (name_eq text) (string_texts files)
 
+-- the Strings of all constants, in their order
+abbrev pub string_references : Program → List ℕ
+string_references files = counting (first_class_reference + length (classes_of files)) (length (string_texts files))
+
 -- the PrintStream of System.err, behind the Strings
 abbrev pub error_stream_reference : Program → ℕ
 error_stream_reference files = first_class_reference + length (classes_of files) + length (string_texts files)
 
--- the PrintStream of System.out, the arguments, the Thread of main, a Class for each class, a String for each text, and the
--- PrintStream of System.err
-unfoldable pub opening_heap : {A : Type 0} → Carrier A → Program → List (ObjectOf A)
-opening_heap C files =
+-- the Thread of main, which has a name
+abbrev pub main_thread_object : {A : Type 0} → Carrier A → Program → ObjectOf A
+main_thread_object C files = with_field thread_name (C.reference (string_reference files main_text)) (new_instance C files java_lang_thread)
+
+-- the Strings of the arguments, in their order: each has one of its own, behind all other objects
+abbrev pub argument_references : Program → List Text → List ℕ
+argument_references files arguments = counting (error_stream_reference files + 1) (length arguments)
+
+-- the PrintStream of System.out, the arguments, the Thread of main, a Class for each class, a String for each text, the PrintStream
+-- of System.err, and a String for each argument
+unfoldable pub opening_heap : {A : Type 0} → Carrier A → Program → List Text → List (ObjectOf A)
+opening_heap C files arguments =
     Instance java_io_print_stream []
-    ∷ References (ClassType java_lang_string) []
-    ∷ new_instance C files java_lang_thread
+    ∷ References (ClassType java_lang_string) (map C.reference (argument_references files arguments))
+    ∷ main_thread_object C files
     ∷ (map (λ file. Instance java_lang_class []) (classes_of files)
-    ++ (map (λ bytes. Characters (decoded bytes)) (string_texts files) ++ Instance java_io_print_stream [] ∷ []))
+    ++ (map (λ bytes. Characters (decoded bytes)) (string_texts files)
+    ++ Instance java_io_print_stream [] ∷ map (λ text. Characters text) arguments))
+
+-- how many objects there are
+abbrev pub opening_count : Program → List Text → ℕ
+opening_count files arguments = length (opening_heap values files arguments)
 
 -- ---- the state
 
 -- the main thread alone, which has not begun; no class of a file is initialised (JVMS 5.5), and no monitor is owned
-abbrev pub opening : {A : Type 0} → Carrier A → Program → StateOf A
-opening C files =
+abbrev pub opening : {A : Type 0} → Carrier A → Program → List Text → StateOf A
+opening C files arguments =
     record {
       world = record {
-        heap = opening_heap C files;
+        heap = opening_heap C files arguments;
         statics = map (with_first C) (static_fields files);
         classes = map (λ file. (name_of file, NotInitialised)) files;
-        monitors = map (λ object. unlocked) (opening_heap C files);
+        monitors = map (λ object. unlocked) (opening_heap C files arguments);
         threads = new_thread main_thread_reference ∷ [];
         printed = [];
+        interned = [];
+        unnamed = 0;
+        opened = opening_count files arguments;
       };
       stacks = [] ∷ [];
     }

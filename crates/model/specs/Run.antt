@@ -1,4 +1,4 @@
--- Runs: a list of events from the opening state.
+-- Runs: a list of events from the opening state of files and arguments.
 use Rattle.std.specs.Prelude.{ℕ, List, [], ◌∷◌, Option, Some, Bool, not, length}
 use Rattle.std.specs.Option.{option_and_then}
 use Rattle.std.specs.List.{list_all}
@@ -9,6 +9,7 @@ use Rattle.model.specs.Operands.{values}
 use Rattle.model.specs.State.{State}
 use Rattle.model.specs.Opening.{opening}
 use Rattle.model.specs.Step.{is_enabled, step}
+use Rattle.model.specs.Texts.{Text}
 
 -- the state after the events; none from the first on that has no step
 abbrev pub run_from : Program → ℕ → State → List Event → Option State
@@ -16,8 +17,8 @@ run_from files frames state [] = Some state
 run_from files frames state (event ∷ events) = option_and_then (λ next. run_from files frames next events) (step files frames state event)
 
 -- the state after the events, from the opening state
-abbrev pub run : Program → ℕ → List Event → Option State
-run files frames events = run_from files frames (opening values files) events
+abbrev pub run : Program → List Text → ℕ → List Event → Option State
+run files arguments frames events = run_from files frames (opening values files arguments) events
 
 -- whether a thread has an event that is enabled: where one with a pick is, so is the one with pick 0
 abbrev pub may_step : Program → ℕ → State → ℕ → Bool

@@ -168,9 +168,9 @@ are_wait_sets threads object (monitor ∷ monitors) =
 pub record Extends (before after : List ReferenceType) : Type 0 where
   pub keeps : (r : ℕ) (t : ReferenceType) → slice_get before r ≡ Some t → slice_get after r ≡ Some t
 
--- the objects of the opening state are there; each object has a monitor
+-- the objects that every opening state has are there; each object has a monitor
 pub record IsWellTyped (files : Program) (state : State) : Type 0 where
-  pub opened : Extends (types_of (opening_heap values files)) (types_of state.world.heap)
+  pub opened : Extends (types_of (opening_heap values files [])) (types_of state.world.heap)
   pub heap : IsTrue (list_all (is_object_typed files (types_of state.world.heap)) state.world.heap)
   pub statics : IsTrue (list_all (is_field_typed files (types_of state.world.heap)) state.world.statics)
   pub monitors : length state.world.monitors ≡ length state.world.heap

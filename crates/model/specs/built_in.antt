@@ -1,5 +1,6 @@
 pub mod Object
 pub mod Thread
+pub mod StringCode
 pub mod String
 pub mod Class
 pub mod System

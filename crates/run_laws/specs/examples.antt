@@ -24,10 +24,12 @@ pub mod TypeJoins
 pub mod Typings
 pub mod FrameTypes
 pub mod StringTypings
+pub mod PrintStreamTypings
 pub mod ThrowableTypings
 pub mod StringBuilderTypings
 pub mod BuiltInTypings
 pub mod Constructors
+pub mod FormatListing
 pub mod StringListing
 pub mod BuiltInListings
 pub mod BuiltInMembers

@@ -22,6 +22,10 @@ public class PrintStream {
         println(String.valueOf(value));
     }
 
+    public void println(char[] units) {
+        println(String.valueOf(units));
+    }
+
     public void println(Object object) {
         println(String.valueOf(object));
     }
@@ -30,10 +34,24 @@ public class PrintStream {
         print(String.valueOf(value));
     }
 
+    public void print(char[] units) {
+        print(String.valueOf(units));
+    }
+
     public void print(Object object) {
         print(String.valueOf(object));
     }
 
     /** What is printed stands in the text at once. */
     public void flush() {}
+
+    public PrintStream printf(String format, Object[] arguments) {
+        return format(format, arguments);
+    }
+
+    /** The whole text is printed at once. */
+    public PrintStream format(String format, Object[] arguments) {
+        print(String.format(format, arguments));
+        return this;
+    }
 }

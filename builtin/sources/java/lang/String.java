@@ -2,7 +2,15 @@ package java.lang;
 
 /** A text that never changes (JLS 4.3.3). */
 public final class String implements Comparable, CharSequence {
-    private String() {}
+    public String() {}
+
+    public String(String other) {}
+
+    public String(char[] units, int offset, int count) {}
+
+    public String(char[] units) {
+        this(units, 0, units.length);
+    }
 
     public native int length();
 
@@ -22,6 +30,10 @@ public final class String implements Comparable, CharSequence {
 
     public native boolean regionMatches(int at, String other, int from, int count);
 
+    public native void getChars(int begin, int end, char[] units, int at);
+
+    public native String intern();
+
     public static native String valueOf(int number);
 
     public static native String valueOf(char unit);
@@ -35,6 +47,178 @@ public final class String implements Comparable, CharSequence {
 
     public static String valueOf(boolean value) {
         return value ? "true" : "false";
+    }
+
+    public static String valueOf(char[] units) {
+        return new String(units, 0, units.length);
+    }
+
+    public static String valueOf(char[] units, int offset, int count) {
+        return new String(units, offset, count);
+    }
+
+    public static String copyValueOf(char[] units) {
+        return new String(units, 0, units.length);
+    }
+
+    public static String copyValueOf(char[] units, int offset, int count) {
+        return new String(units, offset, count);
+    }
+
+    /** The texts of the elements, of a null `null`, with the separator between each two. */
+    public static String join(CharSequence separator, CharSequence[] elements) {
+        String between = separator.toString();
+        StringBuilder joined = new StringBuilder();
+        for (int at = 0; at < elements.length; at++) {
+            if (at > 0) {
+                joined.append(between);
+            }
+            joined.append(elements[at]);
+        }
+        return joined.toString();
+    }
+
+    public String[] split(String separator) {
+        return split(separator, 0);
+    }
+
+    /**
+     * The parts between the separators. The separator is a text, in which a backslash stands before each sign that a
+     * regular expression reads otherwise; `\\s+` is a run of white space, and no other regular expression is known.
+     */
+    public String[] split(String separator, int limit) {
+        boolean isSpace = separator.equals("\\s+");
+        StringBuilder read = new StringBuilder();
+        for (int at = 0; at < separator.length() && !isSpace; at++) {
+            char sign = separator.charAt(at);
+            boolean isSpecial = "\\.$|()[{^?*+".indexOf(sign, 0) >= 0;
+            if (sign == '\\' && ++at < separator.length()) {
+                sign = separator.charAt(at);
+                isSpecial = sign >= '0' && sign <= '9' || lower(sign) >= 'a' && lower(sign) <= 'z';
+            }
+            if (isSpecial) {
+                throw new IllegalArgumentException();
+            }
+            read.append(sign);
+        }
+        String literal = read.toString();
+        String[] parts = new String[length() + 1];
+        int count = 0;
+        int begin = 0;
+        int at = 0;
+        while (at <= length() && count != limit - 1) {
+            int end = at;
+            if (isSpace) {
+                while (end < length() && (charAt(end) == ' ' || charAt(end) >= '\t' && charAt(end) <= '\r')) {
+                    end++;
+                }
+            } else if (regionMatches(at, literal, 0, literal.length())) {
+                end += literal.length();
+            }
+            if (end > at || at > 0 && !isSpace && literal.isEmpty()) {
+                parts[count++] = substring(begin, at);
+                begin = end;
+            }
+            at = end > at ? end : at + 1;
+        }
+        parts[count++] = substring(begin, length());
+        while (limit == 0 && begin > 0 && count > 0 && parts[count - 1].isEmpty()) {
+            count--;
+        }
+        String[] found = new String[count];
+        for (int place = 0; place < count; place++) {
+            found[place] = parts[place];
+        }
+        return found;
+    }
+
+    /**
+     * The text of a format (java.util.Formatter): `%d`, `%s`, `%S`, `%c`, `%b`, `%x`, `%X`, `%n` and `%%`, with the
+     * number of an argument, `-` or `0`, and a width. `%d` shows each argument as `%s` does.
+     */
+    public static String format(String format, Object[] arguments) {
+        StringBuilder made = new StringBuilder();
+        int next = 0;
+        int begin = 0;
+        for (int at = format.indexOf('%', 0); at >= 0; at = format.indexOf('%', begin)) {
+            made.append(format.substring(begin, at));
+            int chosen = 0;
+            int width = 0;
+            char flag = ' ';
+            char sign = ' ';
+            boolean isRead = false;
+            while (!isRead) {
+                at++;
+                if (at == format.length() || width > 214748364) {
+                    throw new IllegalArgumentException();
+                }
+                sign = format.charAt(at);
+                if (width == 0 && flag == ' ' && (sign == '-' || sign == '0')) {
+                    flag = sign;
+                } else if (sign >= '0' && sign <= '9' && (width > 0 || sign > '0')) {
+                    width = width * 10 + (sign - '0');
+                } else if (sign == '$' && chosen == 0 && width > 0 && flag == ' ') {
+                    chosen = width;
+                    width = 0;
+                } else {
+                    isRead = true;
+                }
+            }
+            begin = at + 1;
+            boolean isNumber = sign == 'd' || sign == 'x' || sign == 'X';
+            if (width < 0 || width > 0 && sign == 'n' || width == 0 && flag != ' ' || flag == '0' && !isNumber
+                    || "dsScbxXn%".indexOf(sign, 0) < 0) {
+                throw new IllegalArgumentException();
+            }
+            String text;
+            if (sign == 'n') {
+                text = "\n";
+            } else if (sign == '%') {
+                text = "%";
+            } else {
+                chosen = chosen == 0 ? ++next : chosen;
+                if (arguments != null && chosen > arguments.length) {
+                    throw new IllegalArgumentException();
+                }
+                Object argument = arguments == null ? null : arguments[chosen - 1];
+                if (argument == null) {
+                    flag = flag == '0' ? ' ' : flag;
+                    text = sign == 'b' ? "false" : "null";
+                } else if (isNumber && sign != 'd') {
+                    text = hexadecimal(argument);
+                } else if (sign == 'b') {
+                    text = described(argument, 0).equals("java.lang.Boolean@0") ? argument.toString() : "true";
+                } else if (sign == 'c' && described(argument, 0).equals("java.lang.Integer@0")) {
+                    int unit = argument.hashCode();
+                    if (unit != (char) unit) {
+                        throw new IllegalArgumentException();
+                    }
+                    text = valueOf((char) unit);
+                } else if (sign == 'c' && !described(argument, 0).equals("java.lang.Character@0")) {
+                    throw new IllegalArgumentException();
+                } else {
+                    text = argument.toString();
+                }
+                if (sign == 'S' || sign == 'X') {
+                    text = text.toUpperCase();
+                }
+            }
+            if (flag == '0' && text.startsWith("-")) {
+                made.append('-');
+                text = text.substring(1, text.length());
+                width--;
+            }
+            if (flag == '-') {
+                made.append(text);
+            }
+            for (width -= text.length(); width > 0; width--) {
+                made.append(flag == '0' ? '0' : ' ');
+            }
+            if (flag != '-') {
+                made.append(text);
+            }
+        }
+        return made.append(format.substring(begin, format.length())).toString();
     }
 
     public boolean isEmpty() {
@@ -135,5 +319,93 @@ public final class String implements Comparable, CharSequence {
             end--;
         }
         return substring(begin, end);
+    }
+
+    public char[] toCharArray() {
+        char[] units = new char[length()];
+        getChars(0, units.length, units, 0);
+        return units;
+    }
+
+    public String replace(char old, char unit) {
+        if (old == unit || indexOf(old, 0) < 0) {
+            return this;
+        }
+        char[] units = toCharArray();
+        for (int at = 0; at < units.length; at++) {
+            if (units[at] == old) {
+                units[at] = unit;
+            }
+        }
+        return new String(units, 0, units.length);
+    }
+
+    /** Where the old text is empty, the other comes before each unit, and last. */
+    public String replace(CharSequence old, CharSequence other) {
+        String target = old.toString();
+        String replacement = other.toString();
+        int at = indexOf(target, 0);
+        if (at < 0) {
+            return this;
+        }
+        StringBuilder replaced = new StringBuilder();
+        int from = 0;
+        int step = target.isEmpty() ? 1 : target.length();
+        for (; at >= 0; at = at + step > length() ? -1 : indexOf(target, at + step)) {
+            replaced.append(substring(from, at)).append(replacement);
+            from = at + target.length();
+        }
+        return replaced.append(substring(from, length())).toString();
+    }
+
+    /** The receiver where it has none of the letters A to Z. */
+    public String toLowerCase() {
+        char[] units = toCharArray();
+        for (int at = 0; at < units.length; at++) {
+            units[at] = lower(units[at]);
+        }
+        String changed = new String(units, 0, units.length);
+        return equals(changed) ? this : changed;
+    }
+
+    /** The receiver where it has none of the letters a to z. */
+    public String toUpperCase() {
+        char[] units = toCharArray();
+        for (int at = 0; at < units.length; at++) {
+            char unit = units[at];
+            if (unit >= 'a' && unit <= 'z') {
+                units[at] = (char) (unit - ('a' - 'A'));
+            }
+        }
+        String changed = new String(units, 0, units.length);
+        return equals(changed) ? this : changed;
+    }
+
+    public boolean equalsIgnoreCase(String other) {
+        return other != null && length() == other.length() && compareToIgnoreCase(other) == 0;
+    }
+
+    public int compareToIgnoreCase(String other) {
+        int count = length() < other.length() ? length() : other.length();
+        for (int at = 0; at < count; at++) {
+            int difference = lower(charAt(at)) - lower(other.charAt(at));
+            if (difference != 0) {
+                return difference;
+            }
+        }
+        return length() - other.length();
+    }
+
+    /** A letter of A to Z as one of a to z, any other unit as it is. */
+    private static char lower(char unit) {
+        return unit >= 'A' && unit <= 'Z' ? (char) (unit + ('a' - 'A')) : unit;
+    }
+
+    /** The digits of an Integer (java.lang.Integer.toHexString). */
+    private static String hexadecimal(Object number) {
+        if (!described(number, 0).equals("java.lang.Integer@0")) {
+            throw new IllegalArgumentException();
+        }
+        return described(number, number.hashCode()).substring(18);
     }
 }

@@ -42,7 +42,7 @@ module _ (files : List (List ℕ)) (trees : Program) (accepted : IsAccepted file
   led (suc n) at lead locks next r =
       let so_far = led n at lead r.0 r.1 r.2 in
       let again = r.3 in
-      let on = leads_on files trees accepted bounds (before ++ replicate n event) r.1 so_far.lead event again.cost next again.is (subst (λ l. limit_of trees bounds l r.1.world again.cost ≡ None) so_far.locks_are again.within) in
+      let on = leads_on files trees accepted bounds (before ++ replicate n event) r.1 so_far.lead event again.cost next again.is (subst (λ l. limit_of bounds l r.1.world again.cost ≡ None) so_far.locks_are again.within) in
       record {
         lead = subst (λ l. LeadTo trees bounds l next) (snoc before n event) on.lead;
         locks_are = again.locks ∙ ap (inflated_by again.cost) so_far.locks_are ∙ sym on.inflated_are ∙ ap (inflated trees bounds.frames) (snoc before n event);

@@ -6,7 +6,7 @@ use Rattle.std.proofs.lemmas.Bool.{false≢true, and_parts}
 use Rattle.std.proofs.lemmas.Option.{slice_get-map}
 use Rattle.model.specs.Names.{Member}
 use Rattle.model.specs.Classes.{Program}
-use Rattle.model.specs.LimitStands.{Bounds, opening_count}
+use Rattle.model.specs.LimitStands.{Bounds}
 use Rattle.model.specs.ReferenceTypes.{ReferenceType}
 use Rattle.model.specs.Types.{Want}
 use Rattle.model.specs.Operands.{pops_meet}
@@ -80,13 +80,15 @@ module _ (trees : Program) (p : LinkedProgram) (bounds : Bounds) (old : Shared) 
       record {
         world_is = record {
           objects = shows;
-          counted = r.world_is.counted ∙ sym (counted (opening_count trees));
+          counted = r.world_is.counted ∙ sym (counted state.world.opened);
           monitors = r.world_is.monitors;
           statics = r.world_is.statics;
           statuses = r.world_is.statuses;
           ready = r.world_is.ready;
           threads = r.world_is.threads;
           printed = r.world_is.printed;
+          interned = r.world_is.interned;
+          unnamed = r.world_is.unnamed;
         };
         limits = record {
           opening = r.limits.opening;
@@ -111,6 +113,8 @@ module _ (trees : Program) (p : LinkedProgram) (bounds : Bounds) (old : Shared) 
           ready = r.world_is.ready;
           threads = r.world_is.threads;
           printed = r.world_is.printed;
+          interned = r.world_is.interned;
+          unnamed = r.world_is.unnamed;
         };
         limits = record {
           opening = r.limits.opening;

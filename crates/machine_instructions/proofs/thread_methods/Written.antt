@@ -5,7 +5,7 @@ use Rattle.std.proofs.lemmas.List.{get_or-set_same, length-set, set-set}
 use Rattle.std.proofs.lemmas.Option.{get_or_from_slice_get, slice_get_within, slice_get-get_or}
 use Rattle.model.specs.Names.{Name, Member}
 use Rattle.model.specs.Classes.{Program}
-use Rattle.model.specs.LimitStands.{Bounds, opening_count}
+use Rattle.model.specs.LimitStands.{Bounds}
 use Rattle.model.specs.Lookup.{instance_fields}
 use Rattle.model.specs.State.{ObjectOf, Instance, WorldOf}
 use Rattle.model.specs.Worlds.{cells_of, no_object, with_field, with_object, with_value, object_at}
@@ -36,13 +36,15 @@ module _ (trees : Program) (p : LinkedProgram) (bounds : Bounds) (world : WorldO
       record {
         world_is = record {
           objects = subst (λ ms. ShowsObjects trees p.components.items (put_field old.heap.objects reference slot value) ms) heap_is (f.written value);
-          counted = r.world_is.counted ∙ (sym (f.counted value (opening_count trees)) ∙ ap (λ heap. sum_by cells_of (drop (opening_count trees) heap)) heap_is);
+          counted = r.world_is.counted ∙ (sym (f.counted value world.opened) ∙ ap (λ heap. sum_by cells_of (drop world.opened heap)) heap_is);
           monitors = r.world_is.monitors;
           statics = r.world_is.statics;
           statuses = r.world_is.statuses;
           ready = r.world_is.ready;
           threads = r.world_is.threads;
           printed = r.world_is.printed;
+          interned = r.world_is.interned;
+          unnamed = r.world_is.unnamed;
         };
         limits = record {
           opening = r.limits.opening;

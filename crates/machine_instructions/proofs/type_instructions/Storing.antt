@@ -5,7 +5,7 @@ use Rattle.std.specs.Option.{option_and_then}
 use Rattle.std.proofs.lemmas.Bool.{and_parts, false≢true, lt-ltb, le-ltb}
 use Rattle.std.proofs.lemmas.Option.{get_or_from_slice_get}
 use Rattle.model.specs.Classes.{Program}
-use Rattle.model.specs.LimitStands.{Bounds, opening_count}
+use Rattle.model.specs.LimitStands.{Bounds}
 use Rattle.model.specs.ReferenceTypes.{ReferenceArray, is_assignable}
 use Rattle.model.specs.Types.{Want, AReference, AnInt}
 use Rattle.model.specs.Operands.{words, word_reference, over_words, pops_meet, is_ready}
@@ -196,15 +196,17 @@ module _ {trees : Program} {p : LinkedProgram} {bounds : Bounds} {inflated : Lis
                 (elements.written index word);
             counted =
                 is.lent.represents.world_is.counted
-                ∙ sym (ap (λ m. sum_by cells_of (drop (opening_count trees) (slice_set state.world.heap r m)))
+                ∙ sym (ap (λ m. sum_by cells_of (drop state.world.opened (slice_set state.world.heap r m)))
                 (ap (with_element index word) object_is ∙ sym (ap (λ v. with_element index v array.array) (array.keeps word)))
-                ∙ elements.counted index word (opening_count trees));
+                ∙ elements.counted index word state.world.opened);
             monitors = is.lent.represents.world_is.monitors;
             statics = is.lent.represents.world_is.statics;
             statuses = is.lent.represents.world_is.statuses;
             ready = is.lent.represents.world_is.ready;
             threads = is.lent.represents.world_is.threads;
             printed = is.lent.represents.world_is.printed;
+            interned = is.lent.represents.world_is.interned;
+            unnamed = is.lent.represents.world_is.unnamed;
           };
           limits = record {
             opening = is.lent.represents.limits.opening;

@@ -10,7 +10,7 @@ use Rattle.model.specs.Classes.{Program}
 use Rattle.model.specs.State.{ObjectOf, Characters, Monitor, WorldOf}
 use Rattle.model.specs.Monitors.{unlocked}
 use Rattle.model.specs.Worlds.{allocated, cells_of}
-use Rattle.model.specs.LimitStands.{Bounds, opening_count, objects_made, cells_made}
+use Rattle.model.specs.LimitStands.{Bounds, objects_made, cells_made}
 use Rattle.heap.specs.declared.refusal.AllocRefusal.TheVariants as refusal
 use Rattle.heap.specs.Heap as heap
 use Rattle.heap.specs.Heap.{Object, Heap, fresh, with_object, IsAllocated}
@@ -35,7 +35,7 @@ behind_one n objects object within =
 
 module _ (trees : Program) (p : LinkedProgram) (bounds : Bounds) (world : WorldOf ℕ) (old : Shared)
     (r : Represents trees p bounds old world) where
-  made_is : heap.made old.heap ≡ objects_made trees world
+  made_is : heap.made old.heap ≡ objects_made world
   made_is = λ i. counted trees p.components.items old.heap.objects world.heap r.world_is.objects i - r.limits.opening i
 
   -- ---- the limits
@@ -43,18 +43,18 @@ module _ (trees : Program) (p : LinkedProgram) (bounds : Bounds) (world : WorldO
   abbrev full : Bool → Bool → Option RunCause
   full objects cells = if objects then Some cause.Objects else if cells then Some cause.Cells else None
 
-  not_full : heap.made old.heap < old.heap.object_limit → nat_le bounds.objects (objects_made trees world) ≡ false
+  not_full : heap.made old.heap < old.heap.object_limit → nat_le bounds.objects (objects_made world) ≡ false
   not_full below = (λ i. nat_le (sym r.limits.objects i) (sym made_is i)) ∙ lt-leb old.heap.object_limit (heap.made old.heap) below
 
-  is_full : old.heap.object_limit ≤ heap.made old.heap → nat_le bounds.objects (objects_made trees world) ≡ true
+  is_full : old.heap.object_limit ≤ heap.made old.heap → nat_le bounds.objects (objects_made world) ≡ true
   is_full above = (λ i. nat_le (sym r.limits.objects i) (sym made_is i)) ∙ le-leb old.heap.object_limit (heap.made old.heap) above
 
-  cells_fit : (count : ℕ) → old.heap.counted + count ≤ old.heap.cell_limit
-      → nat_lt bounds.cells (cells_made trees world + count) ≡ false
+  pub cells_fit : (count : ℕ) → old.heap.counted + count ≤ old.heap.cell_limit
+      → nat_lt bounds.cells (cells_made world + count) ≡ false
   cells_fit count below = (λ i. nat_lt (sym r.limits.cells i) (sym r.world_is.counted i + count)) ∙ le-ltb old.heap.cell_limit (old.heap.counted + count) below
 
-  cells_pass : (count : ℕ) → old.heap.cell_limit < old.heap.counted + count
-      → nat_lt bounds.cells (cells_made trees world + count) ≡ true
+  pub cells_pass : (count : ℕ) → old.heap.cell_limit < old.heap.counted + count
+      → nat_lt bounds.cells (cells_made world + count) ≡ true
   cells_pass count above = (λ i. nat_lt (sym r.limits.cells i) (sym r.world_is.counted i + count)) ∙ lt-ltb old.heap.cell_limit (old.heap.counted + count) above
 
   -- ---- the object
@@ -62,7 +62,7 @@ module _ (trees : Program) (p : LinkedProgram) (bounds : Bounds) (world : WorldO
   abbrev with_one : Object → ℕ → Shared
   with_one one cells = record old { heap = with_object old.heap one cells }
 
-  opening_there : old.heap.opening ≤ length old.heap.objects → opening_count trees ≤ length world.heap
+  opening_there : old.heap.opening ≤ length old.heap.objects → world.opened ≤ length world.heap
   opening_there within =
       omega (arith, within, r.limits.opening, counted trees p.components.items old.heap.objects world.heap r.world_is.objects)
 
@@ -75,13 +75,15 @@ module _ (trees : Program) (p : LinkedProgram) (bounds : Bounds) (world : WorldO
           objects = added trees p.components.items old.heap.objects world.heap one object r.world_is.objects shows;
           counted =
               (λ i. r.world_is.counted i + cells_are i)
-              ∙ sym (behind_one (opening_count trees) world.heap object (opening_there within));
+              ∙ sym (behind_one (world.opened) world.heap object (opening_there within));
           monitors = ap (λ (ms : List Monitor). ms ++ unlocked ∷ []) r.world_is.monitors;
           statics = r.world_is.statics;
           statuses = r.world_is.statuses;
           ready = r.world_is.ready;
           threads = r.world_is.threads;
           printed = r.world_is.printed;
+          interned = r.world_is.interned;
+          unnamed = r.world_is.unnamed;
         };
         limits = record {
           opening = r.limits.opening;
@@ -112,9 +114,9 @@ made_one trees p bounds inflated world old new r one reference cells next fits o
     }
   where
     within_is : full trees p bounds world old
-        r (nat_le bounds.objects (objects_made trees world)) (nat_lt bounds.cells (cells_made trees world + cells)) ≡ None
+        r (nat_le bounds.objects (objects_made world)) (nat_lt bounds.cells (cells_made world + cells)) ≡ None
     within_is =
-        ap (λ (b : Bool). full trees p bounds world old r b (nat_lt bounds.cells (cells_made trees world + cells))) (not_full trees p bounds world old r objects)
+        ap (λ (b : Bool). full trees p bounds world old r b (nat_lt bounds.cells (cells_made world + cells))) (not_full trees p bounds world old r objects)
         ∙ ap (full trees p bounds world old r false) (cells_fit trees p bounds world old r cells room)
 
 pub made : AreMade
@@ -130,9 +132,9 @@ texts_made trees p bounds inflated world old new r text units fits opened object
 
 pub refused : AreRefused
 refused trees p bounds inflated world old new r count refusal.Objects why =
-    (ap (λ (b : Bool). full trees p bounds world old r b (nat_lt bounds.cells (cells_made trees world + count))) (is_full trees p bounds world old r why.0), why.1)
+    (ap (λ (b : Bool). full trees p bounds world old r b (nat_lt bounds.cells (cells_made world + count))) (is_full trees p bounds world old r why.0), why.1)
 refused trees p bounds inflated world old new r count refusal.Cells why = (
-  ap (λ (b : Bool). full trees p bounds world old r b (nat_lt bounds.cells (cells_made trees world + count))) (not_full trees p bounds world old r why.0)
+  ap (λ (b : Bool). full trees p bounds world old r b (nat_lt bounds.cells (cells_made world + count))) (not_full trees p bounds world old r why.0)
       ∙ ap (full trees p bounds world old r false) (cells_pass trees p bounds world old r count why.1),
   why.2,
 )

@@ -68,7 +68,7 @@ none_told call l w = λ i. if w.count i then Some cause.LockCount else if w.tabl
 
 -- what a refusal tells
 told_by_limit : (trees : Program) (bounds : Bounds) (inflated : List ℕ) (world : WorldOf ℕ) (cost : Cost) (told : MonitorRefusal)
-    → limit_of trees bounds inflated world cost ≡ limit_told (Err told) → (told ≡ refusal.Memory → takes_shared cost ≡ true)
+    → limit_of bounds inflated world cost ≡ limit_told (Err told) → (told ≡ refusal.Memory → takes_shared cost ≡ true)
     → MayBeRefused trees bounds inflated world cost (takes_shared cost) (of_monitors told)
 told_by_limit trees bounds inflated world cost refusal.Monitors e takes = e
 told_by_limit trees bounds inflated world cost refusal.LockCount e takes = e
@@ -122,7 +122,7 @@ module _ (trees : Program) (p : LinkedProgram) (bounds : Bounds) (inflated : Lis
   taken may = calls_taken.entries old.heap.locks inflated object t shows may
 
   limit_is : (enter object t old.heap.locks.monitors).answer ≡ answer.Done
-      → limit_of trees bounds inflated world (entry_cost world object) ≡ call_limit entry old.heap.locks
+      → limit_of bounds inflated world (entry_cost world object) ≡ call_limit entry old.heap.locks
   limit_is may =
       (λ i. entry_limit (is_crowded (sym s.represents.limits.monitors i) inflated object) (monitor_at (sym s.represents.world_is.monitors i) object).count) ∙ sym (taken may).refused
 
@@ -181,7 +181,7 @@ module _ (trees : Program) (p : LinkedProgram) (bounds : Bounds) (inflated : Lis
       (if is_crowded old.heap.locks.limit inflated object then Some cause.Monitors else None) wait old.heap.locks
   joined own = calls_taken.waits old.heap.locks inflated object t shows own
 
-  wait_limit : owns t m.owner ≡ true → limit_of trees bounds inflated world (Joins object) ≡ call_limit wait old.heap.locks
+  wait_limit : owns t m.owner ≡ true → limit_of bounds inflated world (Joins object) ≡ call_limit wait old.heap.locks
   wait_limit own = (λ i. if is_crowded (sym s.represents.limits.monitors i) inflated object then Some cause.Monitors else None) ∙ sym (joined own).refused
 
   waits : (result : Result Bool MonitorRefusal) → WaitsBy result object t old.heap new.heap old.threads new.threads

@@ -12,10 +12,10 @@ use Rattle.model.specs.Classes.{Program}
 use Rattle.model.specs.Operands.{words, values, word_of}
 use Rattle.model.specs.State.{ObjectOf, World, StateOf, State}
 use Rattle.model.specs.Opening.{opening_heap}
-use Rattle.model.specs.Outcomes.{Cost, Free, Makes, Starts, Enters, Joins}
+use Rattle.model.specs.Outcomes.{Cost, Free, Makes, Fills, Starts, Enters, Joins}
 use Rattle.model.specs.Step.{SteppedOf, NotEnabled, WrongKind, Next, stepped}
 use Rattle.model.specs.Run.{run}
-use Rattle.model.specs.LimitStands.{Bounds, opening_count, objects_made, cells_made, is_crowded, inflated, limit_of, limit_at}
+use Rattle.model.specs.LimitStands.{Bounds, objects_made, cells_made, is_crowded, inflated, limit_of, limit_at}
 use Rattle.model.specs.Worlds.{cells_of}
 use Rattle.model.specs.Words.{map_object, map_world, words_of}
 use Rattle.run_laws.proofs.laws.LinkedOf.{linked_of}
@@ -37,41 +37,45 @@ all_cells_same os =
     fold-map (λ (n : ℕ) (o : ObjectOf ℕ). n + cells_of o) (map_object word_of) 0 os
     ∙ (λ i. fold (λ (n : ℕ) (o : ObjectOf Value). n + object_cells word_of o i) 0 os)
 
-objects_made_same : (files : Program) (world : World) → objects_made files (map_world word_of world) ≡ objects_made files world
-objects_made_same files world = ap (λ n. n - opening_count files) (length-map world.heap (map_object word_of))
+objects_made_same : (files : Program) (world : World) → objects_made (map_world word_of world) ≡ objects_made world
+objects_made_same files world = ap (λ n. n - world.opened) (length-map world.heap (map_object word_of))
 
-cells_made_same : (files : Program) (world : World) → cells_made files (map_world word_of world) ≡ cells_made files world
+cells_made_same : (files : Program) (world : World) → cells_made (map_world word_of world) ≡ cells_made world
 cells_made_same files world =
-    ap (sum_by cells_of) (drop-map (map_object word_of) (opening_count files) world.heap) ∙ all_cells_same (drop (opening_count files) world.heap)
+    ap (sum_by cells_of) (drop-map (map_object word_of) world.opened world.heap) ∙ all_cells_same (drop world.opened world.heap)
 
 -- ---- limits
 
 module _ (files : Program) (bounds : Bounds) (crowded : ℕ → Bool) where
-  taken_same : (state : State) (cost : Cost) → limit_in files bounds crowded state.world cost ≡ limit_of files bounds crowded state cost
+  taken_same : (state : State) (cost : Cost) → limit_in bounds crowded state.world cost ≡ limit_of bounds crowded state cost
   taken_same state Free = refl
   taken_same state (Makes cells) = refl
+  taken_same state (Fills cells) = refl
   taken_same state Starts = refl
   taken_same state (Enters object count) = refl
   taken_same state (Joins object) = refl
 
   taken_words : (world : World) (cost : Cost)
-      → limit_in files bounds crowded (map_world word_of world) cost ≡ limit_in files bounds crowded world cost
+      → limit_in bounds crowded (map_world word_of world) cost ≡ limit_in bounds crowded world cost
   taken_words world Free = refl
   taken_words world (Makes cells) =
       let objects = objects_made_same files world in
       let all = cells_made_same files world in
       λ i. if nat_le bounds.objects (objects i) then Some cause.Objects else if nat_lt bounds.cells (all i + cells) then Some cause.Cells else None
+  taken_words world (Fills cells) =
+      let all = cells_made_same files world in
+      λ i. if nat_lt bounds.cells (all i + cells) then Some cause.Cells else None
   taken_words world Starts = refl
   taken_words world (Enters object count) = refl
   taken_words world (Joins object) = refl
 
-  by_values : (state : State) (x : SteppedOf State) → limit_by files bounds crowded state x ≡ limit_at files bounds crowded state x
+  by_values : (state : State) (x : SteppedOf State) → limit_by bounds crowded state x ≡ limit_at bounds crowded state x
   by_values state NotEnabled = refl
   by_values state WrongKind = refl
   by_values state (Next cost next) = taken_same state cost
 
   by_words : (state : State) (x : SteppedOf State)
-      → limit_by files bounds crowded (words_of state) (map_stepped words_of x) ≡ limit_at files bounds crowded state x
+      → limit_by bounds crowded (words_of state) (map_stepped words_of x) ≡ limit_at bounds crowded state x
   by_words state NotEnabled = refl
   by_words state WrongKind = refl
   by_words state (Next cost next) = taken_words state.world cost ∙ taken_same state cost
@@ -87,15 +91,15 @@ limits_same =
 pub limits_carried : AreLimitsCarried
 limits_carried files trees linkable bounds crowded frames at state event h =
     let carries = carried trees (linked_of files trees linkable.spelled linkable.no_refusal).rooted in
-    ap (λ w. limit_by trees bounds crowded w (stepped words trees frames w event)) h.are
-    ∙ (ap (limit_by trees bounds crowded (words_of state)) (carries frames state event h.typed)
+    ap (λ w. limit_by bounds crowded w (stepped words trees frames w event)) h.are
+    ∙ (ap (limit_by bounds crowded (words_of state)) (carries frames state event h.typed)
     ∙ by_words trees bounds crowded state (stepped values trees frames state event))
 
 pub limits_standing : AreLimitsStanding
 limits_standing files trees linkable bounds events at state event r h =
     let crowded = is_crowded bounds.monitors (inflated trees bounds.frames events) in
     limits_carried files trees linkable bounds crowded bounds.frames at state event h
-    ∙ sym (ap (option_and_then (λ (s : State). limit_at trees bounds crowded s (stepped values trees bounds.frames s event))) r)
+    ∙ sym (ap (option_and_then (λ (s : State). limit_at bounds crowded s (stepped values trees bounds.frames s event))) r)
 
 -- ---- runs
 

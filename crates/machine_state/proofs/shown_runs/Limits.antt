@@ -19,10 +19,10 @@ and_both false b p q = absurd cc
 
 module _ (files : Program) (bounds : Bounds) (event : Event) where
   abbrev pub stands_in : State → List ℕ → SteppedOf State → Type 0
-  stands_in state inflated x = if_next x None (λ cost next. limit_of files bounds (is_crowded bounds.monitors inflated) state cost) ≡ None
+  stands_in state inflated x = if_next x None (λ cost next. limit_of bounds (is_crowded bounds.monitors inflated) state cost) ≡ None
 
   alone : (state : State) (inflated : List ℕ) (x : SteppedOf State) → stands_in state inflated x
-      → if_next x true (λ cost next. is_none (limit_of files bounds (is_crowded bounds.monitors inflated) state cost) && true) ≡ true
+      → if_next x true (λ cost next. is_none (limit_of bounds (is_crowded bounds.monitors inflated) state cost) && true) ≡ true
   alone state inflated NotEnabled e = refl
   alone state inflated WrongKind e = refl
   alone state inflated (Next cost next) e = ap (λ o. is_none o && true) e
@@ -42,11 +42,11 @@ module _ (files : Program) (bounds : Bounds) (event : Event) where
           → stands_in last (inflated_from files bounds.frames next events inflated) (stepped values files bounds.frames last event)
           → within_limits_from files bounds next (events ++ event ∷ []) inflated ≡ true)
           → (x : SteppedOf State) → option_and_then (λ next. run_from files bounds.frames next events) (next_by x) ≡ Some last
-          → if_next x true (λ cost next. is_none (limit_of files bounds (is_crowded bounds.monitors inflated) state cost) &&
+          → if_next x true (λ cost next. is_none (limit_of bounds (is_crowded bounds.monitors inflated) state cost) &&
           within_limits_from files bounds next events (inflated_by cost inflated)) ≡ true
           → stands_in last (if_next x inflated (λ cost next. inflated_from files bounds.frames next events (inflated_by cost inflated)))
           (stepped values files bounds.frames last event)
-          → if_next x true (λ cost next. is_none (limit_of files bounds (is_crowded bounds.monitors inflated) state cost) &&
+          → if_next x true (λ cost next. is_none (limit_of bounds (is_crowded bounds.monitors inflated) state cost) &&
           within_limits_from files bounds next (events ++ event ∷ []) (inflated_by cost inflated)) ≡ true
       by rest NotEnabled e w s = absurd cc
       by rest WrongKind e w s = absurd cc

@@ -75,7 +75,7 @@ module _ (files : List (List ℕ)) (trees : Program) (accepted : IsAccepted file
   enabled_is = (reported trees (linked_of files trees accepted.linkable.spelled accepted.linkable.no_refusal).rooted carries bounds.frames at lead.state lead.are).enabled event
 
   longer : (cost : Cost) (next : StateOf ℕ) → stepped words trees bounds.frames at event ≡ Next cost next
-      → limit_in trees bounds crowded at.world cost ≡ None
+      → limit_in bounds crowded at.world cost ≡ None
       → (y : SteppedOf State) → stepped values trees bounds.frames lead.state event ≡ y → map_stepped words_of y ≡ Next cost next
       → LeadsOn trees bounds events event cost next
   longer cost next is within NotEnabled q e = absurd cc
@@ -94,11 +94,11 @@ module _ (files : List (List ℕ)) (trees : Program) (accepted : IsAccepted file
       run : IsLonger trees bounds.frames events event c s
       run = runs_longer trees bounds.frames events lead.state event c s lead.reached q
 
-      stands : limit_at trees bounds crowded lead.state (stepped values trees bounds.frames lead.state event) ≡ None
-      stands = sym (limits_carried files trees accepted.linkable bounds crowded bounds.frames at lead.state event lead.are) ∙ ap (limit_by trees bounds crowded at) is ∙ within
+      stands : limit_at bounds crowded lead.state (stepped values trees bounds.frames lead.state event) ≡ None
+      stands = sym (limits_carried files trees accepted.linkable bounds crowded bounds.frames at lead.state event lead.are) ∙ ap (limit_by bounds crowded at) is ∙ within
 
   pub leads_on : (cost : Cost) (next : StateOf ℕ) → stepped words trees bounds.frames at event ≡ Next cost next
-      → limit_in trees bounds crowded at.world cost ≡ None → LeadsOn trees bounds events event cost next
+      → limit_in bounds crowded at.world cost ≡ None → LeadsOn trees bounds events event cost next
   leads_on cost next is within = longer cost next is within (stepped values trees bounds.frames lead.state event) refl (sym at_words ∙ is)
 
   pub not_enabled : stepped words trees bounds.frames at event ≡ NotEnabled → is_enabled trees bounds.frames lead.state event ≡ false
@@ -109,10 +109,10 @@ module _ (files : List (List ℕ)) (trees : Program) (accepted : IsAccepted file
   enabled cost next e = sym enabled_is ∙ ap is_enabled_by e
 
   told_after : (cost : Cost) (next : StateOf ℕ) → stepped words trees bounds.frames at event ≡ Next cost next → (o : Option RunCause)
-      → limit_in trees bounds crowded at.world cost ≡ o
+      → limit_in bounds crowded at.world cost ≡ o
       → limit_after trees bounds events event ≡ o
   told_after cost next is o e =
-      sym (limits_standing files trees accepted.linkable bounds events at lead.state event lead.reached lead.are) ∙ ap (limit_by trees bounds crowded at) is ∙ e
+      sym (limits_standing files trees accepted.linkable bounds events at lead.state event lead.reached lead.are) ∙ ap (limit_by bounds crowded at) is ∙ e
 
   -- over values it takes what it takes over words
   takes_after : (cost : Cost) (next : StateOf ℕ) → stepped words trees bounds.frames at event ≡ Next cost next

@@ -25,7 +25,7 @@ pub record IsMade (trees : Program) (p : LinkedProgram) (bounds : Bounds) (infla
     (reference cells : ℕ) (old new : Shared) : Type 0 where
   pub next : reference ≡ length world.heap
   pub word : reference + 1 < 2 ^ 32
-  pub within : limit_of trees bounds inflated world (Makes cells) ≡ None
+  pub within : limit_of bounds inflated world (Makes cells) ≡ None
   pub represents : Represents trees p bounds new (allocated world object)
   pub flags : new.heap.locks.fat ≡ flags_after (Makes cells) old.heap.locks.fat
 

@@ -27,7 +27,7 @@ pub record IsShared (trees : Program) (p : LinkedProgram) (bounds : Bounds) (inf
 -- an event of this cost leads to this world: no limit stood, and the fat locks are those after it
 pub record IsTaken (trees : Program) (p : LinkedProgram) (bounds : Bounds) (inflated : List ℕ) (world : WorldOf ℕ) (cost : Cost)
     (after : WorldOf ℕ) (old new : Shared) : Type 0 where
-  pub within : limit_of trees bounds inflated world cost ≡ None
+  pub within : limit_of bounds inflated world cost ≡ None
   pub represents : Represents trees p bounds new after
   pub flags : new.heap.locks.fat ≡ flags_after cost old.heap.locks.fat
 

@@ -78,7 +78,7 @@ pub record IsEventDone (trees : Program) (p : LinkedProgram) (bounds : Bounds) (
   pub cost : Cost
   pub next : StateOf ℕ
   pub is : stepped words trees bounds.frames state event ≡ Next cost next
-  pub within : limit_of trees bounds inflated state.world cost ≡ None
+  pub within : limit_of bounds inflated state.world cost ≡ None
   pub shown : IsShown trees p bounds (inflated_by cost inflated) new next
 
 -- it is enabled, and refused: a limit stands, or it takes memory, which is wanted

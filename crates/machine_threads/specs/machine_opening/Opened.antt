@@ -1,8 +1,9 @@
 -- The objects of the opening state, as a heap keeps them (own).
 use Rattle.std.specs.Prelude.{◌≡◌, ℕ, ◌+◌, List, [], ◌∷◌, ◌++◌, false, length, map, replicate}
-use Rattle.model.specs.BuiltInNumbers.{class_number, print_stream_number, string_number, thread_number}
+use Rattle.model.specs.BuiltInNumbers.{class_number, first_class_reference, print_stream_number, string_number, thread_number}
 use Rattle.model.specs.declared.limits.Limits.{Limits}
 use Rattle.model.specs.Monitors.{unlocked}
+use Rattle.model.specs.Rows.{counting}
 use Rattle.model.specs.Texts.{Text}
 use Rattle.heap.specs.declared.kind.ObjectKind.TheVariants as kind
 use Rattle.heap.specs.Heap.{Object, Heap, fresh}
@@ -29,21 +30,30 @@ pub record AddsObjects (objects : List Object) (old new : Heap) : Type 0 where
 
 -- ---- the objects, by the numbers of their classes: the built-in classes come first in each program
 
--- the PrintStream of System.out, the arguments, and the Thread of main, whose one field is its target
-abbrev pub first_objects : ℕ → List Object
-first_objects string_component =
+-- the Thread of main, by the word of its name; its other fields are its target, its number and its priority
+abbrev pub main_thread : ℕ → Object
+main_thread name = record { kind = kind.Instance thread_number; words = 0 ∷ name ∷ 0 ∷ 0 ∷ [] }
+
+-- the PrintStream of System.out, the array of the arguments by the words of their Strings, and the Thread of main
+abbrev pub first_objects : (string_component : ℕ) → (arguments : List ℕ) → (name : ℕ) → List Object
+first_objects string_component arguments name =
     fresh (kind.Instance print_stream_number) 0
-    ∷ fresh (kind.References string_component) 0
-    ∷ fresh (kind.Instance thread_number) 1
+    ∷ record { kind = kind.References string_component; words = arguments }
+    ∷ main_thread name
     ∷ []
 
 -- a String, whose words are the units of its text
 abbrev pub string_object : Text → Object
 string_object text = record { kind = kind.Instance string_number; words = text }
 
--- then a Class for each class, a String for each text, and the PrintStream of System.err
+-- the words of the Strings of the arguments, which stand behind the PrintStream of System.err
+abbrev pub argument_words : LinkedProgram → List ℕ
+argument_words p = counting (first_class_reference + length p.classes.items + length p.texts.items + 2) (length p.arguments.items)
+
+-- then a Class for each class, a String for each text, the PrintStream of System.err, and a String for each argument
 abbrev pub opening_objects : LinkedProgram → List Object
 opening_objects p =
-    first_objects p.string_component
+    first_objects p.string_component (argument_words p) p.main_text
     ++ (replicate (length p.classes.items) (fresh (kind.Instance class_number) 0)
-    ++ (map (λ text. string_object text.items) p.texts.items ++ fresh (kind.Instance print_stream_number) 0 ∷ []))
+    ++ (map (λ text. string_object text.items) p.texts.items
+    ++ fresh (kind.Instance print_stream_number) 0 ∷ map (λ text. string_object text.items) p.arguments.items))

@@ -3,16 +3,14 @@
 ghost use Rattle.std.specs.Prelude.{◌≡◌, ◌+◌, ◌<◌, ◌≤◌, [], ◌∷◌, length, map, replicate, OnOk, IfOk};
 ghost use Rattle.heap.specs.Heap.{fresh};
 ghost use Rattle.heap.specs.declared.kind.ObjectKind.{ObjectKind};
-ghost use Rattle.machine_threads.specs.machine_opening.Opened.{AddsObjects, opened, first_objects, opening_objects, string_object};
+ghost use Rattle.machine_threads.specs.machine_opening.Opened.{AddsObjects, argument_words, opened, first_objects, main_thread, opening_objects};
+ghost use Rattle.machine_threads.specs.machine_opening.Opened.{string_object};
 
 use heap::{Heap, ObjectKind};
 use linked_code::LinkedProgram;
 use model::Limits;
-use model::built_in::{CLASS, PRINT_STREAM, STRING, THREAD};
+use model::built_in::{CLASS, FIRST_CLASS_OBJECT, PRINT_STREAM, STRING, THREAD};
 use std::alloc::{AllocError, Global};
-
-/// How many fields a Thread has: `target` alone.
-const THREAD_FIELDS: u32 = 1;
 
 /// Adds an object, behind those of the opening state that are there.
 fn add(heap: &mut Heap, kind: ObjectKind, count: u32) -> Result<(), AllocError>
@@ -72,30 +70,55 @@ fn add_strings(alloc: Global, heap: &mut Heap, texts: &[Vec<u16>]) -> Result<(),
     Ok(())
 }
 
-/// Adds the PrintStream of System.out, the array that main gets, and the Thread of main.
-fn add_first(heap: &mut Heap, string_component: u32) -> Result<(), AllocError>
+/// Adds the Thread of main: its target, its name, its number and its priority.
+fn add_main_thread(heap: &mut Heap, name: u32) -> Result<(), AllocError>
+    requires { length heap.old.objects < 294967295 }
+    ensures { OnOk result (AddsObjects (main_thread name ∷ []) heap.old heap.new) }
+{
+    let kind = ObjectKind::Instance {
+        class: THREAD as u32,
+    };
+    heap.add_opening_words(kind, &[0, name, 0, 0])
+}
+
+/// The words of the references of the Strings of the arguments.
+fn argument_words(alloc: Global, program: &LinkedProgram) -> Result<Vec<u32>, AllocError>
+    requires { length (opening_objects program.now) ≤ 294967295 }
+    ensures { IfOk result (λ words. words.items ≡ argument_words program.now) }
+{
+    let first = FIRST_CLASS_OBJECT as usize + program.classes.len() + program.texts.len() + 2;
+    let mut words = Vec::with_capacity(alloc, program.arguments.len())?;
+    'arguments: for place in 0..program.arguments.len() {
+        words.push((first + place) as u32)?;
+    }
+    Ok(words)
+}
+
+/// Adds the PrintStream of System.out, the array that main gets, by the words of its elements, and the Thread of main,
+/// whose name has this word.
+fn add_first(
+    heap: &mut Heap,
+    string_component: u32,
+    arguments: &[u32],
+    name: u32,
+) -> Result<(), AllocError>
     requires { length heap.old.objects + 3 ≤ 294967295 }
-    ensures { OnOk result (AddsObjects (first_objects string_component) heap.old heap.new) }
+    requires few { length arguments.now < 4294967296 }
+    ensures { OnOk result (AddsObjects (first_objects string_component arguments.now name) heap.old heap.new) }
 {
     let print_stream = ObjectKind::Instance {
         class: PRINT_STREAM as u32,
     };
-    let arguments = ObjectKind::References {
+    let array = ObjectKind::References {
         of: string_component,
     };
     add(heap, print_stream, 0)?;
-    add(heap, arguments, 0)?;
-    add(
-        heap,
-        ObjectKind::Instance {
-            class: THREAD as u32,
-        },
-        THREAD_FIELDS,
-    )
+    heap.add_opening_words(array, arguments)?;
+    add_main_thread(heap, name)
 }
 
 /// The objects of the opening state: behind the first ones a Class for each class, a String for each text of a
-/// constant, and the PrintStream of System.err.
+/// constant, the PrintStream of System.err, and a String for each argument.
 pub(crate) fn opening_heap(
     alloc: Global,
     program: &LinkedProgram,
@@ -104,10 +127,17 @@ pub(crate) fn opening_heap(
     requires { length (opening_objects program.now) ≤ 294967295 }
     ensures { IfOk result (λ heap. heap ≡ opened limits (opening_objects program.now)) }
 {
+    let arguments = argument_words(alloc, program)?;
     let mut heap = Heap::new(alloc, limits);
-    add_first(&mut heap, program.string_component)?;
+    add_first(
+        &mut heap,
+        program.string_component,
+        &arguments,
+        program.main_text,
+    )?;
     add_instances(&mut heap, CLASS as u32, program.classes.len() as u32)?;
     add_strings(alloc, &mut heap, &program.texts)?;
     add_instances(&mut heap, PRINT_STREAM as u32, 1)?;
+    add_strings(alloc, &mut heap, &program.arguments)?;
     Ok(heap)
 }

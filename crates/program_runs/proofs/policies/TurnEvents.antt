@@ -43,9 +43,9 @@ within_front trees bounds (first ∷ events) more from inflated w =
     and_both false b p q = absurd cc
 
     by : (x : SteppedOf State)
-        → if_next x true (λ cost next. is_none (limit_of trees bounds (is_crowded bounds.monitors inflated) from cost) && within_limits_from trees bounds next (events ++ more) (inflated_by cost inflated)) ≡ true
+        → if_next x true (λ cost next. is_none (limit_of bounds (is_crowded bounds.monitors inflated) from cost) && within_limits_from trees bounds next (events ++ more) (inflated_by cost inflated)) ≡ true
         → ((next : State) (inflated : List ℕ) → within_limits_from trees bounds next (events ++ more) inflated ≡ true → within_limits_from trees bounds next events inflated ≡ true)
-        → if_next x true (λ cost next. is_none (limit_of trees bounds (is_crowded bounds.monitors inflated) from cost) && within_limits_from trees bounds next events (inflated_by cost inflated)) ≡ true
+        → if_next x true (λ cost next. is_none (limit_of bounds (is_crowded bounds.monitors inflated) from cost) && within_limits_from trees bounds next events (inflated_by cost inflated)) ≡ true
     by NotEnabled q rest = refl
     by WrongKind q rest = refl
     by (Next cost next) q rest =
@@ -80,7 +80,7 @@ module _ (trees : Program) (bounds : Bounds) (event : Event) (cause : RunCause) 
   and_no false b e = refl
 
   alone : (state : State) (inflated : List ℕ) (x : SteppedOf State) → limit_at trees bounds (is_crowded bounds.monitors inflated) state x ≡ Some cause
-      → if_next x true (λ cost next. is_none (limit_of trees bounds (is_crowded bounds.monitors inflated) state cost) && true) ≡ false
+      → if_next x true (λ cost next. is_none (limit_of bounds (is_crowded bounds.monitors inflated) state cost) && true) ≡ false
   alone state inflated NotEnabled e = absurd (none-some cause e)
   alone state inflated WrongKind e = absurd (none-some cause e)
   alone state inflated (Next cost next) e = ap (λ o. is_none o && true) e
@@ -98,7 +98,7 @@ module _ (trees : Program) (bounds : Bounds) (event : Event) (cause : RunCause) 
           → ((next : State) (inflated : List ℕ) → run_from trees bounds.frames next events ≡ Some last
           → stands_in last (inflated_from trees bounds.frames next events inflated)
           → within_limits_from trees bounds next (events ++ event ∷ []) inflated ≡ false)
-          → if_next x true (λ cost next. is_none (limit_of trees bounds (is_crowded bounds.monitors inflated) from cost) && within_limits_from trees bounds next (events ++ event ∷ []) (inflated_by cost inflated)) ≡ false
+          → if_next x true (λ cost next. is_none (limit_of bounds (is_crowded bounds.monitors inflated) from cost) && within_limits_from trees bounds next (events ++ event ∷ []) (inflated_by cost inflated)) ≡ false
       by NotEnabled q s rest = absurd (none-some last q)
       by WrongKind q s rest = absurd (none-some last q)
       by (Next cost next) q s rest = and_no _ _ (rest next (inflated_by cost inflated) q s)

@@ -92,12 +92,15 @@ pub record BuiltInClasses : Type 0 where
 -- Before any event there are the stream, the arguments, the Thread of main, a Class for each class, a String for each text,
 -- and the stream of System.err. The texts are those of built-in classes, and those that the machine gives.
 pub record OpeningObjects : Type 0 where
-  pub types : types_of (let s : State = opening values (only_returns_file ∷ []) in s).world.heap
+  pub types : types_of (let s : State = opening values (only_returns_file ∷ []) [] in s).world.heap
       ≡ ClassType java_io_print_stream ∷ ReferenceArray (ClassType java_lang_string)
       ∷ ClassType java_lang_thread
-      ∷ (replicate 38 (ClassType java_lang_class) ++ (replicate 17 (ClassType java_lang_string) ++ ClassType java_io_print_stream ∷ []))
+      ∷ (replicate 38 (ClassType java_lang_class) ++ (replicate 28 (ClassType java_lang_string) ++ ClassType java_io_print_stream ∷ []))
   pub texts : string_texts (only_returns_file ∷ [])
-      ≡ codes "null" ∷ codes "true" ∷ codes "false" ∷ codes "class " ∷ codes "\n" ∷ codes "a null" ∷ codes "Can't overwrite cause with "
+      ≡ codes "Thread[" ∷ codes "," ∷ codes ",main]"
+      ∷ codes "null" ∷ codes "true" ∷ codes "false" ∷ codes "\\s+" ∷ codes "\\.$|()[{^?*+" ∷ codes "dsScbxXn%" ∷ codes "\n" ∷ codes "%"
+      ∷ codes "java.lang.Boolean@0" ∷ codes "java.lang.Integer@0" ∷ codes "java.lang.Character@0" ∷ codes "-"
+      ∷ codes "class " ∷ codes "a null" ∷ codes "Can't overwrite cause with "
       ∷ codes "Self-causation not permitted" ∷ codes ": " ∷ codes "Caused by: " ∷ codes "Self-suppression not permitted"
       ∷ codes "Cannot suppress a null exception." ∷ codes "Array index out of range: " ∷ codes "String index out of range: " ∷ []
       ∷ codes "main" ∷ codes "/ by zero" ∷ []

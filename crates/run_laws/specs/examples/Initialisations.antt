@@ -24,7 +24,7 @@ two_classes =
     ∷ built_in public_class (codes "B") java_lang_object [] ∷ []
 
 abbrev pub both_after : ℕ → Option State
-both_after n = run two_classes frames (replicate n (event_of 0))
+both_after n = run two_classes [] frames (replicate n (event_of 0))
 
 abbrev pub statuses_of : Option State → Option (List ClassStatus)
 statuses_of state = option_map (λ (s : State). map (status_of s.world) (codes "A" ∷ codes "B" ∷ [])) state
@@ -43,7 +43,7 @@ pub record SuperclassFirst : Type 0 where
 
 -- the opening state of a program, but that classes have these statuses
 abbrev pub opening_with : Program → List (Name × ClassStatus) → State
-opening_with files classes = let s : State = opening values files in record s { world = record s.world { classes = classes } }
+opening_with files classes = let s : State = opening values files [] in record s { world = record s.world { classes = classes } }
 
 -- the type of the exception with which a thread ended, by the types of the objects
 abbrev pub type_at : List ReferenceType → ThreadStatus → Option ReferenceType
@@ -79,5 +79,5 @@ pub record ClassAtBegin : Type 0 where
   pub superclass_held : option_map (λ s. stepped values two_classes frames s (event_of 0))
       (run_from two_classes frames (opening_with two_classes ((codes "B", InProgress 1) ∷ [])) (event_of 0 ∷ [])) ≡ Some NotEnabled
   -- one frame suffices, and where none may be the thread ends
-  pub one_frame : statuses_in (run only_returns 1 (replicate 5 (event_of 0))) ≡ Some (Ended None ∷ [])
-  pub no_frame : ended_with (run only_returns 0 (replicate 4 (event_of 0))) ≡ Some (ClassType (codes "java/lang/StackOverflowError"))
+  pub one_frame : statuses_in (run only_returns [] 1 (replicate 5 (event_of 0))) ≡ Some (Ended None ∷ [])
+  pub no_frame : ended_with (run only_returns [] 0 (replicate 4 (event_of 0))) ≡ Some (ClassType (codes "java/lang/StackOverflowError"))

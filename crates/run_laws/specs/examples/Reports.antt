@@ -43,14 +43,14 @@ not_done n (Next cost next) limit = refused_by n limit
 -- after some events, by the next one of the schedule, if there is one
 abbrev pub end_at : Program → Bounds → List Event → Option Event → State → Option End
 end_at files bounds events None state = Some (used_up files bounds state)
-end_at files bounds events (Some event) state = not_done (length events) (stepped values files bounds.frames state event) (limit_after files bounds events event)
+end_at files bounds events (Some event) state = not_done (length events) (stepped values files bounds.frames state event) (limit_after files [] bounds events event)
 
 abbrev pub end_after : Program → Bounds → List Event → Option Event → Option End
-end_after files bounds events next = option_and_then (end_at files bounds events next) (run files bounds.frames events)
+end_after files bounds events next = option_and_then (end_at files bounds events next) (run files [] bounds.frames events)
 
 -- The events are done, no limit stands at any of them, and no more of the schedule are for this reason; the report has this text.
 pub record Reports (files : Program) (bounds : Bounds) (events : List Event) (next : Option Event) (end : End)
     (text : List ℕ) : Type 0 where
-  pub within : within_limits files bounds events ≡ true
+  pub within : within_limits files [] bounds events ≡ true
   pub ends : end_after files bounds events next ≡ Some end
-  pub means : meaning files bounds.frames events end ≡ Some text
+  pub means : meaning files [] bounds.frames events end ≡ Some text

@@ -25,7 +25,7 @@ event_of thread = record { thread = thread; pick = 0 }
 
 -- the state after n events of thread 0, where the file is the whole program
 abbrev pub after : FileTree → ℕ → Option State
-after file n = run (file ∷ []) frames (replicate n (event_of 0))
+after file n = run (file ∷ []) [] frames (replicate n (event_of 0))
 
 -- what becomes of an event at a state
 abbrev pub then_stepped : FileTree → Option State → Event → Option (SteppedOf State)

@@ -33,7 +33,7 @@ state_after files threads zero state = state
 state_after files threads (suc n) state = if_step state (first_step files state threads) (λ next. state_after files threads n next)
 
 abbrev pub state_at_end : Program → List ℕ → ℕ → State
-state_at_end files threads n = state_after files threads n (opening values files)
+state_at_end files threads n = state_after files threads n (opening values files [])
 
 -- the text printed, and how the threads stand then
 abbrev pub shown : Program → State → Text × List ThreadEnd

@@ -95,7 +95,7 @@ files = class_a ∷ []
 
 -- the constant of `/ by zero` among the objects of the opening
 abbrev pub division : ℕ
-division = 59
+division = 70
 
 -- a throwable of a class, with a message and a cause
 abbrev pub throwable : Name → Value → Value → ObjectOf Value
@@ -112,7 +112,7 @@ pub record ToldObjects : Type 0 where
       (codes "java.lang.IllegalStateException\nb\n0\n0\nthread 0 threw java/lang/ArithmeticException\nevents 46\nend quiet\n")
   -- what the machine makes: of a division by zero with a message, in the place of another exception with a cause, else with neither
   pub divided : machine_exception values files Arithmetic None ≡ throwable (exception_class Arithmetic) (value.Reference division) value.Null
-  pub constant : slice_get (opening_heap values files) division ≡ Some (Characters (codes "/ by zero"))
+  pub constant : slice_get (opening_heap values files []) division ≡ Some (Characters (codes "/ by zero"))
   pub replaced : machine_exception values files ExceptionInInitializer (Some 70)
       ≡ throwable (exception_class ExceptionInInitializer) value.Null (value.Reference 70)
   pub plain : machine_exception values files NullPointer None ≡ throwable (exception_class NullPointer) value.Null value.Null

@@ -22,7 +22,7 @@ int_file code = with_main (Utf8 (codes "A") ∷ Class 1 ∷ Utf8 java_lang_objec
 
 abbrev pub in_int : List ℕ → State
 in_int code =
-    let s : State = opening values (int_file code ∷ []) in
+    let s : State = opening values (int_file code ∷ []) [] in
     record s {
       stacks =
           (Invocation (record {

@@ -5,13 +5,14 @@ use Rattle.model.specs.declared.event.Event.{Event}
 use Rattle.model.specs.Classes.{Program}
 use Rattle.model.specs.Operands.{Carrier, words, values}
 use Rattle.model.specs.State.{Waiter, Monitor, ThreadStatus, Running, Waiting, Relock, Ended, Thread, WorldOf, StateOf, State}
-use Rattle.model.specs.Outcomes.{Cost, Free, Makes, Starts, Enters, Joins}
+use Rattle.model.specs.Outcomes.{Cost, Free, Makes, Fills, Starts, Enters, Joins}
 use Rattle.model.specs.Monitors.{monitor_at}
 use Rattle.model.specs.Worlds.{no_thread}
 use Rattle.model.specs.Opening.{opening}
 use Rattle.model.specs.Step.{Next, stepped}
 use Rattle.model.specs.Run.{run}
 use Rattle.model.specs.LimitStands.{is_inflating_entry, inflated_by, inflated}
+use Rattle.model.specs.Texts.{Text}
 
 -- ---- which locks are inflated, or fat
 
@@ -24,6 +25,7 @@ is_inflated objects object = list_any (λ o. o == object) objects
 abbrev pub is_fat_after : Cost → (ℕ → Bool) → ℕ → Bool
 is_fat_after Free fat = fat
 is_fat_after (Makes cells) fat = fat
+is_fat_after (Fills cells) fat = fat
 is_fat_after Starts fat = fat
 is_fat_after (Enters entered count) fat = λ object. fat object || (is_inflating_entry count && (entered == object))
 is_fat_after (Joins joined) fat = λ object. fat object || (joined == object)
@@ -64,7 +66,7 @@ AreMonitorsCounted fat world = AreCounted fat world.monitors world.threads
 
 -- in the opening state no thread waits, and no monitor is owned
 abbrev pub IsOpeningCounted : {A : Type 0} → Carrier A → Type 0
-IsOpeningCounted C = (files : Program) (fat : ℕ → Bool) → AreMonitorsCounted fat (opening C files).world
+IsOpeningCounted C = (files : Program) (arguments : List Text) (fat : ℕ → Bool) → AreMonitorsCounted fat (opening C files arguments).world
 
 -- each event keeps counts, with the locks fat that are so after it
 abbrev pub IsCountKept : {A : Type 0} → Carrier A → Type 0
@@ -83,20 +85,20 @@ pub record AreCountsKept : Type 0 where
   pub of_words : IsCountKept words
 
 -- one more event of a run leads on from its state, and inflates by what it takes
-pub record IsLonger (files : Program) (frames : ℕ) (events : List Event) (event : Event) (cost : Cost) (next : State) : Type 0 where
-  pub reached : run files frames (events ++ event ∷ []) ≡ Some next
-  pub inflated_are : inflated files frames (events ++ event ∷ []) ≡ inflated_by cost (inflated files frames events)
-  pub fat_are : (object : ℕ) → is_inflated (inflated files frames (events ++ event ∷ [])) object
-      ≡ is_fat_after cost (is_inflated (inflated files frames events)) object
+pub record IsLonger (files : Program) (arguments : List Text) (frames : ℕ) (events : List Event) (event : Event) (cost : Cost) (next : State) : Type 0 where
+  pub reached : run files arguments frames (events ++ event ∷ []) ≡ Some next
+  pub inflated_are : inflated files arguments frames (events ++ event ∷ []) ≡ inflated_by cost (inflated files arguments frames events)
+  pub fat_are : (object : ℕ) → is_inflated (inflated files arguments frames (events ++ event ∷ [])) object
+      ≡ is_fat_after cost (is_inflated (inflated files arguments frames events)) object
 
 abbrev pub AreRunsLonger : Type 0
 AreRunsLonger =
-    (files : Program) (frames : ℕ) (events : List Event) (state : State) (event : Event) (cost : Cost) (next : State)
-    → run files frames events ≡ Some state → stepped values files frames state event ≡ Next cost next
-    → IsLonger files frames events event cost next
+    (files : Program) (arguments : List Text) (frames : ℕ) (events : List Event) (state : State) (event : Event) (cost : Cost) (next : State)
+    → run files arguments frames events ≡ Some state → stepped values files frames state event ≡ Next cost next
+    → IsLonger files arguments frames events event cost next
 
 -- in each state of a run counts are right, with the locks fat that its events inflated
 abbrev pub AreRunsCounted : Type 0
 AreRunsCounted =
-    (files : Program) (frames : ℕ) (events : List Event) (state : State)
-    → run files frames events ≡ Some state → AreMonitorsCounted (is_inflated (inflated files frames events)) state.world
+    (files : Program) (arguments : List Text) (frames : ℕ) (events : List Event) (state : State)
+    → run files arguments frames events ≡ Some state → AreMonitorsCounted (is_inflated (inflated files arguments frames events)) state.world

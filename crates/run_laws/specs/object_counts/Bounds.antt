@@ -8,12 +8,13 @@ use Rattle.model.specs.Types.{VerificationType, is_reference}
 use Rattle.model.specs.Operands.{Carrier, words, values, word_of}
 use Rattle.model.specs.State.{ObjectOf, types_of, StateOf, State}
 use Rattle.model.specs.Opening.{opening_heap}
-use Rattle.model.specs.Outcomes.{Cost, Free, Makes, Starts, Enters, Joins}
+use Rattle.model.specs.Outcomes.{Cost, Free, Makes, Fills, Starts, Enters, Joins}
 use Rattle.model.specs.Step.{Next, stepped}
 use Rattle.model.specs.Run.{run}
 use Rattle.model.specs.LimitStands.{Bounds, within_limits}
 use Rattle.model.specs.Linkable.{IsLinkable}
 use Rattle.model.specs.WellTyped.{has_type}
+use Rattle.model.specs.Texts.{Text}
 
 -- ---- how many objects there are
 
@@ -21,6 +22,7 @@ use Rattle.model.specs.WellTyped.{has_type}
 abbrev pub made : Cost → ℕ
 made Free = 0
 made (Makes cells) = 1
+made (Fills cells) = 0
 made Starts = 0
 made (Enters object count) = 0
 made (Joins object) = 0
@@ -36,24 +38,27 @@ pub record AreObjectsCounted : Type 0 where
   pub of_values : IsCounted values
   pub of_words : IsCounted words
 
--- the opening state of files that link has at most 294,967,295 objects
+-- the opening state of files that link, with at most 16,777,215 arguments, has at most 294,967,295 objects
 abbrev pub IsOpeningInRange : {A : Type 0} → Carrier A → Type 0
-IsOpeningInRange C = (files : List (List ℕ)) (trees : Program) → IsLinkable files trees → length (opening_heap C trees) ≤ 294967295
+IsOpeningInRange C = (files : List (List ℕ)) (trees : Program) → IsLinkable files trees
+    → (arguments : List Text) → length arguments ≤ 16777215 → length (opening_heap C trees arguments) ≤ 294967295
 
 -- over values and over words
 pub record AreOpeningsInRange : Type 0 where
   pub of_values : IsOpeningInRange values
   pub of_words : IsOpeningInRange words
 
--- a run of files that link, within limits of at most 4,000,000,000 objects made
+-- a run of files that link, with at most 16,777,215 arguments, within limits of at most 4,000,000,000 objects made
 pub record IsRunWithin (trees : Program) (state : State) : Type 0 where
   pub files : List (List ℕ)
   pub linkable : IsLinkable files trees
+  pub arguments : List Text
+  pub few : length arguments ≤ 16777215
   pub bounds : Bounds
   pub objects : bounds.objects ≤ 4000000000
   pub events : List Event
-  pub within : IsTrue (within_limits trees bounds events)
-  pub reached : run trees bounds.frames events ≡ Some state
+  pub within : IsTrue (within_limits trees arguments bounds events)
+  pub reached : run trees arguments bounds.frames events ≡ Some state
 
 -- it has fewer than 2^32 objects, those of the opening state included
 abbrev pub AreObjectsInRange : Type 0

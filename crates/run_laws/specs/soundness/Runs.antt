@@ -10,6 +10,7 @@ use Rattle.model.specs.Run.{run}
 use Rattle.model.specs.WellTyped.{IsWellTyped}
 use Rattle.model.specs.Words.{AreWellTypedWords}
 use Rattle.model.specs.Accepted.{IsAccepted}
+use Rattle.model.specs.Texts.{Text}
 use Rattle.run_laws.specs.laws.Steps.{is_wrong}
 
 -- an event at a well-typed state of accepted files leads to a well-typed state
@@ -21,8 +22,8 @@ IsStepKept =
 -- no event of a run of accepted files is answered by a wrong kind
 abbrev pub IsNoEventWrong : Type 0
 IsNoEventWrong =
-    (files : List (List ℕ)) (trees : Program) → IsAccepted files trees → (frames : ℕ) (events : List Event) (state : State) (event : Event)
-    → run trees frames events ≡ Some state → IsFalse (is_wrong (stepped values trees frames state event))
+    (files : List (List ℕ)) (trees : Program) → IsAccepted files trees → (arguments : List Text) (frames : ℕ) (events : List Event) (state : State) (event : Event)
+    → run trees arguments frames events ≡ Some state → IsFalse (is_wrong (stepped values trees frames state event))
 
 -- an event at words of a well-typed state of accepted files leads to words of a well-typed state
 abbrev pub AreWordsKept : Type 0

@@ -11,6 +11,7 @@ use Rattle.model.specs.Opening.{opening}
 use Rattle.model.specs.Step.{Next, stepped}
 use Rattle.model.specs.Words.{AreWellTypedWords}
 use Rattle.model.specs.Accepted.{IsAccepted}
+use Rattle.model.specs.Texts.{Text}
 use Rattle.run_laws.specs.typed_threads.Objects.{IsInstance}
 
 -- the exception with which a thread has ended is a Throwable
@@ -23,7 +24,7 @@ AreEndsThrowable files world =
 
 -- in the opening state, where no thread has ended
 abbrev pub AreOpeningEnds : Type 0
-AreOpeningEnds = (files : Program) → AreEndsThrowable files (opening words files).world
+AreOpeningEnds = (files : Program) (arguments : List Text) → AreEndsThrowable files (opening words files arguments).world
 
 -- and after an event at words of a well-typed state of accepted files, where it was so
 abbrev pub AreEndsKept : Type 0

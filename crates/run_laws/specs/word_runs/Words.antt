@@ -12,6 +12,7 @@ use Rattle.model.specs.Opening.{opening}
 use Rattle.model.specs.Step.{SteppedOf, NotEnabled, WrongKind, Next, PartOf, stepped}
 use Rattle.model.specs.WellTyped.{IsWellTyped}
 use Rattle.model.specs.Words.{map_slots, map_frame, map_stack, map_world, words_of, AreWellTypedWords}
+use Rattle.model.specs.Texts.{Text}
 
 -- ---- what a function on values makes of an outcome and of an answer
 
@@ -36,7 +37,7 @@ map_stepped f (Next cost next) = Next cost (f next)
 
 -- the words of the opening state are the opening state of words
 abbrev pub IsOpenedAsWords : Program → Type 0
-IsOpenedAsWords files = opening words files ≡ words_of (opening values files)
+IsOpenedAsWords files = (arguments : List Text) → opening words files arguments ≡ words_of (opening values files arguments)
 
 -- What becomes of an event at the words of a well-typed state is what becomes of it at the state, an event that is not enabled
 -- included: the kinds of values are never asked for.

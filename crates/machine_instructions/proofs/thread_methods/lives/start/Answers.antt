@@ -8,7 +8,7 @@ use Rattle.model.specs.BuiltInMethods.{object_of, start_by, with_started}
 use Rattle.model.specs.Classes.{Program}
 use Rattle.model.specs.LimitStands.{Bounds}
 use Rattle.model.specs.Operands.{words}
-use Rattle.model.specs.Outcomes.{Makes, Starts}
+use Rattle.model.specs.Outcomes.{Makes, Fills, Starts}
 use Rattle.model.specs.State.{Invocation, FrameOf, StackOf, StateOf, WorldOf}
 use Rattle.model.specs.Worlds.{thread_of}
 use Rattle.model.specs.Step.{part, become}
@@ -49,7 +49,7 @@ module _ (trees : Program) (p : LinkedProgram) (bounds : Bounds) (inflated : Lis
   may_refuse refusal.Threads object new h = (ap limit (full_is ∙ le-leb old.threads.limit (length old.threads.threads) h.0), h.1)
   may_refuse refusal.Memory object new h = (refl, h.1)
 
-  none_stands : length old.threads.threads < old.threads.limit → limit_of trees bounds inflated world Starts ≡ None
+  none_stands : length old.threads.threads < old.threads.limit → limit_of bounds inflated world Starts ≡ None
   none_stands h = ap limit (full_is ∙ lt-leb old.threads.limit (length old.threads.threads) h)
 
 -- there is no memory for its stack, whether it is started or was before
@@ -116,6 +116,8 @@ returns c = λ t p trees bounds inflated state frame rest offset is frames.
             ready = r.world_is.ready;
             threads = r.world_is.threads;
             printed = r.world_is.printed;
+            interned = r.world_is.interned;
+            unnamed = r.world_is.unnamed;
           };
           limits = record {
             opening = r.limits.opening;
