@@ -2,7 +2,7 @@
 
 import json
 import re
-from typing import Dict, List, Match, Sequence, Union
+from typing import Dict, List, Match, Optional, Sequence, Union
 
 from oracle.texts import decoded
 
@@ -49,13 +49,25 @@ def json_line(members: Dict[str, Part]) -> str:
     return re.sub(r"\\.|\x7f", long_escape, json.dumps(told, separators=(",", ":")))
 
 
+def cut(line: str, width: int) -> str:
+    """The first so many characters of a line, a character for each byte."""
+    begins = [at for at, one in enumerate(line) if not 0x80 <= ord(one) < 0xC0]
+    return line if len(begins) <= width else line[: begins[width]]
+
+
 class Told:
     """An event that was done: where its thread stood, as `Class.method offset`, a class or `-`, and what it did."""
 
     def __init__(
-        self, number: int, thread: int, place: Sequence[str], words: Sequence[str], is_local: bool
+        self,
+        number: int,
+        thread: int,
+        place: Sequence[str],
+        words: Sequence[str],
+        is_local: bool,
+        more: Optional[Dict[str, Part]] = None,
     ) -> None:
-        self.number, self.thread, self.is_local = number, thread, is_local
+        self.number, self.thread, self.is_local, self.more = number, thread, is_local, more or {}
         self.method, self.source, self.instruction = place
         self.did = re.sub(f"[{BEGIN}{END}]", "", ", ".join(words))
         self.did_in_one_line = ", ".join(map(in_one_line, words))
@@ -65,11 +77,18 @@ class Told:
         line = in_one_line(" ".join(part for part in parts if part))
         return line + (f" | {self.did_in_one_line}" if self.did else "")
 
-    def line(self, form: str) -> str:
+    def column_words(self) -> str:
+        """What the event did, or else its instruction, and then where its thread stood."""
+        done = self.did_in_one_line if self.did else in_one_line(self.instruction)
+        told = f"{self.thread} {done}" if done else str(self.thread)
+        return f"{told} | {in_one_line(' '.join(part for part in (self.method, self.source) if part))}"
+
+    def line(self, form: str, width: int = 80) -> str:
         if form == "json":
             return json_line(self.members())
         if form == "columns":
-            return f"{self.number:7} {24 * min(self.thread, 7) * ' '}{self.words()}"
+            step = min(max(width - 52, 0) // 7, 24)
+            return cut(f"{self.number:7} {step * min(self.thread, 7) * ' '}{self.column_words()}", width)
         return f"{self.number} {self.words()}"
 
     def members(self) -> Dict[str, Part]:
@@ -81,6 +100,7 @@ class Told:
             members["class"] = self.method
         rest = {"source": self.source, "instruction": self.instruction, "did": self.did}
         members.update({key: part for key, part in rest.items() if part})
+        members.update(self.more)
         return members
 
     def follows(self, before: "Told") -> bool:
@@ -99,6 +119,9 @@ class Folded(Told):
 
     def words(self) -> str:
         return in_one_line(f"{self.thread} {self.method}..{self.to}") + f" | {self.did}"
+
+    def column_words(self) -> str:
+        return self.words()
 
     def members(self) -> Dict[str, Part]:
         members = {key: part for key, part in super().members().items() if key != "did"}

@@ -11,7 +11,8 @@
 //!     (`IsUnread`);
 //!   - behind them come the files of the classes that the library adds (`AreHanded`, by `AreAdded` of `library_files`).
 //!     It adds none for `disasm` and with `--files-alone` (`library_of`);
-//!   - `run`, `replay` and `search` hand on all their options; `trace` its window and its form (`IsWindow`); `search`
+//!   - `run`, `replay` and `search` hand on all their options; `trace` its window and its form (`IsWindow`), or the
+//!     file of its page (`IsPageDone`); `search`
 //!     its goal (`IsSearchedFor`), with the text of the file of `differs`; `verify` whether it is of a library; `disasm`
 //!     whether names are asked for; `schedule` whether a file is made, and with `--places` the schedule
 //!     (`IsPlacesDone`); `run` over seeds its sweep (`IsSweepDone`);
@@ -64,6 +65,9 @@
 //!   lines of the events and of the report behind them (`traced`, `IsTraced`, with `IsTrace` of `traced_runs`); and
 //!   after `device` and `memory` a beginning was written, of that text, or of the lines of a beginning of the events
 //!   (`faulty`, `IsUntraced`).
+//! - `page_engine`, over any readers and writer: what is proved of `replay_engine`, but that there is a page, too: that
+//!   of the lines of a trace and of the report (`paged`, `IsPaged`, with `IsPage` of `pages`). With a fault there is none
+//!   (`none`).
 //! - `races_engine`, over any readers and writer: what is proved of `replay_engine`, but that the text is that of the
 //!   data races of the events that were done, a line for each, and of the report behind them (`raced`, `WritesRaces` of
 //!   `Theorem`). Each race that is told is one of these events, and each access that races with an earlier one is the
@@ -183,6 +187,7 @@ mod named_file;
 mod names;
 mod open;
 mod opening;
+mod paging;
 mod place_ends;
 mod place_schedules;
 mod placing;
@@ -201,6 +206,7 @@ mod sweep_records;
 mod sweep_runs;
 mod system_folder;
 mod telling;
+mod terminal;
 mod theorem;
 mod tracing;
 mod transcribing;
@@ -236,6 +242,7 @@ pub use status::Status;
 pub use sweep_runs::{MadeSweep, SweepTask, sweep_engine};
 pub use sweeps::Watch;
 pub use system_folder::SystemFolder;
+pub use terminal::Terminal;
 pub use theorem::records_replay;
 pub use tracing::trace_engine;
 pub use transcribing::{schedule_engine, write_schedule_engine};

@@ -3,6 +3,7 @@
 use crate::deadline::Deadline;
 use crate::growth::Growth;
 use crate::seeds::Seeds;
+use crate::terminal::Terminal;
 use program_runs::workers::Gate;
 use search::Progress;
 use sweeps::Watch;
@@ -73,3 +74,5 @@ impl Seeds for Open {
 
 /// Nothing is seen of a run while it goes on.
 impl Growth for Open {}
+
+impl Terminal for Open {}

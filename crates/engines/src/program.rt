@@ -22,6 +22,7 @@ use crate::growth::Growth;
 use crate::handed::{Handed, handed_files};
 use crate::seeds::Seeds;
 use crate::status::Status;
+use crate::terminal::Terminal;
 use command_line::{Command, Usage, command};
 use library_files::LibraryClass;
 use model::{DeviceFault, Sink, Source};
@@ -45,7 +46,7 @@ use sweeps::Watch;
 pub fn run<
     'a,
     R: Threads + Wait + Sync,
-    G: Gate + Progress + Seeds + Deadline + Growth + Watch + Sync,
+    G: Gate + Progress + Seeds + Deadline + Growth + Watch + Terminal + Sync,
     F: Folder,
     I: Source,
     W: Sink,
@@ -123,7 +124,7 @@ fn write_help<W: Sink>(alloc: Global, usage: &Usage, output: &mut W) -> Result<(
 fn done<
     'a,
     R: Threads + Wait + Sync,
-    G: Gate + Progress + Seeds + Deadline + Growth + Watch + Sync,
+    G: Gate + Progress + Seeds + Deadline + Growth + Watch + Terminal + Sync,
     F: Folder,
     I: Source,
     W: Sink,
@@ -183,7 +184,7 @@ fn done<
 /// Does what a command says, over these files, of which the first so many are given.
 fn done_over<
     R: Threads + Wait + Sync,
-    G: Gate + Progress + Seeds + Deadline + Growth + Watch + Sync,
+    G: Gate + Progress + Seeds + Deadline + Growth + Watch + Terminal + Sync,
     F: Folder,
     I: Source,
     W: Sink,
@@ -235,7 +236,16 @@ fn done_over<
             output,
             explanation,
         ),
-        Command::Trace(options) => trace(alloc, folder, files, given, options, output, explanation),
+        Command::Trace(options) => trace(
+            alloc,
+            gate.width(),
+            folder,
+            files,
+            given,
+            options,
+            output,
+            explanation,
+        ),
         Command::Races(options) => races(alloc, folder, files, given, options, output, explanation),
         Command::Search(options) => search(
             alloc,

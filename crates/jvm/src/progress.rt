@@ -1,14 +1,14 @@
 //! What a terminal shows of a run, a search or a sweep that takes more than a second.
 
 use crate::growing::{Growing, rises};
-use engines::{Deadline, Gate, Growth, Seeds, Watch};
+use engines::{Deadline, Gate, Growth, Seeds, Terminal, Watch};
 use schedule::recorded_events::RecordedEvents;
-use std::io;
 use std::io::Write;
 use std::random::RandomSource;
-use std::rt::{Clock, Files};
+use std::rt::{Clock, Env, Files};
 use std::sync::atomic::{AtomicU64, Ordering};
 use std::time::Instant;
+use std::{env, io};
 
 /// How many events are done, or states met, at the least, between two looks at the clock.
 const BETWEEN: u32 = 1024;
@@ -154,6 +154,15 @@ impl<R: Clock + Eprint> Deadline for Progress<'_, R> {
             Ok(passed) => passed.as_secs() >= u64::from(seconds),
             Err(_) => false,
         }
+    }
+}
+
+impl<R: Env + AllocGlobal> Terminal for Progress<'_, R> {
+    /// What COLUMNS of the environment says.
+    fn width(&self) -> Option<u32> {
+        let told = env::var(self.rt, "COLUMNS").ok()?;
+        let width = told.as_str().parse::<u32>().ok()?;
+        Some(width.clamp(20, 65_535))
     }
 }
 

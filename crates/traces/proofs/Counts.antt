@@ -25,7 +25,7 @@ module _ {A E : Type 0} (result : Result A E) (old mid new : List ℕ) where
   in_words : (form : Form) → (form ≡ Json → ⊥) → (count last : ℕ)
       → OnOk result (new ≡ old ++ (codes " | " ++ (number count ++ (codes " local instructions, up to event " ++ number last)))) → OnOk result (new ≡ old ++ count_in form count last)
   in_words Plain not_json count last all = all
-  in_words Columns not_json count last all = all
+  in_words (Columns width) not_json count last all = all
   in_words Json not_json count last all = absurd (not_json refl)
 
   pub words_counted : (form : Form) → (form ≡ Json → ⊥) → (count last : ℕ) (one two : List ℕ) → one ≡ old ++ codes " | " → two ≡ one ++ number count

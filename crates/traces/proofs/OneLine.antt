@@ -16,8 +16,10 @@ use Rattle.traces.specs.declared.form.Form.{Form}
 use Rattle.traces.specs.declared.form.Form.TheVariants.{Plain, Columns, Json}
 use Rattle.traces.specs.JsonTexts.{escape, escaped, quoted, member, text_member}
 use Rattle.traces.specs.Quotations.{quotation, shown, shown_units}
+use Rattle.traces.specs.declared.members.DeedMembers.{DeedMembers}
+use Rattle.traces.specs.Cuts.{begins as begins_one, cut, cut_in}
 use Rattle.traces.specs.Pieces.{Piece, Words, Quoted, did, piece_in, pieces_in}
-use Rattle.traces.specs.Lines.{IsOneLine, is_within_line, class_in, end_words, frame_in, head_words, in_seven, indent, instruction_words, line_words, method_members, method_words, nowhere_in, part, place_in}
+use Rattle.traces.specs.Lines.{IsOneLine, is_within_line, class_in, column_words, deed_members, end_words, frame_in, head_words, in_seven, indent, instruction_words, line_words, members_in, method_members, method_words, nowhere_in, number_if, part, place_in, step, text_if, told_words, whole_words}
 
 abbrev Is : List ℕ → Type 0
 Is text = is_within_line text ≡ true
@@ -36,14 +38,45 @@ all_of : (f : ℕ → List ℕ) → ((b : ℕ) → Is (f b)) → (text : List �
 all_of f each [] = refl
 all_of f each (b ∷ text) = both (f b) (flat_map f text) (each b) (all_of f each text)
 
+chosen : (t : Bool) (a b : List ℕ) → Is a → Is b → Is (if t then a else b)
+chosen true a b one other = one
+chosen false a b one other = other
+
+-- ---- lines that are cut
+
+first_true : (a b : Bool) → (a && b) ≡ true → a ≡ true
+first_true true b e = refl
+first_true false b e = e
+
+second_true : (a b : Bool) → (a && b) ≡ true → b ≡ true
+second_true true b e = e
+second_true false b e = cc
+
+-- the first byte of a line before another one
+kept : (b : ℕ) (text rest : List ℕ) → Is (b ∷ text) → Is rest → Is (b ∷ rest)
+kept b text rest is behind = ap (λ (t : Bool). t && is_within_line rest) (first_true (not (b == 10)) (is_within_line text) is) ∙ behind
+
+left : (b : ℕ) (text : List ℕ) → Is (b ∷ text) → Is text
+left b text is = second_true (not (b == 10)) (is_within_line text) is
+
+cuts : (n : ℕ) (text : List ℕ) → Is text → Is (cut n text)
+cuts n [] is = refl
+cuts zero (b ∷ text) is =
+    chosen (begins_one b) [] (b ∷ cut zero text) refl (kept b text (cut zero text) is (cuts zero text (left b text is)))
+cuts (suc n) (b ∷ text) is =
+    chosen (begins_one b) (b ∷ cut n text) (b ∷ cut (suc n) text)
+    (kept b text (cut n text) is (cuts n text (left b text is)))
+    (kept b text (cut (suc n) text) is (cuts (suc n) text (left b text is)))
+
+cut_lines : (form : Form) (text : List ℕ) → Is text → Is (cut_in form text)
+cut_lines (Columns width) text is = cuts width text is
+cut_lines Plain text is = is
+cut_lines Json text is = is
+
 -- ---- numbers
 
 glyph : (d : ℕ) → (digit_glyph false d == 10) ≡ false
 glyph d = grind (arith, nat_tests)
-
-chosen : (t : Bool) (a b : List ℕ) → Is a → Is b → Is (if t then a else b)
-chosen true a b one other = one
-chosen false a b one other = other
 
 onto : (k n : ℕ) (behind : List ℕ) → Is behind → Is (digits_onto k 10 false n behind)
 onto zero n behind is = is
@@ -118,9 +151,9 @@ text_members key text named = members key (quoted text) named (quoted_texts text
 
 heads : (form : Form) (n t : ℕ) → Is (head_words form n t)
 heads Plain n t = both (number n) (codes " " ++ number t) (numbers n) (both (codes " ") (number t) refl (numbers t))
-heads Columns n t =
-    both (in_seven n) (codes " " ++ (indent t ++ number t)) (both (replicate (7 - length (number n)) 32) (number n) (spaces (7 - length (number n))) (numbers n))
-    (both (codes " ") (indent t ++ number t) refl (both (indent t) (number t) (spaces (24 * min t 7)) (numbers t)))
+heads (Columns width) n t =
+    both (in_seven n) (codes " " ++ (indent width t ++ number t)) (both (replicate (7 - length (number n)) 32) (number n) (spaces (7 - length (number n))) (numbers n))
+    (both (codes " ") (indent width t ++ number t) refl (both (indent width t) (number t) (spaces (step width * min t 7)) (numbers t)))
 heads Json n t =
     both (codes "{\"event\":") (number n ++ member (codes "thread") (number t)) refl
     (both (number n) (member (codes "thread") (number t)) (numbers n) (members (codes "thread") (number t) refl (numbers t)))
@@ -136,17 +169,17 @@ frames Json method offset =
     (both (text_member (codes "class") method.class) (text_member (codes "method") method.name) (text_members (codes "class") method.class refl) (text_members (codes "method") method.name refl))
     (members (codes "offset") (number offset) refl (numbers offset))
 frames Plain method offset = in_words method offset
-frames Columns method offset = in_words method offset
+frames (Columns width) method offset = in_words method offset
 
 classes : (form : Form) (class : Name) → Is (class_in form class)
 classes Json class = text_members (codes "class") class refl
 classes Plain class = both (codes " ") (printed class) refl (printed_texts class)
-classes Columns class = both (codes " ") (printed class) refl (printed_texts class)
+classes (Columns width) class = both (codes " ") (printed class) refl (printed_texts class)
 
 nowhere : (form : Form) → Is (nowhere_in form)
 nowhere Json = refl
 nowhere Plain = refl
-nowhere Columns = refl
+nowhere (Columns width) = refl
 
 places : {A : Type 0} (form : Form) (stack : StackOf A) → Is (place_in form stack)
 places form [] = nowhere form
@@ -157,7 +190,7 @@ parts : (form : Form) (mark key words : List ℕ) → Is mark → Is key → Is 
 parts form mark key [] marked named = refl
 parts Json mark key (x ∷ words) marked named = text_members key (x ∷ words) named
 parts Plain mark key (x ∷ words) marked named = both mark (printed (x ∷ words)) marked (printed_texts (x ∷ words))
-parts Columns mark key (x ∷ words) marked named = both mark (printed (x ∷ words)) marked (printed_texts (x ∷ words))
+parts (Columns width) mark key (x ∷ words) marked named = both mark (printed (x ∷ words)) marked (printed_texts (x ∷ words))
 
 shown_texts : (units : List ℕ) → Is (shown_units units)
 shown_texts units = all_of shown each units
@@ -177,8 +210,8 @@ pieces Json (Words bytes) = all_of escape escapes (decoded bytes)
 pieces Json (Quoted text) = all_of escape escapes (decoded (quotation text))
 pieces Plain (Words bytes) = printed_texts bytes
 pieces Plain (Quoted text) = quotations text
-pieces Columns (Words bytes) = printed_texts bytes
-pieces Columns (Quoted text) = quotations text
+pieces (Columns width) (Words bytes) = printed_texts bytes
+pieces (Columns width) (Quoted text) = quotations text
 
 all_pieces : (form : Form) (all : List Piece) → Is (pieces_in form all)
 all_pieces form [] = refl
@@ -190,7 +223,35 @@ dids Json (Some all) =
     members (codes "did") (codes "\"" ++ (pieces_in Json all ++ codes "\"")) refl
     (both (codes "\"") (pieces_in Json all ++ codes "\"") refl (both (pieces_in Json all) (codes "\"") (all_pieces Json all) refl))
 dids Plain (Some all) = both (codes " | ") (pieces_in Plain all) refl (all_pieces Plain all)
-dids Columns (Some all) = both (codes " | ") (pieces_in Columns all) refl (all_pieces Columns all)
+dids (Columns width) (Some all) = both (codes " | ") (pieces_in (Columns width) all) refl (all_pieces Columns all)
+
+texts_if : (key text : List ℕ) → Is key → Is (text_if key text)
+texts_if key [] named = refl
+texts_if key (x ∷ text) named = text_members key (x ∷ text) named
+
+numbers_if : (key : List ℕ) (n : Option ℕ) → Is key → Is (number_if key n)
+numbers_if key None named = refl
+numbers_if key (Some n) named = members key (number n) named (numbers n)
+
+deeds : (told : DeedMembers) → Is (deed_members told)
+deeds told =
+    let op = text_if (codes "op") told.op.now in
+    let monitor = text_if (codes "monitor") told.monitor.now in
+    let count = number_if (codes "count") told.count in
+    let printed = number_if (codes "printed") told.printed in
+    let started = number_if (codes "started") told.started in
+    let object = text_if (codes "object") told.object.now in
+    both op (monitor ++ (count ++ (printed ++ (started ++ object)))) (texts_if (codes "op") told.op.now refl)
+    (both monitor (count ++ (printed ++ (started ++ object))) (texts_if (codes "monitor") told.monitor.now refl)
+    (both count (printed ++ (started ++ object)) (numbers_if (codes "count") told.count refl)
+    (both printed (started ++ object) (numbers_if (codes "printed") told.printed refl)
+    (both started object (numbers_if (codes "started") told.started refl) (texts_if (codes "object") told.object.now refl)))))
+
+all_members : (form : Form) (told : Option DeedMembers) → Is (members_in form told)
+all_members Plain told = refl
+all_members (Columns width) told = refl
+all_members Json None = refl
+all_members Json (Some told) = deeds told
 
 -- ---- the line
 
@@ -198,33 +259,61 @@ dids Columns (Some all) = both (codes " | ") (pieces_in Columns all) refl (all_p
 abbrev bracket : Form → List ℕ
 bracket Json = codes "}"
 bracket Plain = []
-bracket Columns = []
+bracket (Columns width) = []
 
 ends : (form : Form) → end_words form ≡ line (bracket form)
 ends Json = refl
 ends Plain = refl
-ends Columns = refl
+ends (Columns width) = refl
 
 brackets : (form : Form) → Is (bracket form)
 brackets Json = refl
 brackets Plain = refl
-brackets Columns = refl
+brackets (Columns width) = refl
 
 begins : (form : Form) (words text : List ℕ) → Is words → text ≡ words ++ end_words form → IsOneLine text
 begins form words text is e =
     (words ++ bracket form, e ∙ ap (λ (l : List ℕ). words ++ l) (ends form) ∙ sym (append_assoc words (bracket form) (10 ∷ [])), both words (bracket form) is (brackets form))
 
-pub is_one_line : {A : Type 0} (form : Form) (trees : Program) (n t : ℕ) (stack : StackOf A) (source : List ℕ) (deed : Option (List Piece))
-    → IsOneLine (line_words form trees n t stack source deed)
-is_one_line form trees n t stack source deed =
+tolds : (form : Form) (deed : Option (List Piece)) (words : List ℕ) → Is (told_words form deed words)
+tolds form None words = parts form (codes " ") (codes "instruction") words refl refl
+tolds form (Some all) words = both (codes " ") (pieces_in form all) refl (all_pieces form all)
+
+is_whole : {A : Type 0} (form : Form) (trees : Program) (n t : ℕ) (stack : StackOf A) (source : List ℕ) (deed : Option (List Piece))
+    (told : Option DeedMembers) → IsOneLine (whole_words form trees n t stack source deed told)
+is_whole form trees n t stack source deed told =
     let a = head_words form n t in
     let b = place_in form stack in
     let c = part form (codes " ") (codes "source") source in
     let d = part form (codes " ") (codes "instruction") (instruction_words trees stack) in
     let e = did form deed in
-    begins form (a ++ (b ++ (c ++ (d ++ e)))) (a ++ (b ++ (c ++ (d ++ (e ++ end_words form)))))
-    (both a (b ++ (c ++ (d ++ e))) (heads form n t)
-    (both b (c ++ (d ++ e)) (places form stack)
-    (both c (d ++ e) (parts form (codes " ") (codes "source") source refl refl)
-    (both d e (parts form (codes " ") (codes "instruction") (instruction_words trees stack) refl refl) (dids form deed)))))
+    let f = members_in form told in
+    begins form (a ++ (b ++ (c ++ (d ++ (e ++ f))))) (a ++ (b ++ (c ++ (d ++ (e ++ (f ++ end_words form))))))
+    (both a (b ++ (c ++ (d ++ (e ++ f)))) (heads form n t)
+    (both b (c ++ (d ++ (e ++ f))) (places form stack)
+    (both c (d ++ (e ++ f)) (parts form (codes " ") (codes "source") source refl refl)
+    (both d (e ++ f) (parts form (codes " ") (codes "instruction") (instruction_words trees stack) refl refl)
+    (both e f (dids form deed) (all_members form told))))))
     (simp append_assoc)
+
+is_column : {A : Type 0} (form : Form) (trees : Program) (n t : ℕ) (stack : StackOf A) (source : List ℕ) (deed : Option (List Piece))
+    → IsOneLine (column_words form trees n t stack source deed)
+is_column form trees n t stack source deed =
+    let a = head_words form n t in
+    let b = told_words form deed (instruction_words trees stack) in
+    let c = place_in form stack in
+    let d = part form (codes " ") (codes "source") source in
+    let all = a ++ (b ++ (codes " |" ++ (c ++ d))) in
+    begins form (cut_in form all) (cut_in form all ++ end_words form)
+    (cut_lines form all
+    (both a (b ++ (codes " |" ++ (c ++ d))) (heads form n t)
+    (both b (codes " |" ++ (c ++ d)) (tolds form deed (instruction_words trees stack))
+    (both (codes " |") (c ++ d) refl
+    (both c d (places form stack) (parts form (codes " ") (codes "source") source refl refl))))))
+    refl
+
+pub is_one_line : {A : Type 0} (form : Form) (trees : Program) (n t : ℕ) (stack : StackOf A) (source : List ℕ) (deed : Option (List Piece))
+    (told : Option DeedMembers) → IsOneLine (line_words form trees n t stack source deed told)
+is_one_line (Columns width) trees n t stack source deed told = is_column (Columns width) trees n t stack source deed
+is_one_line Plain trees n t stack source deed told = is_whole Plain trees n t stack source deed told
+is_one_line Json trees n t stack source deed told = is_whole Json trees n t stack source deed told

@@ -53,7 +53,7 @@ module _ (words : List ℕ) (units : Text) (marks : List Mark) where
       → OnOk result (new ≡ old ++ did form (deed words units marks))
   member_told (Err fault) form old head mid new e is begins so_far ends = tt
   member_told (Ok value) Plain old head mid new e is begins so_far ends = let bad : Plain ≡ Json = is in cc
-  member_told (Ok value) Columns old head mid new e is begins so_far ends = let bad : Columns ≡ Json = is in cc
+  member_told (Ok value) (Columns width) old head mid new e is begins so_far ends = let bad : Columns width ≡ Json = is in cc
   member_told (Ok value) Json old head mid new e is begins so_far ends =
       let front = codes ",\"did\":\"" in
       let said = pieces_in Json all in
@@ -70,6 +70,6 @@ module _ (words : List ℕ) (units : Text) (marks : List Mark) where
   words_told (Ok value) Plain old head new e is begins said =
       said ∙ ap (λ (l : List ℕ). l ++ pieces_in Plain all) begins ∙ append_assoc old (codes " | ") (pieces_in Plain all)
       ∙ ap (λ (d : Option (List Piece)). old ++ did Plain d) (sym (deed_there e))
-  words_told (Ok value) Columns old head new e is begins said =
-      said ∙ ap (λ (l : List ℕ). l ++ pieces_in Columns all) begins ∙ append_assoc old (codes " | ") (pieces_in Columns all)
-      ∙ ap (λ (d : Option (List Piece)). old ++ did Columns d) (sym (deed_there e))
+  words_told (Ok value) (Columns width) old head new e is begins said =
+      said ∙ ap (λ (l : List ℕ). l ++ pieces_in (Columns width) all) begins ∙ append_assoc old (codes " | ") (pieces_in (Columns width) all)
+      ∙ ap (λ (d : Option (List Piece)). old ++ did (Columns width) d) (sym (deed_there e))

@@ -1,3 +1,4 @@
+pub mod Cuts
 pub mod JsonTexts
 pub mod Lines
 pub mod Methods

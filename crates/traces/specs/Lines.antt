@@ -1,5 +1,5 @@
 -- The line of an event: where its thread stood, and its instruction (own; JVMS 2.6, 5.5).
-use Rattle.std.specs.Prelude.{◌≡◌, ℕ, ◌+◌, ◌-◌, ◌*◌, List, [], ◌∷◌, ◌++◌, Option, Bool, IsTrue, length, replicate, codes, min, nat_lt, not, ◌==◌, if◌then◌else◌}
+use Rattle.std.specs.Prelude.{◌≡◌, ℕ, ◌+◌, ◌-◌, ◌*◌, ◌/◌, List, [], ◌∷◌, ◌++◌, Option, Some, None, Bool, IsTrue, length, replicate, codes, min, nat_lt, not, ◌==◌, if◌then◌else◌}
 use Rattle.std.specs.List.{list_all}
 use Rattle.std.specs.Option.{option_map_or}
 use Rattle.model.specs.Classes.{Program, Body, body_of}
@@ -12,7 +12,9 @@ use Rattle.listings.specs.printed_names.Printed.{printed}
 use Rattle.traces.specs.declared.form.Form.{Form}
 use Rattle.traces.specs.declared.form.Form.TheVariants.{Plain, Columns, Json}
 use Rattle.traces.specs.JsonTexts.{member, text_member}
-use Rattle.traces.specs.Pieces.{Piece, did}
+use Rattle.traces.specs.declared.members.DeedMembers.{DeedMembers}
+use Rattle.traces.specs.Cuts.{cut_in}
+use Rattle.traces.specs.Pieces.{Piece, did, pieces_in}
 
 -- ---- the event
 
@@ -20,14 +22,18 @@ use Rattle.traces.specs.Pieces.{Piece, did}
 abbrev pub in_seven : ℕ → List ℕ
 in_seven n = replicate (7 - length (number n)) 32 ++ number n
 
--- a column has 24 places; what thread 7 and those above it do stands in one
-abbrev pub indent : ℕ → List ℕ
-indent t = replicate (24 * min t 7) 32
+-- how far a column stands behind the one before it, in lines of so many characters
+abbrev pub step : (width : ℕ) → ℕ
+step width = min ((width - 52) / 7) 24
+
+-- what thread 7 and those above it do stands in one column
+abbrev pub indent : (width t : ℕ) → List ℕ
+indent width t = replicate (step width * min t 7) 32
 
 -- the number of the event and that of its thread
 abbrev pub head_words : Form → (n t : ℕ) → List ℕ
 head_words Plain n t = number n ++ (codes " " ++ number t)
-head_words Columns n t = in_seven n ++ (codes " " ++ (indent t ++ number t))
+head_words (Columns width) n t = in_seven n ++ (codes " " ++ (indent width t ++ number t))
 head_words Json n t = codes "{\"event\":" ++ (number n ++ member (codes "thread") (number t))
 
 -- a thread by its number
@@ -75,6 +81,35 @@ instruction_words trees [] = []
 instruction_words trees (Invocation frame ∷ stack) = option_map_or (meaning_in frame.place.offset) (body_of trees frame.method) []
 instruction_words trees (Initialisation class phase ∷ stack) = []
 
+-- ---- what was done, as members of an object
+
+abbrev pub text_if : (key text : List ℕ) → List ℕ
+text_if key [] = []
+text_if key (x ∷ text) = text_member key (x ∷ text)
+
+abbrev pub number_if : (key : List ℕ) → Option ℕ → List ℕ
+number_if key None = []
+number_if key (Some n) = member key (number n)
+
+-- a word for it, the monitor that was entered or left and how often it is entered since, how much is printed, and the thread that was started
+abbrev pub deed_members : DeedMembers → List ℕ
+deed_members told =
+    text_if (codes "op") told.op.now
+    ++ (text_if (codes "monitor") told.monitor.now
+    ++ (number_if (codes "count") told.count
+    ++ (number_if (codes "printed") told.printed
+    ++ (number_if (codes "started") told.started
+    ++ text_if (codes "object") told.object.now))))
+
+-- no other form tells it
+abbrev pub members_in : Form → Option DeedMembers → List ℕ
+members_in Json (Some told) = deed_members told
+members_in form told = []
+
+-- they stand behind a text now
+abbrev pub AddsMembers : Form → (old new : List ℕ) → Type 0
+AddsMembers form old new = (told : Option DeedMembers) × (new ≡ old ++ members_in form told)
+
 -- ---- the line
 
 -- a part that is there stands behind a mark, or is a member of an object
@@ -87,15 +122,35 @@ abbrev pub end_words : Form → List ℕ
 end_words Json = codes "}\n"
 end_words form = codes "\n"
 
--- the event, the thread's place, the source, the instruction, and what was done
-abbrev pub line_words : {A : Type 0} → Form → Program → (n t : ℕ) → StackOf A → (source : List ℕ) → Option (List Piece) → List ℕ
-line_words form trees n t stack source deed =
+-- the event, the thread's place, the source, the instruction, and what was done, in words and as members
+abbrev pub whole_words : {A : Type 0} → Form → Program → (n t : ℕ) → StackOf A → (source : List ℕ) → Option (List Piece) → Option DeedMembers → List ℕ
+whole_words form trees n t stack source deed told =
     head_words form n t
     ++ (place_in form stack
     ++ (part form (codes " ") (codes "source") source
     ++ (part form (codes " ") (codes "instruction") (instruction_words trees stack)
     ++ (did form deed
-    ++ end_words form))))
+    ++ (members_in form told
+    ++ end_words form)))))
+
+-- in a column what was done, or else the instruction
+abbrev pub told_words : Form → Option (List Piece) → (instruction : List ℕ) → List ℕ
+told_words form None instruction = part form (codes " ") (codes "instruction") instruction
+told_words form (Some pieces) instruction = codes " " ++ pieces_in form pieces
+
+-- then where the thread stood, as far as there is room
+abbrev pub column_words : {A : Type 0} → Form → Program → (n t : ℕ) → StackOf A → (source : List ℕ) → Option (List Piece) → List ℕ
+column_words form trees n t stack source deed =
+    cut_in form (head_words form n t
+    ++ (told_words form deed (instruction_words trees stack)
+    ++ (codes " |"
+    ++ (place_in form stack
+    ++ part form (codes " ") (codes "source") source))))
+    ++ end_words form
+
+abbrev pub line_words : {A : Type 0} → Form → Program → (n t : ℕ) → StackOf A → (source : List ℕ) → Option (List Piece) → Option DeedMembers → List ℕ
+line_words (Columns width) trees n t stack source deed told = column_words (Columns width) trees n t stack source deed
+line_words form trees n t stack source deed told = whole_words form trees n t stack source deed told
 
 -- no byte of a text is a line feed
 abbrev pub is_within_line : List ℕ → Bool
@@ -107,11 +162,24 @@ IsOneLine text = (words : List ℕ) × (text ≡ line words) × IsTrue (is_withi
 
 -- the one line of an event of a thread with this stack, whatever is said of the source and of what was done
 abbrev pub IsLine : {A : Type 0} → Form → Program → (n t : ℕ) → StackOf A → List ℕ → Type 0
-IsLine form trees n t stack text = IsOneLine text × (source : List ℕ) × (deed : Option (List Piece)) × (text ≡ line_words form trees n t stack source deed)
+IsLine form trees n t stack text = IsOneLine text × (source : List ℕ) × (deed : Option (List Piece)) × (told : Option DeedMembers)
+    × (text ≡ line_words form trees n t stack source deed told)
 
 -- it stands behind a text now
 abbrev pub AddsLine : {A : Type 0} → Form → Program → (n t : ℕ) → StackOf A → (old new : List ℕ) → Type 0
 AddsLine form trees n t stack old new = (added : List ℕ) × (new ≡ old ++ added) × IsLine form trees n t stack added
+
+-- ---- parts of it, which stand behind a text
+
+abbrev pub AddsTold : {A : Type 0} → Form → Program → StackOf A → (old new : List ℕ) → Type 0
+AddsTold form trees stack old new = (deed : Option (List Piece)) × (new ≡ old ++ told_words form deed (instruction_words trees stack))
+
+abbrev pub AddsColumn : {A : Type 0} → Form → Program → (n t : ℕ) → StackOf A → (old new : List ℕ) → Type 0
+AddsColumn form trees n t stack old new = (source : List ℕ) × (deed : Option (List Piece)) × (new ≡ old ++ column_words form trees n t stack source deed)
+
+abbrev pub AddsWhole : {A : Type 0} → Form → Program → (n t : ℕ) → StackOf A → (old new : List ℕ) → Type 0
+AddsWhole form trees n t stack old new =
+    (source : List ℕ) × (deed : Option (List Piece)) × (told : Option DeedMembers) × (new ≡ old ++ whole_words form trees n t stack source deed told)
 
 -- ---- the line of a run of local instructions
 
@@ -128,8 +196,8 @@ count_in form count last = codes " | " ++ (number count ++ (codes " local instru
 -- so many events of a thread from number n on, in a method, between these offsets
 abbrev pub fold_words : Form → (n count t : ℕ) → Member → (from to : ℕ) → List ℕ
 fold_words form n count t method from to =
-    head_words form n t
+    cut_in form (head_words form n t
     ++ (frame_in form method from
     ++ (last_in form to
-    ++ (count_in form count (n + (count - 1))
-    ++ end_words form)))
+    ++ count_in form count (n + (count - 1)))))
+    ++ end_words form

@@ -4,6 +4,7 @@ ghost use Rattle.std.specs.Prelude.{◌≡◌, ◌≤◌, ◌<◌, ◌+◌, ◌^
 ghost use Rattle.linked_code.specs.Numbers.{IsMethodAt};
 ghost use Rattle.traces.specs.Lines.{count_in, fold_words, last_in};
 
+use crate::cuts::cut_line;
 use crate::form::Form;
 use crate::json::push_number_member;
 use crate::line::Line;
@@ -61,9 +62,11 @@ pub fn push_fold(text: &mut Vec<u8>, names: &ProgramNames<'_>, fold: Fold) -> Re
         fold.to) }
 {
     let last = fold.first.number + u64::from(fold.count - 1);
+    let start = text.len();
     push_head(text, fold.first)?;
     push_frame(text, names, fold.first.form, fold.from)?;
     push_last(text, fold.first.form, fold.to)?;
     push_count(text, fold.first.form, u64::from(fold.count), last)?;
+    cut_line(text, start, fold.first.form);
     push_end(text, fold.first.form)
 }

@@ -5,8 +5,8 @@
 pub enum Form {
     /// In words, with a space between two parts.
     Plain,
-    /// A line of words, with a column for each thread.
-    Columns,
+    /// A line of words, with a column for each thread, of so many characters at most.
+    Columns(u32),
     /// An object of JSON.
     Json,
 }

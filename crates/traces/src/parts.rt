@@ -2,7 +2,7 @@
 
 ghost use Rattle.std.specs.Prelude.{◌≡◌, ◌++◌, OnOk};
 ghost use Rattle.traces.specs.Pieces.{deed, did};
-ghost use Rattle.traces.specs.Lines.{end_words, head_words, indent, part};
+ghost use Rattle.traces.specs.Lines.{end_words, head_words, indent, part, step};
 
 use crate::form::Form;
 use crate::json::{push_number_member, push_text_member};
@@ -15,11 +15,19 @@ use std::alloc::AllocError;
 /// How many threads have a column of their own, but for the last.
 const COLUMNS: u16 = 7;
 
-/// The spaces before the column of a thread.
-fn push_indent(text: &mut Vec<u8>, thread: u16) -> Result<(), AllocError>
-    ensures { OnOk result (text.new.items ≡ text.old.items ++ indent thread) }
+/// How far a column stands behind the one before it, in lines of so many characters: so that the last one has some 40
+/// of them, and not further than is easily read.
+fn step_of(width: u32) -> usize
+    ensures { result ≡ step width }
 {
-    push_spaces(text, 24 * usize::from(thread.min(COLUMNS)))
+    (width.saturating_sub(52) / 7).min(24) as usize
+}
+
+/// The spaces before the column of a thread.
+fn push_indent(text: &mut Vec<u8>, width: u32, thread: u16) -> Result<(), AllocError>
+    ensures { OnOk result (text.new.items ≡ text.old.items ++ indent width thread) }
+{
+    push_spaces(text, step_of(width) * usize::from(thread.min(COLUMNS)))
 }
 
 /// The number of an event and that of its thread.
@@ -32,10 +40,10 @@ pub(crate) fn push_head(text: &mut Vec<u8>, line: Line) -> Result<(), AllocError
             push_words(text, " ")?;
             push_number(text, u64::from(line.event.thread))
         }
-        Form::Columns => {
+        Form::Columns(width) => {
             push_in_seven(text, line.number)?;
             push_words(text, " ")?;
-            push_indent(text, line.event.thread)?;
+            push_indent(text, width, line.event.thread)?;
             push_number(text, u64::from(line.event.thread))
         }
         Form::Json => {
@@ -95,6 +103,6 @@ pub(crate) fn push_end(text: &mut Vec<u8>, form: Form) -> Result<(), AllocError>
 {
     match form {
         Form::Json => push_words(text, "}\n"),
-        Form::Plain | Form::Columns => push_words(text, "\n"),
+        Form::Plain | Form::Columns(_) => push_words(text, "\n"),
     }
 }

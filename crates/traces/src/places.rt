@@ -53,7 +53,7 @@ fn push_nowhere(text: &mut Vec<u8>, form: Form) -> Result<(), AllocError>
 {
     match form {
         Form::Json => Ok(()),
-        Form::Plain | Form::Columns => push_words(text, " -"),
+        Form::Plain | Form::Columns(_) => push_words(text, " -"),
     }
 }
 

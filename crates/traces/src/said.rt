@@ -139,7 +139,7 @@ fn push_said(text: &mut Vec<u8>, form: Form, words: &[u8]) -> Result<(), AllocEr
 {
     match form {
         Form::Json => push_escaped(text, words),
-        Form::Plain | Form::Columns => push_printed(text, words),
+        Form::Plain | Form::Columns(_) => push_printed(text, words),
     }
 }
 

@@ -2,7 +2,8 @@
 
 use crate::engine_tests::devices::{FailingFolder, File};
 use engines::{
-    Complaint, Counted, Deadline, Explanation, Gate, Growth, Progress, Seeds, Status, Watch, run,
+    Complaint, Counted, Deadline, Explanation, Gate, Growth, Progress, Seeds, Status, Terminal,
+    Watch, run,
 };
 use made_files::class_builder::PRINTS_SEVEN;
 use schedule::recorded_events::RecordedEvents;
@@ -102,6 +103,8 @@ impl Deadline for Witness {
         false
     }
 }
+
+impl Terminal for Witness {}
 
 impl Growth for Witness {
     fn follow(&self) {

@@ -2,7 +2,7 @@
 
 use crate::engine_tests::devices::{FailingFolder, File};
 use engines::{
-    Complaint, Counted, Deadline, Explanation, Gate, Growth, Progress, Seeds, Status, run,
+    Complaint, Counted, Deadline, Explanation, Gate, Growth, Progress, Seeds, Status, Terminal, run,
 };
 use made_files::class_builder::PRINTS_SEVEN;
 use std::alloc::{AllocError, Global};
@@ -83,6 +83,8 @@ impl Deadline for Watch {
         false
     }
 }
+
+impl Terminal for Watch {}
 
 impl Growth for Watch {}
 

@@ -2,7 +2,8 @@
 
 use crate::engine_tests::devices::{FailingFolder, File};
 use engines::{
-    Complaint, Counted, Deadline, Explanation, Gate, Growth, Progress, Seeds, Status, Watch, run,
+    Complaint, Counted, Deadline, Explanation, Gate, Growth, Progress, Seeds, Status, Terminal,
+    Watch, run,
 };
 use made_files::class_builder::PRINTS_SEVEN;
 use std::alloc::{AllocError, Global};
@@ -64,6 +65,8 @@ impl Deadline for Late {
         true
     }
 }
+
+impl Terminal for Late {}
 
 impl Growth for Late {}
 

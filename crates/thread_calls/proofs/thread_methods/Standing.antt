@@ -19,7 +19,7 @@ use Rattle.model.specs.State.{ObjectOf, types_of, State}
 use Rattle.model.specs.Tree.{FileTree, CodeTree, MethodTree}
 use Rattle.model.specs.Words.{map_world}
 use Rattle.run_laws.specs.soundness.Runs.{IsNoEventWrong}
-use Rattle.run_laws.specs.word_operands.Receivers.{receiver, receiver_of, has_class_below, is_any, AreReceived}
+use Rattle.run_laws.specs.word_operands.Receivers.{receiver, receiver_of, is_called_on, is_any, AreReceived}
 use Rattle.run_laws.proofs.laws.Unrefused.{names_differ}
 use Rattle.hierarchy.specs.Places.{class_at, place_of}
 use Rattle.hierarchy.specs.declared.place.MemberPlace.{MemberPlace}
@@ -145,7 +145,7 @@ module _ (wrong : IsNoEventWrong) (receives : AreReceived) (reads : AreOperandsR
           by None e = absurd (virtual_names trees site instruction.meaning at.stands.means index method i e)
           by (Some named) e =
               calls named (in_file index named e) r.program heap shows
-              (there named (has_class_below trees named.class) (ap (receiver_of trees site) i ∙ ap (option_map (λ (m : Member). receiver (parameter_count m) (has_class_below trees m.class))) e))
+              (there named (is_called_on trees named.class) (ap (receiver_of trees site) i ∙ ap (option_map (λ (m : Member). receiver (parameter_count m) (is_called_on trees m.class))) e))
               ∙ sym (subst (λ ns. told_of ≡ called_virtual trees heap ns named) words_are
               (virtual_told trees site state.world max instruction.slots instruction.meaning all_found at.stands.means index named i e))
 

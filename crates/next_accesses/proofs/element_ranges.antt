@@ -1,0 +1,2 @@
+pub mod Chars
+pub mod Counted

@@ -1,0 +1,17 @@
+use Rattle.std.specs.Arc.{arc_value}
+use Rattle.search.proofs.Whole.{accepted_of}
+use Rattle.search.proofs.preemptions.Rounds.{none_visited_in, one_in, round_in}
+use Rattle.search.proofs.preemptions.searching.search_round.Goals as goal
+
+pub visit_nodes-requires-clause-visited : goal.visit_nodes-requires-clause-visited
+visit_nodes-requires-clause-visited g c =
+    none_visited_in c.args.asked.now.linked.now c.args.limits c.args.asked.now.goal.now c.args.bound (arc_value c.args.program.now) c.in_ok-nodes.nodes c.in_ok-nodes.ensures c.requires.program
+
+pub visit_nodes-requires-clause-few : goal.visit_nodes-requires-clause-few
+visit_nodes-requires-clause-few g c =
+    one_in c.args.asked.now.linked.now c.args.limits c.args.asked.now.goal.now c.args.bound (arc_value c.args.program.now) c.in_ok-nodes.nodes c.in_ok-nodes.ensures c.args.asked.now.most
+
+pub returns-clause-says : goal.returns-clause-says
+returns-clause-says g c =
+    round_in c.args.asked.now.linked.now c.args.limits c.args.asked.now.goal.now c.args.bound (arc_value c.args.program.now) c.in_ok-nodes.nodes c.in_ok-nodes.ensures (g.P.Progress.may_stop c.args.progress.now)
+    c.args.asked.now.most _ c.len.result c.len.ensures c.in_ok-round.round c.in_ok-round.ensures.says
