@@ -214,17 +214,18 @@ refused_more (Ok value) reason other on known = tt
 refused_more (Err usage) reason other on known = refuses_more usage reason other on known
 
 -- an option that is there has its number
-number_there : (text : Option Text) (number : ℕ) (other : Option ℕ) → IsNumber 1 3 text (Some number) → IsNumber 1 3 text other → other ≡ None → ⊥
-number_there None number other is also none = is
-number_there (Some text) number None is also none = also
-number_there (Some text) number (Some other) is also none = let bad : None ≡ Some other = sym none in cc
+pub number_there : (least most : ℕ) (text : Option Text) (number : ℕ) (other : Option ℕ) → IsNumber least most text (Some number) → IsNumber least most text other
+    → other ≡ None → ⊥
+number_there least most None number other is also none = is
+number_there least most (Some text) number None is also none = also
+number_there least most (Some text) number (Some other) is also none = let bad : None ≡ Some other = sym none in cc
 
 -- where nothing is recorded, a version that is asked for is none
 pub no_version : (rows : List Row) (found : Option ℕ) → IsNumber 1 3 (first_of (codes "as-version") rows) found → first_of (codes "record") rows ≡ None
     → (found ≡ None → ⊥) → (version : Option ℕ) → IsRecordedVersion rows version → ⊥
 no_version rows None is none asked version are = asked refl
 no_version rows (Some number) is none asked version are =
-    number_there (first_of (codes "as-version") rows) number version is are.number (are.recording none)
+    number_there 1 3 (first_of (codes "as-version") rows) number version is are.number (are.recording none)
 
 -- a version is that of what is recorded
 pub a_version : (rows : List Row) (found same : Option ℕ) → IsNumber 1 3 (first_of (codes "as-version") rows) found → same ≡ None → found ≡ None
@@ -237,7 +238,7 @@ pub no_made_version : (rows : List Row) (found : Option ℕ) → IsNumber 1 3 (f
     → (found ≡ None → ⊥) → (version : Option ℕ) → IsMadeVersion rows version → ⊥
 no_made_version rows None is off asked version are = asked refl
 no_made_version rows (Some number) is off asked version are =
-    number_there (first_of (codes "as-version") rows) number version is are.number (are.writing off)
+    number_there 1 3 (first_of (codes "as-version") rows) number version is are.number (are.writing off)
 
 pub a_made_version : (rows : List Row) (found same : Option ℕ) → IsNumber 1 3 (first_of (codes "as-version") rows) found → same ≡ None → found ≡ None
     → IsMadeVersion rows same

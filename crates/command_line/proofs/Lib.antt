@@ -6,5 +6,7 @@ pub mod GoalLemmas
 pub mod ParserLemmas
 pub mod PathLemmas
 pub mod PolicyLemmas
+pub mod PreemptionLemmas
 pub mod ProgramLemmas
 mod SweepLemmas
+mod TraceLemmas

@@ -136,7 +136,12 @@ with_window app = with_rule (with_rule (with_rule app
 
 -- in which form they are told
 abbrev pub with_form : App → App
-with_form app = with_rule (with_rule (with_rule app (flag (codes "columns"))) (flag (codes "json"))) (flag (codes "summary"))
+with_form app = with_rule (with_rule (with_rule (with_rule (with_rule app
+    (flag (codes "columns")))
+    (flag (codes "json")))
+    (flag (codes "summary")))
+    (number_option (codes "width") 20 65535))
+    (path_option (codes "html"))
 
 abbrev pub jvm_trace : App
 jvm_trace = with_files (with_program (with_form (with_window (with_schedule (new_app (codes "trace")))))) class_files
@@ -147,8 +152,9 @@ jvm_races = with_files (with_program (with_schedule (new_app (codes "races")))) 
 
 -- which outcome is to be found, among how many states, in how much memory and how many seconds, and where its schedule is recorded
 abbrev pub with_search_options : App → App
-with_search_options app = with_record (with_rule (with_rule (with_rule (with_rule app
+with_search_options app = with_record (with_rule (with_rule (with_rule (with_rule (with_rule app
     goal_option)
+    (number_option (codes "preemptions") 0 4294967295))
     (number_option (codes "states") 0 4294967295))
     (number_option (codes "memory") 0 4294967295))
     (number_option (codes "seconds") 1 4294967295))

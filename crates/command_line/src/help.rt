@@ -197,6 +197,9 @@ What it does:
   Where it says `search complete`, no other end and no other kind is possible.
   `no data race: correctly synchronized` is told where no state is a race. Where
   it gives up, nothing is said.
+  --preemptions 2 follows the runs that leave a thread which can go on twice at
+  most, those that do so less often first: `search complete within 2 preemptions`
+  is told where none of them ends otherwise.
 
 Statuses:
   0  all that can come of the class files is listed, and it is not what --for asks

@@ -11,6 +11,8 @@
 //!   with `race`, `endless` or `any` (`IsGoalWord`). Behind `output=` stand ints, each as a report prints it; there is
 //!   no command where an item is none. Behind `text=` stands a text of UTF-16 units, in characters and in the escapes
 //!   `\n`, `\\` and `\uXXXX` (`units_of`); there is no command where another backslash stands there.
+//! - In both clauses: `search` has `--preemptions` where the words have it, and never beside `--for endless`
+//!   (`IsPreemptions`).
 //! - In both clauses: `schedule` has one file, and a version beside `--write` alone (`AreScheduleValues`,
 //!   `IsMadeVersion`); or with `--places` class files, a schedule of them, and neither `--write` nor a version
 //!   (`ArePlacesValues`). Of all others `--as-version` stands beside `--record` alone (`IsRecordedVersion`).
@@ -41,12 +43,14 @@ mod options;
 mod parse;
 mod parsers;
 mod paths;
+mod preemptions;
 mod program_options;
 mod run_arguments;
 mod run_options;
 mod schedule_arguments;
 mod sweep_arguments;
 mod sweep_options;
+mod trace_arguments;
 mod usage;
 mod values;
 

@@ -86,11 +86,25 @@ pub(crate) const ONLY: NumberOption = NumberOption {
     help: "The threads whose events are told, with commas between them",
 };
 
+pub(crate) const WIDTH: NumberOption = NumberOption {
+    name: "width",
+    least: 20,
+    most: 65_535,
+    help: "How many characters a line of --columns has at most [default: COLUMNS, or 80]",
+};
+
 pub(crate) const STATES: NumberOption = NumberOption {
     name: "states",
     least: 0,
     most: u32::MAX,
     help: "How many states there may be [default: 10000000]",
+};
+
+pub(crate) const PREEMPTIONS: NumberOption = NumberOption {
+    name: "preemptions",
+    least: 0,
+    most: u32::MAX,
+    help: "How often a run may leave a thread that can go on [default: no bound]",
 };
 
 pub(crate) const MEMORY: NumberOption = NumberOption {
@@ -253,10 +267,10 @@ const OF_RUN: [&str; 6] = [
 const OF_REPLAY: [&str; 2] = ["budget", "as-version"];
 
 /// The options of `trace` that take numbers.
-const OF_TRACE: [&str; 3] = ["from", "to", "only"];
+const OF_TRACE: [&str; 4] = ["from", "to", "only", "width"];
 
 /// The options of `search` that take a number.
-const OF_SEARCH: [&str; 4] = ["states", "memory", "seconds", "as-version"];
+const OF_SEARCH: [&str; 5] = ["preemptions", "states", "memory", "seconds", "as-version"];
 
 /// The name behind two hyphens, where it is that of an option of the subcommand which takes a number.
 fn number_option(subcommand: &str, word: &str) -> Option<&'static str> {

@@ -102,6 +102,10 @@ pub struct Trace {
     /// The threads whose events are told, and `None` for all.
     pub only: Option<Vec<u32>>,
     pub form: TraceForm,
+    /// How many characters a line in columns has at most, and `None` for as many as the terminal has.
+    pub width: Option<u32>,
+    /// The path of the file that a page of the run is written to, in place of the lines, if any.
+    pub html: Option<String>,
     /// Whether a run of local instructions is told in one line.
     pub summary: bool,
     pub limits: LimitOptions,
@@ -153,6 +157,9 @@ pub enum TraceForm {
 pub struct Search {
     /// What is to be found, and `None` where all outcomes and kinds are asked for.
     pub goal: Option<SearchGoal>,
+    /// How many preemptions a run may have, and `None` for any number. A preemption is a switch away from a thread that
+    /// may still step.
+    pub preemptions: Option<u32>,
     /// How many states there may be, and `None` for the usual number.
     pub states: Option<u32>,
     /// How many bytes the states that are kept may take, and `None` for the usual number.

@@ -16,8 +16,8 @@ use crate::help::{
     SHRINK_PAGE, SWEEP_GOAL_HELP, TRACE_PAGE, VERIFY_PAGE, VERSION,
 };
 use crate::numbers::{
-    AS_VERSION, BUDGET, CELLS, FRAMES, FROM, MEMORY, MONITORS, OBJECTS, ONLY, QUANTUM, SECONDS,
-    STATES, THREADS, TO, WHOLE_BUDGET, WORKERS,
+    AS_VERSION, BUDGET, CELLS, FRAMES, FROM, MEMORY, MONITORS, OBJECTS, ONLY, PREEMPTIONS, QUANTUM,
+    SECONDS, STATES, THREADS, TO, WHOLE_BUDGET, WIDTH, WORKERS,
 };
 use crate::run_arguments::{policy_argument, seed_argument};
 use crate::sweep_arguments::{RACES, seeds_argument};
@@ -303,7 +303,7 @@ fn with_window<'a>(
     with_argument(command, ONLY.list_argument(alloc))
 }
 
-/// The command with the flags that say in which form events are told.
+/// The command with the options that say in which form events are told.
 fn with_form<'a>(
     alloc: Global,
     command: Result<clap::Command<'a>, AllocError>,
@@ -319,12 +319,21 @@ fn with_form<'a>(
         command,
         flag_argument(alloc, "json", "Tells each event as an object of JSON"),
     );
-    with_argument(
+    let command = with_argument(
         command,
         flag_argument(
             alloc,
             "summary",
             "Tells a run of local instructions in one line",
+        ),
+    );
+    let command = with_argument(command, WIDTH.argument(alloc));
+    with_argument(
+        command,
+        path_argument(
+            alloc,
+            "html",
+            "The file that a page of the run is written to, in place of lines",
         ),
     )
 }
@@ -338,6 +347,7 @@ fn with_search_options<'a>(
         → IfOk result (λ whole. IsParser whole (spec.with_search_options app)) }
 {
     let command = with_argument(command, goal_argument(alloc, SEARCH_GOAL_HELP));
+    let command = with_argument(command, PREEMPTIONS.argument(alloc));
     let command = with_argument(command, STATES.argument(alloc));
     let command = with_argument(command, MEMORY.argument(alloc));
     let command = with_argument(command, SECONDS.argument(alloc));

@@ -13,7 +13,7 @@ use crate::options::Goal;
 use crate::run_arguments::{SEED, seed_by};
 use crate::sweep_options::{SeedRange, SweepOptions, SweepPolicy};
 use crate::usage::Usage;
-use crate::values::{check_beside, goal_of, is_set};
+use crate::values::{check_beside, goal_of, is_for, is_set};
 use clap::{Arg, ArgMatches};
 use std::alloc::{AllocError, Global};
 
@@ -86,31 +86,11 @@ fn sweep_goal_of(alloc: Global, matches: &ArgMatches<'_>) -> Result<(bool, Optio
     ensures none { IfErr result (λ usage. Refuses usage ((for_race : _) (goal : _)
         → IsSweepGoal (first_of (codes "for") (rows_of (found_of matches.now))) for_race goal → ⊥)) }
 {
-    if is_for_race(matches) {
+    if is_for(matches, "race") {
         return Ok((true, None));
     }
     let goal = goal_of(alloc, matches, SWEEP_GOALS)?;
     Ok((false, goal))
-}
-
-/// Whether a data race is to be found.
-fn is_for_race(matches: &ArgMatches<'_>) -> bool
-    ensures race { result ≡ true → first_of (codes "for") (rows_of (found_of matches.now)) ≡ Some (codes "race") }
-    ensures other { result ≡ false
-        → first_of (codes "for") (rows_of (found_of matches.now)) ≡ Some (codes "race") → ⊥ }
-{
-    match matches.get_str("for") {
-        Some(word) => is_race_word(word),
-        None => false,
-    }
-}
-
-/// Whether a word is that of a data race.
-fn is_race_word(word: &str) -> bool
-    ensures race { result ≡ true → word.now ≡ codes "race" }
-    ensures other { result ≡ false → word.now ≡ codes "race" → ⊥ }
-{
-    word == "race"
 }
 
 /// Refuses an option beside another one. As help tells them, these are their names.

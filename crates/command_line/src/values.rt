@@ -1,6 +1,6 @@
 //! Values of options that several commands have.
 
-ghost use Rattle.std.specs.Prelude.{◌≡◌, List, false, Some, codes, map, string_bytes, IfOk, IfErr};
+ghost use Rattle.std.specs.Prelude.{◌≡◌, List, false, true, Some, codes, map, string_bytes, IfOk, IfErr};
 ghost use Rattle.std.specs.Option.{option_map};
 ghost use Rattle.clap.specs.Words.{all_of, first_of, found_of, rows_of, Text};
 ghost use Rattle.command_line.specs.CommandLine.{AreLimitNumbers, Asks, IsRecordedVersion, Refuses, is_set as is_true};
@@ -39,6 +39,25 @@ pub(crate) fn is_set(matches: &ArgMatches<'_>, flag: &str) -> bool
         Some(text) => text == "true",
         None => false,
     }
+}
+
+/// Whether a word names what is to be found.
+pub(crate) fn is_for(matches: &ArgMatches<'_>, word: &str) -> bool
+    ensures is { result ≡ true → first_of (codes "for") (rows_of (found_of matches.now)) ≡ Some word.now }
+    ensures isnt { result ≡ false → first_of (codes "for") (rows_of (found_of matches.now)) ≡ Some word.now → ⊥ }
+{
+    match matches.get_str("for") {
+        Some(found) => is_same_word(found, word),
+        None => false,
+    }
+}
+
+/// Whether two words are the same.
+fn is_same_word(one: &str, other: &str) -> bool
+    ensures is { result ≡ true → one.now ≡ other.now }
+    ensures isnt { result ≡ false → one.now ≡ other.now → ⊥ }
+{
+    one == other
 }
 
 /// What a search is to find, where something is asked for.

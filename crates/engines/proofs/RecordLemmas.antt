@@ -20,7 +20,7 @@ use Rattle.engines.specs.RecordForms.{record_form}
 use Rattle.engines.specs.Recordings.{conditions_of}
 use Rattle.engines.specs.Goals.{IsSearchedFor}
 use Rattle.engines.specs.Runs.{IsUnrun, Runs}
-use Rattle.engines.specs.Searches.{IsUnsearched, Searches, most_states}
+use Rattle.engines.specs.Searches.{Extent, IsUnsearched, Searches, extent_of}
 use Rattle.engines.specs.declared.fault.Fault.{Fault}
 use Rattle.engines.specs.declared.fault.Fault.TheVariants as faults
 use Rattle.engines.specs.declared.status.Status.{Status}
@@ -53,15 +53,15 @@ whole_is_uncontinued left lefts asked then_run old new made (faults.Schedule fau
 whole_is_uncontinued left lefts asked then_run old new made (faults.Text fault) unable whole = absurd unable
 whole_is_uncontinued left lefts asked then_run old new made (faults.Place missing) unable whole = absurd unable
 
-whole_is_unsearched : (form : RecordForm) (lefts : List (Option (List ℕ))) (asked : LimitOptions) (goal : Goal) (may_stop : Bool) (most : ℕ) (recorded : Bool) (old new made : Option (List ℕ))
-    (fault : Fault) → IsUnable fault → (text : List ℕ) × (status : Status) × Searches form lefts asked goal may_stop most recorded text made status × Appends old new text
-    → IsUnsearched form lefts asked goal may_stop most recorded old new None made fault
-whole_is_unsearched form lefts asked goal may_stop most recorded old new made faults.Device unable (text, status, runs, all) = inr (text, status, runs, all_front old new text all)
-whole_is_unsearched form lefts asked goal may_stop most recorded old new made faults.Memory unable (text, status, runs, all) = inr (text, status, runs, all_front old new text all)
-whole_is_unsearched form lefts asked goal may_stop most recorded old new made (faults.Refusal refusal) unable whole = absurd unable
-whole_is_unsearched form lefts asked goal may_stop most recorded old new made (faults.Schedule fault) unable whole = absurd unable
-whole_is_unsearched form lefts asked goal may_stop most recorded old new made (faults.Text fault) unable whole = absurd unable
-whole_is_unsearched form lefts asked goal may_stop most recorded old new made (faults.Place missing) unable whole = absurd unable
+whole_is_unsearched : (form : RecordForm) (lefts : List (Option (List ℕ))) (asked : LimitOptions) (goal : Goal) (may_stop : Bool) (extent : Extent) (recorded : Bool) (old new made : Option (List ℕ))
+    (fault : Fault) → IsUnable fault → (text : List ℕ) × (status : Status) × Searches form lefts asked goal may_stop extent recorded text made status × Appends old new text
+    → IsUnsearched form lefts asked goal may_stop extent recorded old new None made fault
+whole_is_unsearched form lefts asked goal may_stop extent recorded old new made faults.Device unable (text, status, runs, all) = inr (text, status, runs, all_front old new text all)
+whole_is_unsearched form lefts asked goal may_stop extent recorded old new made faults.Memory unable (text, status, runs, all) = inr (text, status, runs, all_front old new text all)
+whole_is_unsearched form lefts asked goal may_stop extent recorded old new made (faults.Refusal refusal) unable whole = absurd unable
+whole_is_unsearched form lefts asked goal may_stop extent recorded old new made (faults.Schedule fault) unable whole = absurd unable
+whole_is_unsearched form lefts asked goal may_stop extent recorded old new made (faults.Text fault) unable whole = absurd unable
+whole_is_unsearched form lefts asked goal may_stop extent recorded old new made (faults.Place missing) unable whole = absurd unable
 
 -- ---- a fault of the command, or of the record
 
@@ -111,11 +111,11 @@ module _ (held holds : Held) (given : ℕ) (lefts : List (Option (List ℕ))) (o
 
   module _ (search : Search) (goal : Goal) (asked : IsSearchedFor held search.goal goal) where
     abbrev SearchDone : Status → Type 0
-    SearchDone status = (text : List ℕ) × Searches (record_form given search.as_version) lefts search.limits goal (is_some search.seconds) (most_states search)
+    SearchDone status = (text : List ℕ) × Searches (record_form given search.as_version) lefts search.limits goal (is_some search.seconds) (extent_of search)
         (is_some search.record) text made status × Appends old new text
 
     abbrev SearchUndone : Fault → Type 0
-    SearchUndone told = IsUnsearched (record_form given search.as_version) lefts search.limits goal (is_some search.seconds) (most_states search)
+    SearchUndone told = IsUnsearched (record_form given search.as_version) lefts search.limits goal (is_some search.seconds) (extent_of search)
         (is_some search.record) old new None made told
 
     search_whole : (status : Status) → IsUnable fault → SearchDone status → SearchUndone fault
@@ -134,9 +134,9 @@ module _ (held holds : Held) (given : ℕ) (lefts : List (Option (List ℕ))) (o
 -- the same of what is answered, whatever that is
 pub search_undone_of : (held holds : Held) (given : ℕ) (lefts : List (Option (List ℕ))) (old new made : Option (List ℕ)) (outcome result : Result Status Fault) (search : Search) (goal : Goal)
     → IsSearchedFor held search.goal goal → IfErr result (IsUnrecorded outcome held holds (written_at search.record made))
-    → IfOk outcome (λ status. (text : List ℕ) × Searches (record_form given search.as_version) lefts search.limits goal (is_some search.seconds) (most_states search)
+    → IfOk outcome (λ status. (text : List ℕ) × Searches (record_form given search.as_version) lefts search.limits goal (is_some search.seconds) (extent_of search)
     (is_some search.record) text made status × Appends old new text)
-    → IfErr outcome (IsUnsearched (record_form given search.as_version) lefts search.limits goal (is_some search.seconds) (most_states search) (is_some search.record) old new None made)
+    → IfErr outcome (IsUnsearched (record_form given search.as_version) lefts search.limits goal (is_some search.seconds) (extent_of search) (is_some search.record) old new None made)
     → IfErr result (LeavesAt (IsSearchUndone held given lefts search old new) held holds)
 search_undone_of held holds given lefts old new made outcome (Ok status) search goal asked unrecorded done undone = tt
 search_undone_of held holds given lefts old new made outcome (Err fault) search goal asked unrecorded done undone =

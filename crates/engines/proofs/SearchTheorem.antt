@@ -1,5 +1,5 @@
 -- What a search promises, in the words of the theorem.
-use Rattle.std.proofs.Common.{◌≡◌, ◌⊎◌, ◌≤◌, ℕ, Bool, List, [], inl, inr, subst, sym}
+use Rattle.std.proofs.Common.{◌≡◌, ◌⊎◌, ◌≤◌, ℕ, Bool, List, [], Option, Some, None, inl, inr, subst, sym}
 use Rattle.std.specs.Prelude.{IsTrue, IsFalse}
 use Rattle.model.specs.declared.end.End.{End}
 use Rattle.model.specs.declared.end.End.TheVariants as ends
@@ -21,8 +21,9 @@ use Rattle.search.specs.declared.kinds.Kinds.{Kinds}
 use Rattle.search.specs.declared.search_reports.answers.Answer.{Answer}
 use Rattle.search.specs.declared.search_reports.answers.Answer.TheVariants as answers
 use Rattle.search.specs.run_outcomes.Outcomes.{IsWanted}
+use Rattle.search.specs.preemptions.Within as within
 use Rattle.search.specs.search_reports.Answers as reports
-use Rattle.engines.specs.Theorem.{EndFits, GivesUp, HasManyWaiters, IsComplete, IsFound, IsLimited, IsShown, Says, Shows}
+use Rattle.engines.specs.Theorem.{EndFits, GivesUp, HasFewest, HasManyWaiters, IsComplete, IsCompleteWithin, IsFound, IsLimited, IsShown, Says, SaysBy, SaysWithin, Shows}
 
 -- ---- kinds of states
 
@@ -114,9 +115,41 @@ gives_up trees limits may_stop most states (inr (inr is)) = inr (inr (is.0, stop
 
 -- ---- what is said
 
-pub says : (trees : Program) (limits : Limits) (goal : Goal) (may_stop : Bool) (most states : ℕ) (answer : Answer)
+says : (trees : Program) (limits : Limits) (goal : Goal) (may_stop : Bool) (most states : ℕ) (answer : Answer)
     → reports.Answers trees limits goal may_stop most states answer → Says trees limits goal may_stop most states answer
 says trees limits goal may_stop most states (answers.Found schedule r end) is =
     (found trees limits goal (events_of schedule) r end is.0.0 is.1, is.0.1)
 says trees limits goal may_stop most states (answers.Complete outcomes told) is = complete trees limits goal states outcomes told is
+says trees limits goal may_stop most states (answers.Within outcomes told preemptions) is = is
 says trees limits goal may_stop most states answers.GaveUp is = gives_up trees limits may_stop most states is
+
+-- ---- what is said within so many preemptions
+
+fewest : (trees : Program) (frames : ℕ) (goal : Goal) (events : List Event) → within.HasFewest trees frames goal events → HasFewest trees frames goal events
+fewest trees frames (goals.Outcome want) events is = is
+fewest trees frames (goals.Kind kind) events is = tt
+fewest trees frames goals.AnyKind events is = tt
+
+complete_within : (trees : Program) (limits : Limits) (goal : Goal) (preemptions : ℕ) (outcomes : List Outcome) (told : Kinds)
+    → within.IsCompleteWithin trees limits goal preemptions outcomes told → IsCompleteWithin trees limits goal preemptions outcomes told
+complete_within trees limits goal preemptions outcomes told is = record {
+  listed = is.all.listed;
+  reached = is.all.reached;
+  shown = λ kind tells. shown trees limits.frames kind (is.kinds_are kind tells);
+  unwanted = is.none;
+  unsought = is.unsought;
+}
+
+says_within : (trees : Program) (limits : Limits) (goal : Goal) (may_stop : Bool) (preemptions most states : ℕ) (answer : Answer)
+    → reports.AnswersWithin trees limits goal may_stop preemptions most states answer → SaysWithin trees limits goal may_stop preemptions most states answer
+says_within trees limits goal may_stop preemptions most states (answers.Found schedule r end) is =
+    (found trees limits goal (events_of schedule) r end is.0.found.0 is.1, is.0.found.1, is.0.within, fewest trees limits.frames goal (events_of schedule) is.0.fewest)
+says_within trees limits goal may_stop preemptions most states (answers.Complete outcomes told) is = is
+says_within trees limits goal may_stop preemptions most states (answers.Within outcomes told count) is =
+    (complete_within trees limits goal preemptions outcomes told is.0, is.1)
+says_within trees limits goal may_stop preemptions most states answers.GaveUp is = gives_up trees limits may_stop most states is
+
+pub says_by : (trees : Program) (limits : Limits) (goal : Goal) (may_stop : Bool) (preemptions : Option ℕ) (most states : ℕ) (answer : Answer)
+    → reports.AnswersBy trees limits goal may_stop preemptions most states answer → SaysBy trees limits goal may_stop preemptions most states answer
+says_by trees limits goal may_stop None most states answer is = says trees limits goal may_stop most states answer is
+says_by trees limits goal may_stop (Some preemptions) most states answer is = says_within trees limits goal may_stop preemptions most states answer is

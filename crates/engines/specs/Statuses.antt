@@ -60,6 +60,7 @@ kinds_status kinds = if kinds.deadlock || kinds.endless then statuses.Stuck else
 abbrev pub search_status : Answer → Status
 search_status (answers.Found schedule report end) = statuses.Threw
 search_status (answers.Complete outcomes kinds) = kinds_status kinds
+search_status (answers.Within outcomes kinds count) = kinds_status kinds
 search_status answers.GaveUp = statuses.UsedUp
 
 -- the status of a sweep

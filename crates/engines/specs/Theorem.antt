@@ -3,7 +3,7 @@
 -- The JVMS and the JLS are in `model`. `IsAccepted files trees`: the bytes spell these class files, no condition of linking stands in
 -- them, and each method with code has a typing (JVMS 4, 5). `run`: the state to which events lead from the opening one, where each is
 -- enabled (JVMS 2, 5, 6; JLS 17). `meaning`: the text that is told of that state. `limit_after`: the limit that an event would pass.
-use Rattle.std.specs.Prelude.{◌≡◌, ◌⊎◌, ◌<◌, ◌≤◌, ◌++◌, ℕ, Bool, true, false, List, [], ◌∷◌, Option, Some, IsTrue, IsFalse, length, map, slice_get}
+use Rattle.std.specs.Prelude.{◌≡◌, ◌⊎◌, ◌<◌, ◌≤◌, ◌++◌, ℕ, Bool, true, false, List, [], ◌∷◌, Option, Some, None, IsTrue, IsFalse, length, map, slice_get}
 use Rattle.std.specs.List.{list_any}
 use Rattle.std.specs.Io.KnownBytes.{Appends}
 use Rattle.model.specs.declared.end.End.{End}
@@ -42,6 +42,7 @@ use Rattle.search.specs.declared.search_reports.answers.Answer.{Answer}
 use Rattle.search.specs.declared.search_reports.answers.Answer.TheVariants as answers
 use Rattle.search.specs.met_states.Met.{HasMetAll}
 use Rattle.search.specs.run_outcomes.Outcomes.{IsWanted, is_stuck}
+use Rattle.search_laws.specs.Preemptions.{run_preemptions}
 use Rattle.engines.specs.Engines.{Reads, ReadsEach}
 use Rattle.engines.specs.GivenPlaces.{told_status, told_text}
 use Rattle.engines.specs.Opening.{IsOpened}
@@ -272,4 +273,40 @@ GivesUp trees limits may_stop most states =
 abbrev pub Says : Program → Limits → Goal → (may_stop : Bool) → (most states : ℕ) → Answer → Type 0
 Says trees limits goal may_stop most states (answers.Found schedule r end) = IsFound trees limits goal (events_of schedule) r end × AreJoined schedule
 Says trees limits goal may_stop most states (answers.Complete outcomes told) = IsComplete trees limits goal states outcomes told
+Says trees limits goal may_stop most states (answers.Within outcomes told preemptions) = ⊥
 Says trees limits goal may_stop most states answers.GaveUp = GivesUp trees limits may_stop most states
+
+-- ---- a search within so many preemptions: switches away from a thread that may still step
+
+-- each run that ends with a wanted outcome has as many preemptions, or more
+abbrev pub HasFewest : Program → (frames : ℕ) → Goal → List Event → Type 0
+HasFewest trees frames (goals.Outcome want) events =
+    (others : List Event) (outcome : Outcome) → EndsWith trees frames others outcome → IsWanted want outcome
+    → run_preemptions trees frames events ≤ run_preemptions trees frames others
+HasFewest trees frames (goals.Kind kind) events = Unit {0}
+HasFewest trees frames goals.AnyKind events = Unit {0}
+
+-- These are the outcomes of all runs that come to an end with at most so many preemptions. Of each kind that is told is a state that some
+-- run comes to; nothing is said of the others. Nothing is to be found among them.
+pub record IsCompleteWithin (trees : Program) (limits : Limits) (goal : Goal) (preemptions : ℕ) (outcomes : List Outcome) (told : Kinds) : Type 0 where
+  pub listed : (events : List Event) (outcome : Outcome) → EndsWith trees limits.frames events outcome
+      → run_preemptions trees limits.frames events ≤ preemptions → Has outcomes outcome
+  pub reached : (outcome : Outcome) → Has outcomes outcome
+      → (events : List Event) × EndsWith trees limits.frames events outcome × (run_preemptions trees limits.frames events ≤ preemptions)
+  pub shown : (kind : Kind) → IsTrue (is_told told kind) → IsShown trees limits.frames kind
+  pub unwanted : (outcome : Outcome) → Has outcomes outcome → IsWanted (wanted_of goal) outcome → ⊥
+  pub unsought : IsFalse (is_sought goal told)
+
+abbrev pub SaysWithin : Program → Limits → Goal → (may_stop : Bool) → (preemptions most states : ℕ) → Answer → Type 0
+SaysWithin trees limits goal may_stop preemptions most states (answers.Found schedule r end) =
+    IsFound trees limits goal (events_of schedule) r end × AreJoined schedule
+    × (run_preemptions trees limits.frames (events_of schedule) ≤ preemptions) × HasFewest trees limits.frames goal (events_of schedule)
+SaysWithin trees limits goal may_stop preemptions most states (answers.Complete outcomes told) = ⊥
+SaysWithin trees limits goal may_stop preemptions most states (answers.Within outcomes told count) =
+    IsCompleteWithin trees limits goal preemptions outcomes told × (count ≡ preemptions)
+SaysWithin trees limits goal may_stop preemptions most states answers.GaveUp = GivesUp trees limits may_stop most states
+
+-- within so many, where a number is given
+abbrev pub SaysBy : Program → Limits → Goal → (may_stop : Bool) → (preemptions : Option ℕ) → (most states : ℕ) → Answer → Type 0
+SaysBy trees limits goal may_stop None most states answer = Says trees limits goal may_stop most states answer
+SaysBy trees limits goal may_stop (Some preemptions) most states answer = SaysWithin trees limits goal may_stop preemptions most states answer

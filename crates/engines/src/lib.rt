@@ -11,7 +11,8 @@
 //!     (`IsUnread`);
 //!   - behind them come the files of the classes that the library adds (`AreHanded`, by `AreAdded` of `library_files`).
 //!     It adds none for `disasm` and with `--files-alone` (`library_of`);
-//!   - `run`, `replay` and `search` hand on all their options; `trace` its window and its form (`IsWindow`); `search`
+//!   - `run`, `replay` and `search` hand on all their options; `trace` its window and its form (`IsWindow`), or the
+//!     file of its page (`IsPageDone`); `search`
 //!     its goal (`IsSearchedFor`), with the text of the file of `differs`; `verify` whether it is of a library; `disasm`
 //!     whether names are asked for; `schedule` whether a file is made, and with `--places` the schedule
 //!     (`IsPlacesDone`); `run` over seeds its sweep (`IsSweepDone`);
@@ -64,13 +65,17 @@
 //!   lines of the events and of the report behind them (`traced`, `IsTraced`, with `IsTrace` of `traced_runs`); and
 //!   after `device` and `memory` a beginning was written, of that text, or of the lines of a beginning of the events
 //!   (`faulty`, `IsUntraced`).
+//! - `page_engine`, over any readers and writer: what is proved of `replay_engine`, but that there is a page, too: that
+//!   of the lines of a trace and of the report (`paged`, `IsPaged`, with `IsPage` of `pages`). With a fault there is none
+//!   (`none`).
 //! - `races_engine`, over any readers and writer: what is proved of `replay_engine`, but that the text is that of the
 //!   data races of the events that were done, a line for each, and of the report behind them (`raced`, `WritesRaces` of
 //!   `Theorem`). Each race that is told is one of these events, and each access that races with an earlier one is the
 //!   second one of a race that is told (`AreRaces`). The status tells whether there is a race.
 //! - `search_engine`, over any readers and writers:
 //!   - with a status, one text was appended and nothing else: what a search over all schedules of the program of these
-//!     bytes answers, within the limits of the options (`searched`, `IsSearched`, with `Says` of `Theorem`).
+//!     bytes answers, within the limits of the options (`searched`, `IsSearched`, with `Says` of `Theorem`). Where all
+//!     schedules were searched, the line of a race is that of a state to which a run comes (`TellsRace`).
 //!     Where a run was found and its schedule is asked for, a file is made, which spells the events, the limits and
 //!     what is recorded of the class files, as far as a file of the version that is asked for tells them
 //!     (`recorded_as`); else none is;
@@ -183,6 +188,7 @@ mod named_file;
 mod names;
 mod open;
 mod opening;
+mod paging;
 mod place_ends;
 mod place_schedules;
 mod placing;

@@ -64,7 +64,7 @@ impl Status {
     {
         match answer {
             Answer::Found(_, _, _) => Status::Threw,
-            Answer::Complete(_, kinds) => Status::of_kinds(kinds),
+            Answer::Complete(_, kinds) | Answer::Within(_, kinds, _) => Status::of_kinds(kinds),
             Answer::GaveUp => Status::UsedUp,
         }
     }

@@ -22,7 +22,7 @@ use Rattle.alone_events.specs.Alone.{AreAloneAfter}
 use Rattle.alone_events.specs.Ahead.{GoesAhead}
 use Rattle.search.specs.local_runs.Local.{AreLocalAfter, AreNextLocal}
 use Rattle.search.specs.declared.machines.Behind.{Behind}
-use Rattle.search.specs.Machines.{HasDoneMore, AreAloneBehind, GoesAlone, GoesBehind, GoesPast}
+use Rattle.search.specs.Machines.{HasDoneMore, AreAloneBehind, GoesAlone, GoesBehind, GoesLocal, GoesPast}
 
 -- ---- lists
 
@@ -55,11 +55,16 @@ none_after : (trees : Program) (frames : ℕ) (events : List Event) → AreAlone
 none_after trees frames events state reached = record { threads = []; last = state; are_alone = refl; reached = ap (run trees frames) (append-nil events) ∙ reached }
 
 -- local events are alone
-local_after : AreLocalPassed → AreLocalEventsFree → (files : List (List ℕ)) (trees : Program) → IsAccepted files trees → (frames : ℕ) (events more : List Event) → AreLocalAfter trees frames events more
-    → AreAloneAfter trees frames events more
-local_after passed free files trees accepted frames events more local state reached =
+local_after : AreLocalPassed → AreLocalEventsFree → (files : List (List ℕ)) (trees : Program) → IsAccepted files trees → (frames : ℕ) (events : List Event) (t n : ℕ) → AreLocalAfter trees frames events t n
+    → AreAloneAfter trees frames events (replicate n (event_of t))
+local_after passed free files trees accepted frames events t n local state reached =
     let l = local state reached in
-    record { threads = l.threads; last = l.last; are_alone = passed files trees accepted frames (are_racing trees frames) (free files trees accepted frames) state l.last l.threads (events, reached) l.are_local; reached = l.reached }
+    record {
+      threads = replicate n t;
+      last = l.last;
+      are_alone = passed files trees accepted frames (are_racing trees frames) (free files trees accepted frames) state l.last (replicate n t) (events, reached) l.are_local;
+      reached = l.reached;
+    }
 
 -- ---- machines
 
@@ -68,7 +73,7 @@ module _ (event : Event) where
   pub none_alone : (m : MachineOf) → AreAloneBehind m event 0
   none_alone m files trees events has = none_after trees m.limits.frames events
 
-  stays : (m : MachineOf) → HasDoneMore event 0 m m
+  pub stays : (m : MachineOf) → HasDoneMore event 0 m m
   stays m = record { program = refl; limits_are = refl; done = λ files trees events has. subst (HasDone m files trees) (sym (append-nil events)) has }
 
   -- nothing has been done yet
@@ -104,7 +109,18 @@ module _ (event : Event) where
         let here : AreNextLocal m.program m.shared event.thread n = subst (λ q. AreNextLocal q m.shared event.thread n) program_is (subst (λ s. AreNextLocal p s event.thread n) shared_is next) in
         let local = here files trees has.accepted has.program (bounds_of m.limits) events has.run in
         subst (λ e. AreAloneAfter trees m.limits.frames events (replicate n e)) event_is
-        (local_after passed free files trees has.accepted m.limits.frames events (replicate n (event_of event.thread)) local)
+        (local_after passed free files trees has.accepted m.limits.frames events event.thread n local)
+
+    -- and they are local, one after another
+    pub local_own : (new : MachineOf) → AreNextLocal p shared event.thread n → HasDoneMore event n m new → GoesLocal event n m new
+    local_own new next more =
+        record {
+          are_local = λ files trees events has state reached.
+              let here : AreNextLocal m.program m.shared event.thread n = subst (λ q. AreNextLocal q m.shared event.thread n) program_is (subst (λ s. AreNextLocal p s event.thread n) shared_is next) in
+              let l = here files trees has.accepted has.program (bounds_of m.limits) events has.run state reached in
+              record { last = l.last; are_local = l.are_local; reached = subst (λ e. run trees m.limits.frames (events ++ replicate n e) ≡ Some l.last) event_is l.reached };
+          more = more;
+        }
 
     pub local_alone : (new : MachineOf) → AreNextLocal p shared event.thread n → HasDoneMore event n m new → GoesAlone event n m new
     local_alone new next more = record { are_alone = local_behind next; more = more }

@@ -66,7 +66,7 @@ pick_kept kept number thread mid new lt k grows met =
     (still_met mid new grows number lt kept (event_at thread k) met.0, still_leads mid new grows number lt (event_at thread k) met.1)
 
 -- the machine did the event in the state of this number
-done_there : (s : StatesOf) (number : ℕ) (event : Event) (m : MachineOf) → HasGoneFrom s number event m → LeadsOnFrom s number event
+pub done_there : (s : StatesOf) (number : ℕ) (event : Event) (m : MachineOf) → HasGoneFrom s number event m → LeadsOnFrom s number event
 done_there s number event m gone events is files trees accepted program =
     let on = run_of s.program s.limits (events ++ event ∷ []) m (gone_on s.program s.limits events event gone.0 m (gone.1 events is) gone.2) files trees accepted program in
     (on.lead.state, on.lead.reached)
@@ -132,7 +132,7 @@ all_picks higher most number thread i old new m then so_far there goes =
     by pick (inr h) = (so_far.each pick h.1).0
 
 -- where nothing was done it is in the same state
-same_state : (s : StatesOf) (number : ℕ) (event : Event) (m then : MachineOf) → IsInState s number m → GoesBy (Ok answer.NotEnabled) event m then → IsInState s number then
+pub same_state : (s : StatesOf) (number : ℕ) (event : Event) (m then : MachineOf) → IsInState s number m → GoesBy (Ok answer.NotEnabled) event m then → IsInState s number then
 same_state s number event m then there goes events is =
     let at = there events is in
     record {

@@ -140,7 +140,7 @@ module _ (k mid : KeptStates) (s : StatesOf) (m : Shared) (kept : AreKept k s) (
         record { shared = at.shared; state = state_written k mid number at.shared made.keeps at.state; at = at.at };
   }
 
-  parts_grow : TableGrows s.parts mid.parts
+  pub parts_grow : TableGrows s.parts mid.parts
   parts_grow = subst (λ ps. TableGrows ps mid.parts) kept.parts made.keeps.parts
 
   pub written_grows : Grows s (record s { parts = mid.parts })
@@ -160,10 +160,15 @@ module _ (k mid : KeptStates) (s : StatesOf) (m : Shared) (kept : AreKept k s) (
     each = still_kept.each;
   }
 
-  -- a state with the same row was met
-  pub row_met : AreAlikeStatesMet → (number met : ℕ) (entry : ScheduleEntry) (one : MachineOf) → m ≡ one.shared → slice_get mid.states met ≡ Some mid.state.items
-      → IsAloneFrom s number entry → IsAfter s number entry one → IsMetAt s number entry.event met
-  row_met holds number met entry one is has local is_after =
+  -- what is kept by a number with the same row shows the same
+  pub record IsAlikeAt (met : ℕ) : Type 0 where
+    pub lt : met < length s.schedules
+    pub shared : Shared
+    pub at : IsAt s.program s.limits (get_or s.schedules met []) (machine_of s.program s.limits shared)
+    pub alike : AreAlike m shared
+
+  pub row_alike : (met : ℕ) → slice_get mid.states met ≡ Some mid.state.items → IsAlikeAt met
+  row_alike met has =
       let lt : met < length s.schedules = met_below met has in
       let events : List Event = get_or s.schedules met [] in
       let own : IsSchedule s met events = slice_get-get_or s.schedules met [] lt in
@@ -172,9 +177,16 @@ module _ (k mid : KeptStates) (s : StatesOf) (m : Shared) (kept : AreKept k s) (
       same_Some at.state.row mid.state.items (sym at.state.row_is ∙ ap (λ (l : List (List ℕ)). slice_get l met) (sym made.keeps.states) ∙ has) in
       let theirs : IsStateRow mid.parts mid.state.items at.shared =
       subst (λ (r : List ℕ). IsStateRow mid.parts r at.shared) rows (row_stays k.parts mid.parts at.state.row at.shared made.keeps.parts at.state.is) in
-      let alike : AreAlike m at.shared = rows_alike mid.parts mid.state.items m at.shared made.row theirs in
-      alike_met s number holds met entry one (machine_of s.program s.limits at.shared) lt local is_after (in_state s met events (machine_of s.program s.limits at.shared) own at.at)
-      (subst (λ x. AreAlike x at.shared) is alike)
+      record { lt = lt; shared = at.shared; at = at.at; alike = rows_alike mid.parts mid.state.items m at.shared made.row theirs }
+
+  -- a state with the same row was met
+  pub row_met : AreAlikeStatesMet → (number met : ℕ) (entry : ScheduleEntry) (one : MachineOf) → m ≡ one.shared → slice_get mid.states met ≡ Some mid.state.items
+      → IsAloneFrom s number entry → IsAfter s number entry one → IsMetAt s number entry.event met
+  row_met holds number met entry one is has local is_after =
+      let a : IsAlikeAt met = row_alike met has in
+      let own : IsSchedule s met (get_or s.schedules met []) = slice_get-get_or s.schedules met [] a.lt in
+      alike_met s number holds met entry one (machine_of s.program s.limits a.shared) a.lt local is_after
+      (in_state s met (get_or s.schedules met []) (machine_of s.program s.limits a.shared) own a.at) (subst (λ x. AreAlike x a.shared) is a.alike)
 
   -- ---- and it is kept
 
@@ -238,7 +250,7 @@ abbrev pub states_of : LinkedProgram → Limits → List (List ScheduleEntry) �
 states_of p limits ways edges k = record { program = p; limits = limits; schedules = map events_of ways; edges = edges; parts = k.parts }
 
 -- the machine of what is shared alone
-shared_at : (p : LinkedProgram) (limits : Limits) (events : List Event) (m : MachineOf) → IsAt p limits events m → IsAt p limits events (machine_of p limits m.shared)
+pub shared_at : (p : LinkedProgram) (limits : Limits) (events : List Event) (m : MachineOf) → IsAt p limits events m → IsAt p limits events (machine_of p limits m.shared)
 shared_at p limits events m at = record {
   program = refl;
   limits_are = refl;

@@ -37,13 +37,13 @@ use Rattle.search.proofs.KindLists.{or_told, told_or, unsought_both}
 use Rattle.search.proofs.Shown.{run_of}
 
 -- no kind is told
-none_told : (k : Kind) → is_told no_kinds k ≡ false
+pub none_told : (k : Kind) → is_told no_kinds k ≡ false
 none_told kind.Race = refl
 none_told kind.Uncaught = refl
 none_told kind.Deadlock = refl
 none_told kind.Endless = refl
 
-none_sought : (goal : Goal) → is_sought goal no_kinds ≡ false
+pub none_sought : (goal : Goal) → is_sought goal no_kinds ≡ false
 none_sought (goals.Outcome want) = refl
 none_sought (goals.Kind k) = none_told k
 none_sought goals.AnyKind = refl

@@ -1,3 +1,3 @@
-mod Bridge
+pub mod Bridge
 mod EndlessStates
 mod KindsMet

@@ -4,6 +4,7 @@ pub mod GivingUp
 pub mod Kinds
 pub mod Machines
 pub mod OwnEdges
+pub mod RacyStates
 pub mod StateKinds
 pub mod States
 pub mod Verdicts
@@ -11,5 +12,6 @@ pub mod Visits
 pub mod Walks
 pub mod local_runs
 pub mod met_states
+pub mod preemptions
 pub mod run_outcomes
 pub mod search_reports

@@ -11,6 +11,7 @@ use Rattle.model.specs.Run.{run, is_quiet}
 use Rattle.model.specs.State.{State}
 use Rattle.model.specs.Step.{is_enabled}
 use Rattle.run_laws.specs.interleavings.Ends.{outcome_of}
+use Rattle.run_laws.specs.searches.Searches.{AreLocal}
 use Rattle.linked_code.specs.declared.program.LinkedProgram.{LinkedProgram}
 use Rattle.machine_state.specs.declared.answers.Answer.{Answer}
 use Rattle.machine_state.specs.declared.refusals.EventRefusal.{EventRefusal}
@@ -60,6 +61,30 @@ AreAloneBehind m event n =
 pub record GoesAlone (event : Event) (n : ℕ) (old new : MachineOf) : Type 0 where
   pub are_alone : AreAloneBehind old event n
   pub more : HasDoneMore event n old new
+
+-- so many are next, each local
+pub record LeadsLocal (trees : Program) (frames : ℕ) (events : List Event) (event : Event) (n : ℕ) (state : State) : Type 0 where
+  pub last : State
+  pub are_local : AreLocal trees (replicate n event.thread) state last
+  pub reached : run trees frames (events ++ replicate n event) ≡ Some last
+
+abbrev pub AreLocalBehind : MachineOf → Event → (n : ℕ) → Type 0
+AreLocalBehind m event n =
+    (files : List (List ℕ)) (trees : Program) (events : List Event) → HasDone m files trees events → (state : State)
+    → run trees m.limits.frames events ≡ Some state → LeadsLocal trees m.limits.frames events event n state
+
+-- and they have been done
+pub record GoesLocal (event : Event) (n : ℕ) (old new : MachineOf) : Type 0 where
+  pub are_local : AreLocalBehind old event n
+  pub more : HasDoneMore event n old new
+
+-- those that an entry has behind its first event are local, and have been done
+pub record GoesLocalFrom (event : Event) (old new : MachineOf) (entry : ScheduleEntry) : Type 0 where
+  pub event_is : entry.event ≡ event
+  pub behind : ℕ
+  pub repeat : entry.repeat ≡ suc behind
+  pub unpicked : 0 < behind → event.pick ≡ 0
+  pub goes : GoesLocal event behind old new
 
 -- so many are next, each alone; they have been done, and no other, unless it is said that one more was
 pub record GoesBehind (event : Event) (b : Behind) (old new : MachineOf) : Type 0 where

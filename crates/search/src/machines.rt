@@ -4,7 +4,7 @@ ghost use Rattle.std.specs.Prelude.{◌≡◌, ◌*◌, ◌≤◌, [], IfOk, OnO
 ghost use Rattle.std.specs.Arc.{arc_value};
 ghost use Rattle.machine.specs.Machines.{IsOfAccepted};
 ghost use Rattle.machine_state.specs.declared.refusals.EventRefusal.TheVariants as refusals;
-ghost use Rattle.search.specs.Machines.{IsAt, GoesOrStops, HasDoneMore, GoesAlone, GoesBehind, GoesPast, TellsOutcome};
+ghost use Rattle.search.specs.Machines.{IsAt, GoesOrStops, HasDoneMore, GoesAlone, GoesBehind, GoesLocal, GoesPast, TellsOutcome};
 
 use crate::local_runs::local_count;
 use crate::run_outcomes::Outcome;
@@ -85,9 +85,14 @@ pub(crate) struct Behind {
 
 /// Does the local events that are next of a thread, and like this event. Answers how many they are. The only error is a
 /// want of memory.
-fn do_local(alloc: Global, machine: &mut Machine, event: Event) -> Result<u32, AllocError>
+pub(crate) fn do_local(
+    alloc: Global,
+    machine: &mut Machine,
+    event: Event,
+) -> Result<u32, AllocError>
     requires { event.pick ≡ 0 }
     ensures alone { IfOk result (λ count. GoesAlone event count machine.old machine.new) }
+    ensures local { IfOk result (λ count. GoesLocal event count machine.old machine.new) }
     ensures most { IfOk result (λ count. count ≤ 1024) }
 {
     local_events_are_passed();

@@ -10,7 +10,7 @@ ghost use Rattle.engines.specs.Failures.{FolderMayFail, TellsFailures};
 ghost use Rattle.engines.specs.Goals.{IsSearchedFor};
 ghost use Rattle.engines.specs.declared.fault.Fault.TheVariants.{Device};
 ghost use Rattle.engines.specs.RecordForms.{record_form};
-ghost use Rattle.engines.specs.Searches.{IsUnsearched, Searches, most_states};
+ghost use Rattle.engines.specs.Searches.{IsUnsearched, Searches, extent_of};
 
 use crate::commands::storing::{recorded, try_record};
 use crate::commands::wanted_outcomes::{printed, printed_other, printed_text};
@@ -108,12 +108,12 @@ fn searched<P: Progress + Deadline, F: Folder, W: Sink>(
     ensures searched { IfOk result (λ status. (text : _)
         × Searches (record_form given options.now.as_version)
         (known (map vec_items files.now)) options.now.limits goal.now
-        (is_some options.now.seconds) (most_states options.now) (is_some options.now.record) text
+        (is_some options.now.seconds) (extent_of options.now) (is_some options.now.record) text
         (option_map vec_items file.new) status
         × Appends (W.contents output.old) (W.contents output.new) text) }
     ensures faulty { IfErr result (IsUnsearched (record_form given options.now.as_version)
         (known (map vec_items files.now))
-        options.now.limits goal.now (is_some options.now.seconds) (most_states options.now)
+        options.now.limits goal.now (is_some options.now.seconds) (extent_of options.now)
         (is_some options.now.record) (W.contents output.old) (W.contents output.new)
         (option_map vec_items file.old) (option_map vec_items file.new)) }
     ensures told { TellsFailures (FolderMayFail F.may_fail) result (W.failures output.old) (W.failures output.new) }

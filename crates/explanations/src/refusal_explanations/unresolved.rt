@@ -1,7 +1,7 @@
 //! Names that are not found.
 
 use crate::refusal_explanations::method::{code_called, method_called};
-use crate::refusal_explanations::outside::say_place;
+use crate::refusal_explanations::outside::{say_modifiers, say_place};
 use advice::words::{
     Line, Named, lacking_above, lacking_in, lacking_in_method, lacking_name, named_at,
 };
@@ -21,41 +21,41 @@ fn lacking_class<'a>(set: &ClassSet, named: &Named<'a>) -> Option<&'a [u8]> {
     lacking_in(set, descriptor)
 }
 
-/// Whether a class file declares a field, or a method, of this name and descriptor.
-fn declares(file: &ClassFile, is_field: bool, name: &[u8], descriptor: &[u8]) -> bool {
+/// The flags of the field, or the method, of this name and descriptor that a class file declares.
+fn flags_in(file: &ClassFile, is_field: bool, name: &[u8], descriptor: &[u8]) -> Option<u16> {
     let is_of = |text: u16, other: u16| {
         file.pool.text(text) == name && file.pool.text(other) == descriptor
     };
     if is_field {
-        file.fields
+        let field = file
+            .fields
             .iter()
-            .any(|field| is_of(field.name, field.descriptor))
+            .find(|field| is_of(field.name, field.descriptor))?;
+        Some(field.flags)
     } else {
-        file.methods
+        let method = file
+            .methods
             .iter()
-            .any(|method| is_of(method.name, method.descriptor))
+            .find(|method| is_of(method.name, method.descriptor))?;
+        Some(method.flags)
     }
 }
 
-/// Whether the class or one of its superclasses declares the member.
-fn is_declared(set: &ClassSet, named: &Named<'_>) -> bool {
-    let Some((name, descriptor)) = named.member else {
-        return true;
-    };
+/// The flags of the member, which the class or one of its superclasses declares.
+fn flags_declared(set: &ClassSet, named: &Named<'_>) -> Option<u16> {
+    let (name, descriptor) = named.member?;
     let mut class = set.class_of(named.class);
     for _ in 0..MOST {
-        let Some(file) = class else {
-            return false;
-        };
-        if declares(file, named.is_field, name, descriptor) {
-            return true;
+        let file = class?;
+        if let Some(flags) = flags_in(file, named.is_field, name, descriptor) {
+            return Some(flags);
         }
         class = match superclass_name(file) {
             Some(above) => set.class_of(above),
             None => None,
         };
     }
-    false
+    None
 }
 
 /// Adds that a class isn't found.
@@ -75,17 +75,19 @@ fn say_named(line: &mut Line, set: &ClassSet, named: &Named<'_>) -> Result<(), A
         line.name(named.class)?;
         return line.say(" is an interface or abstract");
     };
-    line.say(if named.is_field {
-        "the field "
+    let declared = flags_declared(set, named);
+    if named.is_field {
+        line.say("the field ")?;
+        say_modifiers(line, declared.unwrap_or(0))?;
     } else {
-        "the method "
-    })?;
+        line.say("the method ")?;
+    }
     line.name(name)?;
     line.say(":")?;
     line.name(descriptor)?;
     line.say(" of ")?;
     line.name(named.class)?;
-    if is_declared(set, named) {
+    if declared.is_some() {
         line.say(" is of another sort than is wanted")
     } else {
         line.say(" is not found")

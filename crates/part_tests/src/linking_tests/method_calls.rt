@@ -11,26 +11,26 @@ use std::test::Fail;
 /// Numbers of methods, with the class that declares each, and how many operands a call takes: one for each argument
 /// and one for a receiver. They are main, P.m, P.n, P.s, J.j, and of Thread the second constructor and currentThread.
 const OPERANDS: [(usize, usize, usize); 7] = [
-    (200, 37, 1),
-    (206, 40, 1),
-    (207, 40, 2),
-    (209, 40, 3),
-    (212, 42, 3),
-    (11, 2, 2),
-    (17, 2, 0),
+    (234, 37, 1),
+    (240, 40, 1),
+    (241, 40, 2),
+    (243, 40, 3),
+    (246, 42, 3),
+    (15, 2, 2),
+    (25, 2, 0),
 ];
 
 /// Numbers of methods, and whether each is static, private, synchronized, native and abstract: P.m, P.s, P.p, Q.m,
 /// P.a, R.n, and Thread's start and yield.
 const FLAGS: [(usize, [bool; 5]); 8] = [
-    (206, [false, false, false, false, false]),
-    (209, [true, false, false, false, false]),
-    (208, [false, true, false, false, false]),
-    (202, [false, false, true, false, false]),
-    (210, [false, false, false, false, true]),
-    (201, [false, false, false, false, true]),
-    (12, [false, false, false, true, false]),
-    (16, [true, false, false, true, false]),
+    (240, [false, false, false, false, false]),
+    (243, [true, false, false, false, false]),
+    (242, [false, true, false, false, false]),
+    (236, [false, false, true, false, false]),
+    (244, [false, false, false, false, true]),
+    (235, [false, false, false, false, true]),
+    (20, [false, false, false, true, false]),
+    (24, [true, false, false, true, false]),
 ];
 
 /// The class that declares a method, and how many operands a call takes.
@@ -114,9 +114,9 @@ impl Answers for CallAnswers {
         Ok(CallAnswers {
             wrong_operands: wrong_operands(&calls),
             wrong_flags: wrong_flags(&calls),
-            have_parts: [has_parts(&calls, 200, MAIN), has_parts(&calls, 207, GIVES)],
-            code_length: code_length(&calls, 9),
-            is_behind_the_last: calls.call(213).is_none(),
+            have_parts: [has_parts(&calls, 234, MAIN), has_parts(&calls, 241, GIVES)],
+            code_length: code_length(&calls, 10),
+            is_behind_the_last: calls.call(247).is_none(),
         })
     }
 }

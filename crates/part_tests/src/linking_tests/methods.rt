@@ -163,29 +163,35 @@ const J: Class = Class {
     ..I
 };
 
-/// The classes with the numbers from 37 on, behind the built-in ones. Their methods have the numbers from 200 on: A's
-/// 200, R's 201, Q's 202 to 205, P's 206 to 210, I's 211 and J's 212.
+/// The classes with the numbers from 37 on, behind the built-in ones. Their methods have the numbers from 234 on: A's
+/// 234, R's 235, Q's 236 to 239, P's 240 to 244, I's 245 and J's 246.
 pub(crate) static CLASSES: [Class; 6] = [A, R, Q, P, I, J];
 
-static NAMED: [Row<Option<usize>>; 21] = [
+static NAMED: [Row<Option<usize>>; 22] = [
     // R.s, which P declares; R.m, which Q declares nearest; Q.n, which P declares; and J.i, which I declares
     (
         37,
         Entry::Method(b"R", b"s", b"(ILjava/lang/Object;[I)V"),
-        Some(209),
+        Some(243),
     ),
-    (37, Entry::Method(b"R", b"m", b"()V"), Some(202)),
-    (37, Entry::Method(b"Q", b"n", b"(I)I"), Some(207)),
-    (37, Entry::InterfaceMethod(b"J", b"i", b"()V"), Some(211)),
+    (37, Entry::Method(b"R", b"m", b"()V"), Some(236)),
+    (37, Entry::Method(b"Q", b"n", b"(I)I"), Some(241)),
+    (37, Entry::InterfaceMethod(b"J", b"i", b"()V"), Some(245)),
     // R.m with a parameter; R.n and R.i, which R and Q declare again; P.i, which only I declares
-    (37, Entry::Method(b"R", b"m", b"(I)V"), Some(205)),
-    (37, Entry::Method(b"R", b"n", b"(I)I"), Some(201)),
-    (37, Entry::Method(b"R", b"i", b"()V"), Some(204)),
-    (37, Entry::Method(b"P", b"i", b"()V"), Some(211)),
+    (37, Entry::Method(b"R", b"m", b"(I)V"), Some(239)),
+    (37, Entry::Method(b"R", b"n", b"(I)I"), Some(235)),
+    (37, Entry::Method(b"R", b"i", b"()V"), Some(238)),
+    (37, Entry::Method(b"P", b"i", b"()V"), Some(245)),
     // J.notify, which Object declares
-    (37, Entry::InterfaceMethod(b"J", b"notify", b"()V"), Some(6)),
+    (37, Entry::InterfaceMethod(b"J", b"notify", b"()V"), Some(7)),
+    // int[].clone, which Object declares
+    (
+        37,
+        Entry::Method(b"[I", b"clone", b"()Ljava/lang/Object;"),
+        Some(5),
+    ),
     // Thread.run's invokeinterface Runnable.run
-    (2, Entry::At(14), Some(8)),
+    (2, Entry::At(20), Some(9)),
     // R.z is declared nowhere, and there is no class X; R.m by an InterfaceMethodref is no method of an interface
     (37, Entry::Method(b"R", b"z", b"()V"), None),
     (37, Entry::Method(b"X", b"m", b"()V"), None),
@@ -195,49 +201,49 @@ static NAMED: [Row<Option<usize>>; 21] = [
     (37, Entry::NameAndType(b"m", b"()V"), None),
     (37, Entry::At(0), None),
     (37, Entry::At(0xffff), None),
-    (2, Entry::At(10), None),
+    (2, Entry::At(16), None),
     // a class without such an entry, and no class
     (38, Entry::At(200), None),
     (43, Entry::At(2), None),
-    (43, Entry::At(14), None),
+    (43, Entry::At(20), None),
 ];
 
 pub(crate) const NO_ROWS: [Row<()>; 0] = [];
 
-/// Numbers of methods, each with the class and the place among its methods. Object declares eight methods, Runnable
-/// one, Thread eleven, String 32, Class and System four each, PrintStream twelve, Comparable one, CharSequence four,
-/// Cloneable none and StringBuilder 38; and the 26 classes of what is thrown 85. Then come the files, in their order.
+/// Numbers of methods, each with the class and the place among its methods. Object declares nine methods, Runnable
+/// one, Thread 18, String 51, Class and System four each, PrintStream 14, Comparable one, CharSequence four,
+/// Cloneable none and StringBuilder 43; and the 26 classes of what is thrown 85. Then come the files, in their order.
 const PLACES: [(usize, usize, usize); 24] = [
     (0, 0, 0),
-    (7, 0, 7),
-    (8, 1, 0),
-    (9, 2, 0),
-    (19, 2, 10),
-    (20, 3, 0),
-    (51, 3, 31),
-    (52, 4, 0),
-    (60, 6, 0),
-    (71, 6, 11),
-    (72, 7, 0),
-    (85, 7, 13),
-    (161, 35, 5),
-    (162, 36, 0),
-    (199, 36, 37),
-    (200, 37, 0),
-    (202, 39, 0),
-    (205, 39, 3),
-    (206, 40, 0),
-    (210, 40, 4),
-    (211, 41, 0),
-    (212, 42, 0),
-    (201, 38, 0),
-    (154, 34, 0),
+    (8, 0, 8),
+    (9, 1, 0),
+    (10, 2, 0),
+    (27, 2, 17),
+    (28, 3, 0),
+    (78, 3, 50),
+    (79, 4, 0),
+    (87, 6, 0),
+    (100, 6, 13),
+    (101, 7, 0),
+    (114, 7, 13),
+    (190, 35, 5),
+    (191, 36, 0),
+    (233, 36, 42),
+    (234, 37, 0),
+    (236, 39, 0),
+    (239, 39, 3),
+    (240, 40, 0),
+    (244, 40, 4),
+    (245, 41, 0),
+    (246, 42, 0),
+    (235, 38, 0),
+    (183, 34, 0),
 ];
 
 /// Places at which no method stands: behind the last of Thread, in Cloneable, behind the last of all, and in one more
 /// class.
 const NO_PLACES: [(usize, usize); 5] = [
-    (2, 11),
+    (2, 18),
     (33, 0),
     (42, 1),
     (43, 0),
@@ -287,7 +293,7 @@ impl Answers for PlaceAnswers {
             wrong_place: wrong_place(&numbers),
             wrong_no_place: wrong_no_place(&numbers),
             count: numbers.count(),
-            behind_the_last: numbers.place(213),
+            behind_the_last: numbers.place(247),
         })
     }
 }
@@ -297,7 +303,7 @@ fn methods_have_numbers(rt: HostRuntime) -> Result<(), Fail> {
     let found: PlaceAnswers = asked(rt.alloc(), &CLASSES, &NO_ROWS)?;
     assert_eq!(rt; found.wrong_place, None);
     assert_eq!(rt; found.wrong_no_place, None);
-    assert!(rt; found.count == 213 && found.behind_the_last.is_none());
+    assert!(rt; found.count == 247 && found.behind_the_last.is_none());
     Ok(())
 }
 
@@ -340,38 +346,38 @@ fn entries_name_what_is_found(rt: HostRuntime) -> Result<(), Fail> {
 /// A class, a method, and the method that receivers of the class have in its place.
 const SELECTED: [(usize, usize, Option<usize>); 24] = [
     // P.m is overridden in Q, from which A and R have it
-    (40, 206, Some(206)),
-    (39, 206, Some(202)),
-    (38, 206, Some(202)),
-    (37, 206, Some(202)),
+    (40, 240, Some(240)),
+    (39, 240, Some(236)),
+    (38, 240, Some(236)),
+    (37, 240, Some(236)),
     // a class above the one that declares the method has one of its own, too
-    (40, 202, Some(206)),
+    (40, 236, Some(240)),
     // the m with a parameter is another one
-    (37, 205, Some(205)),
-    (40, 205, None),
+    (37, 239, Some(239)),
+    (40, 239, None),
     // P.n is inherited by Q, and so is Object's notify
-    (39, 207, Some(207)),
-    (37, 207, Some(207)),
-    (39, 6, Some(6)),
+    (39, 241, Some(241)),
+    (37, 241, Some(241)),
+    (39, 7, Some(7)),
     // Thread declares Runnable's run
-    (2, 8, Some(9)),
+    (2, 9, Some(10)),
     // p is private in P, and public in Q
-    (40, 208, None),
-    (40, 203, None),
-    (39, 208, Some(203)),
-    (37, 208, Some(203)),
+    (40, 242, None),
+    (40, 237, None),
+    (39, 242, Some(237)),
+    (37, 242, Some(237)),
     // P.s and main are static
-    (40, 209, None),
-    (39, 209, None),
-    (37, 200, None),
+    (40, 243, None),
+    (39, 243, None),
+    (37, 234, None),
     // R declares P.n again as an abstract one, and nothing below P declares a
-    (38, 207, Some(201)),
-    (40, 210, Some(210)),
-    (37, 210, Some(210)),
+    (38, 241, Some(235)),
+    (40, 244, Some(244)),
+    (37, 244, Some(244)),
     // I.i is declared by Q, and by no class above it; methods of interfaces aren't selected
-    (37, 211, Some(204)),
-    (40, 211, None),
-    (37, 212, None),
+    (37, 245, Some(238)),
+    (40, 245, None),
+    (37, 246, None),
 ];
 
 /// The place of the first row of `SELECTED` that isn't so.

@@ -14,21 +14,21 @@ use std::test::Fail;
 /// Of A.m, which Q declares; of P's m, i, which only I declares, and private p; of I.i and J.i; of P.m again; and of
 /// Object.wait.
 static CALLS: [(CallKind, usize, usize); 8] = [
-    (CallKind::Virtual, 37, 202),
-    (CallKind::Virtual, 40, 206),
-    (CallKind::Virtual, 40, 211),
-    (CallKind::Virtual, 40, 208),
-    (CallKind::Interface, 41, 211),
-    (CallKind::Interface, 42, 211),
-    (CallKind::Virtual, 40, 206),
-    (CallKind::Virtual, 0, 5),
+    (CallKind::Virtual, 37, 236),
+    (CallKind::Virtual, 40, 240),
+    (CallKind::Virtual, 40, 245),
+    (CallKind::Virtual, 40, 242),
+    (CallKind::Interface, 41, 245),
+    (CallKind::Interface, 42, 245),
+    (CallKind::Virtual, 40, 240),
+    (CallKind::Virtual, 0, 6),
 ];
 
 static TARGETS: [CallTarget; 8] = [
     CallTarget::Place(3),
     CallTarget::Place(1),
     CallTarget::Place(2),
-    CallTarget::Method(208),
+    CallTarget::Method(242),
     CallTarget::Selector(0),
     CallTarget::Selector(1),
     CallTarget::Place(1),
@@ -38,22 +38,22 @@ static TARGETS: [CallTarget; 8] = [
 /// Rows of Object, Thread, String, A, R, Q, P and I: a class has the places of its superclass. P has no i, and runs
 /// the abstract Runnable.run in its place.
 static ROWS: [(usize, &[u32]); 8] = [
-    (0, &[5]),
-    (2, &[5, 9]),
-    (3, &[5]),
-    (37, &[5, 202, 204, 202]),
-    (38, &[5, 202, 204, 202]),
-    (39, &[5, 202, 204, 202]),
-    (40, &[5, 206, 8]),
-    (41, &[5]),
+    (0, &[6]),
+    (2, &[6, 10]),
+    (3, &[6]),
+    (37, &[6, 236, 238, 236]),
+    (38, &[6, 236, 238, 236]),
+    (39, &[6, 236, 238, 236]),
+    (40, &[6, 240, 9]),
+    (41, &[6]),
 ];
 
 /// How many selectors the rows of Object, Q, I and J have, and the method of the first.
 static INTERFACE_ROWS: [(usize, usize, u32); 4] = [
     (0, 0, 0),
-    (39, 1, 204),
-    (41, 1, 211),
-    (42, 2, 8),
+    (39, 1, 238),
+    (41, 1, 245),
+    (42, 2, 9),
 ];
 
 fn calls_of(alloc: Global) -> Result<Vec<NamedCall>, AllocError> {

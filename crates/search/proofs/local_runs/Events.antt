@@ -129,9 +129,8 @@ module _ (trees : Program) (p : LinkedProgram) (a : Activation) (code : List Lin
 module _ (bursts : AreLocalBursts) (carried : IsStepCarried) (keep : IsStepKept) (theirs : AreLocalEventsTheirOwn) (files : List (List ℕ)) (trees : Program) (accepted : IsAccepted files trees)
     (p : LinkedProgram) (a : Activation) (code : List LinkedInstruction) (runs : RunsCode trees p a code) (frames t : ℕ) where
   pub record Chain (n : ℕ) (state : State) (at : StateOf ℕ) : Type 0 where
-    pub threads : List ℕ
     pub last : State
-    pub are_local : AreLocal trees threads state last
+    pub are_local : AreLocal trees (replicate n t) state last
     pub words_are : AreWordsOf trees at last
     pub reached : run_from trees frames state (replicate n (event_of t)) ≡ Some last
 
@@ -152,9 +151,8 @@ module _ (bursts : AreLocalBursts) (carried : IsStepCarried) (keep : IsStepKept)
       ∙ (ap (λ (x : StateOf ℕ). stepped words trees frames x (event_of t)) c.words_are.are
       ∙ (carried files trees accepted.linkable frames c.last (event_of t) c.words_are.typed ∙ ap (map_stepped words_of) goes))
       in record {
-        threads = c.threads ++ t ∷ [];
         last = after;
-        are_local = local_more trees c.threads t state c.last here.0 c.are_local here.1;
+        are_local = subst (λ l. AreLocal trees l state after) (one_behind n t) (local_more trees (replicate n t) t state c.last here.0 c.are_local here.1);
         words_are = record {
           typed = keep files trees accepted frames c.last (event_of t) after c.words_are.typed steps_to;
           are = next_same (with_top at t (frame_in a s) top.rest) (words_of after) both;
@@ -173,7 +171,7 @@ module _ (bursts : AreLocalBursts) (carried : IsStepCarried) (keep : IsStepKept)
       sym (subst (λ x. with_top at t (frame_in a x) top.rest ≡ at) is
       (ap (λ (l : List (StackOf ℕ)). record { world = at.world; stacks = l }) (set_same at.stacks t (Invocation (frame_in a r) ∷ top.rest) top.stack)))
       in
-      record { threads = []; last = state; are_local = refl; words_are = subst (λ (w : StateOf ℕ). AreWordsOf trees w state) same are; reached = refl }
+      record { last = state; are_local = refl; words_are = subst (λ (w : StateOf ℕ). AreWordsOf trees w state) same are; reached = refl }
   chain (suc n) r s state at are top counted e = by (λ m q. chain n r m state at are top counted q) (steps code n r) refl e
     where
       by : ((m : Running) → steps code n r ≡ Some m → Chain n state (with_top at t (frame_in a m) top.rest)) → (x : Option Running) → steps code n r ≡ x → then_at code x ≡ Some s

@@ -45,7 +45,7 @@ module _ (bursts : AreLocalBursts) (carried : IsStepCarried) (keep : IsStepKept)
   locks = inflated trees bounds.frames events
 
   abbrev AreLocalHere : Type 0
-  AreLocalHere = AreLocalAfter trees bounds.frames events (replicate n (event_of t))
+  AreLocalHere = AreLocalAfter trees bounds.frames events t n
 
   -- ---- where the frame stands in linked code
 
@@ -91,9 +91,8 @@ module _ (bursts : AreLocalBursts) (carried : IsStepCarried) (keep : IsStepKept)
         top_at (sym (tables_counted trees has.at is.lent.typed).stacks) steps_are
         in
         let same : has.lead.state ≡ state = same_Some has.lead.state state (sym has.lead.reached ∙ reached) in
-        subst (λ (s : State). LeadsPast trees bounds.frames events (replicate n (event_of t)) s) same
+        subst (λ (s : State). LeadsPast trees bounds.frames events t n s) same
         (record {
-          threads = c.threads;
           last = c.last;
           are_local = c.are_local;
           reached = run_on trees bounds.frames events (replicate n (event_of t)) (opening values trees) has.lead.state has.lead.reached ∙ c.reached;
@@ -142,7 +141,7 @@ local_if holds p shared t shown top (Err e) can = tt
 
 pub none_local : IsNoneLocal
 none_local p shared t files trees accepted program bounds events has state reached =
-    record { threads = []; last = state; are_local = refl; reached = ap (run trees bounds.frames) (append-nil events) ∙ reached }
+    record { last = state; are_local = refl; reached = ap (run trees bounds.frames) (append-nil events) ∙ reached }
 
 -- ---- a copy of the frame
 

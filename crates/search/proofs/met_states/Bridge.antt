@@ -24,7 +24,7 @@ use Rattle.search.specs.met_states.Met.{AreAlikeStatesMet, AreNewStatesMet, AreH
 
 -- ---- one event more
 
-run_more : (trees : Program) (frames : ℕ) (events : List Event) (from state next : State) (event : Event)
+pub run_more : (trees : Program) (frames : ℕ) (events : List Event) (from state next : State) (event : Event)
     → run_from trees frames from events ≡ Some state → step trees frames state event ≡ Some next
     → run_from trees frames from (events ++ event ∷ []) ≡ Some next
 run_more trees frames [] from state next event r e =
@@ -111,7 +111,7 @@ only_step : (o : Option State) (next : State) → option_and_then (λ s. Some s)
 only_step None next e = e
 only_step (Some s) next e = e
 
-last_step : (trees : Program) (frames : ℕ) (events : List Event) (from state next : State) (event : Event)
+pub last_step : (trees : Program) (frames : ℕ) (events : List Event) (from state next : State) (event : Event)
     → run_from trees frames from events ≡ Some state → run_from trees frames from (events ++ event ∷ []) ≡ Some next
     → step trees frames state event ≡ Some next
 last_step trees frames [] from state next event r e =

@@ -20,21 +20,20 @@ use Rattle.machine.specs.top_frames.Tops.{GoesOn}
 
 -- ---- events
 
--- further events lead on from where the first ones led, and each of them is local
-pub record LeadsPast (trees : Program) (frames : ℕ) (events more : List Event) (state : State) : Type 0 where
-  pub threads : List ℕ
+-- so many events of the thread lead on from where the first ones led, and each of them is local
+pub record LeadsPast (trees : Program) (frames : ℕ) (events : List Event) (t n : ℕ) (state : State) : Type 0 where
   pub last : State
-  pub are_local : AreLocal trees threads state last
-  pub reached : run trees frames (events ++ more) ≡ Some last
+  pub are_local : AreLocal trees (replicate n t) state last
+  pub reached : run trees frames (events ++ replicate n (event_of t)) ≡ Some last
 
-abbrev pub AreLocalAfter : Program → (frames : ℕ) → (events more : List Event) → Type 0
-AreLocalAfter trees frames events more = (state : State) → run trees frames events ≡ Some state → LeadsPast trees frames events more state
+abbrev pub AreLocalAfter : Program → (frames : ℕ) → (events : List Event) → (t n : ℕ) → Type 0
+AreLocalAfter trees frames events t n = (state : State) → run trees frames events ≡ Some state → LeadsPast trees frames events t n state
 
 -- whatever run of whatever files led to what is shared, so many events of the thread go on from there, and each is local
 abbrev pub AreNextLocal : LinkedProgram → Shared → (t n : ℕ) → Type 0
 AreNextLocal p shared t n =
     (files : List (List ℕ)) (trees : Program) → IsAccepted files trees → IsProgram trees p
-    → (bounds : Bounds) (events : List Event) → HasRun trees p bounds shared events → AreLocalAfter trees bounds.frames events (replicate n (event_of t))
+    → (bounds : Bounds) (events : List Event) → HasRun trees p bounds shared events → AreLocalAfter trees bounds.frames events t n
 
 -- ---- instructions
 

@@ -1,8 +1,9 @@
 -- What a search over all schedules answers, with the report of the run that it finds (own; JLS 17).
-use Rattle.std.specs.Prelude.{◌≡◌, ◌⊎◌, ℕ, Bool, List, Some, IsTrue, IsFalse}
+use Rattle.std.specs.Prelude.{◌≡◌, ◌⊎◌, ℕ, Bool, List, Option, Some, None, IsTrue, IsFalse}
 use Rattle.model.specs.declared.end.End.{End}
 use Rattle.model.specs.declared.end.End.TheVariants as ends
 use Rattle.model.specs.declared.event.Event.{Event}
+use Rattle.model.specs.declared.event.ScheduleEntry.{ScheduleEntry}
 use Rattle.model.specs.declared.limits.Limits.{Limits}
 use Rattle.model.specs.declared.report.Report.{Report}
 use Rattle.model.specs.Classes.{Program}
@@ -13,7 +14,10 @@ use Rattle.model.specs.State.{State}
 use Rattle.machine.specs.machine_replay.Replays.{text_of}
 use Rattle.search.specs.declared.kinds.Goal.{Goal}
 use Rattle.search.specs.declared.searching.Verdict.{Verdict}
+use Rattle.search.specs.declared.preemptions.searching.VerdictWithin.{VerdictWithin}
 use Rattle.search.specs.GivingUp.{GivesUp}
+use Rattle.search.specs.RacyStates.{IsRaceShown, TellsRace}
+use Rattle.search.specs.preemptions.Within.{IsFoundWithin, IsCompleteWithin, SaysWithin}
 use Rattle.search.specs.Verdicts.{IsFoundBy, IsComplete, Says}
 use Rattle.search.specs.declared.search_reports.answers.Answer.{Answer}
 use Rattle.search.specs.declared.search_reports.answers.Answer.TheVariants as answer
@@ -29,6 +33,11 @@ pub record IsReportOf (trees : Program) (frames : ℕ) (events : List Event) (en
   pub means : meaning trees frames events end ≡ Some (text_of r end)
   pub ends : (state : State) → run trees frames events ≡ Some state → EndsSo trees frames state end
 
+-- the schedule is found, with the report of the run that it is
+abbrev pub IsRunTold : Program → Limits → List ScheduleEntry → Answer → Type 0
+IsRunTold trees limits schedule a =
+    (r : Report) × (end : End) × (a ≡ answer.Found schedule r end) × IsReportOf trees limits.frames (events_of schedule) end r
+
 -- Found: the schedule is that of a run that is to be found, and the report is the run's. Complete: these are the outcomes of all runs that
 -- end, and the kinds of the states that any run comes to, and none is to be found. A search gives up only where so many states are met as
 -- may be, or where some run can't be gone on with, or where it may be stopped.
@@ -36,10 +45,40 @@ abbrev pub Answers : Program → Limits → Goal → (may_stop : Bool) → (most
 Answers trees limits goal may_stop most states (answer.Found schedule r end) =
     IsFoundBy trees limits goal schedule × IsReportOf trees limits.frames (events_of schedule) end r
 Answers trees limits goal may_stop most states (answer.Complete outcomes kinds) = IsComplete trees limits goal states outcomes kinds
+Answers trees limits goal may_stop most states (answer.Within outcomes kinds preemptions) = ⊥
 Answers trees limits goal may_stop most states answer.GaveUp = IsTrue may_stop ⊎ GivesUp trees limits most states
+
+-- The same of a search within so many preemptions: what is found has no more, and the fewest where an outcome is to be found; and where
+-- nothing is, the outcomes are those of the runs that end with no more of them.
+abbrev pub AnswersWithin : Program → Limits → Goal → (may_stop : Bool) → (preemptions most states : ℕ) → Answer → Type 0
+AnswersWithin trees limits goal may_stop preemptions most states (answer.Found schedule r end) =
+    IsFoundWithin trees limits goal preemptions schedule × IsReportOf trees limits.frames (events_of schedule) end r
+AnswersWithin trees limits goal may_stop preemptions most states (answer.Complete outcomes kinds) = ⊥
+AnswersWithin trees limits goal may_stop preemptions most states (answer.Within outcomes kinds told) =
+    IsCompleteWithin trees limits goal preemptions outcomes kinds × (told ≡ preemptions)
+AnswersWithin trees limits goal may_stop preemptions most states answer.GaveUp = IsTrue may_stop ⊎ GivesUp trees limits most states
+
+-- within so many, where a number is given
+abbrev pub AnswersBy : Program → Limits → Goal → (may_stop : Bool) → (preemptions : Option ℕ) → (most states : ℕ) → Answer → Type 0
+AnswersBy trees limits goal may_stop None most states a = Answers trees limits goal may_stop most states a
+AnswersBy trees limits goal may_stop (Some preemptions) most states a = AnswersWithin trees limits goal may_stop preemptions most states a
+
+abbrev pub IsAnswerWithin : Program → Limits → (preemptions : ℕ) → VerdictWithin → Answer → Type 0
+IsAnswerWithin trees limits preemptions v a =
+    (goal : Goal) (may_stop : Bool) (most states : ℕ) → SaysWithin trees limits goal may_stop preemptions most states v
+    → AnswersWithin trees limits goal may_stop preemptions most states a
 
 -- if this is what the search says, whatever was to be found, and however many states may be met and were, that answers it
 abbrev pub IsAnswerTo : Program → Limits → Verdict → Answer → Type 0
 IsAnswerTo trees limits v a =
     (goal : Goal) (may_stop : Bool) (most states : ℕ) → Says trees limits goal may_stop most states v
     → Answers trees limits goal may_stop most states a
+
+-- a schedule to a racy state beside a complete answer, where that tells a race
+abbrev pub TellsRaceOf : Program → Limits → Answer → Option (List ScheduleEntry) → Type 0
+TellsRaceOf trees limits (answer.Complete outcomes kinds) race = IsRaceShown trees limits kinds.race race
+TellsRaceOf trees limits a race = Unit {0}
+
+-- what is told beside what the search says is told beside the answer
+abbrev pub IsRaceKept : Program → Limits → Verdict → Answer → Type 0
+IsRaceKept trees limits v a = (race : Option (List ScheduleEntry)) → TellsRace trees limits v race → TellsRaceOf trees limits a race

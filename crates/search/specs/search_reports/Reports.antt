@@ -29,22 +29,33 @@ abbrev pub line_if : Bool → List ℕ → List ℕ
 line_if Bool.true text = line text
 line_if false text = []
 
+-- that a race is told: the line of one is behind the word
+abbrev pub race_kind : (is_told : Bool) → (race : List ℕ) → List ℕ
+race_kind Bool.true race = codes "kind " ++ race
+race_kind false race = []
+
 -- a line for each kind that is told
-abbrev pub kind_lines : Kinds → List ℕ
-kind_lines kinds =
-    line_if kinds.race (codes "kind race")
+abbrev pub kind_lines : Kinds → (race : List ℕ) → List ℕ
+kind_lines kinds race =
+    race_kind kinds.race race
     ++ (line_if kinds.uncaught (codes "kind uncaught") ++ (line_if kinds.deadlock (codes "kind deadlock") ++ line_if kinds.endless (codes "kind endless")))
 
--- where a run was found its report, else all outcomes and kinds
-abbrev pub found_text : Answer → List ℕ
-found_text (answer.Found schedule r end) = report_text r.printed.items (map end_state_of r.threads.items) r.events end
-found_text (answer.Complete outcomes kinds) = outcome_texts 1 outcomes ++ (line (codes "outcomes " ++ number (length outcomes)) ++ kind_lines kinds)
-found_text answer.GaveUp = []
+-- all outcomes and kinds
+abbrev pub all_text : List Outcome → Kinds → (race : List ℕ) → List ℕ
+all_text outcomes kinds race = outcome_texts 1 outcomes ++ (line (codes "outcomes " ++ number (length outcomes)) ++ kind_lines kinds race)
 
-abbrev pub answer_word : Answer → List ℕ
-answer_word (answer.Found schedule r end) = codes "found"
-answer_word (answer.Complete outcomes kinds) = codes "complete"
-answer_word answer.GaveUp = codes "gave up"
+-- where a run was found its report, else all outcomes and kinds
+abbrev pub found_text : Answer → (race : List ℕ) → List ℕ
+found_text (answer.Found schedule r end) race = report_text r.printed.items (map end_state_of r.threads.items) r.events end
+found_text (answer.Complete outcomes kinds) race = all_text outcomes kinds race
+found_text (answer.Within outcomes kinds count) race = all_text outcomes kinds race
+found_text answer.GaveUp race = []
+
+abbrev pub answer_line : Answer → List ℕ
+answer_line (answer.Found schedule r end) = line (codes "search found")
+answer_line (answer.Complete outcomes kinds) = line (codes "search complete")
+answer_line (answer.Within outcomes kinds count) = line (codes "search complete within " ++ (number count ++ codes " preemptions"))
+answer_line answer.GaveUp = line (codes "search gave up")
 
 -- That there is no data race, where no run comes to a racy state. That no run has one then (JLS 17.4.5) is known, and
 -- isn't proved here.
@@ -57,12 +68,13 @@ race_line false false = line (codes "no data race: correctly synchronized")
 abbrev pub scope_text : Answer → (own_edges : Bool) → List ℕ
 scope_text (answer.Found schedule r end) own_edges = []
 scope_text (answer.Complete outcomes kinds) own_edges = line (codes "of runs that end") ++ race_line kinds.race own_edges
+scope_text (answer.Within outcomes kinds count) own_edges = line (codes "of runs that end")
 scope_text answer.GaveUp own_edges = []
 
 -- that, how many states were met, of which runs it is told, and what the answer is
-abbrev pub search_text : Answer → (own_edges : Bool) → ℕ → List ℕ
-search_text a own_edges states =
-    found_text a ++ (line (codes "states " ++ number states) ++ (scope_text a own_edges ++ line (codes "search " ++ answer_word a)))
+abbrev pub search_text : Answer → (race : List ℕ) → (own_edges : Bool) → ℕ → List ℕ
+search_text a race own_edges states =
+    found_text a race ++ (line (codes "states " ++ number states) ++ (scope_text a own_edges ++ answer_line a))
 
 -- ---- examples
 
@@ -75,21 +87,26 @@ two_kinds = record { race = Bool.true; uncaught = false; deadlock = false; endle
 two_ended : ℕ → Outcome
 two_ended n = record { printed = number_line (pos n); ends = Ended ∷ Ended ∷ [] }
 
-lists_both : search_text (answer.Complete (two_ended 1 ∷ two_ended 2 ∷ []) two_kinds) false 40
-    ≡ codes "outcome 1\n1\nthread 0 ended\nthread 1 ended\noutcome 2\n2\nthread 0 ended\nthread 1 ended\noutcomes 2\nkind race\nkind endless\nstates 40\nof runs that end\nsearch complete\n"
+lists_both : search_text (answer.Complete (two_ended 1 ∷ two_ended 2 ∷ []) two_kinds) (codes "race A.n\n") false 40
+    ≡ codes "outcome 1\n1\nthread 0 ended\nthread 1 ended\noutcome 2\n2\nthread 0 ended\nthread 1 ended\noutcomes 2\nkind race A.n\nkind endless\nstates 40\nof runs that end\nsearch complete\n"
 unfolding digits two_ended two_kinds utf16_chars encode_utf8
 lists_both = refl
 
-lists_none : search_text (answer.Complete [] no_kinds) false 3
+lists_none : search_text (answer.Complete [] no_kinds) [] false 3
     ≡ codes "outcomes 0\nstates 3\nof runs that end\nno data race: correctly synchronized\nsearch complete\n"
 unfolding digits no_kinds
 lists_none = refl
 
-by_own_edges : search_text (answer.Complete [] no_kinds) Bool.true 3
+by_own_edges : search_text (answer.Complete [] no_kinds) [] Bool.true 3
     ≡ codes "outcomes 0\nstates 3\nof runs that end\nno data race, by edges of this machine's own\nsearch complete\n"
 unfolding digits no_kinds
 by_own_edges = refl
 
-gives_up : search_text answer.GaveUp false 1000 ≡ codes "states 1000\nsearch gave up\n"
+within_two : search_text (answer.Within [] no_kinds 2) [] false 3
+    ≡ codes "outcomes 0\nstates 3\nof runs that end\nsearch complete within 2 preemptions\n"
+unfolding digits no_kinds
+within_two = refl
+
+gives_up : search_text answer.GaveUp [] false 1000 ≡ codes "states 1000\nsearch gave up\n"
 unfolding digits
 gives_up = refl

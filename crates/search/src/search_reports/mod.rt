@@ -13,4 +13,4 @@ mod outcomes;
 mod searching;
 
 pub use answers::{Answer, SearchReport};
-pub use searching::search_report;
+pub use searching::report_by;

@@ -4,11 +4,12 @@ ghost use Rattle.std.specs.Prelude.{◌≡◌, ◌≤◌, IfOk};
 ghost use Rattle.std.specs.Arc.{arc_value};
 ghost use Rattle.search.specs.OwnEdges as own;
 ghost use Rattle.machine.specs.Machines.{IsProgramOf};
-ghost use Rattle.search.specs.declared.searching.Verdict.TheVariants as verdicts;
-ghost use Rattle.search.specs.search_reports.Answers.{Answers, IsAnswerTo};
+ghost use Rattle.search.specs.search_reports.Answers.{Answers, AnswersBy, AnswersWithin, IsAnswerTo, IsAnswerWithin};
+ghost use Rattle.search.specs.search_reports.Answers.{IsRaceKept, IsRunTold, TellsRaceOf};
 
 use crate::kinds::Goal;
 use crate::own_edges::names_own_edges;
+use crate::preemptions::{VerdictWithin, search_within};
 use crate::search_reports::answers::{Answer, SearchReport};
 use crate::{Progress, Verdict, search};
 use hierarchy::ClassSet;
@@ -29,7 +30,7 @@ fn found(
     schedule: Schedule,
 ) -> Result<Answer, AllocError>
     requires { IsProgramOf classes.now (arc_value program) }
-    ensures { IfOk result (IsAnswerTo classes.now limits (verdicts.Found schedule)) }
+    ensures { IfOk result (IsRunTold classes.now limits schedule) }
 {
     let (report, end) = replay(alloc, classes, program, &schedule, limits)?;
     match end {
@@ -49,7 +50,8 @@ fn answer_to(
     verdict: Verdict,
 ) -> Result<Answer, AllocError>
     requires { IsProgramOf classes.now (arc_value program) }
-    ensures { IfOk result (IsAnswerTo classes.now limits verdict) }
+    ensures answers { IfOk result (IsAnswerTo classes.now limits verdict) }
+    ensures race { IfOk result (IsRaceKept classes.now limits verdict) }
 {
     match verdict {
         Verdict::Found(schedule) => found(alloc, classes, program, limits, schedule),
@@ -58,10 +60,32 @@ fn answer_to(
     }
 }
 
+/// What a search within so many preemptions says, with the report of the run that it finds. The only error is a want of
+/// memory.
+fn answer_within(
+    alloc: Global,
+    classes: &ClassSet,
+    program: Arc<LinkedProgram>,
+    limits: Limits,
+    preemptions: u32,
+    verdict: VerdictWithin,
+) -> Result<Answer, AllocError>
+    requires { IsProgramOf classes.now (arc_value program) }
+    ensures { IfOk result (IsAnswerWithin classes.now limits preemptions verdict) }
+{
+    match verdict {
+        VerdictWithin::Found(schedule) => found(alloc, classes, program, limits, schedule),
+        VerdictWithin::Complete(outcomes, kinds) => {
+            Ok(Answer::Within(outcomes, kinds, preemptions))
+        }
+        VerdictWithin::GaveUp => Ok(Answer::GaveUp),
+    }
+}
+
 /// Searches all schedules of a program (JVMS 2.5, 2.6, 5.5, chapter 6; JLS 17), which is that of the linked classes,
 /// as far as so many states, for a run that ends with a wanted outcome, or comes to a state of a kind that is to be
 /// found. Meanwhile it tells how far it has come. The only error is a want of memory.
-pub fn search_report<P: Progress>(
+fn search_report<P: Progress>(
     alloc: Global,
     progress: &P,
     linked: &Linked,
@@ -73,6 +97,7 @@ pub fn search_report<P: Progress>(
     requires { IsProgramOf linked.now (arc_value program) }
     ensures answers { IfOk result (λ r. Answers linked.now limits goal.now (P.may_stop progress.now) most r.states
         r.answer) }
+    ensures race { IfOk result (λ r. TellsRaceOf linked.now limits r.answer r.race) }
     ensures own_edges { IfOk result (λ r. r.own_edges ≡ own.names_own_edges linked.now) }
     ensures few { IfOk result (λ r. 1 ≤ most → r.states ≤ most) }
 {
@@ -91,6 +116,78 @@ pub fn search_report<P: Progress>(
     Ok(SearchReport {
         answer,
         states,
+        race: searched.race,
         own_edges: names_own_edges(linked),
     })
+}
+
+/// Searches all schedules of a program with at most so many preemptions, in the manner of `search_report`. What is found
+/// has the fewest, if it is a run that ends. The only error is a want of memory.
+fn report_within<P: Progress>(
+    alloc: Global,
+    progress: &P,
+    linked: &Linked,
+    program: Arc<LinkedProgram>,
+    limits: Limits,
+    goal: &Goal,
+    most: u32,
+    preemptions: u32,
+) -> Result<SearchReport, AllocError>
+    requires { IsProgramOf linked.now (arc_value program) }
+    ensures answers { IfOk result (λ r. AnswersWithin linked.now limits goal.now (P.may_stop progress.now) preemptions
+        most r.states r.answer) }
+    ensures race { IfOk result (λ r. TellsRaceOf linked.now limits r.answer r.race) }
+    ensures own_edges { IfOk result (λ r. r.own_edges ≡ own.names_own_edges linked.now) }
+    ensures few { IfOk result (λ r. 1 ≤ most → r.states ≤ most) }
+{
+    let searched = search_within(
+        alloc,
+        progress,
+        linked,
+        &program,
+        limits,
+        goal,
+        most,
+        preemptions,
+    )?;
+    let states = searched.states;
+    let answer = answer_within(
+        alloc,
+        linked.set(),
+        program,
+        limits,
+        preemptions,
+        searched.verdict,
+    )?;
+    Ok(SearchReport {
+        answer,
+        states,
+        race: None,
+        own_edges: names_own_edges(linked),
+    })
+}
+
+/// Searches all schedules of a program, or those with at most so many preemptions, where a number is given. The only error
+/// is a want of memory.
+pub fn report_by<P: Progress>(
+    alloc: Global,
+    progress: &P,
+    linked: &Linked,
+    program: Arc<LinkedProgram>,
+    limits: Limits,
+    goal: &Goal,
+    most: u32,
+    preemptions: Option<u32>,
+) -> Result<SearchReport, AllocError>
+    requires { IsProgramOf linked.now (arc_value program) }
+    ensures answers { IfOk result (λ r. AnswersBy linked.now limits goal.now (P.may_stop progress.now) preemptions most
+        r.states r.answer) }
+    ensures race { IfOk result (λ r. TellsRaceOf linked.now limits r.answer r.race) }
+    ensures own_edges { IfOk result (λ r. r.own_edges ≡ own.names_own_edges linked.now) }
+    ensures few { IfOk result (λ r. 1 ≤ most → r.states ≤ most) }
+{
+    match preemptions {
+        None => search_report(alloc, progress, linked, program, limits, goal, most),
+        Some(count) => report_within(alloc, progress, linked, program, limits, goal, most, count),
+    }
 }

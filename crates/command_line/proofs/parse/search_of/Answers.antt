@@ -9,6 +9,11 @@ returns-in_err-goal-clause-none c =
     handed_on c.from_residual.result c.in_err-goal.field-0.0 _ _ c.from_residual.ensures.1 c.in_err-goal.ensures.none
     (λ none search are. none search.goal are.goal)
 
+pub returns-in_err-preemptions-clause-none : goal.returns-in_err-preemptions-clause-none
+returns-in_err-preemptions-clause-none c =
+    handed_on c.from_residual-in_err-preemptions.result c.in_err-preemptions.field-0.0 _ _ c.from_residual-in_err-preemptions.ensures.1 c.in_err-preemptions.ensures.none
+    (λ none search are. none search.preemptions are.preemptions)
+
 pub returns-in_err-states-clause-none : goal.returns-in_err-states-clause-none
 returns-in_err-states-clause-none c =
     handed_on c.from_residual-in_err-states.result c.in_err-states.field-0.0 _ _ c.from_residual-in_err-states.ensures.1 c.in_err-states.ensures.none
@@ -45,6 +50,7 @@ returns-clause-values c =
     let program = c.in_ok-program.ensures.values in
     record {
       goal = c.in_ok-goal.ensures.goal;
+      preemptions = c.in_ok-preemptions.ensures.preemptions;
       states = c.in_ok-states.ensures.number;
       memory = c.in_ok-memory.ensures.number;
       seconds = c.in_ok-seconds.ensures.number;

@@ -7,7 +7,7 @@ use Rattle.model.specs.Devices.{AppendsFront}
 use Rattle.std.specs.Option.{option_map}
 use Rattle.engines.specs.RecordForms.{record_form}
 use Rattle.engines.specs.Refusals.{IsRefused}
-use Rattle.engines.specs.Searches.{IsSearched, most_states}
+use Rattle.engines.specs.Searches.{IsSearched, extent_of}
 use Rattle.engines.proofs.SearchLemmas.{part_is_unsearched, unread_is_unsearched}
 use Rattle.engines.proofs.searching.search_engine.Goals as goal
 
@@ -35,7 +35,7 @@ returns-in_err-write_all-clause-faulty g c =
     let p = err_from_is_err_and c.from_residual-in_err-write_all.result c.from_residual-in_err-write_all.ensures.1 in
     let found = c.in_ok-searched.searched in
     let options = c.args.options.now in
-    let searched = subst (λ files. IsSearched (record_form c.args.given options.as_version) (map vec_items files) options.limits c.args.goal.now (g.P.Progress.may_stop c.args.progress.now) (most_states options) (is_some options.record) found.text.items (option_map vec_items found.file) found.status) c.as_slice-files.ensures.value c.in_ok-searched.ensures in
+    let searched = subst (λ files. IsSearched (record_form c.args.given options.as_version) (map vec_items files) options.limits c.args.goal.now (g.P.Progress.may_stop c.args.progress.now) (extent_of options) (is_some options.record) found.text.items (option_map vec_items found.file) found.status) c.as_slice-files.ensures.value c.in_ok-searched.ensures in
     let contents = g.W.Sink.contents in
     let written = subst (AppendsFront (contents c.args.report.now) (contents c.write_all.new.self)) c.as_slice.ensures.value c.in_err-write_all.ensures.part in
     rw (p.1, p.2) (part_is_unsearched _ _ _ _ _ _ _ _ _ _ _ _ (inr (_, _, (_, c.in_ok-read.ensures.read, searched), written)))
@@ -44,7 +44,7 @@ pub returns-clause-searched : goal.returns-clause-searched
 returns-clause-searched g c =
     let found = c.in_ok-searched.searched in
     let options = c.args.options.now in
-    let searched = subst (λ files. IsSearched (record_form c.args.given options.as_version) (map vec_items files) options.limits c.args.goal.now (g.P.Progress.may_stop c.args.progress.now) (most_states options) (is_some options.record) found.text.items (option_map vec_items found.file) found.status) c.as_slice-files.ensures.value c.in_ok-searched.ensures in
+    let searched = subst (λ files. IsSearched (record_form c.args.given options.as_version) (map vec_items files) options.limits c.args.goal.now (g.P.Progress.may_stop c.args.progress.now) (extent_of options) (is_some options.record) found.text.items (option_map vec_items found.file) found.status) c.as_slice-files.ensures.value c.in_ok-searched.ensures in
     let contents = g.W.Sink.contents in
     let written = subst (Appends (contents c.args.report.now) (contents c.write_all.new.self)) c.as_slice.ensures.value c.in_ok-write_all.ensures.written in
     (_, (_, c.in_ok-read.ensures.read, searched), written)

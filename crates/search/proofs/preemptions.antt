@@ -1,0 +1,11 @@
+mod Ways
+mod NodeLemmas
+mod Growing
+mod Entries
+mod Threads
+mod Others
+mod Loops
+mod Expanded
+mod Rounds
+mod Visits
+mod Visited
