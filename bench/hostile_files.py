@@ -5,17 +5,17 @@ file, `struct.error` is raised.
 """
 
 import struct
-from typing import Callable, Dict, Iterable, List, Optional, Sequence
+from typing import Callable, Dict, Iterable, List, Sequence
 
-from tools.class_files import FIELDREF, METHODREF, NAME_AND_TYPE, Handler, Pool, class_entry, class_file
-from tools.class_files import code_attribute, member, pair, u2, utf8
+from tools.class_files import FIELDREF, METHODREF, NAME_AND_TYPE, class_entry, pair, u2, utf8
+from tools.growing_classes import INTERFACE, OBJECT, Code, GrowingClass
 
-OBJECT, THROWABLE = "java/lang/Object", "java/lang/Throwable"
+THROWABLE = "java/lang/Throwable"
 
 # The class with `main`, in the first file.
 MAIN = "A"
 
-PUBLIC_CLASS, INTERFACE, ABSTRACT_CLASS = 0x0021, 0x0601, 0x0421
+ABSTRACT_CLASS = 0x0421
 PUBLIC, PRIVATE, PUBLIC_STATIC, PUBLIC_FINAL = 0x0001, 0x0002, 0x0009, 0x0011
 PUBLIC_STATIC_FINAL, PUBLIC_ABSTRACT = 0x0019, 0x0401
 
@@ -41,24 +41,8 @@ def behind_switch(at: int, number: int) -> int:
     return at + 13 + (3 - at) % 4 + 4 * number
 
 
-class Body:
-    """The code of a method, which grows, and its exception table."""
-
-    def __init__(self, *opcodes: int) -> None:
-        self.code = bytearray(opcodes)
-        self.handlers: List[Handler] = []
-
-    def here(self) -> int:
-        """The offset of the next instruction."""
-        return len(self.code)
-
-    def ops(self, *opcodes: int) -> None:
-        """Instructions without operands."""
-        self.code += bytes(opcodes)
-
-    def op_short(self, opcode: int, operand: int) -> None:
-        """An instruction with an operand of two bytes."""
-        self.code += bytes([opcode]) + u2(operand)
+class Body(Code):
+    """Code whose jumps are wide, and which may have any number of local variables."""
 
     def of_local(self, opcode: int, local: int) -> None:
         """A load from a local variable, or a store to it."""
@@ -74,31 +58,8 @@ class Body:
         self.code += bytes([TABLESWITCH]) + bytes((3 - at) % 4) + struct.pack(f">{len(numbers)}i", *numbers)
 
 
-class Class:
-    """A class or an interface, which grows. Members stand in the order in which they are added."""
-
-    def __init__(self, name: str, above: str = OBJECT, flags: int = PUBLIC_CLASS) -> None:
-        self.pool, self.flags = Pool(), flags
-        self.classes = (self.pool.class_of(name), self.pool.class_of(above))
-        self.interfaces: List[int] = []
-        self.fields: List[bytes] = []
-        self.methods: List[bytes] = []
-
-    def stands_on(self, *names: str) -> None:
-        """Adds direct superinterfaces."""
-        self.interfaces += [self.pool.class_of(name) for name in names]
-
-    def field(self, flags: int, name: str, descriptor: str) -> None:
-        self.fields.append(member(flags, self.pool.text(name), self.pool.text(descriptor)))
-
-    def method(
-        self, flags: int, name: str, descriptor: str, body: Optional[Body] = None, stack: int = 0, local_count: int = 1
-    ) -> None:
-        code = []
-        if body:
-            named = self.pool.text("Code")
-            code = [code_attribute(named, stack, local_count, bytes(body.code), body.handlers)]
-        self.methods.append(member(flags, self.pool.text(name), self.pool.text(descriptor), code))
+class Class(GrowingClass):
+    """A class or an interface, some of whose constants are many."""
 
     def main(self, body: Body, stack: int, local_count: int) -> None:
         self.method(PUBLIC_STATIC, "main", "([Ljava/lang/String;)V", body, stack, local_count)
@@ -109,11 +70,6 @@ class Class:
 
     def described(self, name: str, descriptor: str) -> int:
         return self.pool.entry(pair(NAME_AND_TYPE, self.pool.text(name), self.pool.text(descriptor)))
-
-    def data(self) -> bytes:
-        return class_file(
-            self.pool.entries, self.flags, self.classes, self.fields, self.methods, self.interfaces
-        )
 
 
 def data_of(classes: Iterable[Class]) -> List[bytes]:

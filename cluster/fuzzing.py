@@ -23,7 +23,7 @@ from oracle.seeds import Run, mixed, random
 from tools.repository import ROOT
 from tools.set_counts import SetCounts
 
-# It makes the sets by a program that it finds in this repository.
+# It makes the sets, and tries them.
 FUZZ = ROOT / "tools/fuzz"
 
 POLICIES = {"mixed": mixed, "random": random}

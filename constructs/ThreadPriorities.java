@@ -1,11 +1,11 @@
 /*
- * Threads: priorities of threads
+ * Threads: priorities of threads, which have no effect
  *
- * ThreadPriorities.java:9: java.lang.Thread.setPriority(int): there are no priorities, the schedule says who goes
- *     on; leave it out
+ * It works.
  */
 class ThreadPriorities {
     public static void main(String[] words) {
         Thread.currentThread().setPriority(7);
+        System.out.println(Thread.currentThread().getPriority());
     }
 }

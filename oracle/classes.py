@@ -19,7 +19,7 @@ Resolved = Dict[int, Tuple[str, Any]]
 # Flags, name, descriptor, and the value of a ConstantValue.
 Field = Tuple[int, str, str, Optional[Any]]
 
-PUBLIC, PRIVATE, STATIC, SYNCHRONIZED, VOLATILE = 1, 2, 8, 0x20, 0x40
+PUBLIC, PRIVATE, STATIC, FINAL, SYNCHRONIZED, VOLATILE = 1, 2, 8, 0x10, 0x20, 0x40
 NATIVE, INTERFACE, ABSTRACT = 0x100, 0x200, 0x400
 
 

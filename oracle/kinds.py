@@ -5,7 +5,7 @@ What the next event of a thread accesses, and who holds what it needs, is read o
 run from a state ends is told by the states to which events lead.
 """
 
-from itertools import combinations
+from itertools import product
 from typing import Any, Dict, Iterator, List, NamedTuple, Optional, Sequence, Set, Tuple
 
 from oracle.calls import INVOKEINTERFACE, Called
@@ -13,6 +13,8 @@ from oracle.classes import VOLATILE, Class, ClassReader
 from oracle.frames import Frame, short
 from oracle.machine import ELEMENTS, Machine
 from oracle.state import BUILDER_TEXT, NO_VARIABLES, JavaThread, NotEnabled, Object, Refused, component
+from oracle.strings import Raised
+from oracle.texts_made import KEEPS, is_cloneable
 
 # The kinds, in the order in which they are told.
 KINDS = ["race", "uncaught", "deadlock", "endless"]
@@ -28,6 +30,14 @@ class Access(NamedTuple):
 
     variable: Tuple[object, ...]
     is_write: bool
+
+
+class Next(NamedTuple):
+    """An access that a thread may do next: which one of its event's, counted from 0."""
+
+    thread: int
+    place: int
+    access: Access
 
 
 # ---- races
@@ -66,14 +76,47 @@ def of_field(machine: Machine, thread: JavaThread, frame: Frame) -> Optional[Acc
     return Access((of, one.name, field, descriptor), opcode in (PUTSTATIC, PUTFIELD)) if is_there else None
 
 
+def is_volatile(machine: Machine, key: Tuple[str, str, str]) -> bool:
+    """Whether a field is volatile, by its class, its name and its descriptor."""
+    fields = machine.classes[key[0]].fields
+    return any(field[1:3] == key[1:] and bool(field[0] & VOLATILE) for field in fields)
+
+
+def is_of_volatile(machine: Machine, one: Access) -> bool:
+    key: Any = one.variable[1:]
+    return len(key) == 3 and is_volatile(machine, key)
+
+
+def of_copy(machine: Machine, name: str, descriptor: str, operands: List[Any]) -> List[Access]:
+    """The elements that a constructor of String and getChars copy, and what a clone copies, where that throws nothing;
+    volatile fields, too."""
+    if name == "clone":
+        this = operands[0]
+        if not is_cloneable(machine, this):
+            return []
+        if this.elements is not None:
+            return [Access((id(this), at), False) for at in range(len(this.elements))]
+        return [Access((id(this), *key), False) for key in this.fields if key not in NO_VARIABLES]
+    if (name, descriptor) not in KEEPS or descriptor not in ("([CII)V", "(II[CI)V"):
+        return []
+    try:
+        kept = KEEPS[name, descriptor](*operands)
+    except Raised:
+        return []
+    array, first = (operands[1], operands[2]) if kept.at is None else (operands[3], kept.at)
+    return [Access((id(array), first + at), kept.at is not None) for at in range(len(kept.units))]
+
+
 def of_call(machine: Machine, thread: JavaThread, frame: Frame) -> List[Access]:
-    """The texts of StringBuilders that a call reads and writes in its own event, where that throws nothing."""
+    """The variables that a call reads and writes in its own event, where that throws nothing."""
     try:
         called = machine.called(thread, frame, frame.opcode())
     except (NotEnabled, Refused):
         return []
-    if not isinstance(called, Called) or called.method.code is not None or called.method.owner.name != BUILDER_TEXT[0]:
+    if not isinstance(called, Called) or called.method.code is not None:
         return []
+    if called.method.owner.name != BUILDER_TEXT[0]:
+        return of_copy(machine, called.method.name, called.method.descriptor, called.arguments)
     this, *rest = called.arguments
     own, name = (id(this), *BUILDER_TEXT), called.method.name
     if name == "<init>":
@@ -89,20 +132,27 @@ def accesses_of(machine: Machine, thread: JavaThread) -> List[Access]:
     if thread.has_ended or thread.waits or thread.relock or thread.pending or not isinstance(top, Frame):
         return []
     if INVOKEVIRTUAL <= top.opcode() <= INVOKEINTERFACE:
-        return of_call(machine, thread, top)
-    found = None
+        found = of_call(machine, thread, top)
+        return [one for one in found if not is_of_volatile(machine, one)]
+    one = None
     if top.opcode() in ELEMENTS:
-        found = of_element(machine, top)
+        one = of_element(machine, top)
     elif GETSTATIC <= top.opcode() <= PUTFIELD:
-        found = of_field(machine, thread, top)
-    return [found] if found else []
+        one = of_field(machine, thread, top)
+    return [one] if one else []
 
 
-def is_racy(machine: Machine) -> bool:
-    """Whether two threads may each do an access next of one variable, one of them a write."""
-    found = [accesses_of(machine, thread) for thread in machine.threads]
-    pairs = [(one, other) for first, second in combinations(found, 2) for one in first for other in second]
-    return any(one.variable == other.variable and (one.is_write or other.is_write) for one, other in pairs)
+def first_race(machine: Machine) -> Optional[Tuple[Next, Next]]:
+    """Two accesses of one variable, one of them a write, that two threads may each do next: the first one of all that
+    any other one races with, and the first of these. Threads come by their numbers, accesses in the order in which they
+    are done."""
+    of_threads = [accesses_of(machine, thread) for thread in machine.threads]
+    found = [Next(thread, place, one) for thread, ones in enumerate(of_threads) for place, one in enumerate(ones)]
+    for first, second in product(found, repeat=2):
+        if first.thread != second.thread and first.access.variable == second.access.variable:
+            if first.access.is_write or second.access.is_write:
+                return first, second
+    return None
 
 
 # ---- deadlocks
@@ -162,7 +212,7 @@ def first_endless(led: Sequence[Set[int]]) -> Optional[int]:
 def kinds_of(machine: Machine) -> Set[str]:
     """The kinds that the state of a machine is of by itself."""
     found = {
-        "race": is_racy(machine),
+        "race": first_race(machine) is not None,
         "uncaught": any(thread.has_ended and thread.pending for thread in machine.threads),
         "deadlock": is_deadlocked(machine),
     }

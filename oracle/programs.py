@@ -60,6 +60,7 @@ TOPICS = {
     "prints": "Hello Letters Surrogates Unfinished NoStream Quoted OneLine Words TwoVoices",
     "strings": "Answers Pieces Sought Ordered Asked TooShort Speakers Kept",
     "telling": "Named Shown Causes Beside Copies Reports",
+    "copies": "Clones Spelled Roles",
     "builders": "Sums Joined Truths Builds Built Edited Beyond BothStreams Reported Counted Chorus Gathered Halves",
 }
 

@@ -19,7 +19,7 @@ import pathlib
 import re
 import sys
 import tempfile
-from typing import Dict, List, NamedTuple, Optional, Sequence, Set, Tuple, Union
+from typing import Any, Dict, Iterable, List, NamedTuple, Optional, Sequence, Set, Tuple, Union
 
 sys.dont_write_bytecode = True
 sys.path.insert(0, str(pathlib.Path(__file__).resolve().parent.parent))
@@ -27,7 +27,7 @@ sys.path.insert(0, str(pathlib.Path(__file__).resolve().parent.parent))
 from oracle.calls import INVOKEINTERFACE, Called
 from oracle.classes import VOLATILE, Class
 from oracle.frames import Frame, short
-from oracle.kinds import INVOKEVIRTUAL, of_call
+from oracle.kinds import INVOKEVIRTUAL, first_race, is_volatile, of_call
 from oracle.machine import ELEMENTS, status_of, text_of
 from oracle.programs import scheduled
 from oracle.schedules import Entry, Event, entries_of_events, entries_of_text
@@ -244,18 +244,26 @@ class Raced(Traced):
             return self.found_method(*named).owner
         return self.found_field(*named)
 
-    def texts(self, thread: JavaThread, frame: Frame) -> List[Wanted]:
-        """The texts of StringBuilders that a call reads and writes in its own event."""
-        name = ".".join(BUILDER_TEXT[:2])
-        return [
-            ("write" if one.is_write else "read", ("text", *one.variable), name, False)
-            for one in of_call(self, thread, frame)
-        ]
+    def told_access(self, frame: Frame, variable: Tuple[Any, ...]) -> Tuple[Tuple[object, ...], str, bool]:
+        """A variable that a call accesses in its own event, its name, and whether it is volatile."""
+        thing, *rest = variable
+        if tuple(rest) == BUILDER_TEXT:
+            return ("text", *variable), ".".join(BUILDER_TEXT[:2]), False
+        if len(rest) == 1:
+            array = next(one for one in frame.stack if id(one) == thing)
+            return ("element", thing, rest[0]), f"[{rest[0]}] of {self.thing(array)}", False
+        owner, field, descriptor = rest
+        return ("field", *variable), f"{owner}.{field}", is_volatile(self, (owner, field, descriptor))
+
+    def called_accesses(self, thread: JavaThread, frame: Frame) -> List[Wanted]:
+        """What a call reads and writes in its own event."""
+        found = of_call(self, thread, frame)
+        return [("write" if one.is_write else "read", *self.told_access(frame, one.variable)) for one in found]
 
     def wanted(self, thread: JavaThread, frame: Frame) -> List[Wanted]:
         """What the instruction of a frame reads and writes, where it goes on, in its order."""
         if INVOKEVIRTUAL <= frame.opcode() <= INVOKEINTERFACE:
-            return self.texts(thread, frame)
+            return self.called_accesses(thread, frame)
         found = self.variable(frame)
         return [found] if found else []
 
@@ -296,8 +304,8 @@ class Raced(Traced):
         self.find_class(thread)
         super().step(number, pick)
         if isinstance(top, Frame) and top.at != at and not thread.pending:
-            for sort, variable, name, is_volatile in wanted:
-                if not is_volatile:
+            for sort, variable, name, synchronizes in wanted:
+                if not synchronizes:
                     self.access(thread, sort, variable, name, site)
                 elif sort == "read":
                     self.find(thread, ("volatile", variable))
@@ -310,6 +318,23 @@ class Raced(Traced):
             self.leave_at(thread, ("class", top.of.name))
         if thread.has_ended:
             self.leave_at(thread, *(("woken", id(one)) for one in waiting), ("end", id(thread)))
+
+
+def next_race(files: Sequence[bytes], events: Sequence[Event]) -> str:
+    """The line of the first race of the state to which these events lead: of accesses that threads may do next."""
+    machine = Raced(files)
+    for thread, pick in events:
+        machine.step(thread, pick)
+    found = first_race(machine)
+    assert found is not None
+    words, name = [], ""
+    for one in found:
+        frame = machine.threads[one.thread].top()
+        assert isinstance(frame, Frame)
+        wanted = [wanted for wanted in machine.wanted(machine.threads[one.thread], frame) if not wanted[3]]
+        sort, _, name, _ = wanted[one.place]
+        words.append(f"{sort} at {machine.site(frame)} by thread {one.thread}")
+    return f"race {name}: {', '.join(words)}\n"
 
 
 def race_lines(files: Sequence[bytes], events: Sequence[Event]) -> List[str]:
@@ -344,6 +369,9 @@ HEAD = "# Data races: programs as javac compiles them, made by `oracle/races.py`
 
 WAYS = ("turns", "whole")
 
+# Behind the whole of these an event is asked for that is not enabled: that of a thread that has ended.
+STOPPED = ("NoLock", "OneLock")
+
 # By turns of so many events a thread goes on as long as it can, as by "whole".
 WITHOUT_END = 4294967295
 
@@ -351,6 +379,13 @@ WITHOUT_END = 4294967295
 def raced(text: str) -> Set[str]:
     """The variables of which races are told, without the numbers of arrays."""
     return {re.sub(r"#[0-9]+", "#", name) for name in re.findall(r"(?m)^race (.*?): ", text)}
+
+
+def case_lines(case: str, entries: Sequence[Entry], files: Iterable[str]) -> List[str]:
+    """The lines of a case of a schedule."""
+    lines = [f"file {case}.schedule", f"  4a534348 01 {len(entries):08x}"]
+    lines += grouped([f"{thread:04x}{pick:04x}{repeat:08x}" for thread, pick, repeat in entries], 6)
+    return [*lines, f"case {case}", f"  races --schedule {case}.schedule {' '.join(files)}"]
 
 
 def cases_of(source: pathlib.Path, folder: str) -> Tuple[str, str, bool]:
@@ -367,13 +402,16 @@ def cases_of(source: pathlib.Path, folder: str) -> Tuple[str, str, bool]:
         shown, status = races(list(files.values()), entries)
         racing |= raced(shown)
         case = f"races-{source.stem}-{way}"
-        text += [f"file {case}.schedule", f"  4a534348 01 {len(entries):08x}"]
-        text += grouped([f"{thread:04x}{pick:04x}{repeat:08x}" for thread, pick, repeat in entries], 6)
-        text += [f"case {case}", f"  races --schedule {case}.schedule {' '.join(files)}"]
+        text += case_lines(case, entries, files)
         printed += f"case {case}\n{shown}status {status}\n"
         if way == "whole" and "\nend quiet\n" in shown:
             text += [f"case races-{source.stem}-run", f"  run --races --quantum {WITHOUT_END} {' '.join(files)}"]
             printed += f"case races-{source.stem}-run\n{shown}status {status}\n"
+    if source.stem in STOPPED:
+        entries = [*entries_of_events(scheduled(list(files.values()), "whole", {}, None)), Entry(1, 0, 1)]
+        shown, status = races(list(files.values()), entries)
+        text += case_lines(f"races-{source.stem}-stopped", entries, files)
+        printed += f"case races-{source.stem}-stopped\n{shown}status {status}\n"
     return "\n".join([*text, ""]), printed, racing != wanted
 
 

@@ -30,8 +30,9 @@ from oracle.frames import Frame
 from oracle.kinds import KINDS, first_endless, kinds_of, race_line
 from oracle.lessons import LESSONS, class_files
 from oracle.machine import Machine, status_of, text_of, thread_lines
+from oracle.races import next_race
 from oracle.schedules import Event
-from oracle.state import Initialisation, JavaThread, NotEnabled, Object, Refused, Value
+from oracle.state import THREAD_NUMBER, Initialisation, JavaThread, NotEnabled, Object, Refused, Value
 from oracle.texts import in_utf8, printed_lines, spelled_units, text_order
 from tools.cases import file_lines, write_cases
 from tools.repository import ROOT, compiled
@@ -53,6 +54,10 @@ class Numbered(Machine):
     def __init__(self, files: Sequence[bytes]) -> None:
         self.numbers: Dict[Object, int] = {}
         super().__init__(files)
+        # Where no file names these, nothing can tell which of the Threads without a name one is.
+        given = list(self.classes.values())[-len(files) :]
+        members = [value for one in given for _, value in one.pool.values() if isinstance(value, tuple)]
+        self.tells_numbers = any(value[1:2] in (("getName",), ("toString",)) for value in members)
 
     def allocated(self, thing: Object, cells: int) -> Object:
         self.numbers[thing] = len(self.numbers)
@@ -103,7 +108,9 @@ class Numbered(Machine):
         """What tells the state apart from others."""
         things = []
         for thing in [*self.numbers, *(one.object for one in self.classes.values())]:
-            parts = thing.elements if thing.elements is not None else thing.fields.values()
+            hidden = set() if self.tells_numbers else {THREAD_NUMBER}
+            fields = [value for field, value in thing.fields.items() if field not in hidden]
+            parts = thing.elements if thing.elements is not None else fields
             things.append((thing.kind, tuple(map(self.word, parts)), tuple(thing.text), self.monitor(thing)))
         # Of a constant nothing but its monitor changes.
         strings = {text: self.monitor(one) for text, one in sorted(self.strings.items()) if one.owner or one.waiters}
@@ -112,7 +119,8 @@ class Numbered(Machine):
             by = self.threads.index(one.by) if one.state == "begun" and one.by else None
             classes.append((one.state, by, tuple(map(self.word, one.statics.values()))))
         threads = tuple(map(self.thread, self.threads))
-        return tuple(things), tuple(strings.items()), tuple(classes), threads, tuple(self.printed)
+        kept = self.unnamed if self.tells_numbers else 0, tuple(map(self.word, self.interned))
+        return tuple(things), tuple(strings.items()), tuple(classes), threads, tuple(self.printed), kept
 
     def is_quiet(self) -> bool:
         return all(self.state(number) != "runnable" for number in range(len(self.threads)))
@@ -227,16 +235,20 @@ def lines_of(outcome: Outcome) -> str:
 class Seen:
     """What the states of a search have shown."""
 
-    def __init__(self, goal: Optional[str]) -> None:
+    def __init__(self, files: Sequence[bytes], goal: Optional[str]) -> None:
+        self.files = files
         self.goal = goal
         self.outcomes: Set[Outcome] = set()
         self.kinds: Set[str] = set()
+        self.race = ""
 
-    def is_found(self, machine: Numbered) -> bool:
-        """Whether the state of a machine is to be found. If not, what it shows is listed."""
+    def is_found(self, machine: Numbered, events: Sequence[Event]) -> bool:
+        """Whether the state of a machine is to be found, to which these events led. If not, what it shows is listed."""
         kinds = kinds_of(machine)
         if kinds and self.goal == "any" or self.goal in kinds:
             return True
+        if "race" in kinds - self.kinds:
+            self.race = next_race(self.files, events)
         self.kinds |= kinds
         if not machine.is_quiet():
             return False
@@ -247,10 +259,10 @@ class Seen:
         return False
 
     def text(self) -> str:
-        """The outcomes, and the kinds."""
+        """The outcomes, and the kinds, that of races with the first one's places."""
         outcomes = enumerate(sorted(self.outcomes, key=order), 1)
         parts = [f"outcome {number}\n{lines_of(outcome)}" for number, outcome in outcomes]
-        kinds = [f"kind {kind}\n" for kind in KINDS if kind in self.kinds]
+        kinds = [f"kind {self.race}" if kind == "race" else f"kind {kind}\n" for kind in KINDS if kind in self.kinds]
         return "".join([*parts, f"outcomes {len(self.outcomes)}\n", *kinds])
 
 
@@ -262,7 +274,7 @@ def search(
     met = {at(files, ()).key(): 0}
     states: List[Tuple[Event, ...]] = [()]
     led: List[Set[int]] = []
-    seen = Seen(goal)
+    seen = Seen(files, goal)
     for events in states:
         led.append(set())
         for after, machine in following(files, events, is_reduced):
@@ -274,7 +286,7 @@ def search(
                 states.append(after)
             led[-1].add(met[key])
         machine = at(files, events)
-        if seen.is_found(machine):
+        if seen.is_found(machine, events):
             return text_of(machine, end_of(machine)) + last_lines(states, "found"), 1, machine
     endless = first_endless(led)
     if endless is not None:
@@ -411,7 +423,7 @@ def of_lessons() -> Tuple[List[str], str]:
 
 def is_as_told(told: str, printed: str) -> bool:
     """Whether a program shows the kinds that its first line says. Of races that is whether there is one."""
-    kinds = re.findall("(?m)^kind (.*)$", printed)
+    kinds = re.findall("(?m)^kind ([a-z]*)", printed)
     wanted = re.search(r"Kinds: (.*)\. \*/", told)
     if wanted:
         return kinds == wanted[1].split(", ")

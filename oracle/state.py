@@ -15,16 +15,21 @@ Value = Any
 
 LIMITS = {"objects": 1_000_000, "cells": 16_000_000, "monitors": 65_536, "threads": 256, "frames": 1_024}
 
-# The hidden fields of built-in classes: what a Thread runs, the text of a StringBuilder, and what a Throwable keeps.
+# The hidden fields of built-in classes: what a Thread runs, its name, which of the Threads without a name it is, and its
+# priority; the text of a StringBuilder; and what a Throwable keeps.
 TARGET = "java/lang/Thread", "target", "Ljava/lang/Runnable;"
+THREAD_NAME = "java/lang/Thread", "name", "Ljava/lang/String;"
+THREAD_NUMBER = "java/lang/Thread", "number", "I"
+THREAD_PRIORITY = "java/lang/Thread", "priority", "I"
 BUILDER_TEXT = "java/lang/StringBuilder", "text", "Ljava/lang/String;"
 MESSAGE = "java/lang/Throwable", "message", "Ljava/lang/String;"
 CAUSE = "java/lang/Throwable", "cause", "Ljava/lang/Throwable;"
 SUPPRESSED = "java/lang/Throwable", "suppressed", "[Ljava/lang/Throwable;"
 
 # Those that are no cells, and those that are no variables of races.
-NO_CELLS = {BUILDER_TEXT, MESSAGE, CAUSE, SUPPRESSED}
-NO_VARIABLES = {TARGET, MESSAGE, CAUSE, SUPPRESSED}
+NAMES = {THREAD_NAME, THREAD_NUMBER, THREAD_PRIORITY}
+NO_CELLS = {BUILDER_TEXT, MESSAGE, CAUSE, SUPPRESSED, *NAMES}
+NO_VARIABLES = {TARGET, MESSAGE, CAUSE, SUPPRESSED, *NAMES}
 
 # Texts that the machine itself has Strings of: main's name, and what the message of a division by zero is.
 MAIN_NAME, BY_ZERO = "main", "/ by zero"
@@ -132,6 +137,9 @@ class State:
         )
         self.initial, self.done = read[0], 0
         self.strings: Dict[str, Object] = {}
+        # The Strings that were interned, and how many Threads were made without a name.
+        self.interned: List[Object] = []
+        self.unnamed = 0
         # The text that was printed: UTF-16 code units.
         self.printed: List[int] = []
         self.objects = self.cells = self.monitors = 0
@@ -147,6 +155,7 @@ class State:
         things += [*map(self.string, texts_of(given, [*classes])), streams["err"]]
         for number, thing in enumerate(things):
             thing.number = number
+        self.threads[0].object.fields[THREAD_NAME] = self.string(MAIN_NAME)
         return len(things)
 
     def string(self, text: str) -> Object:
@@ -198,7 +207,8 @@ class State:
         return None
 
     def found_method(self, name: str, method: str, descriptor: str) -> Method:
-        """The method that a reference names (5.4.3.3)."""
+        """The method that a reference names (5.4.3.3). An array has the methods of Object."""
+        name = "java/lang/Object" if name[0] == "[" else name
         for one in [*self.supers(name), *self.interfaces(name)]:
             if (method, descriptor) in one.methods:
                 return one.methods[method, descriptor]
@@ -232,6 +242,10 @@ class State:
         """Refuses where a limit stands at one more object with so many cells."""
         if self.objects + 1 > self.limits["objects"]:
             raise Refused("objects")
+        self.cell_room(cells)
+
+    def cell_room(self, cells: int) -> None:
+        """Refuses where a limit stands at so many cells."""
         if self.cells + cells > self.limits["cells"]:
             raise Refused("cells")
 

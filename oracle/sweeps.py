@@ -5,13 +5,15 @@
     oracle/sweeps.py --write
 
 There is a run for each seed, by docs/REFERENCE.md ("The schedule of a seed") and the plain machine alone. With --write
-the sweeps of the lessons below become cases/sweeps.cases, with what they have to print.
+the sweeps of the lessons below become cases/sweeps.cases, with what they have to print; so do sweeps for races over
+the programs of `programs/races/`, whose first lines say whether they have some.
 """
 
 import argparse
 import pathlib
 import re
 import sys
+import tempfile
 from typing import Dict, List, Optional, Sequence, Tuple
 
 sys.dont_write_bytecode = True
@@ -23,6 +25,7 @@ from oracle.searches import TEXTS, Outcome, is_wanted, lines_of
 from oracle.schedules import recorded_lines
 from oracle.seeds import Run, mixed, random
 from tools.cases import write_cases
+from tools.repository import ROOT, compiled
 
 # What a run shows: its outcome, or why it has none.
 Shown = Tuple[str, Optional[Outcome]]
@@ -120,10 +123,14 @@ SWEPT = [
     ("class-initialisation", ["Initialisers", "Left", "Right"], "--seeds 1..20 --as-version 3 --record outcomes"),
 ]
 
+# How the programs of programs/races/ are swept.
+RACES = "--seeds 1..8 --for race"
+
 HEAD = [
-    "# Sweeps over seeds, made by `oracle/sweeps.py` over the files of the lessons.",
+    "# Sweeps over seeds, made by `oracle/sweeps.py` over the files of the lessons and of cases/races.cases.",
     "",
     "files lessons.cases",
+    "files races.cases",
     "",
 ]
 
@@ -164,6 +171,19 @@ def cases_of(folder: str, names: List[str], options: str) -> Tuple[List[str], st
     return text, told
 
 
+def of_races(source: pathlib.Path) -> Tuple[List[str], str]:
+    """The lines of the case of a sweep for races over a program, and what it has to print."""
+    with tempfile.TemporaryDirectory() as folder:
+        files = {path.name: path.read_bytes() for path in compiled([source], folder, True)}
+    paths = " ".join(files)
+    words = words_of([*RACES.split(), *files])
+    sweep = Sweep(list(files.values()), words)
+    told = f"case sweep-races-{source.stem}\n{sweep.text(repeated(words, paths))}status {int(sweep.is_found)}\n"
+    if sweep.is_found != ("Races: " in source.read_text().splitlines()[0]):
+        sys.exit(f"{source}: no race where its first line says one, or one where it says none")
+    return [f"case sweep-races-{source.stem}", f"  run {RACES} {paths}"], told
+
+
 def write() -> None:
     lines, shown = [*HEAD], ""
     for name, numbers in TEXTS.items():
@@ -171,6 +191,9 @@ def write() -> None:
     lines += ["# A folder for the schedules of outcomes.", "text outcomes/none", "  no schedule", ""]
     for row in SWEPT:
         text, printed = cases_of(*row)
+        lines, shown = [*lines, *text], shown + printed
+    for source in sorted((ROOT / "programs/races").glob("*.java")):
+        text, printed = of_races(source)
         lines, shown = [*lines, *text], shown + printed
     write_cases("sweeps", "\n".join([*lines, ""]), shown)
 

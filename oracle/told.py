@@ -2,7 +2,7 @@
 
 import json
 import re
-from typing import Dict, List, Match, Sequence, Union
+from typing import Dict, List, Match, Optional, Sequence, Union
 
 from oracle.texts import decoded
 
@@ -53,9 +53,15 @@ class Told:
     """An event that was done: where its thread stood, as `Class.method offset`, a class or `-`, and what it did."""
 
     def __init__(
-        self, number: int, thread: int, place: Sequence[str], words: Sequence[str], is_local: bool
+        self,
+        number: int,
+        thread: int,
+        place: Sequence[str],
+        words: Sequence[str],
+        is_local: bool,
+        more: Optional[Dict[str, Part]] = None,
     ) -> None:
-        self.number, self.thread, self.is_local = number, thread, is_local
+        self.number, self.thread, self.is_local, self.more = number, thread, is_local, more or {}
         self.method, self.source, self.instruction = place
         self.did = re.sub(f"[{BEGIN}{END}]", "", ", ".join(words))
         self.did_in_one_line = ", ".join(map(in_one_line, words))
@@ -81,6 +87,7 @@ class Told:
             members["class"] = self.method
         rest = {"source": self.source, "instruction": self.instruction, "did": self.did}
         members.update({key: part for key, part in rest.items() if part})
+        members.update(self.more)
         return members
 
     def follows(self, before: "Told") -> bool:

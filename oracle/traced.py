@@ -2,7 +2,7 @@
 
 from typing import Dict, List, NamedTuple, Optional, Sequence, Tuple, Union
 
-from oracle.classes import VOLATILE
+from oracle.classes import FINAL, VOLATILE, Class
 from oracle.frames import Frame
 from oracle.listing import Lines, instruction
 from oracle.machine import Machine
@@ -10,12 +10,22 @@ from oracle.opcodes import MNEMONICS, PRIMITIVES, SILENT
 from oracle.state import Initialisation, JavaThread, NotEnabled, Object, Value, component
 from oracle.strings import STRING
 from oracle.texts import quoted
-from oracle.told import Told, spelled
+from oracle.told import Part, Told, spelled
 
 
 def ordinal(number: int) -> str:
     end = {1: "st", 2: "nd", 3: "rd"}.get(number % 10, "th") if number % 100 // 10 != 1 else "th"
     return f"{number}{end}"
+
+
+# What an event did, in a word, where the first of its words is another one.
+WORDS = {"local": "stores", "was": "wakes", "ends": "initialises"}
+
+
+def modifiers(one: Class, field: str, descriptor: str) -> str:
+    """The flags of a field that are told (4.5)."""
+    flags = next(declared[0] for declared in one.fields if declared[1:3] == (field, descriptor))
+    return ("volatile " if flags & VOLATILE else "") + ("final " if flags & FINAL else "")
 
 
 class Before(NamedTuple):
@@ -59,6 +69,8 @@ class Traced(Machine):
         super().__init__(files)
         given = list(self.classes)[-len(files) :]
         self.sources = dict(zip(given, map(Lines, files)))
+        # What an object of JSON tells of the event beside its words.
+        self.more: Dict[str, Part] = {}
 
     def thing(self, thing: Object) -> str:
         """An object by its class and its number."""
@@ -66,6 +78,12 @@ class Traced(Machine):
             return f"{thing.names}.class"
         if thing.kind == STRING:
             return f"{spelled(quoted(thing.text))} #{thing.number}"
+        return self.numbered(thing)
+
+    def numbered(self, thing: Object) -> str:
+        """An object by its class and its number, and a Class object by the name of its class alone."""
+        if thing.names:
+            return f"{thing.names}.class"
         kind, arrays = thing.kind, 0
         while kind[0] == "[":
             kind, arrays = component(kind), arrays + 1
@@ -93,7 +111,22 @@ class Traced(Machine):
         if thread is None:
             raise NotEnabled("none")
         at, place, local = self.done, self.place(thread), thread.next_is_local()
-        return Told(at, number, place, self.words(thread, number, pick), local)
+        self.more = {}
+        words = self.words(thread, number, pick)
+        return Told(at, number, place, words, local, {**self.op(thread, words), **self.more})
+
+    def op(self, thread: JavaThread, words: Sequence[str]) -> Dict[str, Part]:
+        """The word for what an event did."""
+        if thread.has_ended:
+            return {"op": "ends"}
+        if not words:
+            return {}
+        first = words[0].split()[0]
+        return {"op": WORDS.get(first, first)}
+
+    def keep_monitor(self, thing: Object, count: int) -> None:
+        """Keeps which monitor the event entered or left, and how often its thread has entered it since."""
+        self.more.update({"monitor": self.numbered(thing), "count": count})
 
     def words(self, thread: JavaThread, number: int, pick: int) -> List[str]:
         """Does an event, and answers what it did."""
@@ -105,6 +138,7 @@ class Traced(Machine):
         if relock:
             thing, entries, cause = relock
             times = f" ({entries} times)" if entries > 1 else ""
+            self.keep_monitor(thing, entries)
             words.append(f"was {cause}, enters monitor of {self.thing(thing)} again{times}")
         elif pending:
             words += self.handled(thread, pending, before)
@@ -142,10 +176,12 @@ class Traced(Machine):
         if thing is None:
             return []
         count = thing.entries
+        self.keep_monitor(thing, count)
         left = f" ({count} entr{'y' if count == 1 else 'ies'} left)" if count else ""
         return [f"exits monitor of {self.thing(thing)}{left}"]
 
     def enter_words(self, thing: Object) -> str:
+        self.keep_monitor(thing, thing.entries)
         times = f" ({ordinal(thing.entries)} time)" if thing.entries > 1 else ""
         return f"enters monitor of {self.thing(thing)}{times}"
 
@@ -199,8 +235,8 @@ class Traced(Machine):
             thing = before.stack[-1] if name == "getfield" else before.stack[-2]
             where, value = f" of {self.thing(thing)}", thing.fields[one.name, field, descriptor]
         verb = "reads" if name.startswith("get") else "writes"
-        flags = next(declared[0] for declared in one.fields if declared[1:3] == (field, descriptor))
-        sort = "volatile " if flags & VOLATILE else ""
+        # Nothing is told of the flags of a built-in class.
+        sort = modifiers(one, field, descriptor) if one.name in self.sources else ""
         return f"{verb} {sort}{owner}.{field}{where} = {self.value(value, descriptor)}"
 
     def thread_word(self, thing: Object) -> str:
@@ -211,10 +247,13 @@ class Traced(Machine):
         owner, name, descriptor = before.member()
         this = before.stack[-1] if before.stack else None
         if name in ("print", "println"):
+            if len(self.printed) > before.printed:
+                self.more["printed"] = len(self.printed)
             if (name, descriptor) == ("println", "(I)V"):
                 return [f"prints {before.stack[-1]}"]
             return [f"prints {spelled(quoted(self.printed[before.printed :]))}"]
         if name in ("wait", "join") and thread.waits:
+            self.keep_monitor(thread.waits[0], 0)
             return [f"waits on {self.thing(thread.waits[0])}"]
         if name in ("notify", "notifyAll"):
             return [self.notify_words(name, before)]
@@ -222,9 +261,14 @@ class Traced(Machine):
             return ["yields"]
         verb = {"start": "starts", "interrupt": "interrupts", "join": "joins"}.get(name)
         if verb:
+            found = self.of_object(this)
+            if verb == "starts" and found:
+                self.more.update({"started": self.threads.index(found), "object": self.numbered(this)})
             return [f"{verb} {self.thread_word(this)}"]
         if name == "<init>":
             return [f"runs {self.found_method(owner, name, descriptor).owner.name}.<init>"]
+        if descriptor.endswith("V"):
+            return [f"runs {self.found_method(owner, name, descriptor).owner.name}.{name}"]
         given = before.frame().stack[-1]
         is_made = self.objects > before.objects and isinstance(given, Object)
         if is_made and given.number == self.opening + before.objects:

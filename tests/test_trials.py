@@ -5,9 +5,10 @@ import pathlib
 import random
 import tempfile
 import unittest
-from typing import Optional
+from typing import List, Optional
 
 from tools.event_trials import Report, fate_of, may_be, report_of
+from tools import set_trials
 from tools.form_trials import Form, Subject, changes_of_a_byte, fronts, fronts_by_rules, tried
 from tools.outcomes import Outcome
 from tools.set_trials import changed, limits, run_options
@@ -15,6 +16,14 @@ from tools.set_trials import changed, limits, run_options
 REFUSED = "refused 1 Malformed file 0 offset 1 Truncated"
 
 SUBJECT = Subject("s", ["--budget", "9"], ["A", "B"], {"s": b"12", "A": b"123", "B": b"4"})
+
+
+def script(folder: str, says: str) -> pathlib.Path:
+    """A program in the place of `jvm` that is a shell script."""
+    program = pathlib.Path(folder) / "jvm"
+    program.write_text(f"#!/bin/sh\n{says}\n")
+    program.chmod(0o755)
+    return program
 
 
 class Forms(unittest.TestCase):
@@ -30,12 +39,9 @@ class Forms(unittest.TestCase):
         self.assertEqual(len(list(changes_of_a_byte(data, 97))), 3 * 255 // 97)
 
     def wrong(self, name: str, says: str) -> Optional[str]:
-        """What is wrong with a form, of a program in the place of `jvm` that is a shell script."""
+        """What is wrong with a form."""
         with tempfile.TemporaryDirectory() as folder:
-            program = pathlib.Path(folder) / "jvm"
-            program.write_text(f"#!/bin/sh\n{says}\n")
-            program.chmod(0o755)
-            return tried(program, SUBJECT, name, Form("first 1 bytes", b"1")).wrong
+            return tried(script(folder, says), SUBJECT, name, Form("first 1 bytes", b"1")).wrong
 
     def test_what_is_wrong(self) -> None:
         refuses = f"echo '{REFUSED}' >&2; exit 2"
@@ -88,6 +94,19 @@ class Sets(unittest.TestCase):
             self.assertTrue(int(words[7]) > 0 and int(words[9]) > 0)
         policies = {tuple(run_options(random.Random(seed))[2::2]) for seed in range(100)}
         self.assertEqual(policies, {("--quantum",), ("--seed",), ("--policy", "--seed")})
+
+    def told(self, says: str) -> List[str]:
+        """What is said of the set of the seed 7."""
+        with tempfile.TemporaryDirectory() as folder:
+            return set_trials.tried(script(folder, says), 7)
+
+    def test_what_is_wrong(self) -> None:
+        accepts = ": > S; [ $1 = verify ] || [ $1 = disasm ] || printf 'events 0\\nend quiet\\n'"
+        self.assertEqual(self.told(accepts)[0], "1 sets of class files, 0 wrong")
+        otherwise = accepts.replace("events 0", "events '$(date +%N)'")
+        for says, wrong in (("exit 2", "not verified"), ("exit 0", "not run"), (otherwise, "replayed otherwise")):
+            told = self.told(says)
+            self.assertEqual((told[0], "1 sets of class files, 1 wrong" in told), (f"# seed 7: {wrong}", True))
 
 
 if __name__ == "__main__":

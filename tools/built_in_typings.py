@@ -7,7 +7,7 @@ import pathlib
 import re
 from typing import Dict, Iterable, Iterator, List, NamedTuple, Optional, Tuple
 
-from oracle.opcodes import MNEMONICS, PRIMITIVES
+from oracle.opcodes import ARRAY_TYPES, MNEMONICS, PRIMITIVES
 from tools.built_in_files import Declared, Told, Tree
 from tools.built_in_tables import MADE, WIDTH, Form, codes, defined, form_of, signed
 from tools.library_classes import length_at
@@ -96,13 +96,16 @@ class Search:
     # ---- types
 
     def of_descriptor(self, descriptor: str) -> Type:
-        """A value's type: an interface counts as Object."""
+        """A value's type: an interface counts as Object, and as an array's component, too."""
         if descriptor in ("Z", "B", "S", "C", "I"):
             return INT
-        if descriptor[0] == "[":
+        component = descriptor.lstrip("[")
+        if component[0] != "L":
             return of(descriptor)
-        name = descriptor[1:-1]
-        return of(OBJECT if self.classes[name].flags & 0x0200 else name)
+        name = component[1:-1]
+        counted = OBJECT if self.classes[name].flags & 0x0200 else name
+        dimensions = descriptor[: -len(component)]
+        return of(f"{dimensions}L{counted};" if dimensions else counted)
 
     def supers(self, name: Optional[str]) -> Iterator[str]:
         """A class and those above it. An array is below Object alone."""
@@ -182,7 +185,7 @@ class Search:
             return frame._replace(stack=(self.of_descriptor(described(cast)), *stack[1:]))
         if name == "anewarray":
             component = self.owner.class_at(int.from_bytes(operands, "big")).decode()
-            return frame._replace(stack=(of(f"[{described(component)}"), *stack[1:]))
+            return frame._replace(stack=(self.of_descriptor(f"[{described(component)}"), *stack[1:]))
         return frame._replace(stack=self.moved(name, operands, stack))
 
     def moved(self, name: str, operands: bytes, stack: Tuple[Type, ...]) -> Tuple[Type, ...]:
@@ -194,8 +197,10 @@ class Search:
             return (INT, *stack)
         if name == "aconst_null":
             return (NULL, *stack)
-        if name in ("arraylength", "instanceof"):
+        if name in ("arraylength", "instanceof", "i2c"):
             return (INT, *stack[1:])
+        if name == "newarray":
+            return (of(f"[{ARRAY_TYPES[operands[0]]}"), *stack[1:])
         if name in STORES:
             return stack[3:]
         if name in ("goto", "iinc"):

@@ -42,6 +42,10 @@ def class_entry(name: int) -> bytes:
     return b"\x07" + u2(name)
 
 
+def string_entry(text: int) -> bytes:
+    return b"\x08" + u2(text)
+
+
 def pair(tag: int, first: int, second: int) -> bytes:
     return bytes([tag]) + u2(first) + u2(second)
 
@@ -116,6 +120,9 @@ class Pool:
 
     def class_of(self, name: str) -> int:
         return self.entry(class_entry(self.text(name)))
+
+    def string(self, text: str) -> int:
+        return self.entry(string_entry(self.text(text)))
 
     def member(self, tag: int, owner: str, name: str, descriptor: str) -> int:
         """The entry of a field or a method of a class."""

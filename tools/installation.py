@@ -22,7 +22,7 @@ MODULES = {
     "cluster": ["*.py"],
     "oracle": [
         *("__init__.py", "calls.py", "classes.py", "frames.py", "machine.py", "objects.py"),
-        *("opcodes.py", "schedules.py", "seeds.py", "state.py", "strings.py", "texts.py"),
+        *("opcodes.py", "schedules.py", "seeds.py", "state.py", "strings.py", "texts.py", "texts_made.py"),
     ],
 }
 

@@ -66,7 +66,7 @@ def tried(jvm: Jvm, files: List[str]) -> Trial:
     if not has_line(searched, b"search complete"):
         return Trial("given up")
     count, first = raced_runs(jvm, files)
-    if has_line(searched, b"kind race"):
+    if has_line(searched, b"kind race "):
         wrong = None if found_races(jvm, files) else "the run that was found has no race"
         return Trial("racy", len(WAYS) + 1, count, wrong)
     return Trial("free", len(WAYS), count, f"a run has a race, by {first}" if first else None)

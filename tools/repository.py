@@ -12,7 +12,6 @@ BUILT_IN = ROOT / "builtin"
 # The built programs. Where these scripts are installed, below PREFIX/share/jvm, `jvm` is the one of PREFIX/bin.
 JVM = ROOT / "crates/jvm/out/jvm" if (ROOT / "crates").is_dir() else ROOT.parent.parent / "bin/jvm"
 BENCH = ROOT / "crates/bench/out/bench"
-RANDOM_PROGRAMS = ROOT / "crates/random_programs/out/random_programs"
 
 FOLDERS_OF_SCRIPTS = ("bench", "cluster", "compare", "oracle", "tests", "tools")
 

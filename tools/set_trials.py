@@ -1,6 +1,6 @@
 """Trials of `jvm` over sets of class files that are made by chance, each from a seed of its own.
 
-The program `random_programs` makes the files of the sets. Each set has threads, monitors, wait sets, exceptions and
+tools/random_programs.py makes the files of the sets. Each set has threads, monitors, wait sets, exceptions and
 initialisers, and has to be accepted. It is run by one worker with a seed, within limits that it may meet, and recorded;
 and the replay has to say what the run said. Then the schedule file is changed and replayed. At last a class file is
 changed, twice, and each time the set is listed, verified, run and replayed again.
@@ -9,17 +9,17 @@ changed, twice, and each time the set is listed, verified, run and replayed agai
 import pathlib
 import random
 import re
-import subprocess
 import tempfile
 from typing import List, Optional
 
 from tools.cases import file_lines
 from tools.form_trials import refusal_of_bytes
 from tools.outcomes import Jvm, Outcome, in_words, is_replay
+from tools.random_programs import CLASSES, random_set
 from tools.set_counts import SetCounts
 
 # The names of the class files of a set, and that of its schedule file.
-NAMES, SCHEDULE = ("A", "B", "C", "E", "I", "T"), "S"
+NAMES, SCHEDULE = tuple(CLASSES), "S"
 
 # How many times a class file of a set is changed.
 CHANGES = 2
@@ -76,11 +76,13 @@ def run_options(chance: random.Random) -> List[str]:
 
 
 class SetTrial:
-    """A set of class files in its folder, with the options of its runs."""
+    """A set of class files in its folder, with the options of its runs. A seed says all that is drawn."""
 
     def __init__(self, program: pathlib.Path, folder: pathlib.Path, seed: int, counts: SetCounts) -> None:
         self.jvm, self.folder, self.counts = Jvm(program, folder), folder, counts
         self.chance = random.Random(seed)
+        for name, data in random_set(self.chance).items():
+            (folder / name).write_bytes(data)
         self.options = [*run_options(self.chance), *limits(self.chance)]
 
     def ran(self, label: str, words: List[str]) -> Outcome:
@@ -145,14 +147,12 @@ class SetTrial:
         return [*lines, f"case {seed}", "  " + " ".join(["run", "--record", SCHEDULE, *self.options, *NAMES])]
 
 
-def tried(program: pathlib.Path, generator: pathlib.Path, seed: int, count: int) -> List[str]:
-    """What is said of the sets of so many seeds, which are made in a folder that is made for them."""
-    counts, told = SetCounts(), list[str]()
+def tried(program: pathlib.Path, seed: int) -> List[str]:
+    """What is said of the set of a seed, which is made in a folder that is made for it."""
+    counts = SetCounts()
     with tempfile.TemporaryDirectory(prefix="jvm-sets-") as folder:
-        subprocess.run([str(generator), str(seed), str(count), folder], check=True)
-        for one in range(seed, seed + count):
-            trial = SetTrial(program, pathlib.Path(folder) / str(one), one, counts)
-            wrong = trial.wrong()
-            counts.add_set(wrong is not None)
-            told += trial.lines(one, wrong) if wrong else []
+        trial = SetTrial(program, pathlib.Path(folder), seed, counts)
+        wrong = trial.wrong()
+        counts.add_set(wrong is not None)
+        told = trial.lines(seed, wrong) if wrong else []
     return [*told, *counts.lines()]

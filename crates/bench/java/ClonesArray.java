@@ -1,4 +1,4 @@
-// refused 2 OutsideProfile file 0 method main([Ljava/lang/String;)V offset 5
+// accepted
 /** A method of an array class. */
 final class ClonesArray {
     public static void main(String[] args) {

@@ -1,5 +1,5 @@
-// refused 2 OutsideProfile file 1 method values()[LHasEnum$Color; offset 3
-/** An enum's values are a clone of an array. */
+// refused 4 Unresolved file 1
+/** An enum is below java.lang.Enum, which is not built in. */
 final class HasEnum {
     enum Color { RED, GREEN }
 

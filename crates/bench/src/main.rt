@@ -7,9 +7,10 @@
 //! each word.
 //!
 //! The stored run of `bench link` links 43 class files of javac (17, `--release 8`, version set to 49.0) in 30 sets.
-//! Some have interfaces, inner classes, abstract classes, access methods, narrow arrays, threads and assertions. Others
-//! reach outside: enum, concatenation, boxing, long, lambda, default and native methods, messages, classes left out.
-//! Each of these is refused by its name. What the run must print was written from the rules and javap.
+//! Some have interfaces, inner classes, abstract classes, access methods, narrow arrays and their clones, threads,
+//! assertions, concatenation and messages. Others reach outside: enum, boxing, long, lambda, default and native methods,
+//! classes left out. Each of these is refused by its name. What the run must print was written from the rules and
+//! javap.
 //!
 //! The stored run of `bench machine` does a schedule of 32,044 events of three threads, two of which count under a
 //! lock: it prints 2000. The class file was assembled, and what the run prints was worked out, by programs that are not

@@ -1,3 +1,4 @@
+pub mod Clones
 pub mod Descriptions
 pub mod Faults
 pub mod Places

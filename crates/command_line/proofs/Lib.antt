@@ -8,3 +8,4 @@ pub mod PathLemmas
 pub mod PolicyLemmas
 pub mod ProgramLemmas
 mod SweepLemmas
+mod TraceLemmas

@@ -144,11 +144,19 @@ pub record AreValues (rows : List Row) (replay : Replay) : Type 0 where
   pub files_alone : replay.files_alone ≡ is_set (first_of (codes "files-alone") rows)
   pub follow : replay.follow ≡ is_set (first_of (codes "follow") rows)
 
--- the words ask for this form of a trace, and for no other
+-- the words ask for this form of a trace, and for no other; those for columns or JSON ask for no page
 abbrev pub IsTraceForm : List Row → TraceForm → Type 0
 IsTraceForm rows forms.Plain = (is_set (first_of (codes "columns") rows) ≡ false) × (is_set (first_of (codes "json") rows) ≡ false)
-IsTraceForm rows forms.Columns = (is_set (first_of (codes "columns") rows) ≡ true) × (is_set (first_of (codes "json") rows) ≡ false)
-IsTraceForm rows forms.Json = (is_set (first_of (codes "columns") rows) ≡ false) × (is_set (first_of (codes "json") rows) ≡ true)
+IsTraceForm rows forms.Columns =
+    (is_set (first_of (codes "columns") rows) ≡ true) × (is_set (first_of (codes "json") rows) ≡ false) × (first_of (codes "html") rows ≡ None)
+IsTraceForm rows forms.Json =
+    (is_set (first_of (codes "columns") rows) ≡ false) × (is_set (first_of (codes "json") rows) ≡ true) × (first_of (codes "html") rows ≡ None)
+
+-- the file that a page is written to, if one is: another one than the schedule and the class files
+pub record IsPageFile (rows : List Row) (schedule : Text) (files : List Text) (html : Option Text) : Type 0 where
+  pub path : first_of (codes "html") rows ≡ html
+  pub other_schedule : IsApart (first_of (codes "html") rows) schedule
+  pub other_files : All (IsApart (first_of (codes "html") rows)) files
 
 -- the values that the words give to `jvm trace`
 pub record AreTraceValues (rows : List Row) (trace : Trace) : Type 0 where
@@ -158,6 +166,7 @@ pub record AreTraceValues (rows : List Row) (trace : Trace) : Type 0 where
   pub to : IsNumber 0 4294967295 (first_of (codes "to") rows) trace.to
   pub only : AreNumbers 0 65535 (first_of (codes "only") rows) (option_map vec_items trace.only)
   pub form : IsTraceForm rows trace.form
+  pub page : IsPageFile rows (string_bytes trace.schedule) (map string_bytes trace.files.items) (option_map string_bytes trace.html)
   pub summary : trace.summary ≡ is_set (first_of (codes "summary") rows)
   pub limits : AreLimitNumbers rows trace.limits
   pub main : first_of (codes "main") rows ≡ option_map string_bytes trace.main

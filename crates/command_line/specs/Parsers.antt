@@ -136,7 +136,11 @@ with_window app = with_rule (with_rule (with_rule app
 
 -- in which form they are told
 abbrev pub with_form : App → App
-with_form app = with_rule (with_rule (with_rule app (flag (codes "columns"))) (flag (codes "json"))) (flag (codes "summary"))
+with_form app = with_rule (with_rule (with_rule (with_rule app
+    (flag (codes "columns")))
+    (flag (codes "json")))
+    (flag (codes "summary")))
+    (path_option (codes "html"))
 
 abbrev pub jvm_trace : App
 jvm_trace = with_files (with_program (with_form (with_window (with_schedule (new_app (codes "trace")))))) class_files

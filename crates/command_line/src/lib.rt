@@ -47,6 +47,7 @@ mod run_options;
 mod schedule_arguments;
 mod sweep_arguments;
 mod sweep_options;
+mod trace_arguments;
 mod usage;
 mod values;
 

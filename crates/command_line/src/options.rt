@@ -102,6 +102,8 @@ pub struct Trace {
     /// The threads whose events are told, and `None` for all.
     pub only: Option<Vec<u32>>,
     pub form: TraceForm,
+    /// The path of the file that a page of the run is written to, in place of the lines, if any.
+    pub html: Option<String>,
     /// Whether a run of local instructions is told in one line.
     pub summary: bool,
     pub limits: LimitOptions,

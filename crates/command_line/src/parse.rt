@@ -22,7 +22,8 @@ use crate::program_options::{apart_program_of, program_options_of};
 use crate::run_arguments::{policy_of, seed_of};
 use crate::run_options::{Clash, RunOptions};
 use crate::schedule_arguments::listed_of;
-use crate::sweep_arguments::{SEEDS, follow_of, race_flag_of, sweep_of};
+use crate::sweep_arguments::{SEEDS, check_alone, follow_of, race_flag_of, sweep_of};
+use crate::trace_arguments::html_of;
 use crate::usage::Usage;
 use crate::values::{
     check_beside, files_of, goal_of, is_set, missing, path_of, recorded_version_of, recording_of,
@@ -138,7 +139,7 @@ fn replay_of(alloc: Global, matches: &ArgMatches<'_>) -> Result<Replay, Usage>
     let then_run = then_run_of(alloc, matches)?;
     let budget = WHOLE_BUDGET.number(alloc, matches)?;
     let program = apart_program_of(alloc, matches)?;
-    check_file(alloc, matches, schedule.as_str())?;
+    check_file(alloc, matches, "record", schedule.as_str())?;
     Ok(Replay {
         schedule,
         any_files: is_set(matches, "any-files"),
@@ -165,6 +166,7 @@ fn trace_of(alloc: Global, matches: &ArgMatches<'_>) -> Result<Trace, Usage>
     let only = ONLY.numbers(alloc, matches)?;
     let form = form_of(alloc, matches)?;
     let program = program_options_of(alloc, matches)?;
+    let html = html_of(alloc, matches, schedule.as_str(), &program.files)?;
     Ok(Trace {
         schedule,
         any_files: is_set(matches, "any-files"),
@@ -172,6 +174,7 @@ fn trace_of(alloc: Global, matches: &ArgMatches<'_>) -> Result<Trace, Usage>
         to,
         only,
         form,
+        html,
         summary: is_set(matches, "summary"),
         limits: program.limits,
         main: program.main,
@@ -239,7 +242,7 @@ fn shrink_of(alloc: Global, matches: &ArgMatches<'_>) -> Result<Shrink, Usage>
     let budget = WHOLE_BUDGET.number(alloc, matches)?;
     let recording = recording_of(alloc, matches)?;
     let program = apart_program_of(alloc, matches)?;
-    check_file(alloc, matches, schedule.as_str())?;
+    check_file(alloc, matches, "record", schedule.as_str())?;
     Ok(Shrink {
         goal,
         schedule,
@@ -301,7 +304,7 @@ fn disasm_of(alloc: Global, matches: &ArgMatches<'_>) -> Result<Disasm, Usage>
     })
 }
 
-/// The form in which a trace is asked for. It is at most one.
+/// The form in which a trace is asked for. It is at most one, and stands beside no page.
 fn form_of(alloc: Global, matches: &ArgMatches<'_>) -> Result<TraceForm, Usage>
     ensures form { IfOk result (IsTraceForm (rows_of (found_of matches.now))) }
     ensures none { IfErr result (λ usage. Refuses usage ((form : _)
@@ -312,8 +315,10 @@ fn form_of(alloc: Global, matches: &ArgMatches<'_>) -> Result<TraceForm, Usage>
     if columns && json {
         Err(Usage::not_together(alloc, "--columns", "--json"))
     } else if columns {
+        check_alone(alloc, matches, "html", "--html <FILE>", "--columns")?;
         Ok(TraceForm::Columns)
     } else if json {
+        check_alone(alloc, matches, "html", "--html <FILE>", "--json")?;
         Ok(TraceForm::Json)
     } else {
         Ok(TraceForm::Plain)

@@ -303,7 +303,7 @@ fn with_window<'a>(
     with_argument(command, ONLY.list_argument(alloc))
 }
 
-/// The command with the flags that say in which form events are told.
+/// The command with the options that say in which form events are told.
 fn with_form<'a>(
     alloc: Global,
     command: Result<clap::Command<'a>, AllocError>,
@@ -319,12 +319,20 @@ fn with_form<'a>(
         command,
         flag_argument(alloc, "json", "Tells each event as an object of JSON"),
     );
-    with_argument(
+    let command = with_argument(
         command,
         flag_argument(
             alloc,
             "summary",
             "Tells a run of local instructions in one line",
+        ),
+    );
+    with_argument(
+        command,
+        path_argument(
+            alloc,
+            "html",
+            "The file that a page of the run is written to, in place of lines",
         ),
     )
 }

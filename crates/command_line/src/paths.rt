@@ -12,19 +12,20 @@ use crate::usage::Usage;
 use clap::ArgMatches;
 use std::alloc::{AllocError, Global};
 
-/// Refuses `--record` with a file that is one of these, which are read.
+/// Refuses an option, by its name, with a file that is one of these, which are read.
 pub(crate) fn check_files(
     alloc: Global,
     matches: &ArgMatches<'_>,
+    option: &str,
     read: &[String],
 ) -> Result<(), Usage>
-    ensures apart { IfOk result (λ _. All (IsApart (first_of (codes "record") (rows_of (found_of matches.now))))
+    ensures apart { IfOk result (λ _. All (IsApart (first_of option.now (rows_of (found_of matches.now))))
         (map string_bytes read.now)) }
     ensures none { IfErr result (λ usage. Refuses usage (
-        All (IsApart (first_of (codes "record") (rows_of (found_of matches.now)))) (map string_bytes read.now) → ⊥)) }
+        All (IsApart (first_of option.now (rows_of (found_of matches.now)))) (map string_bytes read.now) → ⊥)) }
 {
     for path in read {
-        check_file(alloc, matches, path.as_str())?;
+        check_file(alloc, matches, option, path.as_str())?;
     }
     Ok(())
 }
@@ -41,7 +42,7 @@ pub(crate) fn check_search_goal(
         IsSearchGoalApart (first_of (codes "record") (rows_of (found_of matches.now))) goal.now → ⊥)) }
 {
     match goal {
-        Some(SearchGoal::Differs(path)) => check_file(alloc, matches, path.as_str()),
+        Some(SearchGoal::Differs(path)) => check_file(alloc, matches, "record", path.as_str()),
         Some(
             SearchGoal::Race
             | SearchGoal::Uncaught
@@ -67,30 +68,35 @@ pub(crate) fn check_goal(
         IsGoalApart (first_of (codes "record") (rows_of (found_of matches.now))) goal.now → ⊥)) }
 {
     match goal {
-        Some(Goal::Differs(path)) => check_file(alloc, matches, path.as_str()),
+        Some(Goal::Differs(path)) => check_file(alloc, matches, "record", path.as_str()),
         Some(Goal::Deadlock | Goal::Uncaught | Goal::Output(_) | Goal::Text(_)) | None => Ok(()),
     }
 }
 
-/// Refuses `--record` with this file, which is read.
-pub(crate) fn check_file(alloc: Global, matches: &ArgMatches<'_>, read: &str) -> Result<(), Usage>
-    ensures apart { IfOk result (λ _. IsApart (first_of (codes "record") (rows_of (found_of matches.now))) read.now) }
+/// Refuses an option, by its name, with this file, which is read.
+pub(crate) fn check_file(
+    alloc: Global,
+    matches: &ArgMatches<'_>,
+    option: &str,
+    read: &str,
+) -> Result<(), Usage>
+    ensures apart { IfOk result (λ _. IsApart (first_of option.now (rows_of (found_of matches.now))) read.now) }
     ensures none { IfErr result (λ usage. Refuses usage (
-        IsApart (first_of (codes "record") (rows_of (found_of matches.now))) read.now → ⊥)) }
+        IsApart (first_of option.now (rows_of (found_of matches.now))) read.now → ⊥)) }
 {
-    match matches.get_str("record") {
-        Some(written) => check_path(alloc, written, read),
+    match matches.get_str(option) {
+        Some(written) => check_path(alloc, option, written, read),
         None => Ok(()),
     }
 }
 
-/// Refuses a path of what is written that is this path, too, of what is read.
-fn check_path(alloc: Global, written: &str, read: &str) -> Result<(), Usage>
+/// Refuses a path of what is written, by an option of this name, that is this path, too, of what is read.
+fn check_path(alloc: Global, option: &str, written: &str, read: &str) -> Result<(), Usage>
     ensures apart { IfOk result (λ _. IsSamePath written.now read.now → ⊥) }
     ensures none { IfErr result (λ usage. Refuses usage ((IsSamePath written.now read.now → ⊥) → ⊥)) }
 {
     if is_same_path(alloc, written, read)? {
-        Err(Usage::read_too(alloc, written))
+        Err(Usage::read_too(alloc, option, written))
     } else {
         Ok(())
     }

@@ -60,6 +60,6 @@ pub(crate) fn apart_program_of(
         → AreApartValues (rows_of (found_of matches.now)) program → ⊥)) }
 {
     let program = program_options_of(alloc, matches)?;
-    check_files(alloc, matches, &program.files)?;
+    check_files(alloc, matches, "record", &program.files)?;
     Ok(program)
 }

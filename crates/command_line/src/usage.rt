@@ -78,12 +78,13 @@ impl Usage {
         ))
     }
 
-    /// The fault that a file is to be written which is read, too, in the parser's words for a value that it refuses.
-    pub fn read_too(alloc: Global, path: &str) -> Usage
+    /// The fault that a file is to be written, by an option of this name, which is read, too, in the parser's words for
+    /// a value that it refuses.
+    pub fn read_too(alloc: Global, option: &str, path: &str) -> Usage
         ensures { Asks result → ⊥ }
     {
         Usage::told(format!(in alloc;
-            "error: invalid value '{path}' for '--record <FILE>': this file is read, too\n\n{MORE}\n"
+            "error: invalid value '{path}' for '--{option} <FILE>': this file is read, too\n\n{MORE}\n"
         ))
     }
 

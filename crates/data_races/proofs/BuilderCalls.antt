@@ -1,60 +1,53 @@
--- Calls of StringBuilder's methods without code: what such an instruction does, and in which worlds it does the same.
-use Rattle.std.proofs.Common.{◌≡◌, refl, sym, ◌∙◌, ap, subst, ℕ, zero, suc, List, [], ◌∷◌, ◌++◌, map, length, reverse}
-use Rattle.std.specs.Prelude.{Option, Some, None, Bool, true, false, not, ◌&&◌, ◌==◌, if◌then◌else◌, slice_get, slice_index_or}
+-- Calls of methods without code that access variables, as those of StringBuilder: what such an instruction does, and in which worlds it
+-- does the same.
+use Rattle.std.proofs.Common.{◌≡◌, refl, sym, ◌∙◌, ap, subst, ℕ, List, [], ◌∷◌}
+use Rattle.std.specs.Prelude.{Option, Some, None, Bool, true, false, not, ◌&&◌, ◌==◌, if◌then◌else◌}
 use Rattle.std.specs.Option.{option_and_then, option_map_or, option_or}
 use Rattle.std.specs.List.{list_all}
 use Rattle.std.proofs.lemmas.Bool.{false≢true, and_parts, not-true}
 use Rattle.std.proofs.lemmas.Option.{same_Some, none-some}
-use Rattle.model.specs.declared.builder_method.BuilderMethod.{BuilderMethod}
 use Rattle.model.specs.declared.event.Event.{Event}
 use Rattle.model.specs.declared.instr.Instr.{Instr}
 use Rattle.model.specs.declared.instr.Instr.TheVariants as instr
-use Rattle.model.specs.declared.instr.Invocation.{Invocation}
 use Rattle.model.specs.declared.instr.Invocation.TheVariants as invocation
 use Rattle.model.specs.declared.value.Value.{Value}
-use Rattle.model.specs.declared.value.Value.TheVariants as value
 use Rattle.model.specs.AccessFlags.{is_static_method}
-use Rattle.model.specs.BuilderMethods.{builder_does}
 use Rattle.model.specs.BuiltIn.{built_in_classes}
-use Rattle.model.specs.BuiltInMethods.{BuiltInMethod, StringBuilderBuilds, built_in_methods, built_in_method, built_in_does}
-use Rattle.model.specs.Calls.{Chosen, Fails, Runs, parameter_count, argument_wants, is_one, is_instance_one, if_method, if_concrete, selected, its_class, of_receiver, if_implements, special_class, invoked, runs, may_invoke, may_run, call_on, of_class, leads_after, constructed_leads, static_call, virtual_call, virtual_of, special_call, constructor_call, special_of, interface_call, interface_of}
+use Rattle.model.specs.BuiltInMethods.{BuiltInMethod, ObjectClone, StringWrites, StringBuilderBuilds, built_in_may, built_in_methods, built_in_method}
+use Rattle.model.specs.Calls.{Chosen, Fails, Runs, parameter_count, is_one, is_instance_one, if_method, if_concrete, selected, its_class, of_receiver, if_implements, special_class, call_on, of_class, of_named, leads_after, constructed_leads, static_call, virtual_call, virtual_of, special_call, constructor_call, special_of, interface_call, interface_of}
 use Rattle.model.specs.Classes.{Program, Body, body_of, lineage, all_superinterfaces}
-use Rattle.model.specs.DescribedTypes.{declared_want, parameters_declared}
-use Rattle.model.specs.Lookup.{method_of, where_so, in_class, first_found, method_in_class, any_method, find_method, find_interface_method, is_selectable, select, is_private_method, is_abstract_method}
+use Rattle.model.specs.Lookup.{method_of, where_so, in_class, first_found, method_in_class, any_method, searched_class, find_method, find_interface_method, is_selectable, select, is_private_method, is_abstract_method}
 use Rattle.model.specs.Meanings.{meaning_of, local_or, local_meaning, other_meaning, println_meaning, invoke_virtual_meaning}
 use Rattle.model.specs.Names.{Name, name_eq, Member, member_eq, constructor_name, java_lang_object, println_int}
-use Rattle.model.specs.Opening.{string_reference}
-use Rattle.model.specs.Operands.{Slots, values, reference_of}
+use Rattle.model.specs.Operands.{Carrier, values}
 use Rattle.model.specs.Outcomes.{AbstractMethod}
 use Rattle.model.specs.Pool.{integers_of, method_at, interface_method_at}
 use Rattle.model.specs.ReferenceTypes.{ReferenceType, ClassType, PrimitiveArray, ReferenceArray, is_subtype}
 use Rattle.model.specs.Rows.{Row, local_row}
-use Rattle.model.specs.Sites.{Leads, MeaningOf, Site, operand, referent}
-use Rattle.model.specs.State.{ObjectOf, Instance, Primitives, References, Characters, type_of, types_of, World}
+use Rattle.model.specs.Sites.{Leads, MeaningOf, Site, referent}
+use Rattle.model.specs.State.{ObjectOf, Instance, Primitives, References, Characters, type_of, World, WorldOf}
 use Rattle.model.specs.Tree.{MethodTree}
-use Rattle.model.specs.Types.{Want, AnyWord, AnInt, AnyReference, AReference, AReceiver, AnOwner, AnArray, AByteArray, value_meets, is_object_below, is_value_below, is_value_with}
-use Rattle.model.specs.WellTyped.{Extends}
-use Rattle.model.specs.Worlds.{no_object, object_at, class_of_object}
+use Rattle.model.specs.Types.{Want, AReceiver}
+use Rattle.model.specs.Worlds.{object_at, class_of_object}
 use Rattle.run_laws.proofs.laws.Classes.{members_same}
-use Rattle.run_laws.proofs.laws.Lists.{Pairwise}
 use Rattle.run_laws.proofs.laws.WordLists.{is_object_want}
 use Rattle.run_laws.proofs.word_runs.WordBuiltIns.{passes, passed}
-use Rattle.run_laws.proofs.word_runs.WordMeanings.{Kinded, wanted_at}
-use Rattle.data_races.specs.Actions.{Action}
-use Rattle.data_races.specs.EventActions.{method_chosen, chosen_on, interface_choice, run_virtual, run_special, run_interface, run_by, method_run, without_code, built_in_run, built_in_accesses, builder_accesses}
-use Rattle.data_races.proofs.Decided.{In}
+use Rattle.data_races.specs.EventActions.{method_chosen, chosen_on, interface_choice, run_virtual, run_special, run_interface, method_run, without_code, built_in_run}
 
--- ---- the rows of StringBuilder
+-- ---- the rows of these methods
 
-abbrev pub as_builder : BuiltInMethod → Option BuilderMethod
-as_builder (StringBuilderBuilds method) = Some method
-as_builder _ = None
+-- a method that may access a variable
+abbrev pub accessing_method : BuiltInMethod → Option BuiltInMethod
+accessing_method (StringBuilderBuilds method) = Some (StringBuilderBuilds method)
+accessing_method (StringWrites method) = Some (StringWrites method)
+accessing_method ObjectClone = Some ObjectClone
+accessing_method _ = None
 
--- its methods are not static, and none has the descriptor of println of an int
-abbrev fits : Program → Member → BuilderMethod → Bool
+-- none is static, and none has the descriptor of println of an int
+abbrev fits : Program → Member → BuiltInMethod → Bool
 fits files method b = not (is_one is_static_method files method) && not (name_eq method.descriptor println_int.descriptor)
 
-all_fit : (files : Program) → list_all (passes as_builder (refl, (refl, refl)) (fits files)) built_in_methods ≡ true
+all_fit : (files : Program) → list_all (passes accessing_method (refl, (refl, refl)) (fits files)) built_in_methods ≡ true
 unfolding built_in_classes
 all_fit files = refl
 
@@ -62,10 +55,18 @@ record Fits (files : Program) (method : Member) : Type 0 where
   instance : is_one is_static_method files method ≡ false
   other : name_eq method.descriptor println_int.descriptor ≡ false
 
-fitting : (files : Program) (method : Member) (b : BuilderMethod) → built_in_method method ≡ StringBuilderBuilds b → Fits files method
+fitting : (files : Program) (method : Member) (b : BuiltInMethod) → accessing_method (built_in_method method) ≡ Some b → Fits files method
 fitting files method b e =
-    let here = and_parts (not (is_one is_static_method files method)) (not (name_eq method.descriptor println_int.descriptor)) (passed as_builder (refl, (refl, refl)) (fits files) (all_fit files) method b (ap as_builder e)) in
+    let here = and_parts (not (is_one is_static_method files method)) (not (name_eq method.descriptor println_int.descriptor)) (passed accessing_method (refl, (refl, refl)) (fits files) (all_fit files) method b e) in
     record { instance = not-true (is_one is_static_method files method) here.0; other = not-true (name_eq method.descriptor println_int.descriptor) here.1 }
+
+-- it asks for nothing but its pick
+pub may_at_once : {A : Type 0} (C : Carrier A) (b m : BuiltInMethod) → accessing_method b ≡ Some m → (event : Event) (world : WorldOf A) (ops : List A)
+    → built_in_may C b event world ops ≡ (event.pick == 0)
+may_at_once C (StringBuilderBuilds method) m e event world ops = refl
+may_at_once C (StringWrites method) m e event world ops = refl
+may_at_once C ObjectClone m e event world ops = refl
+may_at_once C _ m e event world ops = absurd (none-some m e)
 
 -- ---- what is found has the descriptor that is sought
 
@@ -88,8 +89,8 @@ module _ (files : Program) (m : Member) where
 
   found_described : (x : Member) → find_method files m ≡ Some x → x.descriptor ≡ m.descriptor
   found_described x e =
-      or_described (first_found (method_in_class files any_method m) (lineage files m.class)) (first_found (method_in_class files any_method m) (all_superinterfaces files m.class)) x
-      (first_described any_method (lineage files m.class) x) (first_described any_method (all_superinterfaces files m.class) x) e
+      or_described (first_found (method_in_class files any_method m) (lineage files (searched_class m.class))) (first_found (method_in_class files any_method m) (all_superinterfaces files (searched_class m.class))) x
+      (first_described any_method (lineage files (searched_class m.class)) x) (first_described any_method (all_superinterfaces files (searched_class m.class)) x) e
 
 runs_same : (m n : Member) → Runs m ≡ Runs n → m ≡ n
 runs_same m n e = cc
@@ -149,28 +150,30 @@ pub record IsCallOn (files : Program) (site : Site) (meaning : MeaningOf Value) 
   pub describes : (world : World) (r : ℕ) (m : Member) → choose world r ≡ Runs m → m.descriptor ≡ method.descriptor
   pub by_type : (world other : World) (r : ℕ) → type_of (object_at other r) ≡ type_of (object_at world r) → choose other r ≡ choose world r
 
-abbrev pub Builds : Program → Site → World → List Value → BuilderMethod → Type 0
-Builds files site world ops b = built_in_run files site world ops ≡ Some (StringBuilderBuilds b)
+-- the instruction runs such a method
+pub record Builds (files : Program) (site : Site) (world : World) (ops : List Value) (b : BuiltInMethod) : Type 0 where
+  pub runs : built_in_run files site world ops ≡ Some b
+  pub accesses : accessing_method b ≡ Some b
 
--- it is a call on a receiver, or it never runs a method of StringBuilder without code
+-- it is a call on a receiver, or it never runs such a method
 pub data Calling (files : Program) (site : Site) (meaning : MeaningOf Value) : Type 0 where
   CallsOn : IsCallOn files site meaning → Calling files site meaning
-  BuildsNone : ((world : World) (ops : List Value) (b : BuilderMethod) → Builds files site world ops b → ⊥) → Calling files site meaning
+  BuildsNone : ((world : World) (ops : List Value) (b : BuiltInMethod) → Builds files site world ops b → ⊥) → Calling files site meaning
 
--- the method that is run, where it is one of StringBuilder without code
-pub record RunsBuilder (files : Program) (b : BuilderMethod) (run : Option Member) : Type 0 where
+-- the method that is run, where it is such a method
+pub record RunsBuilder (files : Program) (b : BuiltInMethod) (run : Option Member) : Type 0 where
   pub method : Member
   pub runs : run ≡ Some method
   pub no_code : body_of files method ≡ None
-  pub is : built_in_method method ≡ StringBuilderBuilds b
+  pub is : built_in_method method ≡ b
 
-pub runs_builder : (files : Program) (b : BuilderMethod) (run : Option Member)
-    → option_and_then (λ (method : Member). without_code method (body_of files method)) run ≡ Some (StringBuilderBuilds b) → RunsBuilder files b run
+pub runs_builder : (files : Program) (b : BuiltInMethod) (run : Option Member)
+    → option_and_then (λ (method : Member). without_code method (body_of files method)) run ≡ Some b → RunsBuilder files b run
 runs_builder files b None e = absurd (none-some _ e)
 runs_builder files b (Some method) e = by (body_of files method) refl e
   where
-    by : (o : Option Body) → body_of files method ≡ o → without_code method o ≡ Some (StringBuilderBuilds b) → RunsBuilder files b (Some method)
-    by None q h = record { method = method; runs = refl; no_code = q; is = same_Some (built_in_method method) (StringBuilderBuilds b) h }
+    by : (o : Option Body) → body_of files method ≡ o → without_code method o ≡ Some b → RunsBuilder files b (Some method)
+    by None q h = record { method = method; runs = refl; no_code = q; is = same_Some (built_in_method method) b h }
     by (Some body) q h = absurd (none-some _ h)
 
 pub chosen_runs : (chosen : Chosen) (m : Member) → method_chosen chosen ≡ Some m → chosen ≡ Runs m
@@ -198,8 +201,8 @@ module _ (files : Program) (site : Site) where
   no_call (instr.InvokeInterface index count last) e world ops = absurd (false≢true (sym e))
   no_call _ e world ops = refl
 
-  builds_none : (world : World) (ops : List Value) (b : BuilderMethod) → run_at world ops ≡ None → Builds files site world ops b → ⊥
-  builds_none world ops b e h = none-some _ (sym (ap (option_and_then (λ (method : Member). without_code method (body_of files method))) e) ∙ h)
+  builds_none : (world : World) (ops : List Value) (b : BuiltInMethod) → run_at world ops ≡ None → Builds files site world ops b → ⊥
+  builds_none world ops b e h = none-some _ (sym (ap (option_and_then (λ (method : Member). without_code method (body_of files method))) e) ∙ h.runs)
 
   -- ---- by what it names
 
@@ -218,9 +221,9 @@ module _ (files : Program) (site : Site) where
     virtual_runs i world ops = ap (method_run files site world ops) i ∙ ap (option_and_then (run_virtual files world ops)) names
 
     println_case : site.instr ≡ instr.Invoke invocation.Virtual index → member_eq named println_int ≡ true
-        → (world : World) (ops : List Value) (b : BuilderMethod) → Builds files site world ops b → ⊥
+        → (world : World) (ops : List Value) (b : BuiltInMethod) → Builds files site world ops b → ⊥
     println_case i e world ops b h =
-        let r = runs_builder files b (run_at world ops) h in
+        let r = runs_builder files b (run_at world ops) h.runs in
         by r (find_method files named) refl (sym (virtual_runs i world ops) ∙ r.runs)
       where
         by : (r : RunsBuilder files b (run_at world ops)) → (o : Option Member) → find_method files named ≡ o
@@ -230,7 +233,7 @@ module _ (files : Program) (site : Site) where
             let c = on_receiver (referent values ops (parameter_count method)) (λ s. selected files (its_class world s) method) r.method (chosen_runs _ r.method g) in
             let d = selected_described files method (its_class world c.0) r.method c.2 ∙ found_described files named method q in
             let same = d ∙ ap (λ (m : Member). m.descriptor) (members_same named println_int e) in
-            false≢true (sym (fitting files r.method b r.is).other ∙ (ap (λ (x : Name). name_eq x println_int.descriptor) same ∙ refl))
+            false≢true (sym (fitting files r.method b (ap accessing_method r.is ∙ h.accesses)).other ∙ (ap (λ (x : Name). name_eq x println_int.descriptor) same ∙ refl))
 
     virtual_case : site.instr ≡ instr.Invoke invocation.Virtual index → (meaning : MeaningOf Value) → invoke_virtual_meaning values files site named ≡ Some meaning
         → Calling files site meaning
@@ -240,7 +243,7 @@ module _ (files : Program) (site : Site) where
         call m q passes =
             CallsOn (record {
               method = m;
-              receiver = of_class files named.class;
+              receiver = of_named files named.class;
               leads = leads_after files site m;
               choose = λ world r. selected files (its_class world r) m;
               is = refl;
@@ -312,9 +315,9 @@ module _ (files : Program) (site : Site) where
       → is_one is_static_method files m ≡ true → (meaning : MeaningOf Value) → Calling files site meaning
   static_case index i m found static meaning =
       BuildsNone (λ world ops b h.
-      let r = runs_builder files b (run_at world ops) h in
+      let r = runs_builder files b (run_at world ops) h.runs in
       let same = same_Some m r.method (sym found ∙ (sym (ap (method_run files site world ops) i) ∙ r.runs)) in
-      false≢true (sym (fitting files r.method b r.is).instance ∙ (ap (λ (x : Member). is_one is_static_method files x) (sym same) ∙ static)))
+      false≢true (sym (fitting files r.method b (ap accessing_method r.is ∙ h.accesses)).instance ∙ (ap (λ (x : Member). is_one is_static_method files x) (sym same) ∙ static)))
 
   interface_case : (index count last : ℕ) (named : Member) → interface_method_at site.body.pool index ≡ Some named
       → site.instr ≡ instr.InvokeInterface index count last → (meaning : MeaningOf Value) → interface_of values files site named ≡ Some meaning → Calling files site meaning

@@ -15,20 +15,22 @@ use Rattle.model.specs.Names.{Name, name_eq, Member, member_eq, constructor_name
 use Rattle.model.specs.HiddenMembers.{is_hidden}
 use Rattle.model.specs.Pool.{field_at, method_at, interface_method_at}
 use Rattle.model.specs.Classes.{Program, Body, body_of}
-use Rattle.model.specs.ReferenceTypes.{ClassType, is_subtype}
-use Rattle.model.specs.Lookup.{find_field, find_method, find_interface_method}
+use Rattle.model.specs.ReferenceTypes.{ReferenceType, ClassType, PrimitiveArray, ReferenceArray, is_subtype}
+use Rattle.model.specs.Lookup.{find_field, find_method, find_interface_method, instance_fields}
 use Rattle.model.specs.Operands.{values, under, Slots}
 use Rattle.model.specs.Rows.{counting}
 use Rattle.model.specs.State as state
 use Rattle.model.specs.State.{type_of, ClassStatus, NotInitialised, InProgress, Initialised, Erroneous, Monitor, WakeCause, Notified, Interrupted, ThreadStatus, Running, Waiting, Relock, Ended, Thread, Phase, Super, End, Frame, Initialisation, StackOf, World, State}
 use Rattle.model.specs.Outcomes.{OutcomeOf, Goes}
 use Rattle.model.specs.Monitors.{owns}
-use Rattle.model.specs.Worlds.{thread_at, thread_of, has_ended, is_owner, object_at}
+use Rattle.model.specs.Worlds.{thread_at, thread_of, has_ended, is_owner, object_at, elements_of}
 use Rattle.model.specs.ClassInitialisation.{status_of, Look, IsReady, IsNew, IsHeld, HasFailed, look_at}
 use Rattle.model.specs.Sites.{MeaningOf, Site, site_at, referent, int_operand, object_of}
 use Rattle.model.specs.declared.builder_method.BuilderMethod.{BuilderMethod}
 use Rattle.model.specs.declared.builder_method.BuilderMethod.TheVariants.{ConstructEmpty, ConstructOfString, AppendString, AppendInt, AppendChar, AppendBuilder, ToString}
-use Rattle.model.specs.BuiltInMethods.{BuiltInMethod, ObjectWait, ThreadStart, ThreadInterrupt, ThreadIsInterrupted, ThreadInterrupted, ThreadJoin, ThreadIsAlive, StringBuilderBuilds, built_in_method}
+use Rattle.model.specs.declared.text_method.TextMethod.{TextMethod}
+use Rattle.model.specs.declared.text_method.TextMethod.TheVariants as text_method
+use Rattle.model.specs.BuiltInMethods.{BuiltInMethod, ObjectWait, ThreadStart, ThreadInterrupt, ThreadIsInterrupted, ThreadInterrupted, ThreadJoin, ThreadIsAlive, ObjectClone, StringWrites, StringBuilderBuilds, built_in_method}
 use Rattle.model.specs.Calls.{Chosen, Fails, Runs, parameter_count, selected, its_class, of_receiver, if_implements, special_class}
 use Rattle.model.specs.Meanings.{meaning_of}
 use Rattle.model.specs.Step.{ops_of, before, initial_class, step}
@@ -236,9 +238,34 @@ builder_accesses ops AppendChar = text_access ops 1 Read ++ text_access ops 1 Wr
 builder_accesses ops AppendBuilder = text_access ops 1 Read ++ text_access ops 0 Read ++ text_access ops 1 Write
 builder_accesses ops ToString = text_access ops 0 Read
 
-abbrev pub built_in_accesses : List Value → BuiltInMethod → List Action
-built_in_accesses ops (StringBuilderBuilds method) = builder_accesses ops method
-built_in_accesses ops _ = []
+-- so many elements of an array, from an index on
+abbrev pub elements_accessed : (Variable → Action) → ℕ → ℕ → ℕ → List Action
+elements_accessed action array index count = map (λ k. action (Element array k)) (counting index count)
+
+-- the same of an array among the operands, if that is not null
+abbrev pub element_accesses : List Value → ℕ → (Variable → Action) → ℕ → ℕ → List Action
+element_accesses ops k action index count = option_map_or (λ array. elements_accessed action array index count) (referent values ops k) []
+
+-- a String that is made of chars reads them, and getChars writes elements
+abbrev pub string_accesses : List Value → TextMethod → List Action
+string_accesses ops text_method.ConstructOfChars = element_accesses ops 2 Read (int_operand values ops 1) (int_operand values ops 0)
+string_accesses ops text_method.GetChars = element_accesses ops 1 Write (int_operand values ops 0) (int_operand values ops 2 - int_operand values ops 3)
+string_accesses ops _ = []
+
+-- clone reads all fields of an object, or all elements of an array
+abbrev pub copy_accesses : Program → ℕ → ReferenceType → ℕ → List Action
+copy_accesses files object (ClassType class) count = map (λ field. Read (InstanceField object field)) (filter is_variable (instance_fields files class))
+copy_accesses files object (PrimitiveArray of) count = elements_accessed Read object 0 count
+copy_accesses files object (ReferenceArray of) count = elements_accessed Read object 0 count
+
+abbrev pub clone_accesses : Program → World → ℕ → List Action
+clone_accesses files world object = copy_accesses files object (type_of (object_at world object)) (length (elements_of (object_at world object)))
+
+abbrev pub built_in_accesses : Program → World → List Value → BuiltInMethod → List Action
+built_in_accesses files world ops (StringBuilderBuilds method) = builder_accesses ops method
+built_in_accesses files world ops (StringWrites method) = string_accesses ops method
+built_in_accesses files world ops ObjectClone = option_map_or (clone_accesses files world) (referent values ops 0) []
+built_in_accesses files world ops _ = []
 
 abbrev pub goes_on : OutcomeOf Value → Bool
 goes_on (Goes cost world slots to) = true
@@ -273,7 +300,7 @@ receiver_of instruction = object_of values (operands_of instruction) 0
 abbrev pub accesses_at : Program → World → Instruction → List Action
 accesses_at files world instruction =
     access_by files instruction.site (operands_of instruction) instruction.site.instr
-    ++ option_map_or (built_in_accesses (operands_of instruction)) (built_in_at files world instruction) []
+    ++ option_map_or (built_in_accesses files world (operands_of instruction)) (built_in_at files world instruction) []
 
 abbrev pub finds_of : Program → Event → World → Rule → List Action
 finds_of files event world Begins = Begin event.thread ∷ []

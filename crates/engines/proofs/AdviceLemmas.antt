@@ -1,5 +1,5 @@
 -- Files that are read for advice.
-use Rattle.std.proofs.Common.{inl, inr, ◌⊎◌, ◌≡◌, ℕ, ◌+◌, ◌<◌, ◌≤◌, List, [], ◌∷◌, ◌++◌, length, map, take, get_or, Option, Some, string_bytes, refl, sym, ap, subst}
+use Rattle.std.proofs.Common.{inl, inr, ◌⊎◌, ◌≡◌, ℕ, List, [], ◌∷◌, Option, Some, refl, sym, subst}
 use Rattle.std.specs.Prelude.{IfOk, Result, Ok, Err}
 use Rattle.std.specs.Result.{result_unwrap_or}
 use Rattle.std.specs.declared.vec.Vec.{Vec}

@@ -10,6 +10,7 @@ pub mod OpeningLemmas
 pub mod OutcomeFileLemmas
 pub mod OutcomeLemmas
 pub mod OutcomePathLemmas
+pub mod PageLemmas
 pub mod PlaceLemmas
 pub mod RaceLemmas
 pub mod RacedRunLemmas

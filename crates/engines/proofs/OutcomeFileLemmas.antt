@@ -1,6 +1,6 @@
 -- The files of the outcomes of a sweep, one after another.
-use Rattle.std.proofs.Common.{◌≡◌, ◌<◌, ◌≤◌, ◌+◌, ◌++◌, ◌∙◌, ℕ, suc, zero, List, [], ◌∷◌, Option, Some, None, ap, arith, cond, false, get_or, length, map, refl, subst, sym, take, true}
-use Rattle.std.specs.List.{filter, take-map}
+use Rattle.std.proofs.Common.{◌≡◌, ◌<◌, ◌≤◌, ◌+◌, ◌++◌, ◌∙◌, ℕ, suc, List, [], ◌∷◌, Option, Some, None, ap, arith, cond, false, get_or, length, map, subst, sym, take, true}
+use Rattle.std.specs.List.{take-map}
 use Rattle.std.proofs.lemmas.List.{append-nil, length-map, length-take-le, map-append, take_all, take_more}
 use Rattle.std.proofs.lemmas.List.Elements.{filter-append}
 use Rattle.program_files.specs.Folders.{Held}

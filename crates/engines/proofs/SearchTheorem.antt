@@ -1,6 +1,6 @@
 -- What a search promises, in the words of the theorem.
-use Rattle.std.proofs.Common.{◌≡◌, ◌⊎◌, ◌≤◌, ℕ, Bool, List, [], inl, inr, subst, sym}
-use Rattle.std.specs.Prelude.{IsTrue, IsFalse}
+use Rattle.std.proofs.Common.{◌⊎◌, ℕ, Bool, List, [], inl, inr, subst, sym}
+use Rattle.std.specs.Prelude.{IsTrue}
 use Rattle.model.specs.declared.end.End.{End}
 use Rattle.model.specs.declared.end.End.TheVariants as ends
 use Rattle.model.specs.declared.event.Event.{Event}

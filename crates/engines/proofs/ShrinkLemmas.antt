@@ -1,7 +1,6 @@
 -- What the engine of shrinking answers and writes, where it comes to a fault.
-use Rattle.std.proofs.Common.{◌≡◌, ℕ, List, [], Bool, Option, None, Some, inl, inr, refl, subst, sym}
-use Rattle.std.specs.Prelude.{IfErr, IfOk, Result, Ok, Err, IfSome, is_some, string_bytes, unwrap_or, vec_items}
-use Rattle.std.specs.Option.{option_map}
+use Rattle.std.proofs.Common.{ℕ, List, [], Option, None, Some, inl, inr, refl, subst, sym}
+use Rattle.std.specs.Prelude.{IfErr, IfOk, Result, string_bytes, unwrap_or}
 use Rattle.std.specs.Io.KnownBytes.{Appends}
 use Rattle.std.proofs.lemmas.List.{append-nil}
 use Rattle.model.specs.Devices.{AppendsFront}

@@ -1,7 +1,6 @@
 -- Why class files are not swept, and what a sweep leaves.
-use Rattle.std.proofs.Common.{◌≡◌, ◌⊎◌, ℕ, ◌<◌, Bool, List, length, Option, Some, None, inl, inr, refl, subst, sym}
-use Rattle.std.specs.Prelude.{IfErr, IfOk, Result, Ok, Err, is_some}
-use Rattle.std.specs.Io.KnownBytes.{Appends}
+use Rattle.std.proofs.Common.{◌≡◌, ℕ, ◌<◌, Bool, List, length, Option, Some, inl, refl, subst, sym}
+use Rattle.std.specs.Prelude.{IfErr, IfOk, Result}
 use Rattle.model.specs.declared.device.DeviceFault.{DeviceFault}
 use Rattle.model.specs.declared.device.DeviceFault.TheVariants as devices
 use Rattle.command_line.specs.declared.options.Run.{Run}
@@ -11,8 +10,7 @@ use Rattle.program_files.specs.Folders.{Held}
 use Rattle.engines.specs.Commands.{IsRunDoneBy, IsRunUndoneBy, IsSweepDone, Leaves, LeavesAt}
 use Rattle.engines.specs.Devices.{IsUnable, fault_of}
 use Rattle.engines.specs.Engines.{IsOfFile}
-use Rattle.engines.specs.Goals.{IsAskedFor}
-use Rattle.engines.specs.Sweeps.{IsUnswept, SweepsOver, SweepsPart}
+use Rattle.engines.specs.Sweeps.{IsUnswept, SweepsPart}
 use Rattle.engines.specs.declared.fault.Fault.{Fault}
 use Rattle.engines.specs.declared.fault.Fault.TheVariants as faults
 use Rattle.engines.specs.declared.status.Status.{Status}

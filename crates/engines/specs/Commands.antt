@@ -2,6 +2,8 @@
 -- its status (own). Each does what its engine does, with these files in their order.
 use Rattle.std.specs.Prelude.{◌≡◌, ◌⊎◌, ◌<◌, ℕ, ◌-◌, ◌^◌, Bool, true, false, List, [], ◌∷◌, length, map, Option, Some, None, IsTrue, is_some, string_bytes, take, unwrap_or, vec_items, Result, Ok, Err}
 use Rattle.std.specs.Option.{option_and_then, option_map}
+use Rattle.std.specs.declared.string.String.{String}
+use Rattle.std.specs.Global.{Global}
 use Rattle.std.specs.Io.KnownBytes.{Appends}
 use Rattle.model.specs.Devices.{AppendsFront}
 use Rattle.program_runs.specs.declared.traced_runs.window.Window.{Window}
@@ -43,6 +45,7 @@ use Rattle.engines.specs.Recordings.{conditions_of}
 use Rattle.engines.specs.Replays.{IsFaulty}
 use Rattle.engines.specs.Runs.{IsUnrun, Runs}
 use Rattle.engines.specs.Searches.{IsUnsearched, Searches, most_states}
+use Rattle.engines.specs.PagedRuns.{IsUnpaged, Pages}
 use Rattle.engines.specs.Placings.{IsPlacesDone, IsPlacesUndone}
 use Rattle.engines.specs.Shrinks.{IsShrinkDone, IsShrinkUndone}
 use Rattle.engines.specs.Sweeps.{IsUnswept, SweepsOver}
@@ -96,11 +99,11 @@ HasNoFiles held listed (commands.Disasm disasm) fault = IsUngiven listed (map st
 HasNoFiles held listed (commands.Schedule schedule) fault = IsUnableFor fault
 HasNoFiles held listed (commands.Places places) fault = IsUnhanded held listed (option_map string_bytes places.main) (map string_bytes places.files.items) fault
 
--- where the schedule of a run is written
+-- where the schedule of a run is written, or its page
 abbrev pub record_path : Command → Option Path
 record_path (commands.Run run) = option_map string_bytes run.record
 record_path (commands.Replay replay) = option_and_then (λ (then_run : ThenRun). option_map string_bytes then_run.record) replay.then_run
-record_path (commands.Trace trace) = None
+record_path (commands.Trace trace) = option_map string_bytes trace.html
 record_path (commands.Races races) = None
 record_path (commands.Search search) = option_map string_bytes search.record
 record_path (commands.Shrink shrink) = option_map string_bytes shrink.record
@@ -276,13 +279,45 @@ pub record IsWindow (trace : Trace) (window : Window) : Type 0 where
   pub form : window.form ≡ form_of trace.form
   pub summary : window.summary ≡ trace.summary
 
-abbrev pub IsTraceDone : Held → (given : ℕ) → (lefts : List (Option (List ℕ))) → Trace → List ℕ → Written → Status → Type 0
-IsTraceDone held given lefts trace text written status = (window : Window) × IsWindow trace window
-    × OfSchedule held (string_bytes trace.schedule) (λ left. Traces left lefts (conditions_of trace.limits trace.any_files given 10000000) window text status) × (written ≡ None)
+-- the lines of a page are objects of JSON
+pub record IsPageWindow (trace : Trace) (window : Window) : Type 0 where
+  pub from : window.from ≡ unwrap_or trace.from 0
+  pub to : window.to ≡ unwrap_or trace.to (2 ^ 64 - 1)
+  pub only : option_map (λ threads. threads.now) window.only ≡ option_map vec_items trace.only
+  pub form : window.form ≡ lines.Json
+  pub summary : window.summary ≡ trace.summary
 
-abbrev pub IsTraceUndone : Held → (given : ℕ) → (lefts : List (Option (List ℕ))) → Trace → (old new : Option (List ℕ)) → Fault → Written → Type 0
-IsTraceUndone held given lefts trace old new fault written = (window : Window) × IsWindow trace window
+-- the report is written, and the page is made
+abbrev pub IsRunPaged : Held → (given : ℕ) → (lefts : List (Option (List ℕ))) → Trace → (text page : List ℕ) → Status → Type 0
+IsRunPaged held given lefts trace text page status = (window : Window) × IsPageWindow trace window
+    × OfSchedule held (string_bytes trace.schedule) (λ left. Pages left lefts (conditions_of trace.limits trace.any_files given 10000000) window text page status)
+
+abbrev pub IsRunUnpaged : Held → (given : ℕ) → (lefts : List (Option (List ℕ))) → Trace → (old new : Option (List ℕ)) → Fault → Type 0
+IsRunUnpaged held given lefts trace old new fault = (window : Window) × IsPageWindow trace window
+    × OfSchedule held (string_bytes trace.schedule) (λ left. IsUnpaged left lefts (conditions_of trace.limits trace.any_files given 10000000) window old new fault)
+
+pub record IsPageDone (held : Held) (given : ℕ) (lefts : List (Option (List ℕ))) (trace : Trace) (text : List ℕ) (written : Written) (status : Status) : Type 0 where
+  pub page : List ℕ
+  pub paged : IsRunPaged held given lefts trace text page status
+  pub recorded : written ≡ written_at trace.html (Some page)
+
+-- there is no page, or all is on the output, and the page can't be written
+abbrev pub IsPageUndone : Held → (given : ℕ) → (lefts : List (Option (List ℕ))) → Trace → (old new : Option (List ℕ)) → Fault → Written → Type 0
+IsPageUndone held given lefts trace old new fault written = (written ≡ None)
+    × (IsRunUnpaged held given lefts trace old new fault
+    ⊎ ((text page : List ℕ) × (status : Status) × IsRunPaged held given lefts trace text page status × Appends old new text × IsUnable fault))
+
+-- by lines, or by a page in a file
+abbrev pub IsTraceDone : Held → (given : ℕ) → (lefts : List (Option (List ℕ))) → Trace → (html : Option (String Global)) → List ℕ → Written → Status → Type 0
+IsTraceDone held given lefts trace None text written status = (window : Window) × IsWindow trace window
+    × OfSchedule held (string_bytes trace.schedule) (λ left. Traces left lefts (conditions_of trace.limits trace.any_files given 10000000) window text status) × (written ≡ None)
+IsTraceDone held given lefts trace (Some html) text written status = IsPageDone held given lefts trace text written status
+
+abbrev pub IsTraceUndone : Held → (given : ℕ) → (lefts : List (Option (List ℕ))) → Trace → (html : Option (String Global)) → (old new : Option (List ℕ)) → Fault → Written → Type 0
+IsTraceUndone held given lefts trace None old new fault written = (window : Window) × IsWindow trace window
     × OfSchedule held (string_bytes trace.schedule) (λ left. IsUntraced left lefts (conditions_of trace.limits trace.any_files given 10000000) window old new fault) × (written ≡ None)
+IsTraceUndone held given lefts trace (Some html) old new fault written =
+    (IsUnable fault × (new ≡ old) × (written ≡ None)) ⊎ IsPageUndone held given lefts trace old new fault written
 
 -- ---- races
 
@@ -349,7 +384,7 @@ IsScheduleUndone held input schedule false old new fault written = IsUnprinted (
 abbrev pub IsDoneOver : Held → (given : ℕ) → (own : List LibraryFile) → (lefts : List (Option (List ℕ))) → (input : Option (List ℕ)) → Command → List ℕ → Written → Status → Type 0
 IsDoneOver held given own lefts input (commands.Run run) text written status = IsRunDoneBy held given lefts run run.sweep text written status
 IsDoneOver held given own lefts input (commands.Replay replay) text written status = IsReplayDone held given lefts replay replay.then_run text written status
-IsDoneOver held given own lefts input (commands.Trace trace) text written status = IsTraceDone held given lefts trace text written status
+IsDoneOver held given own lefts input (commands.Trace trace) text written status = IsTraceDone held given lefts trace trace.html text written status
 IsDoneOver held given own lefts input (commands.Races races) text written status = IsRacesDone held given lefts races text written status
 IsDoneOver held given own lefts input (commands.Search search) text written status = IsSearchDone held given lefts search text written status
 IsDoneOver held given own lefts input (commands.Shrink shrink) text written status = IsShrinkDone held given lefts shrink text written status
@@ -365,7 +400,7 @@ IsDoneOver held given own lefts input (commands.Places places) text written stat
 abbrev pub IsUndoneOver : Held → (given : ℕ) → (own : List LibraryFile) → (lefts : List (Option (List ℕ))) → (input : Option (List ℕ)) → Command → (old new : Option (List ℕ)) → Fault → Written → Type 0
 IsUndoneOver held given own lefts input (commands.Run run) old new fault written = IsRunUndoneBy held given lefts run run.sweep old new fault written
 IsUndoneOver held given own lefts input (commands.Replay replay) old new fault written = IsReplayUndone held given lefts replay replay.then_run old new fault written
-IsUndoneOver held given own lefts input (commands.Trace trace) old new fault written = IsTraceUndone held given lefts trace old new fault written
+IsUndoneOver held given own lefts input (commands.Trace trace) old new fault written = IsTraceUndone held given lefts trace trace.html old new fault written
 IsUndoneOver held given own lefts input (commands.Races races) old new fault written = IsRacesUndone held given lefts races old new fault written
 IsUndoneOver held given own lefts input (commands.Search search) old new fault written =
     (IsUnable fault × (new ≡ old) × (written ≡ None)) ⊎ IsSearchUndone held given lefts search old new fault written

@@ -1,6 +1,6 @@
 -- Which class files a command hands on (own): those for which its words stand, as they are read, and behind them those of the library
 -- that are added to them.
-use Rattle.std.specs.Prelude.{◌≡◌, ◌⊎◌, ◌++◌, ◌<◌, ◌-◌, ℕ, Bool, List, [], Option, Some, None, if◌then◌else◌, ltb, slice_get}
+use Rattle.std.specs.Prelude.{◌≡◌, ◌⊎◌, ◌++◌, ◌-◌, ℕ, Bool, List, [], Option, Some, None, if◌then◌else◌, ltb, slice_get}
 use Rattle.std.specs.Option.{option_and_then, option_map}
 use Rattle.model.specs.Names.{Name}
 use Rattle.library_files.specs.Adding.{LibraryFile}

@@ -12,6 +12,7 @@ pub mod LibraryMain
 pub mod Listings
 pub mod GivenPlaces
 pub mod Opening
+pub mod PagedRuns
 pub mod OutcomeFiles
 pub mod PlaceWords
 pub mod Placings

@@ -1,10 +1,12 @@
 -- What the engine of searches answers and writes, by the bytes that its devices hold. Where a device says nothing of its bytes,
 -- they are any that it may have handed over.
-use Rattle.std.specs.Prelude.{◌≡◌, ◌⊎◌, ◌≤◌, ◌/◌, ℕ, Bool, List, length, min, Option, Some, None, IfSome, is_some, unwrap_or}
+use Rattle.std.specs.Prelude.{◌≡◌, ◌⊎◌, ◌≤◌, ◌/◌, ℕ, Bool, List, length, min, Option, None, IfSome, is_some, unwrap_or, IsTrue, codes}
+use Rattle.model.specs.declared.event.Event.{Event}
 use Rattle.model.specs.declared.limits.Limits.{Limits}
 use Rattle.model.specs.Accepted.{IsAccepted}
 use Rattle.model.specs.Classes.{Program}
 use Rattle.model.specs.Devices.{AppendsFront}
+use Rattle.model.specs.Report.{line}
 use Rattle.model.specs.Schedule.{events_of}
 use Rattle.schedule.specs.Files.{Recording}
 use Rattle.schedule.specs.Joined.{RecordedFile}
@@ -16,6 +18,7 @@ use Rattle.search.specs.OwnEdges.{names_own_edges}
 use Rattle.search.specs.search_reports.Reports.{search_text}
 use Rattle.search.specs.declared.search_reports.answers.Answer.{Answer}
 use Rattle.search.specs.declared.search_reports.answers.Answer.TheVariants as answers
+use Rattle.state_races.specs.reached_races.Reached.{IsReachedRaceLine}
 use Rattle.engines.specs.Engines.{ReadsEach}
 use Rattle.engines.specs.RecordForms.{recorded_as}
 use Rattle.engines.specs.Refusals.{IsRefused}
@@ -40,8 +43,18 @@ IsFileOf recording asked answers.GaveUp file = file ≡ None
 abbrev pub most_states : Search → ℕ
 most_states search = min (unwrap_or search.states 10000000) (unwrap_or search.memory 1000000000 / 128)
 
+-- the line of a race of a state to which some run comes
+abbrev pub IsRaceReached : Program → (frames : ℕ) → (words : List ℕ) → Type 0
+IsRaceReached trees frames words = (events : List Event) × IsReachedRaceLine trees frames events words
+
+-- so it is beside a complete answer that tells a race; beside any other it is the word alone
+abbrev pub TellsRace : Program → Limits → Answer → (race : List ℕ) → Type 0
+TellsRace trees limits (answers.Complete outcomes kinds) race = IsTrue kinds.race → IsRaceReached trees limits.frames race
+TellsRace trees limits answer race = race ≡ line (codes "race")
+
 -- The class files are accepted. A search over all schedules of their program, within the limits, has this answer, with so many states
--- met, and no more than may be; and this is its text, the file of the schedule, and the status.
+-- met, and no more than may be; and this is its text, with the line of a race of a state to which a run comes, the file of the schedule,
+-- and the status.
 pub record IsSearched (form : RecordForm) (files : List (List ℕ)) (asked : LimitOptions) (goal : Goal) (may_stop : Bool) (most : ℕ) (recorded : Bool) (text : List ℕ)
     (file : Option (List ℕ)) (status : Status) : Type 0 where
   pub trees : Program
@@ -52,7 +65,9 @@ pub record IsSearched (form : RecordForm) (files : List (List ℕ)) (asked : Lim
   pub states : ℕ
   pub few : 1 ≤ most → states ≤ most
   pub says : Says trees limits goal may_stop most states answer
-  pub told : text ≡ search_text answer (names_own_edges trees) states
+  pub race : List ℕ
+  pub raced : TellsRace trees limits answer race
+  pub told : text ≡ search_text answer race (names_own_edges trees) states
   pub spelled : IsFileOf (recorded_as limits form files) recorded answer file
   pub ended : status ≡ search_status answer
 

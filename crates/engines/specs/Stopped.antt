@@ -1,5 +1,5 @@
 -- The text of a run that may be stopped (own).
-use Rattle.std.specs.Prelude.{◌≡◌, ℕ, List, Bool, true, false, ◌++◌, codes, if◌then◌else◌, ltb, map}
+use Rattle.std.specs.Prelude.{ℕ, List, Bool, false, ◌++◌, codes, if◌then◌else◌, ltb, map}
 use Rattle.model.specs.Report.{end_state_of, line, number, thread_lines}
 use Rattle.model.specs.Texts.{printed_lines}
 use Rattle.model.specs.declared.end.End.{End}

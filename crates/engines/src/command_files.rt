@@ -64,13 +64,18 @@ pub(crate) fn check_record(alloc: Global, command: &Command, files: &[String]) -
     ensures apart { IfOk result (λ _. IsUnread command.now (map string_bytes files.now)) }
     ensures read { IfErr result (λ usage. Refuses usage (IsReadToo command.now (map string_bytes files.now))) }
 {
-    check_path(alloc, record_path(command), files)?;
+    check_path(alloc, written_option(command), record_path(command), files)?;
     check_outcomes(alloc, outcome_folder(command), files)?;
     check_outcomes(alloc, outcome_folder(command), sweep_texts(command))
 }
 
-/// Refuses a file that is to be written and is one of these.
-fn check_path(alloc: Global, path: Option<&str>, files: &[String]) -> Result<(), Usage>
+/// Refuses a file that is to be written, by an option of this name, and is one of these.
+fn check_path(
+    alloc: Global,
+    option: &str,
+    path: Option<&str>,
+    files: &[String],
+) -> Result<(), Usage>
     ensures apart { IfOk result (λ _.
         IsUnreadAt (option_map (λ path. path.now) path.entry) (map string_bytes files.now)) }
     ensures read { IfErr result (λ usage. Refuses usage
@@ -80,7 +85,7 @@ fn check_path(alloc: Global, path: Option<&str>, files: &[String]) -> Result<(),
         return Ok(());
     };
     if is_given(alloc, files, path)? {
-        return Err(Usage::read_too(alloc, path));
+        return Err(Usage::read_too(alloc, option, path));
     }
     Ok(())
 }
@@ -183,7 +188,15 @@ fn goal_texts(goal: &Option<Goal>) -> &[String]
     }
 }
 
-/// The path of the file that the schedule of a run is written to, if one is.
+/// The name of the option that names the file that is written.
+fn written_option(command: &Command) -> &'static str {
+    match command {
+        Command::Trace(_) => "html",
+        _ => "record",
+    }
+}
+
+/// The path of the file that the schedule of a run, or its page, is written to, if one is.
 pub(crate) fn record_path(command: &Command) -> Option<&str>
     ensures { option_map (λ path. path.now) result ≡ record_path command.now }
 {
@@ -195,8 +208,8 @@ pub(crate) fn record_path(command: &Command) -> Option<&str>
         },
         Command::Search(options) => options.record.as_deref(),
         Command::Shrink(options) => options.record.as_deref(),
-        Command::Trace(_)
-        | Command::Races(_)
+        Command::Trace(options) => options.html.as_deref(),
+        Command::Races(_)
         | Command::Verify(_)
         | Command::Disasm(_)
         | Command::Schedule(_)

@@ -11,10 +11,10 @@
 //!     (`IsUnread`);
 //!   - behind them come the files of the classes that the library adds (`AreHanded`, by `AreAdded` of `library_files`).
 //!     It adds none for `disasm` and with `--files-alone` (`library_of`);
-//!   - `run`, `replay` and `search` hand on all their options; `trace` its window and its form (`IsWindow`); `search`
-//!     its goal (`IsSearchedFor`), with the text of the file of `differs`; `verify` whether it is of a library; `disasm`
-//!     whether names are asked for; `schedule` whether a file is made, and with `--places` the schedule
-//!     (`IsPlacesDone`); `run` over seeds its sweep (`IsSweepDone`);
+//!   - `run`, `replay` and `search` hand on all their options; `trace` its window and its form (`IsWindow`), or the
+//!     file of its page (`IsPageDone`); `search` its goal (`IsSearchedFor`), with the text of the file of `differs`;
+//!     `verify` whether it is of a library; `disasm` whether names are asked for; `schedule` whether a file is made,
+//!     and with `--places` the schedule (`IsPlacesDone`); `run` over seeds its sweep (`IsSweepDone`);
 //!   - the file that is asked for holds the bytes of the schedule, and each other file what it held (`IsWith`); of
 //!     `run` over seeds one for each outcome, in the folder that is asked for (`written_in`), and after a fault those
 //!     before it (`IsSweepUnrecorded`).
@@ -64,13 +64,17 @@
 //!   lines of the events and of the report behind them (`traced`, `IsTraced`, with `IsTrace` of `traced_runs`); and
 //!   after `device` and `memory` a beginning was written, of that text, or of the lines of a beginning of the events
 //!   (`faulty`, `IsUntraced`).
+//! - `page_engine`, over any readers and writer: what is proved of `replay_engine`, but that there is a page, too: that
+//!   of the lines of a trace and of the report (`paged`, `IsPaged`, with `IsPage` of `pages`). Where these lines have
+//!   more than 900,000 bytes, they are those of a summary (`TracesAs`). With a fault there is no page (`none`).
 //! - `races_engine`, over any readers and writer: what is proved of `replay_engine`, but that the text is that of the
 //!   data races of the events that were done, a line for each, and of the report behind them (`raced`, `WritesRaces` of
 //!   `Theorem`). Each race that is told is one of these events, and each access that races with an earlier one is the
 //!   second one of a race that is told (`AreRaces`). The status tells whether there is a race.
 //! - `search_engine`, over any readers and writers:
 //!   - with a status, one text was appended and nothing else: what a search over all schedules of the program of these
-//!     bytes answers, within the limits of the options (`searched`, `IsSearched`, with `Says` of `Theorem`).
+//!     bytes answers, within the limits of the options (`searched`, `IsSearched`, with `Says` of `Theorem`). Where all
+//!     schedules were searched, the line of a race is that of a state to which a run comes (`TellsRace`).
 //!     Where a run was found and its schedule is asked for, a file is made, which spells the events, the limits and
 //!     what is recorded of the class files, as far as a file of the version that is asked for tells them
 //!     (`recorded_as`); else none is;
@@ -144,20 +148,20 @@
 //!   the line of a fault (`fault_line`), or of a refused class of the library (`library_line`), is written where no
 //!   write fails, with its end and nothing else (`Fault::write_line`, `Complaint::write_text`).
 //! - No clause refuses a body that always answers a want of memory, or does so in the place of a refusal that stands in
-//!   the files. All cases show that this isn't so, of which some meet each refusal, and the tests of `linking_tests`
-//!   that link 65,000 files and files of half a megabyte.
+//!   the files. All cases show that this isn't so. Some meet each refusal but `TooLarge`; that one
+//!   `tests/test_hostile_files.py` meets, by 65,001 files and by files of half a megabyte.
 //!
 //! # Not proved
 //!
 //! - Not said by `run`: the texts of help and of `disasm --names`; what is told of threads and of failures.
-//! - Tested in `engine_tests`: devices that fail at each of their calls, and files that can't be read or written.
 //! - Shown by cases alone: that a text with places is read, which fault of it is answered, and its line; which entries
 //!   become places; the places of refusals that `linker` doesn't promise; the texts of usage faults; that what
 //!   threads are about is told of the schedule of the very run; that runs and replays come to an end; that workers and
 //!   their quantum are heeded.
 //! - Shown by `tools/try-files` alone: what stands in a file of the system after a failure, and what its links and
-//!   pipes get; what is seen of a run while it goes on, by `Growth`: the lines that it has printed, and the text of
-//!   `growing_text` beside the file of its record.
+//!   pipes get; that devices fail at once and behind a beginning; what is seen of a run while it goes on, by `Growth`:
+//!   the lines that it has printed, and the text of `growing_text` beside the file of its record; which seeds are
+//!   drawn, and when they are told; and that the clock stops runs, searches and sweeps.
 #![tactic(auto)]
 
 mod advised;
@@ -183,6 +187,7 @@ mod named_file;
 mod names;
 mod open;
 mod opening;
+mod paging;
 mod place_ends;
 mod place_schedules;
 mod placing;

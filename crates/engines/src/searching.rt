@@ -1,12 +1,15 @@
 //! A search over all schedules, over any readers and writers.
 
-ghost use Rattle.std.specs.Prelude.{◌≡◌, ◌+◌, ◌<◌, ◌^◌, IfOk, IfErr, length, map, is_some, sum_by, vec_items};
+ghost use Rattle.std.specs.Prelude.{◌≡◌, ◌+◌, ◌<◌, ◌^◌, IfOk, IfErr, IsTrue, codes, length, map, is_some, sum_by, vec_items};
 ghost use Rattle.std.specs.Option.{option_map};
 ghost use Rattle.std.specs.Io.KnownBytes.{Appends};
 ghost use Rattle.model.specs.Accepted.{IsAccepted};
 ghost use Rattle.engines.specs.Engines.{CountsFailure};
 ghost use Rattle.engines.specs.RecordForms.{record_form, recorded_as};
-ghost use Rattle.engines.specs.Searches.{IsFileOf, IsSearched, IsUnsearched, Searches, most_states};
+ghost use Rattle.engines.specs.Searches.{IsFileOf, IsRaceReached, IsSearched, IsUnsearched, Searches, TellsRace, most_states};
+ghost use Rattle.model.specs.Report.{line};
+ghost use Rattle.search.specs.RacyStates.{IsRaceShown};
+ghost use Rattle.search.specs.search_reports.Answers.{TellsRaceOf};
 
 use crate::class_files::read_class_files;
 use crate::fault::Fault;
@@ -17,8 +20,11 @@ use crate::verification::accepted;
 use command_line::Search;
 use model::{Limits, Sink, Source};
 use program_runs::verified_programs::verified_program;
-use search::search_reports::{Answer, search_report};
+use schedule::Schedule;
+use schedule::report::push_line;
+use search::search_reports::{Answer, SearchReport, search_report};
 use search::{Goal, Progress, states_within};
+use state_races::reached_races::race_line;
 use std::alloc::{AllocError, Global};
 use verifier::Verified;
 
@@ -108,7 +114,8 @@ fn search_of<P: Progress>(
     let linked = verified.linked();
     let most = most_states(options);
     let searched = search_report(alloc, progress, linked, program, limits, goal, most)?;
-    let text = searched.text(alloc)?;
+    let race = told_race(alloc, verified, &searched, limits)?;
+    let text = searched.text(alloc, race.as_slice())?;
     let is_recorded = options.record.is_some();
     let form = RecordForm {
         given,
@@ -117,6 +124,51 @@ fn search_of<P: Progress>(
     let file = found_file(alloc, is_recorded, files, form, limits, &searched.answer)?;
     let status = Status::of_search(&searched.answer);
     Ok(Outcome { text, file, status })
+}
+
+/// The word for a race of which no more is told. The only error is a want of memory.
+fn race_word(alloc: Global) -> Result<Vec<u8>, AllocError>
+    ensures { IfOk result (λ text. text.items ≡ line (codes "race")) }
+{
+    let mut text = Vec::new(alloc);
+    push_line(&mut text, b"race")?;
+    Ok(text)
+}
+
+/// The line of the race of the state to which a schedule leads, if a race is told. The only error is a want of memory.
+fn shown_race(
+    alloc: Global,
+    verified: &Verified,
+    limits: Limits,
+    is_told: bool,
+    race: &Option<Schedule>,
+) -> Result<Vec<u8>, AllocError>
+    requires { IsRaceShown verified.now limits is_told race.now }
+    ensures { IfOk result (λ text. IsTrue is_told → IsRaceReached verified.now limits.frames text.items) }
+{
+    match race {
+        Some(schedule) => race_line(alloc, verified, schedule, limits),
+        None => race_word(alloc),
+    }
+}
+
+/// The line of a race, where the answer of a search is complete and tells one: that of a state to which a run comes.
+/// Else it is the word alone. The only error is a want of memory.
+fn told_race(
+    alloc: Global,
+    verified: &Verified,
+    searched: &SearchReport,
+    limits: Limits,
+) -> Result<Vec<u8>, AllocError>
+    requires { TellsRaceOf verified.now limits searched.now.answer searched.now.race }
+    ensures { IfOk result (λ text. TellsRace verified.now limits searched.now.answer text.items) }
+{
+    match &searched.answer {
+        Answer::Complete(_, kinds) => {
+            shown_race(alloc, verified, limits, kinds.race, &searched.race)
+        }
+        Answer::Found(_, _, _) | Answer::GaveUp => race_word(alloc),
+    }
 }
 
 /// How many states there may be.

@@ -1,1 +1,2 @@
 pub mod named_fields
+pub mod instance_variables

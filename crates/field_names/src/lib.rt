@@ -2,4 +2,6 @@
 //! among the fields of these; and that no two classes or fields have one name.
 #![tactic(auto)]
 
+pub mod instance_variables;
 pub mod named_fields;
+mod variables;

@@ -13,13 +13,12 @@
 //! - `named_fields-volatile-is-final`: another flag is read; refused by `is_volatile_at`.
 //! - `named_fields-field-of-another-place`: the place before is told; refused by `named_field`.
 //! - `named_fields-class-of-the-first`: the first class is told; refused by `named_field`.
+//! - `variables-hidden_ones_are`: each field is a variable; refused by `is_variable`.
 
-ghost use Rattle.std.specs.Prelude.{◌≡◌, ◌||◌, IsFalse, option_map};
+ghost use Rattle.std.specs.Prelude.{◌≡◌, IsFalse, option_map};
 ghost use Rattle.model.specs.Linkable.{stands, DuplicateClass};
 ghost use Rattle.model.specs.Lookup.{find_field};
 ghost use Rattle.hierarchy.specs.Places.{IsFieldAt, member_in};
-ghost use Rattle.model.specs.Names.{member_eq};
-ghost use Rattle.data_races.specs.EventActions.{is_variable};
 ghost use Rattle.data_races.specs.Variables.{declares_volatile};
 ghost use Rattle.constant_pool.specs.View.{reference_of};
 ghost use Rattle.types.specs.method_code.Linked.{IsLinked};
@@ -28,6 +27,7 @@ ghost use Rattle.method_tables.specs.method_links.Numbers.{AreNumbersOf};
 ghost use Rattle.race_places.specs.named_actions.Names.{AreApart};
 ghost use Rattle.field_names.specs.named_fields.Fields.{IsFieldIf, NamesField, field_named, field_referred, names_of};
 
+use crate::variables::is_variable;
 use class_tree::Reference;
 use class_tree::access_flags::has;
 use code_places::method_of;
@@ -41,31 +41,6 @@ use types::method_code::MethodCode;
 /// ACC_VOLATILE (JVMS table 4.5-A; JLS 8.3.1.4).
 const VOLATILE: u16 = 0x0040;
 
-/// The hidden fields that are no variables (own): what a Thread is to run, and what a Throwable tells.
-const TARGET: Reference<'static> = Reference {
-    class: b"java/lang/Thread",
-    name: b"target",
-    descriptor: b"Ljava/lang/Runnable;",
-};
-
-const MESSAGE: Reference<'static> = Reference {
-    class: b"java/lang/Throwable",
-    name: b"message",
-    descriptor: b"Ljava/lang/String;",
-};
-
-const CAUSE: Reference<'static> = Reference {
-    class: b"java/lang/Throwable",
-    name: b"cause",
-    descriptor: b"Ljava/lang/Throwable;",
-};
-
-const SUPPRESSED: Reference<'static> = Reference {
-    class: b"java/lang/Throwable",
-    name: b"suppressed",
-    descriptor: b"[Ljava/lang/Throwable;",
-};
-
 /// A field: the number of the class that declares it, its place among the fields of that class, whether it is
 /// volatile, and whether it is a variable. Of the hidden fields a StringBuilder's text alone is one (own).
 #[derive(Clone, Copy, PartialEq, Eq)]
@@ -74,46 +49,6 @@ pub struct NamedField {
     pub field: u16,
     pub is_volatile: bool,
     pub is_variable: bool,
-}
-
-/// Whether the field that is found at a place is another one.
-fn is_field(set: &ClassSet, field: Reference<'_>, place: MemberPlace, other: Reference<'_>) -> bool
-    ensures { result ≡ member_eq (reference_of other.entry) (member_in set.now (reference_of field.entry) place) }
-{
-    other.class == set.name_at(place.class)
-        && other.name == field.name
-        && other.descriptor == field.descriptor
-}
-
-fn is_else(one: bool, other: bool) -> bool
-    ensures { result ≡ (one || other) }
-{
-    if one { true } else { other }
-}
-
-/// Whether the field that is found at a place is one of two others.
-fn is_either(
-    set: &ClassSet,
-    field: Reference<'_>,
-    place: MemberPlace,
-    one: Reference<'_>,
-    other: Reference<'_>,
-) -> bool
-    ensures { result ≡ (member_eq (reference_of one.entry) (member_in set.now (reference_of field.entry) place)
-        || member_eq (reference_of other.entry) (member_in set.now (reference_of field.entry) place)) }
-{
-    is_else(
-        is_field(set, field, place, one),
-        is_field(set, field, place, other),
-    )
-}
-
-/// Whether the field that is found at a place is a variable.
-fn is_variable(set: &ClassSet, field: Reference<'_>, place: MemberPlace) -> bool
-    ensures { result ≡ is_variable (member_in set.now (reference_of field.entry) place) }
-{
-    let first = is_either(set, field, place, TARGET, MESSAGE);
-    !is_else(first, is_either(set, field, place, CAUSE, SUPPRESSED))
 }
 
 /// Whether the field that is found at a place is volatile.
@@ -132,7 +67,7 @@ fn is_volatile_at(set: &ClassSet, field: Reference<'_>, place: MemberPlace) -> b
 }
 
 /// The field that a symbolic reference names (JVMS 5.4.3.2).
-fn named_field(hierarchy: &Hierarchy, field: Reference<'_>) -> Option<NamedField>
+pub(crate) fn named_field(hierarchy: &Hierarchy, field: Reference<'_>) -> Option<NamedField>
     requires { IsLinked hierarchy.now }
     ensures { IsFieldIf hierarchy.now (find_field hierarchy.now (reference_of field.entry)) result }
 {

@@ -1,4 +1,5 @@
 pub mod Kept
+pub mod Extended
 pub mod Laid
 pub mod Sound
 pub mod Same

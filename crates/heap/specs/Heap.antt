@@ -114,6 +114,28 @@ abbrev pub put_element : List Object → (reference index word : ℕ) → List O
 put_element objects reference index word =
     change_at objects reference (λ (array : Object). with_word index (stored array.kind word) array)
 
+-- ---- more words
+
+-- an object has more words, behind those that it had
+abbrev pub with_more : List ℕ → Object → Object
+with_more words object = record object { words = object.words ++ words }
+
+abbrev pub extended : List Object → (reference : ℕ) → List ℕ → List Object
+extended objects reference words = change_at objects reference (with_more words)
+
+-- all of them count as cells
+abbrev pub with_words : Heap → (reference : ℕ) → List ℕ → Heap
+with_words heap reference words = record heap {
+  objects = extended heap.objects reference words;
+  counted = heap.counted + length words;
+}
+
+-- they were not added, for this cause, which is never the limit on objects: nothing has changed
+abbrev pub IsNotExtended : AllocRefusal → ℕ → Heap → Heap → Type 0
+IsNotExtended Objects counted old new = ⊥
+IsNotExtended Cells counted old new = (old.cell_limit < old.counted + counted) × (new ≡ old)
+IsNotExtended Memory counted old new = (old.counted + counted ≤ old.cell_limit) × (new ≡ old)
+
 -- ---- monitors
 
 -- the monitors answer, and the rest of the heap stays

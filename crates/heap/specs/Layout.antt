@@ -1,5 +1,5 @@
 -- Where the words of the objects lie: those of each up to those of the next. No public clause cites this module.
-use Rattle.std.specs.Prelude.{◌≡◌, ℕ, ◌+◌, ◌<◌, ◌≤◌, ◌^◌, List, [], ◌∷◌, length, drop, slice_range}
+use Rattle.std.specs.Prelude.{◌≡◌, ℕ, ◌+◌, ◌<◌, ◌≤◌, ◌^◌, List, [], ◌∷◌, ◌++◌, length, map, take, drop, slice_range}
 use Rattle.heap.specs.declared.kind.ObjectKind.{ObjectKind}
 use Rattle.heap.specs.declared.layout.Entry.{Entry}
 use Rattle.heap.specs.monitor.Locks.{Locks}
@@ -58,3 +58,17 @@ pub record IsSound (entries : List Entry) (end monitors opening counted object_l
   pub objects_fit : length entries ≤ opening + object_limit
   pub limit_fits : object_limit ≤ 4000000000
   pub cells_fit : counted ≤ cell_limit
+
+-- ---- more words of an object
+
+-- where its words begin when so many cells were put before it
+abbrev pub later : ℕ → Entry → Entry
+later count entry = record entry { start = entry.start + count }
+
+-- those behind the object of this reference begin later
+abbrev pub moved : List Entry → (reference count : ℕ) → List Entry
+moved entries reference count = take (reference + 1) entries ++ map (later count) (drop (reference + 1) entries)
+
+-- cells put in at a place
+abbrev pub inserted : List ℕ → (place : ℕ) → List ℕ → List ℕ
+inserted cells place words = take place cells ++ (words ++ drop place cells)

@@ -1,9 +1,9 @@
 //! Where the words of objects lie, among the cells of all objects.
 
 ghost use Rattle.std.specs.Prelude.{◌≡◌, ◌+◌, ◌<◌, ◌≤◌, [], ◌∷◌, ◌++◌, OnOk, OnErr, IfSome, IfNone, IsTrue, length};
-ghost use Rattle.std.specs.Prelude.{replicate, slice_get, slice_range, option_map};
+ghost use Rattle.std.specs.Prelude.{◌^◌, All, drop, map, replicate, slice_get, slice_range, option_map, take};
 ghost use Rattle.heap.specs.Heap.{with_lock, words_at, word_at, put_field};
-ghost use Rattle.heap.specs.Layout.{AreLaid, IsPlace, start_at, entry_kind, objects_of};
+ghost use Rattle.heap.specs.Layout.{AreLaid, IsPlace, start_at, entry_kind, inserted, later, moved, objects_of};
 
 use crate::kind::ObjectKind;
 use crate::monitor::Monitors;
@@ -159,6 +159,54 @@ pub fn add_words(
         Ok(()) => Ok(()),
         Err(_) => unreachable!(),
     }
+}
+
+/// Puts words in among the cells, at a place; without memory nothing changes.
+fn insert(cells: &mut Vec<u32>, place: usize, words: &[u32]) -> Result<(), AllocError>
+    requires { place ≤ length cells.old.items }
+    ensures ok { OnOk result (cells.new.items ≡ inserted cells.old.items place words.now) }
+    ensures err { OnErr result (cells.new.items ≡ cells.old.items) }
+{
+    cells.extend_from_slice(words)?;
+    cells[place..].rotate_right(words.len());
+    Ok(())
+}
+
+/// The words of the objects from a place on begin so many cells later.
+fn shift(table: &mut [Entry], first: usize, count: usize)
+    requires fits { All (λ (entry : Entry). entry.start + count < 2 ^ 64) table.old }
+    ensures { table.new ≡ take first table.old ++ map (later count) (drop first table.old) }
+{
+    let mut place = first;
+    'entries: while place < table.len() {
+        let entry = table[place];
+        table[place] = Entry {
+            kind: entry.kind,
+            start: entry.start + count,
+        };
+        place += 1;
+    }
+}
+
+/// This object, which is there, gets these words behind those that it has; without memory nothing changes.
+pub fn extend(
+    table: &mut Vec<Entry>,
+    cells: &mut Vec<u32>,
+    object: u32,
+    words: &[u32],
+) -> Result<(), AllocError>
+    requires laid { AreLaid table.old.items (length cells.old.items) }
+    ensures entries { OnOk result (table.new.items ≡ moved table.old.items object (length words.now)) }
+    ensures words { OnOk result (cells.new.items ≡ inserted cells.old.items
+        (start_at table.old.items (length cells.old.items) (object + 1)) words.now) }
+    ensures err { OnErr result ((table.new.items ≡ table.old.items) × (cells.new.items ≡ cells.old.items)) }
+{
+    let next = object as usize + 1;
+    let place = start(table.as_slice(), cells.as_slice(), next);
+    insert(cells, place, words)?;
+    let _end = cells.len();
+    shift(table, next, words.len());
+    Ok(())
 }
 
 /// Whether these are the same words.

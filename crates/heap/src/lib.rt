@@ -37,7 +37,7 @@
 //! # Not proved
 //!
 //! - That what is the same in two heaps is found to be so.
-//! - Only tested, in `machine_tests`: that calls succeed where memory is there.
+//! - Shown by cases alone: that calls succeed where memory is there.
 //!
 //! # Wrong bodies
 //!

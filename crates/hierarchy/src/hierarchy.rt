@@ -7,7 +7,7 @@ ghost use Rattle.model.specs.Names.{name_eq};
 ghost use Rattle.constant_pool.specs.View.{reference_of};
 ghost use Rattle.model.specs.ReferenceTypes.{is_subclass_or_implements};
 ghost use Rattle.model.specs.Classes.{classes_of, interfaces_above, all_superinterfaces, implements};
-ghost use Rattle.model.specs.Lookup.{method_in_class, any_method, first_found, find_field, find_method, find_interface_method};
+ghost use Rattle.model.specs.Lookup.{method_in_class, any_method, first_found, searched_class, find_field, find_method, find_interface_method};
 ghost use Rattle.hierarchy.specs.declared.rows.Above.TheVariants as above;
 ghost use Rattle.hierarchy.specs.Above.{rows_of};
 ghost use Rattle.hierarchy.specs.Fields.{SuperinterfacesAreFlat};
@@ -120,6 +120,16 @@ fn row_with_superinterfaces<'a>(
         return None;
     }
     row_of(set, supertypes, class)
+}
+
+/// The class whose methods those of a class or of an array are: an array has Object's (JVMS 2.4).
+pub fn searched_class(class: &[u8]) -> &[u8]
+    ensures { result.now ≡ searched_class class.now }
+{
+    match class {
+        [b'[', ..] => b"java/lang/Object".as_slice(),
+        _ => class,
+    }
 }
 
 impl Hierarchy {
@@ -237,10 +247,11 @@ impl Hierarchy {
             ≡ find_method self.now (reference_of method.entry) }
         ensures place { IfSome result (IsMethodAt self.now (reference_of method.entry)) }
     {
-        if let Some(found) = self.set.method_above(method.class, method, Wanted::Any) {
+        let class = searched_class(method.class);
+        if let Some(found) = self.set.method_above(class, method, Wanted::Any) {
             return Some(found);
         }
-        self.method_in_superinterfaces(method.class, method)
+        self.method_in_superinterfaces(class, method)
     }
 
     /// The method that a symbolic reference to a method of an interface names (JVMS 5.4.3.4). Takes no memory.

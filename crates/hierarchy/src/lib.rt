@@ -32,6 +32,7 @@
 //!   not proved, only that look-ups find the definition's member with them and without.
 //! - `implements`, `is_subclass_or_implements` and `is_subtype` (also of arrays): they are the definitions of the same
 //!   names.
+//! - `searched_class`, in whose place `find_method` looks for a method of an array class, is the definition of that name.
 //! - `find_field`, `find_method` and `find_interface_method`: the member that the definition gives (`found`), and where
 //!   it stands (`place`). All of this is so of any set, also of one with cycles or with names of no class. None of
 //!   these calls takes memory.
@@ -79,7 +80,7 @@ mod set;
 mod sought;
 
 pub use cycles::first_in_cycle;
-pub use hierarchy::Hierarchy;
+pub use hierarchy::{Hierarchy, searched_class};
 pub use place::MemberPlace;
 pub use reference_type::{Innermost, ReferenceType};
 pub use refusal::SetRefusal;

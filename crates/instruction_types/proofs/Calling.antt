@@ -1,22 +1,23 @@
 -- Calls: what their descriptors describe, what they want and where they lead.
-use Rattle.std.proofs.Common.{◌≡◌, ℕ, List, [], ◌∷◌, ◌++◌, length, map, reverse, Option, Some, None, Bool, true, false, cond, ◌||◌, Result, Ok, Err, refl, sym, ap, ◌∙◌, subst}
+use Rattle.std.proofs.Common.{⊎_elim, ◌≡◌, ℕ, List, [], ◌∷◌, ◌++◌, length, map, reverse, Option, Some, None, Bool, true, false, cond, ◌||◌, Result, Ok, Err, refl, sym, ap, ◌∙◌, subst}
 use Rattle.std.specs.Prelude.{IfOk, IfErr}
 use Rattle.std.specs.List.{list_any}
 use Rattle.std.specs.Option.{option_and_then, option_map_or, option_to_list}
 use Rattle.std.proofs.lemmas.List.{length-map, map-append}
-use Rattle.std.proofs.lemmas.Bool.{or_left, or_right}
+use Rattle.std.proofs.lemmas.Bool.{or_cases, or_left, or_right}
+use Rattle.std.proofs.lemmas.List.Folds.{list_any-append}
 use Rattle.model.specs.declared.value.Value.{Value}
-use Rattle.model.specs.Names.{Member}
+use Rattle.model.specs.Names.{Name, Member}
 use Rattle.model.specs.Tree.{FieldTree, MethodTree}
 use Rattle.model.specs.Classes.{Program}
 use Rattle.model.specs.Lookup.{field_of, method_of}
-use Rattle.model.specs.DescriptorParts.{classes_in}
-use Rattle.model.specs.DescribedTypes.{DeclaredType, DeclaredInt, DeclaredReference, parameters_declared, results_declared, declared_want, verification_type}
-use Rattle.model.specs.Resolution.{is_missing, member_classes}
+use Rattle.model.specs.DescriptorParts.{classes_in, classes_named}
+use Rattle.model.specs.DescribedTypes.{DeclaredType, DeclaredInt, DeclaredReference, parameters_declared, results_declared, declared_want, type_named, verification_type}
+use Rattle.model.specs.Resolution.{is_missing, member_classes, called_classes}
 use Rattle.model.specs.Types as model
 use Rattle.model.specs.Operands.{Slots}
 use Rattle.model.specs.Sites.{MeaningOf, Site, wants_of, to_next}
-use Rattle.model.specs.Calls.{of_class, call_wants, result_types, parameter_count, if_method}
+use Rattle.model.specs.Calls.{call_wants, result_types, parameter_count, if_method}
 use Rattle.model.specs.Meanings.{if_field}
 use Rattle.types.specs.declared.verification_type.VerificationType.{VerificationType}
 use Rattle.types.specs.declared.verification_type.VerificationType.TheVariants as type
@@ -33,7 +34,9 @@ use Rattle.instruction_types.specs.declared.meaning.NoMeaning.{NoMeaning}
 use Rattle.instruction_types.specs.declared.meaning.NoMeaning.TheVariants as reasons
 use Rattle.instruction_types.specs.Leads.{leads_in, initialised_leads}
 use Rattle.instruction_types.specs.Means.{Means}
-use Rattle.instruction_types.specs.Answers.{Answers}
+use Rattle.instruction_types.specs.Answers.{Answers, is_no_type}
+use Rattle.types.specs.described_types.Described.{type_missing}
+use Rattle.instruction_types.proofs.Missing.{name_lacks}
 use Rattle.instruction_types.specs.Wants.{want_for, CallsOn, Constructs, TellsCall, TellsCallOn, leads_of_result}
 use Rattle.instruction_types.proofs.operand_types.Lists.{map-reverse}
 
@@ -138,9 +141,39 @@ module _ (files : Program) where
 
   -- ---- answers
 
-  module _ (site : Site) (m : Member) (others : Bool) where
+  -- where a class of the descriptor is missing, one of a call's is
+  abbrev IsWithin : Member → List Name → Type 0
+  IsWithin m names = list_any (is_missing files) (classes_in m.descriptor) ≡ true → list_any (is_missing files) names ≡ true
+
+  pub member_lacks : (m : Member) → IsWithin m (member_classes (Some m))
+  member_lacks m h = or_right (is_missing files m.class) _ h
+
+  pub called_lacks : (m : Member) → IsWithin m (called_classes (Some m))
+  called_lacks m h =
+      list_any-append (is_missing files) (classes_named m.class) (classes_in m.descriptor)
+      ∙ or_right (list_any (is_missing files) (classes_named m.class)) _ h
+
+  -- where there is no type of the receiver, a class of the call is missing, or what stands for a class names no type
+  pub named_lacks : (m : Member) (others : Bool) → type_missing files (type_named m.class) ≡ true
+      → (list_any (is_missing files) (called_classes (Some m)) || (others || is_no_type m.class)) ≡ true
+  named_lacks m others h =
+      ⊎_elim
+      (λ class. or_left (list_any (is_missing files) (called_classes (Some m))) _
+      (list_any-append (is_missing files) (classes_named m.class) (classes_in m.descriptor) ∙ or_left (list_any (is_missing files) (classes_named m.class)) _ class))
+      (λ none. or_right (list_any (is_missing files) (called_classes (Some m))) _ (or_right others _ none))
+      (or_cases (list_any (is_missing files) (classes_named m.class)) _ (name_lacks files m.class h))
+
+  -- what refuses less tells as much
+  pub answers_more : (site : Site) (less more : Bool) (model : Option (MeaningOf Value)) (r : Result Meaning NoMeaning) → (less ≡ true → more ≡ true)
+      → Answers files site less model r → Answers files site more model r
+  answers_more site less more model (Ok meaning) so h = h
+  answers_more site less more model (Err reasons.Unnamed) so h = h
+  answers_more site less more model (Err reasons.NotLinked) so h = so h
+  answers_more site less more model (Err reasons.OutOfMemory) so h = tt
+
+  module _ (site : Site) (m : Member) (names : List Name) (within : IsWithin m names) (others : Bool) where
     abbrev refused : Bool
-    refused = list_any (is_missing files) (member_classes (Some m)) || others
+    refused = list_any (is_missing files) names || others
 
     abbrev leads_on : MeaningOf Value → Type 0
     leads_on M = (ts : Slots model.VerificationType) (ops rest : List model.VerificationType) → M.leads ts ops rest ≡ to_next site.next (result_types files m) ts ops rest
@@ -150,7 +183,7 @@ module _ (files : Program) where
     some_answer model M r q h = subst (λ (o : Option (MeaningOf Value)). Answers files site refused o r) (sym q) h
 
     descriptor_lacks : list_any (is_missing files) (classes_in m.descriptor) ≡ true → refused ≡ true
-    descriptor_lacks h = or_left (list_any (is_missing files) (member_classes (Some m))) others (or_right (is_missing files m.class) _ h)
+    descriptor_lacks h = or_left (list_any (is_missing files) names) others (within h)
 
     means_call : (receiver : Option Want) (M : MeaningOf Value) (meaning : Meaning)
         → M.wants ≡ call_wants files m (map (want_in files) (option_to_list receiver)) → leads_on M → CallsOn files m receiver meaning
@@ -166,11 +199,12 @@ module _ (files : Program) where
     answers_call receiver model M (Err reasons.NotLinked) q w l h = descriptor_lacks h
     answers_call receiver model M (Err reasons.OutOfMemory) q w l h = tt
 
-    pub answers_call_on : (model : Option (MeaningOf Value)) (M : MeaningOf Value) (r : Result Meaning NoMeaning)
-        → model ≡ Some M → M.wants ≡ call_wants files m (of_class files m.class ∷ []) → leads_on M → TellsCallOn files m r
-        → Answers files site refused model r
-    answers_call_on model M (Ok meaning) q w l h =
+    pub answers_call_on : (wanted : model.Want) (missing : Bool) (model : Option (MeaningOf Value)) (M : MeaningOf Value)
+        (r : Result Meaning NoMeaning)
+        → model ≡ Some M → M.wants ≡ call_wants files m (wanted ∷ []) → leads_on M → TellsCallOn files m wanted missing r
+        → (missing ≡ true → refused ≡ true) → Answers files site refused model r
+    answers_call_on wanted missing model M (Ok meaning) q w l h so =
         some_answer model M (Ok meaning) q (means_call (Some h.0) M meaning (w ∙ ap (λ v. call_wants files m (v ∷ [])) (sym h.1)) l h.2)
-    answers_call_on model M (Err reasons.Unnamed) q w l h = absurd h
-    answers_call_on model M (Err reasons.NotLinked) q w l h = or_left (list_any (is_missing files) (member_classes (Some m))) others h
-    answers_call_on model M (Err reasons.OutOfMemory) q w l h = tt
+    answers_call_on wanted missing model M (Err reasons.Unnamed) q w l h so = absurd h
+    answers_call_on wanted missing model M (Err reasons.NotLinked) q w l h so = ⊎_elim so descriptor_lacks (or_cases missing _ h)
+    answers_call_on wanted missing model M (Err reasons.OutOfMemory) q w l h so = tt

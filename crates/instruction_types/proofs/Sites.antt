@@ -17,9 +17,8 @@ use Rattle.model.specs.Lookup.{find_method}
 use Rattle.model.specs.DescriptorScan.{dimensions_of}
 use Rattle.model.specs.DescriptorParts.{classes_in, classes_named}
 use Rattle.model.specs.DescribedTypes.{type_named}
-use Rattle.model.specs.CodeParts.{class_operand}
 use Rattle.model.specs.CodeConditions.{too_many_dimensions}
-use Rattle.model.specs.Resolution.{is_missing, member_classes, operand_classes}
+use Rattle.model.specs.Resolution.{is_missing, member_classes, called_classes, operand_classes}
 use Rattle.model.specs.Operands.{values}
 use Rattle.model.specs.Sites.{MeaningOf, Site}
 use Rattle.model.specs.Arrays.{reference_array_meaning}
@@ -28,7 +27,7 @@ use Rattle.model.specs.Calls.{if_method, static_call, special_of, interface_of, 
 use Rattle.model.specs.Meanings.{field_meaning, invoke_virtual_meaning, other_meaning}
 use Rattle.instruction_types.specs.declared.meaning.Meaning.{Meaning}
 use Rattle.instruction_types.specs.declared.meaning.NoMeaning.{NoMeaning}
-use Rattle.instruction_types.specs.Answers.{Answers, AnswersAt, returned_classes, is_no_type}
+use Rattle.instruction_types.specs.Answers.{Answers, AnswersAt, returned_classes, named_constant, is_no_type}
 
 module _ (files : Program) (site : Site) (r : Result Meaning NoMeaning) where
   abbrev pub some_missing : List Name → Bool
@@ -37,7 +36,7 @@ module _ (files : Program) (site : Site) (r : Result Meaning NoMeaning) where
   abbrev pub refused_for : Instr → Bool
   refused_for i =
       some_missing (returned_classes site.method.descriptor i ++ operand_classes site.body.pool i)
-      || (too_many_dimensions site.body.pool i || option_map_or is_no_type (class_operand site.body.pool i) false)
+      || (too_many_dimensions site.body.pool i || option_map_or is_no_type (named_constant site.body.pool i) false)
 
   abbrev pub AnswersFor : Instr → Type 0
   AnswersFor i = Answers files site (refused_for i) (other_meaning values files site i) r
@@ -54,28 +53,32 @@ module _ (files : Program) (site : Site) (r : Result Meaning NoMeaning) where
       let there = subst (λ (names : List Name). Answers files site (some_missing names || false) (field_meaning values files site.next how m) r) (sym (append-nil (member_classes (Some m)))) h in
       answers_for (instr.Field how index) is (subst (λ (o : Option Member). Answers files site (some_missing (member_classes o ++ []) || false) (option_and_then (field_meaning values files site.next how) o) r) e there)
 
-  abbrev AnswersCall : (Option Member → Option (MeaningOf Value)) → Option Member → Type 0
-  AnswersCall model o = Answers files site (some_missing (member_classes o) || false) (model o) r
+  abbrev AnswersCall : (Option Member → List Name) → (Option Member → Option (MeaningOf Value)) → Option Member → Type 0
+  AnswersCall classes model o = Answers files site (some_missing (classes o) || false) (model o) r
+
+  abbrev AnswersVirtual : Option Member → Type 0
+  AnswersVirtual o =
+      Answers files site (some_missing (called_classes o) || (false || option_map_or is_no_type (option_map (λ (m : Member). m.class) o) false)) (option_and_then (invoke_virtual_meaning values files site) o) r
 
   pub for_virtual : (index : ℕ) (m : Member) → site.instr ≡ instr.Invoke invocation.Virtual index → Some m ≡ method_at site.body.pool index
-      → AnswersCall (option_and_then (invoke_virtual_meaning values files site)) (Some m) → AnswersAt files site r
-  for_virtual index m is e h = answers_for (instr.Invoke invocation.Virtual index) is (subst (AnswersCall (option_and_then (invoke_virtual_meaning values files site))) e h)
+      → AnswersVirtual (Some m) → AnswersAt files site r
+  for_virtual index m is e h = answers_for (instr.Invoke invocation.Virtual index) is (subst AnswersVirtual e h)
 
   pub for_special : (index : ℕ) (m : Member) → site.instr ≡ instr.Invoke invocation.Special index → Some m ≡ method_at site.body.pool index
-      → AnswersCall (option_and_then (special_of values files site)) (Some m) → AnswersAt files site r
-  for_special index m is e h = answers_for (instr.Invoke invocation.Special index) is (subst (AnswersCall (option_and_then (special_of values files site))) e h)
+      → AnswersCall called_classes (option_and_then (special_of values files site)) (Some m) → AnswersAt files site r
+  for_special index m is e h = answers_for (instr.Invoke invocation.Special index) is (subst (AnswersCall called_classes (option_and_then (special_of values files site))) e h)
 
   abbrev static_found : Option Member → Option (MeaningOf Value)
   static_found o = option_and_then (if_method is_static_method files (static_call values files site)) (option_and_then (find_method files) o)
 
   pub for_static : (index : ℕ) (m : Member) → site.instr ≡ instr.Invoke invocation.Static index → Some m ≡ method_at site.body.pool index
-      → AnswersCall static_found (Some m) → AnswersAt files site r
-  for_static index m is e h = answers_for (instr.Invoke invocation.Static index) is (subst (AnswersCall static_found) e h)
+      → AnswersCall called_classes static_found (Some m) → AnswersAt files site r
+  for_static index m is e h = answers_for (instr.Invoke invocation.Static index) is (subst (AnswersCall called_classes static_found) e h)
 
   pub for_interface : (index count last : ℕ) (m : Member) → site.instr ≡ instr.InvokeInterface index count last
       → Some m ≡ interface_method_at site.body.pool index
-      → AnswersCall (option_and_then (interface_of values files site)) (Some m) → AnswersAt files site r
-  for_interface index count last m is e h = answers_for (instr.InvokeInterface index count last) is (subst (AnswersCall (option_and_then (interface_of values files site))) e h)
+      → AnswersCall member_classes (option_and_then (interface_of values files site)) (Some m) → AnswersAt files site r
+  for_interface index count last m is e h = answers_for (instr.InvokeInterface index count last) is (subst (AnswersCall member_classes (option_and_then (interface_of values files site))) e h)
 
   -- ---- class constants
 

@@ -3,10 +3,13 @@ use Rattle.std.specs.Prelude.{◌≡◌, List, [], ◌++◌, Option, None, Bool,
 use Rattle.std.specs.List.{list_any}
 use Rattle.model.specs.declared.value.Value.{Value}
 use Rattle.model.specs.declared.instr.Instr.{Instr}
-use Rattle.model.specs.declared.instr.Instr.TheVariants.{Return}
-use Rattle.model.specs.Names.{Name}
+use Rattle.model.specs.declared.instr.Instr.TheVariants.{Return, Invoke}
+use Rattle.model.specs.declared.instr.Invocation.TheVariants as invocation
+use Rattle.model.specs.Names.{Name, Member}
+use Rattle.model.specs.Tree.{Entry}
+use Rattle.model.specs.Pool.{method_at}
 use Rattle.model.specs.Classes.{Program}
-use Rattle.std.specs.Option.{option_map_or}
+use Rattle.std.specs.Option.{option_map, option_map_or}
 use Rattle.model.specs.Conditions.{is_class_or_array}
 use Rattle.model.specs.CodeParts.{class_operand}
 use Rattle.model.specs.DescriptorParts.{classes_in}
@@ -42,11 +45,16 @@ classes_named_by site = returned_classes site.method.descriptor site.instr ++ op
 abbrev pub is_no_type : Name → Bool
 is_no_type name = not (is_class_or_array name)
 
+-- what stands for a class: the operand itself, or what an invokevirtual names a method of
+abbrev pub named_constant : List Entry → Instr → Option Name
+named_constant pool (Invoke invocation.Virtual index) = option_map (λ (m : Member). m.class) (method_at pool index)
+named_constant pool other = class_operand pool other
+
 -- A class that it names is not found, an array would have too many dimensions, or what stands for a class names no type.
 abbrev pub is_refused : Program → Site → Bool
 is_refused files site =
     list_any (is_missing files) (classes_named_by site)
-    || (too_many_dimensions site.body.pool site.instr || option_map_or is_no_type (class_operand site.body.pool site.instr) false)
+    || (too_many_dimensions site.body.pool site.instr || option_map_or is_no_type (named_constant site.body.pool site.instr) false)
 
 -- what is answered for an instruction
 abbrev pub AnswersAt : Program → Site → Result Meaning NoMeaning → Type 0

@@ -1,5 +1,5 @@
 -- What is wanted of a value that is passed on, and what is told of a call.
-use Rattle.std.specs.Prelude.{◌≡◌, ◌∷◌, ℕ, List, Option, Some, None, true, map, Result, Ok, Err}
+use Rattle.std.specs.Prelude.{◌≡◌, ◌||◌, ℕ, List, Bool, Option, Some, None, true, map, Result, Ok, Err}
 use Rattle.std.specs.Option.{option_to_list}
 use Rattle.std.specs.List.{list_any}
 use Rattle.model.specs.Names.{Name, Member}
@@ -9,7 +9,7 @@ use Rattle.model.specs.Resolution.{is_missing}
 use Rattle.model.specs.Types as model
 use Rattle.model.specs.Operands.{Slots}
 use Rattle.model.specs.Sites.{Site, to_next}
-use Rattle.model.specs.Calls.{of_class, call_wants, result_types, constructed_leads}
+use Rattle.model.specs.Calls.{call_wants, result_types, constructed_leads}
 use Rattle.types.specs.declared.verification_type.VerificationType.{VerificationType}
 use Rattle.types.specs.declared.verification_type.VerificationType.TheVariants as type
 use Rattle.instruction_types.specs.declared.operand_types.wants.Want.{Want}
@@ -67,9 +67,9 @@ TellsCall files method P (Err reasons.Unnamed) = ⊥
 TellsCall files method P (Err reasons.NotLinked) = list_any (is_missing files) (classes_in method.descriptor) ≡ true
 TellsCall files method P (Err reasons.OutOfMemory) = Unit {0}
 
--- the same of a call on a receiver of the class that the instruction names
-abbrev pub TellsCallOn : Program → Member → Result Meaning NoMeaning → Type 0
-TellsCallOn files method (Ok m) = (receiver : Want) × (want_in files receiver ≡ of_class files method.class) × CallsOn files method (Some receiver) m
-TellsCallOn files method (Err reasons.Unnamed) = ⊥
-TellsCallOn files method (Err reasons.NotLinked) = list_any (is_missing files) (method.class ∷ classes_in method.descriptor) ≡ true
-TellsCallOn files method (Err reasons.OutOfMemory) = Unit {0}
+-- the same of a call on a receiver as it is wanted, and whether there can be none
+abbrev pub TellsCallOn : Program → Member → model.Want → Bool → Result Meaning NoMeaning → Type 0
+TellsCallOn files method wanted missing (Ok m) = (receiver : Want) × (want_in files receiver ≡ wanted) × CallsOn files method (Some receiver) m
+TellsCallOn files method wanted missing (Err reasons.Unnamed) = ⊥
+TellsCallOn files method wanted missing (Err reasons.NotLinked) = (missing || list_any (is_missing files) (classes_in method.descriptor)) ≡ true
+TellsCallOn files method wanted missing (Err reasons.OutOfMemory) = Unit {0}

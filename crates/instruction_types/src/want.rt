@@ -4,18 +4,19 @@ ghost use Rattle.std.specs.Prelude.{◌≡◌};
 ghost use Rattle.model.specs.Classes.{Program};
 ghost use Rattle.model.specs.ReferenceTypes.{ClassType};
 ghost use Rattle.model.specs.Types.{AReference};
-ghost use Rattle.model.specs.Calls.{of_class};
+ghost use Rattle.model.specs.Calls.{of_class, of_named};
+ghost use Rattle.model.specs.DescribedTypes.{type_named};
 ghost use Rattle.model.specs.Resolution.{is_missing};
 ghost use Rattle.hierarchy.specs.Places.{name_at};
 ghost use Rattle.instruction_types.specs.operand_types.View.{want_in};
-ghost use Rattle.types.specs.described_types.Described.{Gives};
+ghost use Rattle.types.specs.described_types.Described.{Gives, type_missing};
 ghost use Rattle.instruction_types.specs.Wants.{want_for};
 
 use crate::operand_types::Want;
 use crate::places::place_of;
 use hierarchy::ClassSet;
 use model::built_in::OBJECT;
-use types::described_types::made_type;
+use types::described_types::{made_type, named_type};
 use types::{Element, ReferenceType, VerificationType};
 
 /// Any initialised reference, or null.
@@ -69,4 +70,14 @@ pub(crate) fn object_of(set: &ClassSet, class: &[u8]) -> Option<Want>
         return None;
     };
     Some(object_at(set, place))
+}
+
+/// An object of the class or of the array type that a class constant names, or null.
+pub(crate) fn object_named(set: &ClassSet, name: &[u8]) -> Option<Want>
+    ensures { Gives (want_in set.now) (type_missing set.now (type_named name.now)) (of_named set.now name.now) result }
+{
+    match named_type(set, name) {
+        Some(of) => Some(Want::AReference(of)),
+        None => None,
+    }
 }

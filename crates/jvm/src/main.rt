@@ -9,21 +9,21 @@
 //! - Shown by cases, which are all run by it: that the words and files of the system get to `engines`, and the texts to
 //!   its output. Shown by running it alone: what a terminal shows while a run goes on, and what then stands beside the
 //!   file of its record.
-//! - What cases must print is derived from the rules, from javac, javap and java; but for the usage texts of 76 cases
-//!   and the helps of 10. No rule fixes them. They are the parser's own (`clap`), written down in its form and read
-//!   through. So these cases show that such a text has changed, and not that it is right; that the words are no
-//!   command, and the status, are by the rules.
-//! - No case shows, and contracts alone say: that a text that stands in several files counts once
-//!   (`limits_of_linking`); look-ups and rules in sets that linking refuses before, as a field above an interface that
-//!   is below another class than Object (`hierarchy`) and a cycle (`class_rules`); what is answered of a class that is
-//!   not in the set (`described_types`) and of an instruction without a meaning (`instruction_types`), which linked
-//!   files don't have; `found_field` and `found_method` of `resolution`, which nothing calls.
+//! - What cases must print is derived from the rules, from javac, javap and java; but for the texts of usage faults and
+//!   of help. No rule fixes them. They are the parser's own (`clap`), written down in its form and read through. So
+//!   these cases show that such a text has changed, and not that it is right; that the words are no command, and the
+//!   status, are by the rules.
+//! - No case shows, and contracts alone say: that no class file at all is refused as `NoMain` (`link`); that a text
+//!   that stands in several files counts once (`limits_of_linking`); look-ups and rules in sets that linking refuses
+//!   before, as a field above an interface that is below another class than Object (`hierarchy`) and a cycle
+//!   (`class_rules`); what is answered of a class that is not in the set (`described_types`) and of an instruction
+//!   without a meaning (`instruction_types`), which linked files don't have; `found_field` and `found_method` of
+//!   `resolution`, which nothing calls.
 //! - Neither cases nor contracts say: which fault is named where code goes on behind a byte that begins no instruction.
 //! - Runs by several workers are shown where their report doesn't depend on who comes first, and else only compared
 //!   with their replays: 38 Java programs, each by 1, 2 and 4 workers, with a quantum of 1 and of 100, with two seeds,
 //!   and by each policy; and a hundred runs by four workers of two threads that race, each of which prints one of the
 //!   two numbers that it may.
-//! - No case shows that a replay without any class file is refused as `NoMain`; `linking_tests` shows it of `link`.
 #![tactic(auto)]
 
 ghost use Rattle.std.specs.Prelude.{◌≡◌, MatchResult};

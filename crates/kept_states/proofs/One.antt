@@ -97,6 +97,7 @@ row_stays old new row s grows is = record {
     statuses = grows.kept is.numbers.statuses (statuses_row s.statuses.items) is.each_is.statuses;
     ready = grows.kept is.numbers.ready (flags_row s.ready.items) is.each_is.ready;
     printed = grows.kept is.numbers.printed s.printed.items is.each_is.printed;
+    interned = grows.kept is.numbers.interned s.interned.items is.each_is.interned;
   };
   objects = is.objects;
   heap_is = grows.kept is.heap is.objects is.heap_is;
@@ -115,7 +116,7 @@ pub record AreNearlyTheSame (one other : Shared) : Type 0 where
   pub thread_limit : one.threads.limit ≡ other.threads.limit
   pub ready : one.ready.items ≡ other.ready.items
 
--- the ten words beside objects and threads
+-- the twelve words beside objects and threads
 record AreWords (one other : Shared) (n m : GlobalNumbers) : Type 0 where
   opening : one.heap.opening ≡ other.heap.opening
   counted : one.heap.counted ≡ other.heap.counted
@@ -127,6 +128,8 @@ record AreWords (one other : Shared) (n m : GlobalNumbers) : Type 0 where
   statuses : n.statuses ≡ m.statuses
   ready : n.ready ≡ m.ready
   printed : n.printed ≡ m.printed
+  interned : n.interned ≡ m.interned
+  unnamed : one.unnamed ≡ other.unnamed
 
 words_one : (one other : Shared) (n m : GlobalNumbers) → globals_row one n ≡ globals_row other m → AreWords one other n m
 words_one one other n m h =
@@ -139,6 +142,8 @@ words_one one other n m h =
     let h7 = tail_is _ _ _ _ h6 in
     let h8 = tail_is _ _ _ _ h7 in
     let h9 = tail_is _ _ _ _ h8 in
+    let h10 = tail_is _ _ _ _ h9 in
+    let h11 = tail_is _ _ _ _ h10 in
     record {
       opening = head_is _ _ _ _ h;
       counted = head_is _ _ _ _ h1;
@@ -150,6 +155,8 @@ words_one one other n m h =
       statuses = head_is _ _ _ _ h7;
       ready = head_is _ _ _ _ h8;
       printed = head_is _ _ _ _ h9;
+      interned = head_is _ _ _ _ h10;
+      unnamed = head_is _ _ _ _ h11;
     }
 
 -- what stands for both at numbers that are the same
@@ -190,6 +197,8 @@ rows_one parts row one other a b =
         statuses = statuses_one one.statuses.items other.statuses.items (stands_at parts a.numbers.statuses b.numbers.statuses (statuses_row one.statuses.items) (statuses_row other.statuses.items) words.statuses a.each_is.statuses b.each_is.statuses);
         threads = stacks.0;
         printed = stands_at parts a.numbers.printed b.numbers.printed one.printed.items other.printed.items words.printed a.each_is.printed b.each_is.printed;
+        interned = stands_at parts a.numbers.interned b.numbers.interned one.interned.items other.interned.items words.interned a.each_is.interned b.each_is.interned;
+        unnamed = words.unnamed;
         stacks = stacks.1;
       };
       opening = words.opening;
@@ -248,5 +257,7 @@ states_one parts row fat one other a b f g =
       ready = near.ready;
       threads = threads_are_one one.threads other.threads near.alike.threads near.thread_limit;
       printed = near.alike.printed;
+      interned = near.alike.interned;
+      unnamed = near.alike.unnamed;
       stacks = near.alike.stacks;
     }

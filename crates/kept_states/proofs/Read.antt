@@ -27,10 +27,12 @@ heap_read parts limits opening before counted objects fat old new read is =
 pub shared_read : (parts : List (List ℕ)) (g : Globals) (objects threads fat : List ℕ) (s : Shared) → IsHeapRead parts g.limits g.opening g.counted objects fat s.heap
     → StandsFor parts g.numbers.statics s.statics.items → StandsFor parts g.numbers.statuses (statuses_row s.statuses.items)
     → StandsFor parts g.numbers.ready (flags_row s.ready.items) → StandsFor parts g.numbers.printed s.printed.items
+    → StandsFor parts g.numbers.interned s.interned.items → s.unnamed ≡ g.unnamed
     → AreThreads parts threads s.threads.threads s.stacks.items → s.threads.limit ≡ g.limits.threads → IsSharedRead parts g objects threads fat s
-shared_read parts g objects threads fat s heap statics statuses ready printed are limit = record {
+shared_read parts g objects threads fat s heap statics statuses ready printed interned unnamed are limit = record {
   heap = heap;
-  each = record { statics = statics; statuses = statuses; ready = ready; printed = printed };
+  each = record { statics = statics; statuses = statuses; ready = ready; printed = printed; interned = interned };
   limit = limit;
+  unnamed = unnamed;
   threads_are = are;
 }

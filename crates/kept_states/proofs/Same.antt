@@ -30,6 +30,8 @@ world_same trees p bounds inflated one other state same s =
       ready = subst (λ (xs : List Bool). AreInitialised trees xs state.world) same.ready w.ready;
       threads = sym (ap (λ (t : ThreadTable). t.threads) same.threads) ∙ w.threads;
       printed = sym same.printed ∙ w.printed;
+      interned = sym same.interned ∙ w.interned;
+      unnamed = sym same.unnamed ∙ w.unnamed;
     }
 
 bounds_same : (trees : Program) (bounds : Bounds) (one other : Shared) → AreTheSame one other → HasBounds trees bounds one → HasBounds trees bounds other

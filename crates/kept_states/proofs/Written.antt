@@ -56,6 +56,7 @@ globals_stay old new numbers s grows a = record {
   statuses = grows.kept numbers.statuses (statuses_row s.statuses.items) a.statuses;
   ready = grows.kept numbers.ready (flags_row s.ready.items) a.ready;
   printed = grows.kept numbers.printed s.printed.items a.printed;
+  interned = grows.kept numbers.interned s.interned.items a.interned;
 }
 
 pub numbered_stays : (old new : List (List ℕ)) (n : Numbered) → Grows old new → IsNumbered old n → IsNumbered new n
@@ -94,6 +95,10 @@ ready_same parts before s is same =
 pub printed_same : (parts : List (List ℕ)) (before : Numbered) (s : Shared) → IsNumbered parts before → before.shared.printed.items ≡ s.printed.items
     → IsWritten s.printed.items before.numbers.printed parts parts
 printed_same parts before s is same = same_written parts before.numbers.printed before.shared.printed.items s.printed.items is.each.printed same
+
+pub interned_same : (parts : List (List ℕ)) (before : Numbered) (s : Shared) → IsNumbered parts before → before.shared.interned.items ≡ s.interned.items
+    → IsWritten s.interned.items before.numbers.interned parts parts
+interned_same parts before s is same = same_written parts before.numbers.interned before.shared.interned.items s.interned.items is.each.interned same
 
 pub globals_same : (parts : List (List ℕ)) (before : Numbered) (s : Shared) (numbers : GlobalNumbers) → IsNumbered parts before
     → globals_row before.shared before.numbers ≡ globals_row s numbers → IsWritten (globals_row s numbers) before.globals parts parts
@@ -253,19 +258,21 @@ row_of parts row n is m = record {
   threads_are = m.threads;
 }
 
-pub all_written : (s : Shared) (numbers : GlobalNumbers) (a b c d e : List (List ℕ)) → IsWritten s.statics.items numbers.statics a b
+pub all_written : (s : Shared) (numbers : GlobalNumbers) (a b c d e f : List (List ℕ)) → IsWritten s.statics.items numbers.statics a b
     → IsWritten (statuses_row s.statuses.items) numbers.statuses b c → IsWritten (flags_row s.ready.items) numbers.ready c d
-    → IsWritten s.printed.items numbers.printed d e → AreNumbersWritten s numbers a e
-all_written s numbers a b c d e statics statuses ready printed =
-    let third : Grows c e = grows_on c d e ready.grows printed.grows in
-    let second : Grows b e = grows_on b c e statuses.grows third in
+    → IsWritten s.printed.items numbers.printed d e → IsWritten s.interned.items numbers.interned e f → AreNumbersWritten s numbers a f
+all_written s numbers a b c d e f statics statuses ready printed interned =
+    let fourth : Grows d f = grows_on d e f printed.grows interned.grows in
+    let third : Grows c f = grows_on c d f ready.grows fourth in
+    let second : Grows b f = grows_on b c f statuses.grows third in
     record {
-      grows = grows_on a b e statics.grows second;
+      grows = grows_on a b f statics.grows second;
       each = record {
         statics = second.kept numbers.statics s.statics.items statics.stands;
         statuses = third.kept numbers.statuses (statuses_row s.statuses.items) statuses.stands;
-        ready = printed.grows.kept numbers.ready (flags_row s.ready.items) ready.stands;
-        printed = printed.stands;
+        ready = fourth.kept numbers.ready (flags_row s.ready.items) ready.stands;
+        printed = interned.grows.kept numbers.printed s.printed.items printed.stands;
+        interned = interned.stands;
       };
     }
 
@@ -280,13 +287,13 @@ globals_written s numbers number a b c n w = record {
 
 -- the row that was read is that of the state
 pub globals_read : (g : Globals) (objects threads fat row : List ℕ) (parts : List (List ℕ)) (s : Shared)
-    → row ≡ g.opening ∷ g.counted ∷ g.limits.objects ∷ g.limits.cells ∷ g.limits.monitors ∷ g.limits.threads ∷ g.numbers.statics ∷ g.numbers.statuses ∷ g.numbers.ready ∷ g.numbers.printed ∷ []
+    → row ≡ g.opening ∷ g.counted ∷ g.limits.objects ∷ g.limits.cells ∷ g.limits.monitors ∷ g.limits.threads ∷ g.numbers.statics ∷ g.numbers.statuses ∷ g.numbers.ready ∷ g.numbers.printed ∷ g.numbers.interned ∷ g.unnamed ∷ []
     → IsSharedRead parts g objects threads fat s → row ≡ globals_row s g.numbers
 globals_read g objects threads fat row parts s is r =
-    is ∙ sym (rw (r.heap.opening_is, r.heap.counted_is, r.heap.objects_limited, r.heap.cells_limited, r.heap.monitors_limited, r.limit) refl)
+    is ∙ sym (rw (r.heap.opening_is, r.heap.counted_is, r.heap.objects_limited, r.heap.cells_limited, r.heap.monitors_limited, r.limit, r.unnamed) refl)
 
 pub numbered_read : (parts : List (List ℕ)) (n : Numbered) (g : Globals) (row objects threads fat : List ℕ) → StandsFor parts n.globals row
-    → row ≡ g.opening ∷ g.counted ∷ g.limits.objects ∷ g.limits.cells ∷ g.limits.monitors ∷ g.limits.threads ∷ g.numbers.statics ∷ g.numbers.statuses ∷ g.numbers.ready ∷ g.numbers.printed ∷ []
+    → row ≡ g.opening ∷ g.counted ∷ g.limits.objects ∷ g.limits.cells ∷ g.limits.monitors ∷ g.limits.threads ∷ g.numbers.statics ∷ g.numbers.statuses ∷ g.numbers.ready ∷ g.numbers.printed ∷ g.numbers.interned ∷ g.unnamed ∷ []
     → StandsFor parts n.heap objects → StandsFor parts n.fat fat → IsSharedRead parts g objects threads fat n.shared → n.numbers ≡ g.numbers
     → n.objects.items ≡ objects → n.threads.items ≡ threads → IsNumbered parts n
 numbered_read parts n g row objects threads fat globals is heap flags r numbers os ts =

@@ -47,13 +47,14 @@ pub record AreThreadsPushed (s : Shared) (count : ℕ) (before after : List ℕ)
 
 abbrev pub globals_row : Shared → GlobalNumbers → List ℕ
 globals_row s n =
-    s.heap.opening ∷ s.heap.counted ∷ s.heap.object_limit ∷ s.heap.cell_limit ∷ s.heap.locks.limit ∷ s.threads.limit ∷ n.statics ∷ n.statuses ∷ n.ready ∷ n.printed ∷ []
+    s.heap.opening ∷ s.heap.counted ∷ s.heap.object_limit ∷ s.heap.cell_limit ∷ s.heap.locks.limit ∷ s.threads.limit ∷ n.statics ∷ n.statuses ∷ n.ready ∷ n.printed ∷ n.interned ∷ s.unnamed ∷ []
 
 pub record AreGlobals (parts : List (List ℕ)) (numbers : GlobalNumbers) (s : Shared) : Type 0 where
   pub statics : StandsFor parts numbers.statics s.statics.items
   pub statuses : StandsFor parts numbers.statuses (statuses_row s.statuses.items)
   pub ready : StandsFor parts numbers.ready (flags_row s.ready.items)
   pub printed : StandsFor parts numbers.printed s.printed.items
+  pub interned : StandsFor parts numbers.interned s.interned.items
 
 -- these numbers were written
 pub record AreNumbersWritten (s : Shared) (numbers : GlobalNumbers) (old new : List (List ℕ)) : Type 0 where
@@ -97,6 +98,8 @@ pub record AreTheSame (one other : Shared) : Type 0 where
   pub ready : one.ready.items ≡ other.ready.items
   pub threads : one.threads ≡ other.threads
   pub printed : one.printed.items ≡ other.printed.items
+  pub interned : one.interned.items ≡ other.interned.items
+  pub unnamed : one.unnamed ≡ other.unnamed
   pub stacks : one.stacks.items ≡ other.stacks.items
 
 -- ---- read again
@@ -106,6 +109,7 @@ pub record IsSharedRead (parts : List (List ℕ)) (globals : Globals) (objects t
   pub heap : IsHeapRead parts globals.limits globals.opening globals.counted objects fat s.heap
   pub each : AreGlobals parts globals.numbers s
   pub limit : s.threads.limit ≡ globals.limits.threads
+  pub unnamed : s.unnamed ≡ globals.unnamed
   pub threads_are : AreThreads parts threads s.threads.threads s.stacks.items
 
 -- the thread of a number was put behind the others, with its stack

@@ -40,6 +40,8 @@ pub fn copied(alloc: Global, shared: Shared, other: &Shared) -> Result<Shared, A
         mut ready,
         threads,
         mut printed,
+        mut interned,
+        unnamed: _unnamed,
         stacks,
     } = shared;
     statics.clear();
@@ -50,6 +52,8 @@ pub fn copied(alloc: Global, shared: Shared, other: &Shared) -> Result<Shared, A
     ready.extend_from_slice(other.ready.as_slice())?;
     printed.clear();
     printed.extend_from_slice(other.printed.as_slice())?;
+    interned.clear();
+    interned.extend_from_slice(other.interned.as_slice())?;
     let heap = heap.copied(&other.heap)?;
     let threads = threads.copied(&other.threads)?;
     let stacks = copied_stacks(alloc, stacks, other.stacks.as_slice())?;
@@ -60,6 +64,8 @@ pub fn copied(alloc: Global, shared: Shared, other: &Shared) -> Result<Shared, A
         ready,
         threads,
         printed,
+        interned,
+        unnamed: other.unnamed,
         stacks,
     })
 }

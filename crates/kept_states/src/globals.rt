@@ -25,22 +25,25 @@ pub struct Globals {
     pub opening: u32,
     pub counted: u32,
     pub numbers: GlobalNumbers,
+    pub unnamed: u32,
 }
 
 /// The numbers of the next words.
 fn read_numbers(reader: &mut Reader<'_>) -> Result<GlobalNumbers, AllocError>
     ensures { IfOk result (λ n. reader.old.rest.now
-        ≡ n.statics ∷ n.statuses ∷ n.ready ∷ n.printed ∷ reader.new.rest.now) }
+        ≡ n.statics ∷ n.statuses ∷ n.ready ∷ n.printed ∷ n.interned ∷ reader.new.rest.now) }
 {
     let statics = reader.next_word()?;
     let statuses = reader.next_word()?;
     let ready = reader.next_word()?;
     let printed = reader.next_word()?;
+    let interned = reader.next_word()?;
     Ok(GlobalNumbers {
         statics,
         statuses,
         ready,
         printed,
+        interned,
     })
 }
 
@@ -62,19 +65,22 @@ fn read_limits(reader: &mut Reader<'_>) -> Result<Limits, AllocError>
 pub(crate) fn read_globals(row: &[u32]) -> Result<Globals, AllocError>
     ensures { IfOk result (λ g. row.now ≡ g.opening ∷ g.counted ∷ g.limits.objects ∷ g.limits.cells
         ∷ g.limits.monitors ∷ g.limits.threads
-        ∷ g.numbers.statics ∷ g.numbers.statuses ∷ g.numbers.ready ∷ g.numbers.printed ∷ []) }
+        ∷ g.numbers.statics ∷ g.numbers.statuses ∷ g.numbers.ready ∷ g.numbers.printed
+        ∷ g.numbers.interned ∷ g.unnamed ∷ []) }
 {
     let mut reader = Reader::new(row);
     let opening = reader.next_word()?;
     let counted = reader.next_word()?;
     let limits = read_limits(&mut reader)?;
     let numbers = read_numbers(&mut reader)?;
+    let unnamed = reader.next_word()?;
     if reader.is_done() {
         Ok(Globals {
             limits,
             opening,
             counted,
             numbers,
+            unnamed,
         })
     } else {
         Err(AllocError)
@@ -161,6 +167,26 @@ fn printed_number(
     parts.write(row.as_slice())
 }
 
+#[tactic(auto, using(crate::proofs::Written::interned_same))]
+fn interned_number(
+    parts: &mut WordTable,
+    shared: &Shared,
+    before: Option<&Numbered>,
+) -> Result<u32, AllocError>
+    requires { IfSome before (λ b. IsNumbered parts.old b.now) }
+    ensures { IfOk result (λ number. IsWritten shared.now.interned.items number parts.old parts.new) }
+{
+    if let Some(before) = before {
+        if are_same_words(
+            before.shared.interned.as_slice(),
+            shared.interned.as_slice(),
+        ) {
+            return Ok(before.numbers.interned);
+        }
+    }
+    parts.write(shared.interned.as_slice())
+}
+
 /// The numbers of what a state keeps beside objects and threads.
 #[tactic(auto, using(crate::proofs::Written::all_written))]
 fn numbers_of(
@@ -176,11 +202,13 @@ fn numbers_of(
     let statuses = statuses_number(parts, row, shared, before)?;
     let ready = ready_number(parts, row, shared, before)?;
     let printed = printed_number(parts, row, shared, before)?;
+    let interned = interned_number(parts, shared, before)?;
     Ok(GlobalNumbers {
         statics,
         statuses,
         ready,
         printed,
+        interned,
     })
 }
 
@@ -206,8 +234,34 @@ fn are_globals_before(shared: &Shared, numbers: GlobalNumbers, before: &Numbered
         && numbers.statuses == before.numbers.statuses
         && numbers.ready == before.numbers.ready
         && numbers.printed == before.numbers.printed
+        && numbers.interned == before.numbers.interned
+        && shared.unnamed == before.shared.unnamed
         && shared.heap.counted() == before.shared.heap.counted()
         && are_same_limits(shared, &before.shared)
+}
+
+/// The limits of a state.
+fn push_limits(row: &mut Vec<u32>, shared: &Shared) -> Result<(), AllocError>
+    ensures { OnOk result (row.new.items ≡ row.old.items
+        ++ (shared.now.heap.object_limit ∷ shared.now.heap.cell_limit ∷ shared.now.heap.locks.limit
+        ∷ shared.now.threads.limit ∷ [])) }
+{
+    push(row, shared.heap.object_limit())?;
+    push(row, shared.heap.cell_limit())?;
+    push(row, shared.heap.monitor_limit())?;
+    push(row, shared.threads.limit())
+}
+
+/// The numbers of the rows of a state.
+fn push_numbers(row: &mut Vec<u32>, numbers: GlobalNumbers) -> Result<(), AllocError>
+    ensures { OnOk result (row.new.items ≡ row.old.items
+        ++ (numbers.statics ∷ numbers.statuses ∷ numbers.ready ∷ numbers.printed ∷ numbers.interned ∷ [])) }
+{
+    push(row, numbers.statics)?;
+    push(row, numbers.statuses)?;
+    push(row, numbers.ready)?;
+    push(row, numbers.printed)?;
+    push(row, numbers.interned)
 }
 
 /// The row of what a state keeps beside objects and threads.
@@ -220,14 +274,9 @@ fn push_globals(
 {
     push(row, shared.heap.opening())?;
     push(row, shared.heap.counted())?;
-    push(row, shared.heap.object_limit())?;
-    push(row, shared.heap.cell_limit())?;
-    push(row, shared.heap.monitor_limit())?;
-    push(row, shared.threads.limit())?;
-    push(row, numbers.statics)?;
-    push(row, numbers.statuses)?;
-    push(row, numbers.ready)?;
-    push(row, numbers.printed)
+    push_limits(row, shared)?;
+    push_numbers(row, numbers)?;
+    push(row, shared.unnamed)
 }
 
 /// The number of the row of these numbers.

@@ -24,6 +24,10 @@
 //! - `globals_before-another-count`, `count-is-not-kept`, `count-is-lost`: the row of a state with a lower count of
 //!   cells is taken for that of this one, the count is kept as 0, or read as 0; refused by the contracts of
 //!   `are_globals_before`, `push_globals` and `heap_of`.
+//! - `globals_before-another-interned`, `globals_before-another-unnamed`, `interned-of-statics`,
+//!   `copy-keeps-its-unnamed`: the row of a state with other interned Strings, or another count of Threads without a
+//!   name, is taken for that of this one, the static fields are read as interned Strings, or a copy keeps its own
+//!   count; refused by the contracts of `are_globals_before`, `read_shared` and `copied`.
 //! - `thread_before-another-stack`: a thread keeps its number though its stack has changed; refused by that of
 //!   `thread_before`.
 //! - `read-flags-of-another-state`: a state is read with the inflated locks of another one; refused by that of `read`.

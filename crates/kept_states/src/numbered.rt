@@ -9,6 +9,7 @@ pub struct GlobalNumbers {
     pub statuses: u32,
     pub ready: u32,
     pub printed: u32,
+    pub interned: u32,
 }
 
 /// A state that was read, with the numbers of its parts.

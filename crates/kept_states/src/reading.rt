@@ -37,6 +37,14 @@ fn statics_of(alloc: Global, parts: &WordTable, number: u32) -> Result<Vec<u32>,
     Ok(statics)
 }
 
+fn interned_of(alloc: Global, parts: &WordTable, number: u32) -> Result<Vec<u32>, AllocError>
+    ensures { IfOk result (λ interned. StandsFor parts.now number interned.items) }
+{
+    let row = part(parts, number)?;
+    let interned = Vec::from_slice(alloc, row)?;
+    Ok(interned)
+}
+
 fn statuses_of(
     alloc: Global,
     parts: &WordTable,
@@ -102,6 +110,7 @@ fn read_shared(
     let statuses = statuses_of(alloc, parts, globals.numbers.statuses)?;
     let ready = ready_of(alloc, parts, globals.numbers.ready)?;
     let printed = printed_of(alloc, parts, globals.numbers.printed)?;
+    let interned = interned_of(alloc, parts, globals.numbers.interned)?;
     let (threads, stacks) = read_threads(alloc, parts, globals.limits.threads, threads)?;
     Ok(Shared {
         heap,
@@ -110,6 +119,8 @@ fn read_shared(
         ready,
         threads,
         printed,
+        interned,
+        unnamed: globals.unnamed,
         stacks,
     })
 }

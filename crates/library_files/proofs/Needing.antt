@@ -17,8 +17,8 @@ use Rattle.model.specs.InstructionStarts.{starts}
 use Rattle.model.specs.Classes.{super_name_of, interface_names, code_in}
 use Rattle.model.specs.CodeParts.{marked_from}
 use Rattle.model.specs.DescriptorScan.{element_at, field_at as scanned_at, field_type, method_type}
-use Rattle.model.specs.DescriptorParts.{classes_in}
-use Rattle.model.specs.Resolution.{declared_descriptors, operand_classes, member_classes}
+use Rattle.model.specs.DescriptorParts.{classes_in, classes_named}
+use Rattle.model.specs.Resolution.{declared_descriptors, operand_classes, member_classes, called_classes}
 use Rattle.library_files.specs.declared.needed_texts.NeededTexts.{NeededTexts}
 use Rattle.library_files.specs.NeededTexts.{Adds, IsMarked, IsMarkedText, IsDescribed, IsNeededBy}
 use Rattle.library_files.specs.Needs.{caught_classes, code_classes, codes_of, needed_classes}
@@ -97,6 +97,20 @@ module _ (pool : List Entry) where
       by (Some a) None q h i j = absurd cc
       by (Some a) (Some b) None h i j = absurd cc
       by (Some a) (Some b) (Some e) h i j = ap (λ (names : List Name). a ∷ names) (append-nil (classes_in e))
+
+  -- those of a method
+  pub called_named : (class index name descriptor : ℕ) → entry_at pool index ≡ NameAndType name descriptor
+      → is_some (class_name_at pool class) ≡ true → is_some (utf8_at pool name) ≡ true → is_some (utf8_at pool descriptor) ≡ true
+      → flat_map classes_named (option_to_list (class_name_at pool class)) ++ flat_map classes_in (option_to_list (utf8_at pool descriptor))
+      ≡ called_classes (reference_at pool class index)
+  called_named class index name descriptor at c n d = rw at (by (class_name_at pool class) (utf8_at pool name) (utf8_at pool descriptor) c n d)
+    where
+      by : (o p q : Option Name) → is_some o ≡ true → is_some p ≡ true → is_some q ≡ true
+          → flat_map classes_named (option_to_list o) ++ flat_map classes_in (option_to_list q) ≡ called_classes (reference o (name_and_descriptor p q))
+      by None p q h i j = absurd cc
+      by (Some a) None q h i j = absurd cc
+      by (Some a) (Some b) None h i j = absurd cc
+      by (Some a) (Some b) (Some e) h i j = ap (λ (names : List Name). names ++ (classes_in e ++ [])) (append-nil (classes_named a)) ∙ ap (λ (names : List Name). classes_named a ++ names) (append-nil (classes_in e))
 
   -- ---- lists of parts
 

@@ -6,7 +6,7 @@ ghost use Rattle.std.specs.Option.{option_to_list};
 ghost use Rattle.model.specs.Tree.{Entry};
 ghost use Rattle.model.specs.Pool.{class_name_at, reference_at, field_at, method_at, interface_method_at};
 ghost use Rattle.model.specs.DescriptorParts.{is_array_class, classes_named};
-ghost use Rattle.model.specs.Resolution.{member_classes, operand_classes};
+ghost use Rattle.model.specs.Resolution.{member_classes, called_classes, operand_classes};
 ghost use Rattle.class_tree.specs.View.{code_of, field_of, file_of, method_of};
 ghost use Rattle.library_files.specs.NeededTexts.{Adds};
 ghost use Rattle.library_files.specs.Needs.{caught_classes, code_classes, needed_classes};
@@ -93,6 +93,29 @@ fn need_member(
     texts.need_descriptor(*descriptor)
 }
 
+/// Needs the class of a member, or that of an array's elements, and those of its descriptor.
+fn need_called(
+    texts: &mut NeededTexts,
+    file: &ClassFile,
+    class: u16,
+    name_and_type: u16,
+) -> Result<(), AllocError>
+    ensures { OnOk result (Adds file.now.pool texts.old texts.new
+        (called_classes (reference_at file.now.pool class name_and_type))) }
+{
+    let Some(Constant::NameAndType { name, descriptor }) = file.constant(name_and_type) else {
+        return Ok(());
+    };
+    if file.class_name(class).is_none()
+        || file.utf8(*name).is_none()
+        || file.utf8(*descriptor).is_none()
+    {
+        return Ok(());
+    }
+    need_class_operand(texts, file, class)?;
+    texts.need_descriptor(*descriptor)
+}
+
 /// Needs the classes of the field of an index.
 fn need_field(texts: &mut NeededTexts, file: &ClassFile, index: u16) -> Result<(), AllocError>
     ensures { OnOk result (Adds file.now.pool texts.old texts.new (member_classes (field_at file.now.pool index))) }
@@ -108,9 +131,9 @@ fn need_field(texts: &mut NeededTexts, file: &ClassFile, index: u16) -> Result<(
     }
 }
 
-/// Needs the classes of the method of an index.
+/// Needs the classes of the method of an index, which may be one of an array class.
 fn need_method(texts: &mut NeededTexts, file: &ClassFile, index: u16) -> Result<(), AllocError>
-    ensures { OnOk result (Adds file.now.pool texts.old texts.new (member_classes (method_at file.now.pool index))) }
+    ensures { OnOk result (Adds file.now.pool texts.old texts.new (called_classes (method_at file.now.pool index))) }
 {
     match file.constant(index) {
         Some(
@@ -118,7 +141,7 @@ fn need_method(texts: &mut NeededTexts, file: &ClassFile, index: u16) -> Result<
                 class,
                 name_and_type,
             },
-        ) => need_member(texts, file, *class, *name_and_type),
+        ) => need_called(texts, file, *class, *name_and_type),
         _ => Ok(()),
     }
 }

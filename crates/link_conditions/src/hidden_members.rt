@@ -10,8 +10,23 @@ pub(crate) const THREAD_TARGET: Reference<'static> = Reference {
 };
 
 /// The fields, in the order of the definitions.
-pub(crate) const HIDDEN_FIELDS: [Reference<'static>; 5] = [
+pub(crate) const HIDDEN_FIELDS: [Reference<'static>; 8] = [
     THREAD_TARGET,
+    Reference {
+        class: b"java/lang/Thread",
+        name: b"name",
+        descriptor: b"Ljava/lang/String;",
+    },
+    Reference {
+        class: b"java/lang/Thread",
+        name: b"number",
+        descriptor: b"I",
+    },
+    Reference {
+        class: b"java/lang/Thread",
+        name: b"priority",
+        descriptor: b"I",
+    },
     Reference {
         class: b"java/lang/StringBuilder",
         name: b"text",
@@ -35,11 +50,16 @@ pub(crate) const HIDDEN_FIELDS: [Reference<'static>; 5] = [
 ];
 
 /// The methods, in the order of the definitions.
-pub(crate) const HIDDEN_METHODS: [Reference<'static>; 2] = [
+pub(crate) const HIDDEN_METHODS: [Reference<'static>; 3] = [
     Reference {
         class: b"java/lang/String",
         name: b"described",
         descriptor: b"(Ljava/lang/Object;I)Ljava/lang/String;",
+    },
+    Reference {
+        class: b"java/lang/String",
+        name: b"lower",
+        descriptor: b"(C)C",
     },
     Reference {
         class: b"java/lang/System",

@@ -3,9 +3,9 @@
 //! # Proved
 //!
 //! - `linked_program`: of linked files all of `IsLinkedProgram`: classes, methods, component types, the table of
-//!   subclasses, how many static fields there are, the texts of string constants, the words of the empty one and of what
-//!   a division by zero tells, and the numbers of String, of main of the initial class and of the place of Thread.run.
-//!   It asks for nothing but linked files; its only error is a want of memory.
+//!   subclasses, how many static fields there are, the texts of string constants, the words of the empty one, of what a
+//!   division by zero tells and of the name of the first thread, and the numbers of String, of main of the initial
+//!   class and of the place of Thread.run. It asks for nothing but linked files; its only error is a want of memory.
 //!
 //! # Not proved
 //!

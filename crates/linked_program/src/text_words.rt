@@ -2,7 +2,7 @@
 
 ghost use Rattle.std.specs.Prelude.{◌≡◌, [], suc};
 ghost use Rattle.model.specs.Opening.{string_reference};
-ghost use Rattle.model.specs.StringConstants.{division_text};
+ghost use Rattle.model.specs.StringConstants.{division_text, main_text};
 ghost use Rattle.linker.specs.Linking.{IsLinked};
 ghost use Rattle.linker.specs.field_links.Numbers.{AreStringNumbers};
 
@@ -26,4 +26,13 @@ pub(crate) fn division_text_word(set: &ClassSet, texts: &StringNumbers) -> u32
     ensures { result ≡ suc (string_reference set.now division_text) }
 {
     (4 + set.count() + texts.division_text()) as u32
+}
+
+/// The word of the String of the name of the first thread.
+pub(crate) fn main_text_word(set: &ClassSet, texts: &StringNumbers) -> u32
+    requires linked { IsLinked set.now }
+    requires texts { AreStringNumbers set.now texts.now }
+    ensures { result ≡ suc (string_reference set.now main_text) }
+{
+    (4 + set.count() + texts.main_text()) as u32
 }

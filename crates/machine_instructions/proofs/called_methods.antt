@@ -6,6 +6,7 @@ pub mod Receivers
 pub mod Selecting
 pub mod ClassObjects
 mod Prints
+mod SpecialReceivers
 pub mod Directs
 pub mod Statics
 mod Plain

@@ -1,4 +1,7 @@
 pub mod Called
+pub mod Clones
+pub mod Naming
+pub mod TextWrites
 pub mod Moves
 pub mod Growth
 pub mod Texts

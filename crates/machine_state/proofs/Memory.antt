@@ -120,7 +120,17 @@ takes_by_growth world counts cost next grown = or_right _ _ (or_left _ _ grown)
 
 pub takes_by_print : (world : WorldOf ℕ) (counts : List ℕ) (cost : Cost) (next : PartOf ℕ) → length world.printed < length next.world.printed
     → takes_memory world counts cost next ≡ true
-takes_by_print world counts cost next more = or_right _ _ (or_right _ _ (lt-ltb (length world.printed) (length next.world.printed) more))
+takes_by_print world counts cost next more =
+    or_right _ _ (or_right _ _ (or_left _ _ (lt-ltb (length world.printed) (length next.world.printed) more)))
+
+pub takes_by_interning : (world : WorldOf ℕ) (counts : List ℕ) (cost : Cost) (next : PartOf ℕ) → length world.interned < length next.world.interned
+    → takes_memory world counts cost next ≡ true
+takes_by_interning world counts cost next more =
+    let strings = nat_lt (length world.interned) (length next.world.interned) in
+    let printed = nat_lt (length world.printed) (length next.world.printed) in
+    let grown = has_grown counts (operand_counts next.stack) in
+    or_right (takes_shared cost) (grown || (printed || strings))
+    (or_right grown (printed || strings) (or_right printed strings (lt-ltb (length world.interned) (length next.world.interned) more)))
 
 -- ---- words and values
 
@@ -139,4 +149,4 @@ pub takes_as_values : (s : State) (t : ℕ) (y : SteppedOf State) → takes_memo
 takes_as_values s t NotEnabled = refl
 takes_as_values s t WrongKind = refl
 takes_as_values s t (Next cost next) = λ i.
-    takes_shared cost || (has_grown (counts_at word_of s.stacks t i) (counts_at word_of next.stacks t i) || nat_lt (length s.world.printed) (length next.world.printed))
+    takes_shared cost || (has_grown (counts_at word_of s.stacks t i) (counts_at word_of next.stacks t i) || (nat_lt (length s.world.printed) (length next.world.printed) || nat_lt (length s.world.interned) (length next.world.interned)))

@@ -1,1 +1,2 @@
 pub mod Allocating
+pub mod Filling

@@ -5,17 +5,18 @@ use Rattle.model.specs.declared.event.Event.{Event}
 use Rattle.model.specs.Classes.{Program}
 use Rattle.model.specs.LimitStands.{is_inflating_entry}
 use Rattle.model.specs.Operands.{values}
-use Rattle.model.specs.Outcomes.{Cost, Free, Makes, Starts, Enters, Joins}
+use Rattle.model.specs.Outcomes.{Cost, Free, Makes, Fills, Starts, Enters, Joins}
 use Rattle.model.specs.Run.{run}
 use Rattle.model.specs.State.{StackEntryOf, Invocation, Initialisation, StackOf, WorldOf, StateOf}
 use Rattle.model.specs.Step.{SteppedOf, NotEnabled, WrongKind, Next, PartOf, part, stepped}
 use Rattle.thread_stacks.specs.Stacks as shown
 use Rattle.thread_stacks.specs.Stacks.{ShownEntry}
 
--- an object, exceptions that the machine makes among them; a thread; the entry that makes a lock fat; a place in a wait set
+-- an object, exceptions that the machine makes among them, or cells of one; a thread; the entry that makes a lock fat; a place in a wait set
 abbrev pub takes_shared : Cost → Bool
 takes_shared Free = false
 takes_shared (Makes cells) = true
+takes_shared (Fills cells) = true
 takes_shared Starts = true
 takes_shared (Enters object count) = is_inflating_entry count
 takes_shared (Joins object) = true
@@ -47,10 +48,11 @@ has_grown old new =
 -- ---- an event
 
 -- by the operands on the stack of its thread before it, and by its step: it takes something of what all threads share, its stack
--- has grown, or it has printed
+-- has grown, or it has printed or interned a String
 abbrev pub takes_memory : {A : Type 0} → WorldOf A → (counts : List ℕ) → Cost → PartOf A → Bool
 takes_memory world counts cost next =
-    takes_shared cost || (has_grown counts (operand_counts next.stack) || nat_lt (length world.printed) (length next.world.printed))
+    takes_shared cost || (has_grown counts (operand_counts next.stack) || (nat_lt (length world.printed) (length next.world.printed)
+    || nat_lt (length world.interned) (length next.world.interned)))
 
 -- the same of whole states
 abbrev pub stack_at : {A : Type 0} → StateOf A → ℕ → StackOf A

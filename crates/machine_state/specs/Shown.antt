@@ -63,6 +63,8 @@ pub record ShowsWorld (trees : Program) (p : LinkedProgram) (shared : Shared) (w
   pub ready : AreInitialised trees shared.ready.items world
   pub threads : shared.threads.threads ≡ world.threads
   pub printed : shared.printed.items ≡ world.printed
+  pub interned : shared.interned.items ≡ world.interned
+  pub unnamed : shared.unnamed ≡ world.unnamed
 
 -- the machine's limits are those of the run; that of frames is the machine's own
 pub record HasBounds (trees : Program) (bounds : Bounds) (shared : Shared) : Type 0 where

@@ -8,6 +8,7 @@ pub enum MachineException {
     ArrayIndexOutOfBounds,
     StringIndexOutOfBounds,
     NegativeArraySize,
+    CloneNotSupported,
     ArrayStore,
     ClassCast,
     IllegalMonitorState,

@@ -30,6 +30,10 @@ pub struct Shared {
     pub threads: Threads,
     /// The UTF-16 units that were printed, the first of them first.
     pub printed: Vec<u16>,
+    /// The Strings that were interned, the first of them first.
+    pub interned: Vec<u32>,
+    /// How many Threads were made without a name, as an int.
+    pub unnamed: u32,
     /// By the numbers of the threads.
     pub stacks: Vec<ThreadStack>,
 }

@@ -108,6 +108,8 @@ four_objects =
       monitors = [];
       threads = [];
       printed = [];
+      interned = [];
+      unnamed = 0;
     }
 
 -- what a method does there, by its operands, the last one first

@@ -1,9 +1,9 @@
 -- What the built-in methods without code do (own: an event each, with no frame; JLS 17.2, and the API of Object and Thread). The
 -- receiver is not null here.
 use Rattle.std.specs.Prelude.{ℕ, List, [], ◌∷◌, ◌++◌, Option, Some, None, Bool, true, false, not, ◌&&◌, ◌||◌, if◌then◌else◌, nat_lt, codes, find, is_some, length, slice_get, unwrap_or}
-use Rattle.std.specs.Option.{option_map, option_and_then}
+use Rattle.std.specs.Option.{option_map}
 use Rattle.model.specs.declared.event.Event.{Event}
-use Rattle.model.specs.Names.{Name, name_eq, Member, member_eq, java_lang_class, java_lang_object, java_lang_string, java_lang_string_builder, java_lang_system, java_lang_thread, java_io_print_stream, thread_target, throwable_message, throwable_cause, string_described, println_int, constructor_name}
+use Rattle.model.specs.Names.{Name, name_eq, Member, member_eq, java_lang_class, java_lang_object, java_lang_string, java_lang_string_builder, java_lang_system, java_lang_thread, java_io_print_stream, object_clone, throwable_message, throwable_cause, string_described, string_get_chars, println_int, constructor_name}
 use Rattle.std.specs.Fmt.{signed_decimal}
 use Rattle.model.specs.declared.print_method.PrintMethod.{PrintMethod}
 use Rattle.model.specs.declared.print_method.PrintMethod.TheVariants.{Println, PrintlnChar, PrintlnInt, PrintlnString, PrintChar, PrintInt, PrintString}
@@ -11,6 +11,10 @@ use Rattle.model.specs.declared.string_method.StringMethod.{StringMethod}
 use Rattle.model.specs.declared.string_method.StringMethod.TheVariants.{Length, CharAt, Equals, HashCode, CompareTo, Concat, Substring, IndexOf, RegionMatches, ValueOfInt, ValueOfChar}
 use Rattle.model.specs.declared.builder_method.BuilderMethod.{BuilderMethod}
 use Rattle.model.specs.declared.builder_method.BuilderMethod.TheVariants.{ConstructEmpty, ConstructOfString, AppendString, AppendInt, AppendChar, AppendBuilder, ToString}
+use Rattle.model.specs.declared.name_method.NameMethod.{NameMethod}
+use Rattle.model.specs.declared.name_method.NameMethod.TheVariants as name_method
+use Rattle.model.specs.declared.text_method.TextMethod.{TextMethod}
+use Rattle.model.specs.declared.text_method.TextMethod.TheVariants as text_method
 use Rattle.model.specs.declared.object_method.ObjectMethod.{ObjectMethod}
 use Rattle.model.specs.declared.object_method.ObjectMethod.TheVariants as object_method
 use Rattle.model.specs.StringMethods.{StringAnswer, IsNull, IsOutside, Answers, Same, Composes, string_answer}
@@ -18,27 +22,30 @@ use Rattle.model.specs.declared.instr.Conversion.TheVariants.{ToChar}
 use Rattle.model.specs.Ints.{signed, converted}
 use Rattle.model.specs.Texts.{Text, int_line}
 use Rattle.model.specs.Operands.{Slots, Carrier}
-use Rattle.model.specs.State.{Waiter, Notified, Interrupted, ThreadStatus, Running, Waiting, Relock, Ended, WorldOf, ObjectOf, Instance, Primitives, References, Characters, new_thread}
+use Rattle.model.specs.State.{Waiter, Notified, Interrupted, ThreadStatus, Running, Waiting, Relock, Ended, WorldOf, Characters, new_thread}
 use Rattle.model.specs.Outcomes.{OutcomeOf, Raises, Interrupts, Waits, NullPointer, IllegalMonitorState, IllegalThreadState, StringIndexOutOfBounds, Makes, Starts, Joins}
 use Rattle.model.specs.Monitors as monitors
 use Rattle.model.specs.Monitors.{monitor_at}
 use Rattle.model.specs.Worlds.{thread_at, with_status, with_interrupted, thread_of, is_alive, is_interrupted, allocated, object_at, with_object, with_field, is_owner, with_monitors, woken, all_woken, waiters_of}
 use Rattle.model.specs.Sites.{picks_none, pushing, pushing_at, operand, referent, int_operand}
-pub use Rattle.model.specs.Worlds.{string_shown}
+pub use Rattle.model.specs.Worlds.{string_shown, string_text}
 pub use Rattle.model.specs.Sites.{object_of}
 use Rattle.model.specs.Classes.{Program}
 use Rattle.model.specs.Opening.{string_reference}
 use Rattle.model.specs.BuilderMethods.{builder_does}
 use Rattle.model.specs.ObjectMethods.{object_tells}
+use Rattle.model.specs.Cloning.{object_clones}
+use Rattle.model.specs.ThreadNames.{thread_names}
+pub use Rattle.model.specs.TextMethods.{string_operand}
+use Rattle.model.specs.TextMethods.{string_writes}
 
 pub data BuiltInMethod : Type 0 where
-  -- the constructors without parameters of Object, of Thread and of the classes of exceptions
+  -- the constructors without parameters of Object and of the classes of exceptions
   Construct : BuiltInMethod
   -- the constructors of exceptions with a message, and with a message and a cause
   ConstructWithMessage : BuiltInMethod
   ConstructWithCause : BuiltInMethod
-  -- Thread.<init>(Runnable)
-  ConstructWithTarget : BuiltInMethod
+  ObjectClone : BuiltInMethod
   ObjectWait : BuiltInMethod
   ObjectNotify : BuiltInMethod
   ObjectNotifyAll : BuiltInMethod
@@ -50,8 +57,10 @@ pub data BuiltInMethod : Type 0 where
   ThreadCurrentThread : BuiltInMethod
   ThreadJoin : BuiltInMethod
   ThreadIsAlive : BuiltInMethod
+  ThreadNames : NameMethod → BuiltInMethod
   PrintStreamPrints : PrintMethod → BuiltInMethod
   StringAnswers : StringMethod → BuiltInMethod
+  StringWrites : TextMethod → BuiltInMethod
   StringBuilderBuilds : BuilderMethod → BuiltInMethod
   ObjectAnswers : ObjectMethod → BuiltInMethod
 
@@ -83,7 +92,11 @@ built_in_methods =
     (of_object (codes "wait") (codes "()V"), ObjectWait)
     ∷ (of_object (codes "notify") (codes "()V"), ObjectNotify)
     ∷ (of_object (codes "notifyAll") (codes "()V"), ObjectNotifyAll)
-    ∷ (of_thread constructor_name (codes "(Ljava/lang/Runnable;)V"), ConstructWithTarget)
+    ∷ (object_clone, ObjectClone)
+    ∷ (of_thread constructor_name (codes "()V"), ThreadNames name_method.Construct)
+    ∷ (of_thread constructor_name (codes "(Ljava/lang/Runnable;)V"), ThreadNames name_method.ConstructWithTarget)
+    ∷ (of_thread constructor_name (codes "(Ljava/lang/String;)V"), ThreadNames name_method.ConstructWithName)
+    ∷ (of_thread constructor_name (codes "(Ljava/lang/Runnable;Ljava/lang/String;)V"), ThreadNames name_method.ConstructWithTargetAndName)
     ∷ (of_thread (codes "start") (codes "()V"), ThreadStart)
     ∷ (of_thread (codes "interrupt") (codes "()V"), ThreadInterrupt)
     ∷ (of_thread (codes "isInterrupted") (codes "()Z"), ThreadIsInterrupted)
@@ -92,6 +105,8 @@ built_in_methods =
     ∷ (of_thread (codes "currentThread") (codes "()Ljava/lang/Thread;"), ThreadCurrentThread)
     ∷ (of_thread (codes "join") (codes "()V"), ThreadJoin)
     ∷ (of_thread (codes "isAlive") (codes "()Z"), ThreadIsAlive)
+    ∷ (of_thread (codes "getName") (codes "()Ljava/lang/String;"), ThreadNames name_method.GetName)
+    ∷ (of_thread (codes "setName") (codes "(Ljava/lang/String;)V"), ThreadNames name_method.SetName)
     ∷ (of_print_stream (codes "println") (codes "()V"), PrintStreamPrints Println)
     ∷ (of_print_stream (codes "println") (codes "(C)V"), PrintStreamPrints PrintlnChar)
     ∷ (println_int, PrintStreamPrints PrintlnInt)
@@ -110,6 +125,11 @@ built_in_methods =
     ∷ (of_string (codes "regionMatches") (codes "(ILjava/lang/String;II)Z"), StringAnswers RegionMatches)
     ∷ (of_string (codes "valueOf") (codes "(I)Ljava/lang/String;"), StringAnswers ValueOfInt)
     ∷ (of_string (codes "valueOf") (codes "(C)Ljava/lang/String;"), StringAnswers ValueOfChar)
+    ∷ (of_string constructor_name (codes "()V"), StringWrites text_method.ConstructEmpty)
+    ∷ (of_string constructor_name (codes "(Ljava/lang/String;)V"), StringWrites text_method.ConstructOfString)
+    ∷ (of_string constructor_name (codes "([CII)V"), StringWrites text_method.ConstructOfChars)
+    ∷ (string_get_chars, StringWrites text_method.GetChars)
+    ∷ (of_string (codes "intern") (codes "()Ljava/lang/String;"), StringWrites text_method.Intern)
     ∷ (of_string_builder constructor_name (codes "()V"), StringBuilderBuilds ConstructEmpty)
     ∷ (of_string_builder constructor_name (codes "(Ljava/lang/String;)V"), StringBuilderBuilds ConstructOfString)
     ∷ (of_string_builder (codes "append") (codes "(Ljava/lang/String;)Ljava/lang/StringBuilder;"), StringBuilderBuilds AppendString)
@@ -220,17 +240,6 @@ with_printed world text = record world { printed = world.printed ++ text }
 
 -- ---- the methods of String
 
--- the text of an object, if it is a String
-abbrev pub string_text : {A : Type 0} → ObjectOf A → Option Text
-string_text (Instance class fields) = None
-string_text (Primitives of elements) = None
-string_text (References of elements) = None
-string_text (Characters text) = Some text
-
--- the text of an operand, if it is a String and not null
-abbrev pub string_operand : {A : Type 0} → Carrier A → WorldOf A → List A → ℕ → Option Text
-string_operand C world ops k = option_and_then (λ r. string_text (object_at world r)) (referent C ops k)
-
 -- A new String is one object, and its units are cells.
 abbrev pub answered : {A : Type 0} → Carrier A → StringAnswer → ℕ → WorldOf A → Slots A → List A → List A → OutcomeOf A
 answered C IsNull next world slots ops rest = Raises NullPointer
@@ -263,9 +272,8 @@ built_in_does C files ConstructWithCause next event world slots ops rest =
     (with_object world (object_of C ops 2)
     (with_field throwable_cause (operand C ops 0) (with_field throwable_message (operand C ops 1) (object_at world (object_of C ops 2)))))
     slots rest
--- .., objectref, target -> ..
-built_in_does C files ConstructWithTarget next event world slots ops rest =
-    pushing next [] (with_object world (object_of C ops 1) (with_field thread_target (operand C ops 0) (object_at world (object_of C ops 1)))) slots rest
+-- .., objectref -> .., result
+built_in_does C files ObjectClone next event world slots ops rest = object_clones C files next world slots ops rest
 -- .., objectref -> ..
 built_in_does C files ObjectWait next event world slots ops rest =
     wait_by (is_owner world event.thread (object_of C ops 0)) (thread_at world event.thread).interrupted event.thread (object_of C ops 0) world rest
@@ -288,11 +296,15 @@ built_in_does C files ThreadCurrentThread next event world slots ops rest = push
 built_in_does C files ThreadJoin next event world slots ops rest = join_by (is_alive world (object_of C ops 0)) next world slots rest
 -- .., objectref -> .., result
 built_in_does C files ThreadIsAlive next event world slots ops rest = pushing next (C.int (bit (is_alive world (object_of C ops 0))) ∷ []) world slots rest
+-- .., objectref, [value, ..] -> .., [result]
+built_in_does C files (ThreadNames method) next event world slots ops rest = thread_names C method next world slots ops rest
 -- .., objectref, [value] -> ..
 built_in_does C files (PrintStreamPrints method) next event world slots ops rest = pushing next [] (with_printed world (printed_by C method world ops)) slots rest
 -- .., [objectref], [value, ..] -> .., result
 built_in_does C files (StringAnswers method) next event world slots ops rest =
     answered C (string_answer method (int_operand C ops) (string_operand C world ops)) next world slots ops rest
+-- .., objectref, [value, ..] -> .., [result]
+built_in_does C files (StringWrites method) next event world slots ops rest = string_writes C files method next world slots ops rest
 -- .., [objectref], [value] -> .., [result]
 built_in_does C files (StringBuilderBuilds method) next event world slots ops rest =
     builder_does C (string_reference files []) method next world slots ops rest

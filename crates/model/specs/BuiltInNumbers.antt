@@ -20,6 +20,9 @@ string_number = 3
 abbrev pub class_number : ℕ
 class_number = 4
 
+abbrev pub cloneable_number : ℕ
+cloneable_number = 33
+
 abbrev pub print_stream_number : ℕ
 print_stream_number = 6
 
@@ -73,11 +76,14 @@ array_index_out_of_bounds_exception = 29
 abbrev pub string_index_out_of_bounds_exception : ℕ
 string_index_out_of_bounds_exception = 32
 
+abbrev pub clone_not_supported_exception : ℕ
+clone_not_supported_exception = 34
+
 -- ---- methods and objects
 
 -- Thread.run among the methods of each program
 abbrev pub thread_run_number : ℕ
-thread_run_number = 9
+thread_run_number = 10
 
 -- the first of the Class objects, behind the PrintStream of System.out, the arguments and the Thread of main
 abbrev pub first_class_reference : ℕ

@@ -11,7 +11,7 @@ use Rattle.model.specs.Classes.{Program, Body, body_of, superclass_of, is_subcla
 use Rattle.model.specs.ReferenceTypes.{ClassType, is_subtype}
 use Rattle.model.specs.Lookup.{find_method, find_interface_method, method_of, select, is_static_method, is_private_method, is_abstract_method}
 use Rattle.model.specs.Types.{VerificationType, NullType, Want, AnInt, AReference, AReceiver}
-use Rattle.model.specs.DescribedTypes.{DeclaredType, DeclaredInt, DeclaredReference, made_type, parameters_declared, results_declared, declared_want, verification_type}
+use Rattle.model.specs.DescribedTypes.{DeclaredType, DeclaredInt, DeclaredReference, type_named, made_type, parameters_declared, results_declared, declared_want, verification_type}
 use Rattle.model.specs.InitialisedTypes.{initialised}
 use Rattle.model.specs.Operands.{Slots, Wants, Carrier}
 use Rattle.model.specs.State.{type_of, WorldOf}
@@ -119,10 +119,14 @@ static_call C files site method =
 
 -- ---- invokevirtual: .., objectref, [arg1, [arg2 ..]] -> ..
 
--- The method is selected by the class of the receiver, which is of the class that the instruction names.
+-- a reference to what an instruction names: an object of a class, or an array (JVMS 4.4.1)
+abbrev pub of_named : Program → Name → Want
+of_named files named = AReference (made_type files (type_named named))
+
+-- The method is selected by the class of the receiver, which is of the class or of the array type that the instruction names.
 abbrev pub virtual_call : {A : Type 0} → Carrier A → Program → Site → Name → Member → MeaningOf A
 virtual_call C files site named method =
-    call_on C files site method (of_class files named ∷ []) (leads_after files site method) (λ world r. selected files (its_class world r) method)
+    call_on C files site method (of_named files named ∷ []) (leads_after files site method) (λ world r. selected files (its_class world r) method)
 
 -- ---- invokeinterface: .., objectref, [arg1, [arg2 ..]] -> ..
 

@@ -49,6 +49,9 @@ pub mod MonitorMeanings
 pub mod ThrowMeaning
 pub mod BuilderMethods
 pub mod ObjectMethods
+pub mod Cloning
+pub mod TextMethods
+pub mod ThreadNames
 pub mod BuiltInMethods
 pub mod BuiltInNumbers
 pub mod Calls

@@ -9,8 +9,9 @@ use Rattle.model.specs.declared.end.RunCause.TheVariants as cause
 use Rattle.model.specs.Classes.{Program}
 use Rattle.model.specs.Operands.{values}
 use Rattle.model.specs.State.{WorldOf, State}
-use Rattle.model.specs.Opening.{opening, opening_heap}
-use Rattle.model.specs.Outcomes.{Cost, Free, Makes, Starts, Enters, Joins}
+use Rattle.model.specs.Opening.{opening}
+pub use Rattle.model.specs.Opening.{opening_count}
+use Rattle.model.specs.Outcomes.{Cost, Free, Makes, Fills, Starts, Enters, Joins}
 use Rattle.model.specs.Worlds.{cells_of}
 use Rattle.model.specs.Step.{SteppedOf, NotEnabled, WrongKind, Next, stepped}
 use Rattle.model.specs.Run.{run}
@@ -28,9 +29,6 @@ bounds_of limits =
     record { objects = limits.objects; cells = limits.cells; monitors = limits.monitors; threads = limits.threads; frames = limits.frames }
 
 -- ---- what was made since the opening, exceptions that the machine made among it
-
-abbrev pub opening_count : Program → ℕ
-opening_count files = length (opening_heap values files)
 
 abbrev pub objects_made : {A : Type 0} → Program → WorldOf A → ℕ
 objects_made files world = length world.heap - opening_count files
@@ -50,6 +48,7 @@ with_inflated object inflated = if list_any (λ o. o == object) inflated then in
 abbrev pub inflated_by : Cost → List ℕ → List ℕ
 inflated_by Free inflated = inflated
 inflated_by (Makes cells) inflated = inflated
+inflated_by (Fills cells) inflated = inflated
 inflated_by Starts inflated = inflated
 inflated_by (Enters object count) inflated = if is_inflating_entry count then with_inflated object inflated else inflated
 inflated_by (Joins object) inflated = with_inflated object inflated
@@ -76,12 +75,13 @@ is_crowded monitors inflated object = not (list_any (λ o. o == object) inflated
 
 -- ---- which limit an event would pass
 
+abbrev pub cells_limit : Program → Bounds → State → ℕ → Option RunCause
+cells_limit files bounds state cells = if nat_lt bounds.cells (cells_made files state.world + cells) then Some cause.Cells else None
+
 -- of both, objects are answered
 abbrev pub allocation_limit : Program → Bounds → State → ℕ → Option RunCause
 allocation_limit files bounds state cells =
-    if nat_le bounds.objects (objects_made files state.world) then Some cause.Objects
-    else if nat_lt bounds.cells (cells_made files state.world + cells) then Some cause.Cells
-    else None
+    if nat_le bounds.objects (objects_made files state.world) then Some cause.Objects else cells_limit files bounds state cells
 
 -- an owner with so many entries enters once more
 abbrev pub entry_limit : Bool → ℕ → Option RunCause
@@ -94,6 +94,7 @@ entry_limit crowded count =
 abbrev pub limit_of : Program → Bounds → (ℕ → Bool) → State → Cost → Option RunCause
 limit_of files bounds crowded state Free = None
 limit_of files bounds crowded state (Makes cells) = allocation_limit files bounds state cells
+limit_of files bounds crowded state (Fills cells) = cells_limit files bounds state cells
 limit_of files bounds crowded state Starts = if nat_le bounds.threads (length state.world.threads) then Some cause.Threads else None
 limit_of files bounds crowded state (Enters object count) = entry_limit (crowded object) count
 limit_of files bounds crowded state (Joins object) = if crowded object then Some cause.Monitors else None

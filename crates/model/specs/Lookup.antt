@@ -1,6 +1,6 @@
 -- Which field or method a symbolic reference names (JVMS 5.4.3), and which method a call runs (JVMS 6.5). Access is not
 -- asked for (own). What is found is named by the class that declares it.
-use Rattle.std.specs.Prelude.{ℕ, zero, suc, length, List, [], ◌∷◌, Option, Some, None, Bool, true, false, not, ◌&&◌, find, reverse, map}
+use Rattle.std.specs.Prelude.{ℕ, zero, suc, length, List, [], ◌∷◌, Option, Some, None, Bool, true, false, not, ◌&&◌, if◌then◌else◌, find, reverse, map}
 use Rattle.std.specs.Option.{option_and_then, option_map_or, option_or}
 use Rattle.std.specs.List.{filter, flat_map}
 use Rattle.model.specs.Names.{Name, spells, Member, java_lang_object}
@@ -10,6 +10,7 @@ use Rattle.model.specs.Conditions.{text_at}
 pub use Rattle.model.specs.AccessFlags.{is_public_method, is_private_method, is_static_method, is_instance_method, is_final_method, is_synchronized_method, is_native_method, is_abstract_method, is_static_field, is_instance_field}
 pub use Rattle.model.specs.Classes.{Program, class_of, superclass_of, superinterfaces_of, all_superinterfaces, is_interface, is_subclass, implements, package_of}
 use Rattle.model.specs.Classes.{classes_of, lineage, declared_in}
+use Rattle.model.specs.DescriptorParts.{is_array_class}
 pub use Rattle.model.specs.ReferenceTypes.{is_subtype, is_assignable}
 
 -- ---- what a class itself declares
@@ -68,12 +69,16 @@ method_in_class files wanted m class = where_so (option_map_or wanted (method_of
 abbrev pub any_method : MethodTree → Bool
 any_method m = true
 
+-- the class whose methods those of a class or of an array are: an array has Object's (JVMS 2.4, JLS 10.7)
+abbrev pub searched_class : Name → Name
+searched_class class = if is_array_class class then java_lang_object else class
+
 -- the method that a symbolic reference to a method of a class names: one of the class and its superclasses, the nearest
 -- first, else one of all their superinterfaces; of several of these the first (own: all are abstract)
 abbrev pub find_method : Program → Member → Option Member
 find_method files m =
-    option_or (first_found (method_in_class files any_method m) (lineage files m.class))
-    (first_found (method_in_class files any_method m) (all_superinterfaces files m.class))
+    option_or (first_found (method_in_class files any_method m) (lineage files (searched_class m.class)))
+    (first_found (method_in_class files any_method m) (all_superinterfaces files (searched_class m.class)))
 
 abbrev pub is_public_instance_method : MethodTree → Bool
 is_public_instance_method m = is_public_method m && is_instance_method m

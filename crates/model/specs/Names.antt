@@ -59,6 +59,9 @@ java_lang_runnable = codes "java/lang/Runnable"
 abbrev pub java_lang_throwable : Name
 java_lang_throwable = codes "java/lang/Throwable"
 
+abbrev pub java_lang_cloneable : Name
+java_lang_cloneable = codes "java/lang/Cloneable"
+
 abbrev pub java_io_print_stream : Name
 java_io_print_stream = codes "java/io/PrintStream"
 
@@ -76,6 +79,16 @@ system_err = record { class = java_lang_system; name = codes "err"; descriptor =
 -- the field of a Thread that keeps what its constructor was given to run
 abbrev pub thread_target : Member
 thread_target = record { class = java_lang_thread; name = codes "target"; descriptor = codes "Ljava/lang/Runnable;" }
+
+-- the fields of a Thread that keep its name, which of those without a name it is, and its priority
+abbrev pub thread_name : Member
+thread_name = record { class = java_lang_thread; name = codes "name"; descriptor = codes "Ljava/lang/String;" }
+
+abbrev pub thread_ordinal : Member
+thread_ordinal = record { class = java_lang_thread; name = codes "number"; descriptor = codes "I" }
+
+abbrev pub thread_priority : Member
+thread_priority = record { class = java_lang_thread; name = codes "priority"; descriptor = codes "I" }
 
 -- the field of a StringBuilder that keeps its text
 abbrev pub builder_text : Member
@@ -96,8 +109,19 @@ abbrev pub string_described : Member
 string_described = record { class = java_lang_string; name = codes "described"; descriptor = codes "(Ljava/lang/Object;I)Ljava/lang/String;" }
 
 -- the method that tests the bounds of System.arraycopy
+abbrev pub string_lower : Member
+string_lower = record { class = java_lang_string; name = codes "lower"; descriptor = codes "(C)C" }
+
 abbrev pub system_check : Member
 system_check = record { class = java_lang_system; name = codes "check"; descriptor = codes "(IIIII)V" }
+
+-- Object.clone
+abbrev pub object_clone : Member
+object_clone = record { class = java_lang_object; name = codes "clone"; descriptor = codes "()Ljava/lang/Object;" }
+
+-- String.getChars
+abbrev pub string_get_chars : Member
+string_get_chars = record { class = java_lang_string; name = codes "getChars"; descriptor = codes "(II[CI)V" }
 
 -- PrintStream.println of an int
 abbrev pub println_int : Member

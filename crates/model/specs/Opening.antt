@@ -2,17 +2,19 @@
 use Rattle.std.specs.Prelude.{if◌then◌else◌, ℕ, ◌+◌, List, [], ◌∷◌, ◌++◌, map, filter, length}
 use Rattle.std.specs.List.{flat_map, position_or_len}
 use Rattle.model.specs.BuiltInNumbers.{first_class_reference}
-use Rattle.model.specs.Names.{Name, name_eq, Member, java_lang_class, java_lang_string, java_lang_thread, java_io_print_stream}
+use Rattle.model.specs.Names.{Name, name_eq, Member, thread_name, java_lang_class, java_lang_string, java_lang_thread, java_io_print_stream}
 use Rattle.model.specs.Tree.{FileTree}
 use Rattle.model.specs.Classes.{Program, name_of, is_named, classes_of}
 use Rattle.model.specs.ReferenceTypes.{ClassType}
 use Rattle.model.specs.DescribedTypes.{DeclaredType, DeclaredInt, DeclaredReference, field_declared}
 use Rattle.model.specs.Lookup.{is_static_field, field_member, instance_fields}
-use Rattle.model.specs.StringConstants.{string_texts}
+use Rattle.model.specs.StringConstants.{string_texts, main_text}
+use Rattle.model.specs.Rows.{counting}
 use Rattle.model.specs.Texts.{decoded}
-use Rattle.model.specs.Operands.{Carrier}
+use Rattle.model.specs.Operands.{Carrier, values}
 use Rattle.model.specs.State.{ObjectOf, Instance, References, Characters, NotInitialised, StateOf, new_thread}
 use Rattle.model.specs.Monitors.{unlocked}
+use Rattle.model.specs.Worlds.{with_field}
 
 -- ---- fields and what they begin with (JVMS 2.3, 2.4)
 
@@ -63,9 +65,17 @@ class_reference files name = first_class_reference + position_or_len (is_named n
 abbrev pub string_reference : Program → List ℕ → ℕ
 string_reference files text = first_class_reference + length (classes_of files) + position_or_len (name_eq text) (string_texts files)
 
+-- the Strings of all constants, in their order
+abbrev pub string_references : Program → List ℕ
+string_references files = counting (first_class_reference + length (classes_of files)) (length (string_texts files))
+
 -- the PrintStream of System.err, behind the Strings
 abbrev pub error_stream_reference : Program → ℕ
 error_stream_reference files = first_class_reference + length (classes_of files) + length (string_texts files)
+
+-- the Thread of main, which has a name
+abbrev pub main_thread_object : {A : Type 0} → Carrier A → Program → ObjectOf A
+main_thread_object C files = with_field thread_name (C.reference (string_reference files main_text)) (new_instance C files java_lang_thread)
 
 -- the PrintStream of System.out, the arguments, the Thread of main, a Class for each class, a String for each text, and the
 -- PrintStream of System.err
@@ -73,9 +83,13 @@ unfoldable pub opening_heap : {A : Type 0} → Carrier A → Program → List (O
 opening_heap C files =
     Instance java_io_print_stream []
     ∷ References (ClassType java_lang_string) []
-    ∷ new_instance C files java_lang_thread
+    ∷ main_thread_object C files
     ∷ (map (λ file. Instance java_lang_class []) (classes_of files)
     ++ (map (λ bytes. Characters (decoded bytes)) (string_texts files) ++ Instance java_io_print_stream [] ∷ []))
+
+-- how many objects there are
+abbrev pub opening_count : Program → ℕ
+opening_count files = length (opening_heap values files)
 
 -- ---- the state
 
@@ -90,6 +104,8 @@ opening C files =
         monitors = map (λ object. unlocked) (opening_heap C files);
         threads = new_thread main_thread_reference ∷ [];
         printed = [];
+        interned = [];
+        unnamed = 0;
       };
       stacks = [] ∷ [];
     }

@@ -11,6 +11,7 @@ pub data MachineException : Type 0 where
   ArrayIndexOutOfBounds : MachineException
   StringIndexOutOfBounds : MachineException
   NegativeArraySize : MachineException
+  CloneNotSupported : MachineException
   ArrayStore : MachineException
   ClassCast : MachineException
   IllegalMonitorState : MachineException
@@ -28,6 +29,7 @@ exception_class Arithmetic = codes "java/lang/ArithmeticException"
 exception_class ArrayIndexOutOfBounds = codes "java/lang/ArrayIndexOutOfBoundsException"
 exception_class StringIndexOutOfBounds = codes "java/lang/StringIndexOutOfBoundsException"
 exception_class NegativeArraySize = codes "java/lang/NegativeArraySizeException"
+exception_class CloneNotSupported = codes "java/lang/CloneNotSupportedException"
 exception_class ArrayStore = codes "java/lang/ArrayStoreException"
 exception_class ClassCast = codes "java/lang/ClassCastException"
 exception_class IllegalMonitorState = codes "java/lang/IllegalMonitorStateException"
@@ -39,11 +41,12 @@ exception_class StackOverflow = codes "java/lang/StackOverflowError"
 exception_class NoClassDefFound = codes "java/lang/NoClassDefFoundError"
 exception_class ExceptionInInitializer = codes "java/lang/ExceptionInInitializerError"
 
--- what an event takes that a limit may forbid (own): an object of so many cells, a thread, one more entry of
+-- what an event takes that a limit may forbid (own): an object of so many cells, so many cells of one that is there, a thread, one more entry of
 -- the monitor of an object by an owner with so many, or a place in the wait set of an object
 pub data Cost : Type 0 where
   Free : Cost
   Makes : (cells : ℕ) → Cost
+  Fills : (cells : ℕ) → Cost
   Starts : Cost
   Enters : (object count : ℕ) → Cost
   Joins : (object : ℕ) → Cost

@@ -3,16 +3,19 @@ use Rattle.std.specs.Prelude.{ℕ, ◌+◌, List, Bool, true, false, not, ◌&&�
 use Rattle.std.specs.Option.{option_map_or}
 use Rattle.std.specs.List.{list_any}
 use Rattle.model.specs.declared.instr.Instr.{Instr}
-use Rattle.model.specs.declared.instr.Instr.TheVariants.{LoadConstant, NewArray}
-use Rattle.model.specs.Names.{Name, name_eq, Member, constructor_name, initialiser_name}
+use Rattle.model.specs.declared.instr.Instr.TheVariants.{LoadConstant, NewArray, Invoke}
+use Rattle.model.specs.declared.instr.Invocation.{Invocation}
+use Rattle.model.specs.declared.instr.Invocation.TheVariants as invocation
+use Rattle.model.specs.Names.{Name, name_eq, Member, member_eq, java_lang_object, object_clone, constructor_name, initialiser_name}
 use Rattle.model.specs.Tree.{Entry, Integer, Float, String, FieldPart, ConstantOf, SkippedOfField, FieldTree, MethodTree, CodeTree, FileTree}
 use Rattle.model.specs.Spelling.{entry_at}
-use Rattle.model.specs.Pool.{class_name_at}
+use Rattle.model.specs.Pool.{class_name_at, method_at}
 use Rattle.model.specs.Conditions.{text_at}
 use Rattle.model.specs.AccessFlags.{is_interface_class, is_static_field, is_public_method, is_private_method, is_static_method, is_final_method, is_synchronized_method, is_native_method, is_abstract_method}
 use Rattle.model.specs.Descriptors.{ElementType, FieldType}
 use Rattle.model.specs.Descriptors as element
 use Rattle.model.specs.DescriptorParts.{types_in, returns_void, is_array_class}
+use Rattle.model.specs.Lookup.{in_class}
 use Rattle.model.specs.OpcodeTable.{Form, NoForm, Widened, form_of}
 use Rattle.model.specs.Instruction.{word_at}
 use Rattle.model.specs.CodeParts.{end_of_decoding, any_code, any_decoded_in, method_operand, operand_descriptors}
@@ -162,8 +165,18 @@ abbrev pub array_class_constant : List Entry → Instr → Bool
 array_class_constant pool (LoadConstant index) = option_map_or is_array_class (class_name_at pool index) false
 array_class_constant pool other = false
 
--- a call of a method of an array class
+-- clone of an array whose elements are of no type that is left out (JLS 10.7)
+abbrev pub is_array_clone : Member → Bool
+is_array_clone m = not (has_left_out_type m.class) && member_eq (in_class java_lang_object m) object_clone
+
+abbrev pub may_name : Invocation → Member → Bool
+may_name invocation.Virtual m = not (is_array_class m.class) || is_array_clone m
+may_name invocation.Special m = not (is_array_class m.class)
+may_name invocation.Static m = not (is_array_class m.class)
+
+-- a call of a method of an array class, but for an invokevirtual of clone
 abbrev pub method_of_array_class : List Entry → Instr → Bool
+method_of_array_class pool (Invoke how index) = option_map_or (λ (m : Member). not (may_name how m)) (method_at pool index) false
 method_of_array_class pool i = option_map_or (λ (m : Member). is_array_class m.class) (method_operand pool i) false
 
 -- ---- the refusal

@@ -48,15 +48,25 @@ declared_descriptors file = map (λ (f : FieldTree). text_at file.pool f.descrip
 abbrev pub declared_class_missing : Program → FileTree → Bool
 declared_class_missing files file = list_any (is_missing files) (flat_map classes_in (declared_descriptors file))
 
--- the classes that an operand needs: the one that it names, or that of an array's elements; the class of a field or of a
--- method; and those in its descriptor
+-- the classes that an operand needs: the one that it names, or that of an array's elements; the class of a field or of an
+-- interface's method, and those in its descriptor
 abbrev pub member_classes : Option Member → List Name
 member_classes None = []
 member_classes (Some m) = m.class ∷ classes_in m.descriptor
 
+-- the class of another method, which may be an array class, and those in its descriptor
+abbrev pub called_classes : Option Member → List Name
+called_classes None = []
+called_classes (Some m) = classes_named m.class ++ classes_in m.descriptor
+
+abbrev pub method_classes : List Entry → Instr → List Name
+method_classes pool (Invoke how index) = called_classes (method_at pool index)
+method_classes pool (InvokeInterface index count last) = member_classes (interface_method_at pool index)
+method_classes pool other = []
+
 abbrev pub operand_classes : List Entry → Instr → List Name
 operand_classes pool i =
-    flat_map classes_named (option_to_list (class_operand pool i)) ++ (member_classes (field_operand pool i) ++ member_classes (method_operand pool i))
+    flat_map classes_named (option_to_list (class_operand pool i)) ++ (member_classes (field_operand pool i) ++ method_classes pool i)
 
 -- one of them that is not found
 abbrev pub operand_class_missing : Program → FileTree → Instr → Bool

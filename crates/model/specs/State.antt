@@ -89,7 +89,8 @@ abbrev pub StackOf : Type 0 → Type 0
 StackOf A = List (StackEntryOf A)
 
 -- what the threads share: objects by their references, the static fields of the files, the classes of the files, monitors
--- by the references of their objects, the threads in starting order, and the text printed
+-- by the references of their objects, the threads in starting order, the text printed, the Strings that were interned, the first
+-- one first, and how many Threads were made without a name
 pub record WorldOf (A : Type 0) : Type 0 where
   pub heap : List (ObjectOf A)
   pub statics : List (Member × A)
@@ -97,6 +98,8 @@ pub record WorldOf (A : Type 0) : Type 0 where
   pub monitors : List Monitor
   pub threads : List Thread
   pub printed : Text
+  pub interned : List ℕ
+  pub unnamed : ℕ
 
 -- the stacks stand in the order of the threads
 pub record StateOf (A : Type 0) : Type 0 where

@@ -23,13 +23,17 @@ texts_in file = filter_map (string_of file.pool) file.pool
 abbrev pub file_texts : Program → List (List ℕ)
 file_texts files = distinct (flat_map texts_in files)
 
+-- the name of the first thread
+abbrev pub main_text : List ℕ
+main_text = codes "main"
+
 -- what a division by zero tells
 abbrev pub division_text : List ℕ
 division_text = codes "/ by zero"
 
 -- those of Strings that the machine itself gives (own): the name of the first thread, and what a division by zero tells
 abbrev pub machine_texts : List (List ℕ)
-machine_texts = codes "main" ∷ division_text ∷ []
+machine_texts = main_text ∷ division_text ∷ []
 
 -- those of a program: of the files, then of the built-in classes, then of the machine, each once
 abbrev pub string_texts : Program → List (List ℕ)

@@ -44,6 +44,8 @@ map_world f world =
       monitors = world.monitors;
       threads = world.threads;
       printed = world.printed;
+      interned = world.interned;
+      unnamed = world.unnamed;
     }
 
 abbrev pub map_state : {A B : Type 0} → (A → B) → StateOf A → StateOf B

@@ -1,6 +1,6 @@
 -- Reading and changing what the threads share (JVMS 2.5; JLS 17): threads, objects and their fields, and monitors.
 use Rattle.model.specs.Texts.{Text}
-use Rattle.std.specs.Prelude.{ℕ, ◌%◌, ◌^◌, List, [], ◌∷◌, ◌++◌, Option, Some, None, Bool, true, false, ◌==◌, if◌then◌else◌, codes, length, slice_get, slice_index_or, slice_set}
+use Rattle.std.specs.Prelude.{ℕ, ◌+◌, ◌%◌, ◌^◌, List, [], ◌∷◌, ◌++◌, Option, Some, None, Bool, true, false, ◌==◌, if◌then◌else◌, codes, length, slice_get, slice_index_or, slice_set}
 use Rattle.std.specs.Option.{option_map_or}
 use Rattle.std.specs.List.{position, filter}
 use Rattle.model.specs.Names.{Name, Member, member_eq, java_lang_object, java_lang_string}
@@ -149,7 +149,26 @@ with_element index value (Primitives of elements) = Primitives of (slice_set ele
 with_element index value (References of elements) = References of (slice_set elements index value)
 with_element index value (Characters text) = Characters text
 
+-- elements from an index on
+abbrev pub with_elements : {A : Type 0} → ℕ → List A → ObjectOf A → ObjectOf A
+with_elements index [] object = object
+with_elements index (value ∷ values) object = with_elements (index + 1) values (with_element index value object)
+
 -- ---- texts
+
+-- the text of an object, if it is a String
+abbrev pub string_text : {A : Type 0} → ObjectOf A → Option Text
+string_text (Instance class fields) = None
+string_text (Primitives of elements) = None
+string_text (References of elements) = None
+string_text (Characters text) = Some text
+
+-- a String with another text
+abbrev pub with_text : {A : Type 0} → Text → ObjectOf A → ObjectOf A
+with_text text (Instance class fields) = Instance class fields
+with_text text (Primitives of elements) = Primitives of elements
+with_text text (References of elements) = References of elements
+with_text text (Characters old) = Characters text
 
 -- the text of a String
 abbrev pub text_of : {A : Type 0} → ObjectOf A → Text

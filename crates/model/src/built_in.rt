@@ -72,11 +72,17 @@ pub const ARRAY_INDEX_OUT_OF_BOUNDS_EXCEPTION: usize = 29;
 /// The number of java/lang/StringIndexOutOfBoundsException.
 pub const STRING_INDEX_OUT_OF_BOUNDS_EXCEPTION: usize = 32;
 
+/// The number of java/lang/Cloneable.
+pub const CLONEABLE: usize = 33;
+
+/// The number of java/lang/CloneNotSupportedException.
+pub const CLONE_NOT_SUPPORTED_EXCEPTION: usize = 34;
+
 /// The number of `Runnable.run`, which is abstract, among the methods of each program.
-pub const RUNNABLE_RUN: usize = 8;
+pub const RUNNABLE_RUN: usize = 9;
 
 /// The number of `Thread.run` among the methods of each program.
-pub const THREAD_RUN: usize = 9;
+pub const THREAD_RUN: usize = 10;
 
 /// The PrintStream of System.out, the first object of a run.
 pub const SYSTEM_OUT: u32 = 0;

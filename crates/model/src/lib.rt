@@ -28,11 +28,13 @@ mod event;
 mod instr;
 mod limits;
 mod monitor_answer;
+mod name_method;
 mod object_method;
 mod primitive;
 mod print_method;
 mod report;
 mod string_method;
+mod text_method;
 mod value;
 
 pub use builder_method::BuilderMethod;
@@ -47,9 +49,11 @@ pub use instr::{
 };
 pub use limits::Limits;
 pub use monitor_answer::MonitorAnswer;
+pub use name_method::NameMethod;
 pub use object_method::ObjectMethod;
 pub use primitive::Primitive;
 pub use print_method::PrintMethod;
 pub use report::{EndState, Report};
 pub use string_method::StringMethod;
+pub use text_method::TextMethod;
 pub use value::Value;

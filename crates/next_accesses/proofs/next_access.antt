@@ -3,3 +3,5 @@ pub mod Stepping
 pub mod Passing
 pub mod Meant
 pub mod Called
+pub mod Right
+pub mod Adding

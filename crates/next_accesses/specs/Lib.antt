@@ -5,4 +5,6 @@ pub mod access_conditions
 pub mod next_access
 pub mod racy_states
 pub mod builder_texts
-pub mod builder_calls
+pub mod accessing_calls
+pub mod element_ranges
+pub mod copied_variables

@@ -1,1 +1,3 @@
 pub mod Next
+pub mod Added
+pub mod Called

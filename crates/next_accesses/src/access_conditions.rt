@@ -1,10 +1,10 @@
-//! Whether an instruction that names a variable goes on to read or write it (JVMS 5.5, 6.5): the class of a static field
-//! is there, an array has the index, and may hold what is stored.
+//! Whether an instruction that names a variable goes on to read or write it (JVMS 5.5, 6.5): the class of a static
+//! field is there, an array has the index, and may hold what is stored.
 //!
 //! # Proved
 //!
-//! - `goes_on`, by the words of a frame (`GoesOn`): of a static field whether the class that declares it is there for the
-//!   thread; of an element whether the array is not null and has the index, and of `aastore` whether the value is null
+//! - `goes_on`, by the words of a frame (`GoesOn`): of a static field whether the class that declares it is there for
+//!   the thread; of an element whether the array is not null and has the index, and of `aastore` whether the value is null
 //!   or an instance of the array's component type.
 //!
 //! # Not proved
@@ -15,7 +15,8 @@
 //!
 //! - `access_conditions-held-class-is-there`: a class that another thread initialises is there; refused by
 //!   `is_class_ready`.
-//! - `access_conditions-index-is-the-length`: an index that is the length is one of the array; refused by `has_element`.
+//! - `access_conditions-index-is-the-length`: an index that is the length is one of the array; refused by
+//!   `has_element`.
 
 ghost use Rattle.std.specs.Prelude.{◌≡◌, ◌<◌, slice_get};
 ghost use Rattle.std.specs.Option.{option_and_then};

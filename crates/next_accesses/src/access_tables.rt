@@ -3,8 +3,8 @@
 //!
 //! # Proved
 //!
-//! - `AccessTables::instruction_at`: by the number of a method that has code, the instruction at an offset there, if one
-//!   begins there (`IsInstructionAt`).
+//! - `AccessTables::instruction_at`: by the number of a method that has code, the instruction at an offset there, if
+//!   one begins there (`IsInstructionAt`).
 //! - `AccessTables::field_named`: the field that it names (`IsFieldNamed`).
 
 ghost use Rattle.std.specs.Prelude.{◌≡◌, IfOk};

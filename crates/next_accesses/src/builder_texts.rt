@@ -23,7 +23,8 @@
 ghost use Rattle.std.specs.Prelude.{◌≡◌};
 ghost use Rattle.thread_stacks.specs.Stacks.{shown_frame};
 ghost use Rattle.next_accesses.specs.builder_texts.Texts.{appending as appended_in, one_access, text_of};
-ghost use Rattle.next_accesses.specs.builder_texts.Texts.{texts_accessed as accessed_in, texts_on as on_frame, throws_on};
+ghost use Rattle.next_accesses.specs.builder_texts.Texts.{texts_accessed as accessed_in, texts_on as on_frame};
+ghost use Rattle.next_accesses.specs.builder_texts.Texts.{throws_on};
 
 use crate::accesses::{object_at, read, write};
 use model::BuilderMethod;
@@ -31,19 +32,19 @@ use model::built_in::STRING_BUILDER;
 use race_places::run_actions::{Action, Variable};
 use thread_stacks::Frame;
 
-/// What an event reads and writes, in its order.
+/// What a method reads and writes of texts, in its order.
 #[derive(Clone, Copy, PartialEq, Eq)]
-pub struct EventAccesses {
-    pub first: Option<Action>,
-    pub second: Option<Action>,
-    pub third: Option<Action>,
+pub(crate) struct TextAccesses {
+    pub(crate) first: Option<Action>,
+    pub(crate) second: Option<Action>,
+    pub(crate) third: Option<Action>,
 }
 
 /// One access, if there is one.
-pub(crate) fn one_access_of(access: Option<Action>) -> EventAccesses
+fn one_access_of(access: Option<Action>) -> TextAccesses
     ensures { result ≡ one_access access }
 {
-    EventAccesses {
+    TextAccesses {
         first: access,
         second: None,
         third: None,
@@ -65,11 +66,11 @@ fn text(object: Option<u32>) -> Option<Variable>
 }
 
 /// What an `append` reads and writes, if it adds another StringBuilder the text of that, too.
-fn appending(frame: &Frame<'_>, added: Option<Variable>) -> EventAccesses
+fn appending(frame: &Frame<'_>, added: Option<Variable>) -> TextAccesses
     ensures { result ≡ appended_in (shown_frame frame.now).operands added }
 {
     let text = text(object_at(frame, 1));
-    EventAccesses {
+    TextAccesses {
         first: read(text, false),
         second: read(added, false),
         third: write(text, false),
@@ -77,7 +78,7 @@ fn appending(frame: &Frame<'_>, added: Option<Variable>) -> EventAccesses
 }
 
 /// What a method reads and writes of texts, by the operands of its call.
-fn texts_accessed(frame: &Frame<'_>, method: BuilderMethod) -> EventAccesses
+fn texts_accessed(frame: &Frame<'_>, method: BuilderMethod) -> TextAccesses
     ensures { result ≡ accessed_in (shown_frame frame.now).operands method }
 {
     match method {
@@ -102,7 +103,7 @@ fn throws(frame: &Frame<'_>, method: BuilderMethod) -> bool
 }
 
 /// What the call of a method reads and writes of texts, unless it throws.
-pub(crate) fn texts_on(frame: &Frame<'_>, method: BuilderMethod) -> EventAccesses
+pub(crate) fn texts_on(frame: &Frame<'_>, method: BuilderMethod) -> TextAccesses
     ensures { result ≡ on_frame (shown_frame frame.now).operands method }
 {
     if throws(frame, method) {

@@ -5,8 +5,10 @@
 pub mod access_conditions;
 pub mod access_tables;
 pub mod accesses;
-pub mod builder_calls;
-pub mod builder_texts;
+mod accessing_calls;
+mod builder_texts;
+mod copied_variables;
+mod element_ranges;
 pub mod next_access;
 pub mod racy_states;
 pub mod read_operands;

@@ -2,33 +2,45 @@
 //!
 //! # Proved
 //!
-//! - `next_access`: in each state to which a run of the accepted class files led and whose words are shown, by the names
-//!   of the class files, the reads and writes among the actions of the thread's next event, in their order, or none
-//!   where there are none (`TellsNext`, `accesses_next`); the classes and the fields that they name are there, and each
-//!   tells whether its field is volatile (`AreRight`).
+//! - `push_next_accesses`: in each state to which a run of the accepted class files led and whose words are shown, by
+//!   the names of the class files, the reads and writes among the actions of the thread's next event, in their order, or
+//!   none where there are none (`TellsNext`, `accesses_next`); the classes and the fields that they name are there, and
+//!   each tells whether its field is volatile (`AreAllRight`).
 //!
 //! # Wrong bodies
 //!
-//! - `next_access-null-has-an-access`: an instruction that throws does its access; refused by `accesses_on`.
+//! - `next_access-null-has-an-access`: an instruction that throws does its access; refused by `push_accesses_on`.
+//! - `next_access-clone-is-forgotten`: `clone` reads nothing; refused by `push_clone`.
 
-ghost use Rattle.std.specs.Prelude.{◌≡◌, option_map, slice_get};
+ghost use Rattle.std.specs.Prelude.{◌≡◌, ◌++◌, OnOk, option_map, slice_get};
+ghost use Rattle.std.specs.Option.{option_to_list};
 ghost use Rattle.thread_stacks.specs.Stacks.{shown_frame};
 ghost use Rattle.machine_state.specs.shown_stacks.Shown.{offset_at, starts_of as starts_in};
+ghost use Rattle.next_accesses.specs.builder_texts.Texts.{accesses_in};
+ghost use Rattle.next_accesses.specs.element_ranges.Ranges.{actions_if};
+ghost use Rattle.next_accesses.specs.next_access.Added.{Adds};
+ghost use Rattle.next_accesses.specs.next_access.Called.{AccessesBy, ClonesOnTop};
 ghost use Rattle.next_accesses.specs.next_access.Next.{TellsFrame, TellsNext, TellsStack};
 
 use crate::access_conditions::goes_on;
 use crate::access_tables::AccessTables;
-use crate::accesses::access_of;
-use crate::builder_calls::builder_called;
-use crate::builder_texts::{EventAccesses, one_access_of, texts_on};
+use crate::accesses::{access_of, object_at};
+use crate::accessing_calls::{AccessingMethod, accessing_called};
+use crate::builder_texts::{TextAccesses, texts_on};
+use crate::copied_variables::push_copied;
+use crate::element_ranges::{ElementRange, chars_accessed, push_elements};
 use crate::read_operands::operands_are_read;
+use heap::Heap;
 use linked_code::{LinkedProgram, MethodBody};
 use machine_state::Shared;
 use machine_state::linked_frames::tops_are_shown;
 use machine_state::method_selection::method_at;
+use model::Instr;
 use model::built_in::NO_OFFSET;
+use race_places::run_actions::Action;
 use run_laws::soundness::no_event_is_wrong;
 use run_laws::word_operands::receivers_fit;
+use std::alloc::AllocError;
 use thread_rules::next_rules::{NextRule, next_rule, rules_are_meant};
 use thread_stacks::{Frame, ThreadStack};
 
@@ -55,15 +67,83 @@ fn offset_of(program: &LinkedProgram, method: u32, place: usize) -> u16
     }
 }
 
-/// What the instruction of the frame on top of a thread that runs reads and writes.
-fn accesses_on(
+/// Puts an access behind others, if there is one.
+fn push(found: &mut Vec<Action>, access: Option<Action>) -> Result<(), AllocError>
+    ensures { OnOk result (found.new.items ≡ found.old.items ++ option_to_list access) }
+{
+    if let Some(access) = access {
+        found.push(access)?;
+    }
+    Ok(())
+}
+
+/// Puts what a method of StringBuilder reads and writes behind other accesses.
+fn push_texts(found: &mut Vec<Action>, accesses: TextAccesses) -> Result<(), AllocError>
+    ensures { OnOk result (found.new.items ≡ found.old.items ++ accesses_in accesses) }
+{
+    push(found, accesses.first)?;
+    push(found, accesses.second)?;
+    push(found, accesses.third)?;
+    Ok(())
+}
+
+/// Puts the accesses of elements behind others, if there are any.
+fn push_range(found: &mut Vec<Action>, range: Option<ElementRange>) -> Result<(), AllocError>
+    ensures { OnOk result (found.new.items ≡ found.old.items ++ actions_if range) }
+{
+    match range {
+        Some(range) => push_elements(found, range),
+        None => Ok(()),
+    }
+}
+
+/// Puts what `clone` of the operand on top reads behind other accesses.
+fn push_clone(
+    found: &mut Vec<Action>,
+    tables: &AccessTables<'_>,
+    program: &LinkedProgram,
+    heap: &Heap,
+    frame: &Frame<'_>,
+) -> Result<(), AllocError>
+    ensures { OnOk result (Adds (ClonesOnTop tables.now.linked.now program.now heap.now.objects
+        (shown_frame frame.now).operands) found.old.items found.new.items) }
+{
+    match object_at(frame, 0) {
+        Some(object) => push_copied(found, tables, program, heap, object),
+        None => Ok(()),
+    }
+}
+
+/// Puts what a method without code reads and writes behind other accesses.
+fn push_called(
+    found: &mut Vec<Action>,
+    tables: &AccessTables<'_>,
+    program: &LinkedProgram,
+    heap: &Heap,
+    frame: &Frame<'_>,
+    method: AccessingMethod,
+) -> Result<(), AllocError>
+    ensures { OnOk result (Adds (AccessesBy tables.now.linked.now program.now heap.now.objects
+        (shown_frame frame.now).operands method) found.old.items found.new.items) }
+{
+    match method {
+        AccessingMethod::Builds(method) => push_texts(found, texts_on(frame, method)),
+        AccessingMethod::Writes(method) => push_range(found, chars_accessed(heap, frame, method)),
+        AccessingMethod::Clones => push_clone(found, tables, program, heap, frame),
+    }
+}
+
+/// Puts what the instruction of the frame on top of a thread that runs reads and writes behind other accesses.
+fn push_accesses_on(
+    found: &mut Vec<Action>,
     tables: &AccessTables<'_>,
     program: &LinkedProgram,
     shared: &Shared,
     thread: u16,
     frame: &Frame<'_>,
-) -> EventAccesses
-    ensures { TellsFrame tables.now.linked.now program.now shared.now thread (shown_frame frame.now) result }
+) -> Result<(), AllocError>
+    ensures { OnOk result (Adds (TellsFrame tables.now.linked.now program.now shared.now thread
+        (shown_frame frame.now)) found.old.items found.new.items) }
 {
     no_event_is_wrong();
     receivers_fit();
@@ -71,38 +151,40 @@ fn accesses_on(
     tops_are_shown();
     let offset = offset_of(program, frame.method, frame.place);
     let Some(instruction) = tables.instruction_at(frame.method, offset) else {
-        return one_access_of(None);
+        return Ok(());
     };
-    match builder_called(tables, program, shared, thread, frame, instruction) {
-        Some(method) => texts_on(frame, method),
+    match accessing_called(tables, program, shared, thread, frame, instruction) {
+        Some(method) => push_called(found, tables, program, &shared.heap, frame, method),
         None => {
             let field = tables.field_named(frame.method, offset, instruction);
             if goes_on(program, shared, thread, frame, instruction, field) {
-                one_access_of(access_of(frame, instruction, field))
+                push(found, access_of(frame, instruction, field))
             } else {
-                one_access_of(None)
+                Ok(())
             }
         }
     }
 }
 
-/// What the next event of a thread reads and writes, by the thread's stack.
-fn accesses_with(
+/// Puts what the next event of a thread reads and writes behind other accesses, by the thread's stack.
+fn push_accesses_with(
+    found: &mut Vec<Action>,
     tables: &AccessTables<'_>,
     program: &LinkedProgram,
     shared: &Shared,
     thread: u16,
     stack: &ThreadStack,
-) -> EventAccesses
-    ensures { TellsStack tables.now.linked.now program.now shared.now thread stack.now result }
+) -> Result<(), AllocError>
+    ensures { OnOk result (Adds (TellsStack tables.now.linked.now program.now shared.now thread stack.now)
+        found.old.items found.new.items) }
 {
     rules_are_meant();
     match next_rule(&shared.threads, stack, thread) {
         NextRule::Bytecode => match stack.frame() {
-            Some(frame) => accesses_on(tables, program, shared, thread, &frame),
-            None => one_access_of(None),
+            Some(frame) => push_accesses_on(found, tables, program, shared, thread, &frame),
+            None => Ok(()),
         },
-        _ => one_access_of(None),
+        _ => Ok(()),
     }
 }
 
@@ -113,17 +195,20 @@ fn stack_of(shared: &Shared, thread: u16) -> Option<&ThreadStack>
     shared.stacks.get(usize::from(thread))
 }
 
-/// What the next event of a thread reads and writes, if it does.
-pub fn next_access(
+/// Puts what the next event of a thread reads and writes behind other accesses, in its order. The only error is a want
+/// of memory.
+pub fn push_next_accesses(
+    found: &mut Vec<Action>,
     tables: &AccessTables<'_>,
     program: &LinkedProgram,
     shared: &Shared,
     thread: u16,
-) -> EventAccesses
-    ensures { TellsNext tables.now.linked.now program.now shared.now thread result }
+) -> Result<(), AllocError>
+    ensures { OnOk result (Adds (TellsNext tables.now.linked.now program.now shared.now thread)
+        found.old.items found.new.items) }
 {
     match stack_of(shared, thread) {
-        Some(stack) => accesses_with(tables, program, shared, thread, stack),
-        None => one_access_of(None),
+        Some(stack) => push_accesses_with(found, tables, program, shared, thread, stack),
+        None => Ok(()),
     }
 }

@@ -4,8 +4,8 @@
 //!
 //! - `is_racy`, memory aside: of whatever run of the accepted class files the machine has done, whether the state to
 //!   which that led is racy (`TellsState`, `IsRacy`).
-//! - `racing`, memory aside: a race exactly where that state is racy, and the accesses that it tells are among
-//!   those of the next events of its threads (`TellsRace`).
+//! - `racing`, memory aside: a race exactly where that state is racy, and the accesses that it tells conflict and are
+//!   among those of the next events of its threads (`TellsRace`).
 //!
 //! # Not proved
 //!
@@ -22,8 +22,7 @@ ghost use Rattle.next_accesses.specs.racy_states.Racy.{AreNext, IsConflictIn, Is
 ghost use Rattle.next_accesses.specs.racy_states.Racy as racy;
 
 use crate::access_tables::AccessTables;
-use crate::builder_texts::EventAccesses;
-use crate::next_access::next_access;
+use crate::next_access::push_next_accesses;
 use field_names::named_fields::names_are_apart;
 use linked_code::LinkedProgram;
 use machine::Machine;
@@ -149,35 +148,22 @@ fn race_among(actions: &[RunAction]) -> Option<Race>
     None
 }
 
-/// Adds an access of the next event of a thread, if there is one.
-fn add_next(
-    found: &mut Vec<RunAction>,
-    thread: u16,
-    action: Option<Action>,
-) -> Result<(), AllocError>
-    ensures { OnOk result (found.new.items ≡ racy.with_next thread action found.old.items) }
-{
-    if let Some(action) = action {
-        found.push(RunAction {
-            thread,
-            event: 0,
-            action,
-        })?;
-    }
-    Ok(())
-}
-
 /// Adds what the next event of a thread reads and writes.
 fn add_accesses(
     found: &mut Vec<RunAction>,
     thread: u16,
-    accesses: EventAccesses,
+    accesses: &[Action],
 ) -> Result<(), AllocError>
-    ensures { OnOk result (found.new.items ≡ racy.with_accesses thread accesses found.old.items) }
+    ensures { OnOk result (found.new.items ≡ racy.with_accesses thread accesses.now found.old.items) }
 {
-    add_next(found, thread, accesses.first)?;
-    add_next(found, thread, accesses.second)?;
-    add_next(found, thread, accesses.third)
+    'accesses: for at in 0..accesses.len() {
+        found.push(RunAction {
+            thread,
+            event: 0,
+            action: accesses[at],
+        })?;
+    }
+    Ok(())
 }
 
 /// What the next events of the first threads read and write, of so many threads. The only error is a want of memory.
@@ -191,9 +177,11 @@ fn next_accesses(
     ensures { IfOk result (λ found. AreNext tables.now.linked.now program.now shared.now threads found.items) }
 {
     let mut found = Vec::new(alloc);
+    let mut accesses = Vec::new(alloc);
     'threads: for thread in 0..threads {
-        let accesses = next_access(tables, program, shared, thread);
-        add_accesses(&mut found, thread, accesses)?;
+        accesses.clear();
+        push_next_accesses(&mut accesses, tables, program, shared, thread)?;
+        add_accesses(&mut found, thread, &accesses)?;
     }
     Ok(found)
 }

@@ -3,10 +3,9 @@
 //! # Proved
 //!
 //! - `looked_at`: in each state to which a run of the accepted class files led and whose words are shown, of the next
-//!   event of a thread: what it finds of classes and threads, whom it interrupts, and what it reads and writes, by the
-//!   names of the class files those of the definitions; the one monitor that it may lock or unlock, but for one that a
-//!   new invocation enters; and what has to be known of the state besides to tell its other actions once it is done
-//!   (`KnowsEvent`, `IsKnown`).
+//!   event of a thread: what it finds of classes and threads, and whom it interrupts, by the names of the class files
+//!   those of the definitions; the one monitor that it may lock or unlock, but for one that a new invocation enters;
+//!   and what has to be known of the state besides to tell its other actions once it is done (`KnowsEvent`, `IsKnown`).
 //!
 //! # Wrong bodies
 //!
@@ -27,8 +26,6 @@ use machine_state::linked_frames::{instruction_at, tops_are_shown};
 use machine_state::method_selection::method_at;
 use model::Instr;
 use model::built_in::NO_OFFSET;
-use next_accesses::builder_texts::EventAccesses;
-use next_accesses::next_access::next_access;
 use next_accesses::read_operands::operands_are_read;
 use race_places::run_actions::Action;
 use run_laws::soundness::no_event_is_wrong;
@@ -50,7 +47,6 @@ pub(crate) struct EventBefore {
     /// By which action it finds the class that it needs first.
     pub(crate) found_class: Option<Action>,
     pub(crate) finds: Findings,
-    pub(crate) accesses: EventAccesses,
     pub(crate) interrupt: Option<Action>,
     /// The monitor that it may lock or unlock, but for one that a new invocation enters.
     pub(crate) monitor: MonitorBefore,
@@ -245,7 +241,6 @@ pub(crate) fn looked_at(
     EventBefore {
         found_class: found_class(shared, needed),
         finds: finds_of(shared, thread, rule, standing.called),
-        accesses: next_access(&tables.accesses, program, shared, thread),
         interrupt: interrupt_of(shared, standing.called),
         monitor: MonitorBefore {
             object,

@@ -3,6 +3,7 @@ pub mod Shapes
 pub mod Later
 pub mod Accessing
 pub mod Instructions
+pub mod Methods
 pub mod Accesses
 pub mod Stepping
 pub mod Upto

@@ -118,8 +118,8 @@ fn is_any(told: &ToldRaces) -> bool
     told.len() != 0
 }
 
-/// The lines of the races of a machine's run. The only error is a want of memory.
-fn lines_of(
+/// The lines of races, of objects in the state of a machine. The only error is a want of memory.
+pub fn lines_of(
     alloc: Global,
     linked: &Linked,
     machine: &Machine,

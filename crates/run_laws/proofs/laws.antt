@@ -19,5 +19,6 @@ pub mod LinkedConstants
 pub mod LinkedOf
 pub mod WordLists
 pub mod Operations
+pub mod NamedTypes
 pub mod StringAnswers
 pub mod Distinct

@@ -16,6 +16,7 @@ pub mod NewFrames
 pub mod Called
 pub mod Going
 pub mod Instructions
+pub mod Names
 pub mod Texts
 pub mod Subtypes
 pub mod ObjectInstructions
@@ -31,6 +32,7 @@ pub mod Handlers
 pub mod Events
 pub mod Begins
 pub mod Builders
+pub mod Changed
 pub mod Told
 pub mod Signatures
 pub mod StartedThreads

@@ -1,6 +1,8 @@
 pub mod WordWorlds
 pub mod WordMeanings
 pub mod WordArrays
+pub mod WordNames
+pub mod WordWrites
 pub mod WordBuiltIns
 pub mod WordCalls
 pub mod WordTable

@@ -15,7 +15,8 @@
 //!   monitors as objects and as many stacks as threads (`tables_are_counted`); each object of the opening heap is there
 //!   with its type, among them the Class object of each class, the String of each text and the
 //!   streams of System (`opening_objects_are_there`); what an object keeps as the text of a StringBuilder is null, or a
-//!   String that is there (`texts_are_strings`).
+//!   String that is there (`texts_are_strings`), and so is what it keeps as the name of a Thread
+//!   (`names_are_strings`).
 //! - Of accepted files: an event at such words takes no object away and leaves each with its type
 //!   (`a_step_keeps_objects`). Where each exception with which a thread has ended is there and is such an instance of
 //!   Throwable, that is so after the event (`a_step_keeps_ends`); in the opening state no thread has ended
@@ -26,7 +27,7 @@
 //! - Not said: that the count of a member of a wait set is the one in the status of its thread.
 
 ghost use Rattle.run_laws.specs.typed_threads.Ends.{AreEndsKept, AreOpeningEnds};
-ghost use Rattle.run_laws.specs.typed_threads.Objects.{AreObjectsKept, AreOpeningObjectsThere, AreTextsStrings};
+ghost use Rattle.run_laws.specs.typed_threads.Objects.{AreObjectsKept, AreOpeningObjectsThere, AreNamesStrings, AreTextsStrings};
 ghost use Rattle.run_laws.specs.typed_threads.Threads.{ArePendingThrowable, AreTablesCounted, AreThreadObjects, AreWaitsForObjects};
 
 /// The exception that is pending in a thread that has not ended is there, and is an instance of Throwable or of a class
@@ -59,6 +60,11 @@ pub fn opening_objects_are_there()
 /// What each object keeps as the text of a StringBuilder is null, or a String that is there.
 pub fn texts_are_strings()
     ensures holds { AreTextsStrings }
+{}
+
+/// What each object keeps as the name of a Thread is null, or a String that is there.
+pub fn names_are_strings()
+    ensures holds { AreNamesStrings }
 {}
 
 /// An event takes no object away, and leaves each with its type.

@@ -10,5 +10,6 @@ mod OwnEdges
 mod StateKinds
 mod Uncaught
 mod Walks
+mod RacyStates
 mod Visits
 mod Whole

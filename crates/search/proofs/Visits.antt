@@ -11,6 +11,7 @@ use Rattle.model.specs.LimitStands.{bounds_of, within_limits}
 use Rattle.model.specs.Run.{run, is_quiet}
 use Rattle.model.specs.State.{State}
 use Rattle.run_laws.specs.interleavings.Ends.{Outcome, outcome_of, EndsWith, Has}
+use Rattle.data_races.specs.Races.{IsRacy}
 use Rattle.machine.specs.Machines.{MachineOf, IsProgramOf}
 use Rattle.machine.specs.schedule_runs.Done.{HasDone}
 use Rattle.search.specs.met_states.Met.{AreMetStatesKept}
@@ -23,6 +24,7 @@ use Rattle.search.specs.declared.run_outcomes.outcomes.Outcome.{Outcome as TheOu
 use Rattle.search.specs.declared.run_outcomes.wanted.Wanted.{Wanted}
 use Rattle.search.specs.run_outcomes.Outcomes.{told_by, IsWanted, IsAdded}
 use Rattle.search.specs.GivingUp.{GivesUp, IsStopped}
+use Rattle.search.specs.RacyStates.{IsRacyAt, HasRaceAt, first_race}
 use Rattle.search.specs.Kinds.{Shows, ShowsItself, IsShown, is_told, and_also, wanted_of, is_sought}
 use Rattle.search.specs.States.{StatesOf, IsSchedule, AreAllMet, Grows, GrowsTo}
 use Rattle.search.specs.Verdicts.{IsFound, ComesTo, IsRunFor}
@@ -32,6 +34,7 @@ use Rattle.search.specs.Walks.{IsThere}
 use Rattle.search.specs.Visits.{AreListed, AreToldBelow, HasVisited, AreOf, ShowsAt, IsWantedIf, IsAddedIf, IsSeen, IsSeenOr}
 use Rattle.search.proofs.Growth.{earlier, still_met, within}
 use Rattle.search.proofs.KindLists.{told_or, or_told, sought_one, unsought_both}
+use Rattle.search.proofs.RacyStates.{one_more, still_racy}
 
 -- a state that is of a kind by itself is
 pub shown_by : (trees : Program) (frames : ℕ) (k : Kind) (state : State) → ShowsItself trees frames k state → Shows trees frames k state
@@ -104,6 +107,16 @@ module _ (trees : Program) (limits : Limits) (goal : Goal) (walk : Walk) (seen :
   is_own : IsSchedule walk.states number own
   unfolding own
   is_own = slice_get-get_or walk.states.schedules number [] lt
+
+  -- ---- it is racy
+
+  pub racy_here : kinds.race ≡ true → IsRacyAt trees limits walk.states number
+  racy_here e = record {
+    within = lt;
+    events = own;
+    at = is_own;
+    comes = comes own is_own (IsRacy trees limits.frames) (((here own is_own).kinds_are kind.Race).0 e);
+  }
 
   -- ---- it is to be found
 
@@ -244,6 +257,14 @@ module _ (trees : Program) (limits : Limits) (goal : Goal) (s : StatesOf) (seen 
   pub visited_there : IsSeenOr goal o kinds false seen new → HasVisited trees limits goal walk.states new (suc number)
   visited_there listed =
       visited_next trees limits goal walk seen number now (within s walk.states grown.grows number lt) (grown.then refl).1 o kinds shows new (grown.then refl).0 listed
+
+  -- the first racy state
+  pub race_there : (race : Option ℕ) → HasRaceAt trees limits s seen.kinds.race race → IsSeenOr goal o kinds false seen new
+      → HasRaceAt trees limits walk.states new.kinds.race (first_race race kinds.race number)
+  race_there race has listed =
+      subst (λ (k : Kinds). HasRaceAt trees limits walk.states k.race (first_race race kinds.race number)) (sym listed.kinds_are)
+      (one_more trees limits walk.states number seen.kinds.race race (still_racy trees limits s walk.states grown.grows seen.kinds.race race has) kinds.race
+      (racy_here trees limits goal walk seen number now (within s walk.states grown.grows number lt) (grown.then refl).1 o kinds shows))
 
 -- it gave up
 pub gave_up_there : (trees : Program) (limits : Limits) (goal : Goal) (s s_new : StatesOf) (seen : Seen) (number : ℕ)

@@ -4,6 +4,7 @@ pub mod GivingUp
 pub mod Kinds
 pub mod Machines
 pub mod OwnEdges
+pub mod RacyStates
 pub mod StateKinds
 pub mod States
 pub mod Verdicts

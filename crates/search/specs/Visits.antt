@@ -15,6 +15,7 @@ use Rattle.search.specs.declared.run_outcomes.outcomes.Outcome.{Outcome as TheOu
 use Rattle.search.specs.run_outcomes.Outcomes.{told_by, IsWanted, IsAdded}
 use Rattle.search.specs.declared.states.Walk.{Walk}
 use Rattle.search.specs.declared.visiting.Seen.{Seen}
+use Rattle.search.specs.declared.visiting.SeenStates.{SeenStates}
 use Rattle.search.specs.declared.visiting.Visit.{Visit}
 use Rattle.search.specs.declared.visiting.Visit.TheVariants as visit
 use Rattle.search.specs.GivingUp.{GivesUp}
@@ -45,6 +46,9 @@ pub record AreToldBelow (trees : Program) (frames : ℕ) (goal : Goal) (schedule
 -- before any state was visited
 abbrev pub nothing_seen : Seen
 nothing_seen = record { outcomes = []; kinds = no_kinds }
+
+abbrev pub nothing_visited : SeenStates
+nothing_visited = record { seen = nothing_seen; race = None }
 
 -- the states below a number have been visited
 pub record HasVisited (trees : Program) (limits : Limits) (goal : Goal) (s : StatesOf) (seen : Seen) (below : ℕ) : Type 0 where

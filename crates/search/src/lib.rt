@@ -10,6 +10,8 @@
 //!   those kinds of which a run, ending or not, comes to a state (`AreAllKinds`); none of them is to be found. *GaveUp*
 //!   comes only where as many states were met as may be, or some run can't be gone on with, or where the progress said
 //!   that the search is over (`Says`, `GivesUp`, `may_stop` of `Progress`).
+//! - Beside *Complete* stands a schedule, under whose events no limit stands, to a racy state exactly where the kinds tell
+//!   a race (`TellsRace`). The text of the answer has the line of a race that is handed in (`search_text`).
 //! - A state is of the kind *race* where the next events of two threads, each enabled, do conflicting accesses
 //!   (`IsRacy`); *uncaught* where a thread has ended with an exception that nothing caught; *deadlock* where no thread
 //!   may step and one waits for ever, or where threads wait in a circle for monitors and classes that they hold; and
@@ -51,6 +53,8 @@
 //!   event that was done; refused by the contract of `add` (`IsMetFrom`, `AreLed`).
 //! - `states-that-are-led-to-are-last`, `one-edge-is-swept`, `one-sweep-is-all`: an endless state is told by other
 //!   edges than those that lead from it; refused by `AreMarked` of `clear`, and by `Sweeps` of `sweep`.
+//! - `race-is-of-the-last-state`, `race-is-of-any-state`, `race-has-no-schedule`: another state than the first racy one
+//!   is told, or none; refused by `first_race`, `race_schedule`.
 //! - `endless-states-go-untold`: a complete answer has no endless state; refused by `AreAllKinds` of `completed`.
 //! - `own-edges-of-the-first-file`: only the first class file is asked; refused by `names_own_edges`.
 //! - `event-itself-is-left-out`: an entry has the events alone that come behind one, and not that one; refused by

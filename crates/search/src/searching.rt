@@ -4,6 +4,7 @@ ghost use Rattle.std.specs.Prelude.{◌≡◌, ◌<◌, ◌≤◌, length, IfOk}
 ghost use Rattle.std.specs.Arc.{arc_value};
 ghost use Rattle.machine.specs.Machines.{IsProgramOf};
 ghost use Rattle.search.specs.Verdicts.{Says};
+ghost use Rattle.search.specs.RacyStates.{HasRaceAt, IsNumberIf, IsScheduleIf, KeepsRace, TellsRace, TellsRaceAt};
 ghost use Rattle.search.specs.Visits.{nothing_seen, HasVisited};
 ghost use Rattle.search.specs.Endless.{IsFoundAt};
 
@@ -13,7 +14,7 @@ use crate::met_states::{endless_states_are_told, kinds_are_met, searches_are_who
 use crate::progress::Progress;
 use crate::run_outcomes::Outcomes;
 use crate::states::{States, Walk};
-use crate::visiting::{Asked, Seen, Visit, visit_state};
+use crate::visiting::{Asked, Seen, SeenStates, Visit, visit_state};
 use linked_code::LinkedProgram;
 use linker::Linked;
 use model::Limits;
@@ -41,6 +42,8 @@ pub enum Verdict {
 pub struct Searched {
     pub verdict: Verdict,
     pub states: u32,
+    /// Of a complete answer with races a schedule to the first racy state that was met.
+    pub race: Option<Schedule>,
 }
 
 /// A state by its number from which no run ends, as it is to be found: a schedule that leads there. The only error is a
@@ -64,8 +67,9 @@ fn completed(
 ) -> Result<Verdict, AllocError>
     requires visited { HasVisited asked.now.linked.now states.now.limits asked.now.goal.now states.now seen below }
     requires all { length states.now.schedules ≤ below }
-    ensures { IfOk result (λ v. (may_stop : _) (most : _) → Says asked.now.linked.now states.now.limits
+    ensures says { IfOk result (λ v. (may_stop : _) (most : _) → Says asked.now.linked.now states.now.limits
         asked.now.goal.now may_stop most (length states.now.schedules) v) }
+    ensures race { IfOk result (KeepsRace seen.kinds) }
 {
     searches_are_whole();
     schedules_are_complete();
@@ -88,43 +92,78 @@ fn completed(
     }
 }
 
-/// Visits states from the opening state on, up to so many, and tells how far it has come.
+/// The same with the first racy state of those that were visited, by its number.
+fn answered(
+    asked: &Asked<'_>,
+    states: &States,
+    visited: SeenStates,
+    below: u32,
+) -> Result<(Verdict, Option<u32>), AllocError>
+    requires visited { HasVisited asked.now.linked.now states.now.limits asked.now.goal.now states.now visited.seen
+        below }
+    requires race { HasRaceAt asked.now.linked.now states.now.limits states.now visited.seen.kinds.race visited.race }
+    requires all { length states.now.schedules ≤ below }
+    ensures says { IfOk result (λ r. (may_stop : _) (most : _) → Says asked.now.linked.now states.now.limits
+        asked.now.goal.now may_stop most (length states.now.schedules) r.0) }
+    ensures race { IfOk result (λ r. TellsRaceAt asked.now.linked.now states.now.limits states.now r.0 r.1) }
+{
+    let SeenStates { seen, race } = visited;
+    let verdict = completed(asked, states, seen, below)?;
+    Ok((verdict, race))
+}
+
+/// Visits states from the opening state on, up to so many, and tells how far it has come, and the first racy state by
+/// its number.
 fn visit_all<P: Progress>(
     progress: &P,
     asked: &Asked<'_>,
     walk: Walk,
-) -> Result<(Verdict, Walk), AllocError>
+) -> Result<(Verdict, Option<u32>, Walk), AllocError>
     requires tables { asked.now.tables.linked.now ≡ asked.now.linked.now }
     requires visited { HasVisited asked.now.linked.now walk.states.limits asked.now.goal.now walk.states nothing_seen
         0 }
     requires few { 1 ≤ asked.now.most → length walk.states.schedules ≤ asked.now.most }
     ensures says { IfOk result (λ r. Says asked.now.linked.now walk.states.limits asked.now.goal.now
-        (P.may_stop progress.now) asked.now.most (length r.1.states.schedules) r.0) }
-    ensures few { IfOk result (λ r. 1 ≤ asked.now.most → length r.1.states.schedules ≤ asked.now.most) }
+        (P.may_stop progress.now) asked.now.most (length r.2.states.schedules) r.0) }
+    ensures race { IfOk result (λ r. TellsRaceAt asked.now.linked.now walk.states.limits r.2.states r.0 r.1) }
+    ensures few { IfOk result (λ r. 1 ≤ asked.now.most → length r.2.states.schedules ≤ asked.now.most) }
 {
     let mut walk = walk;
-    let mut seen = Seen::new(asked.alloc);
+    let mut visited = SeenStates::new(asked.alloc);
     'states: for number in 0..asked.most {
         if number >= walk.states.len() {
-            return Ok((completed(asked, &walk.states, seen, number)?, walk));
+            let (verdict, race) = answered(asked, &walk.states, visited, number)?;
+            return Ok((verdict, race, walk));
         }
         progress.states_met(walk.states.len());
         if progress.is_over() {
-            return Ok((Verdict::GaveUp, walk));
+            return Ok((Verdict::GaveUp, None, walk));
         }
-        let (visit, further) = visit_state(asked, walk, &mut seen, number)?;
+        let (visit, further) = visit_state(asked, walk, &mut visited, number)?;
         walk = further;
         match visit {
             Visit::Visited => {}
-            Visit::Found(schedule) => return Ok((Verdict::Found(schedule), walk)),
-            Visit::GaveUp => return Ok((Verdict::GaveUp, walk)),
+            Visit::Found(schedule) => return Ok((Verdict::Found(schedule), None, walk)),
+            Visit::GaveUp => return Ok((Verdict::GaveUp, None, walk)),
         }
     }
-    if walk.states.len() <= asked.most {
-        Ok((completed(asked, &walk.states, seen, asked.most)?, walk))
-    } else {
-        Ok((Verdict::GaveUp, walk))
+    if walk.states.len() > asked.most {
+        return Ok((Verdict::GaveUp, None, walk));
     }
+    let (verdict, race) = answered(asked, &walk.states, visited, asked.most)?;
+    Ok((verdict, race, walk))
+}
+
+/// The schedule of the state of a number, if one is told. The only error is a want of memory.
+fn race_schedule(states: &States, race: Option<u32>) -> Result<Option<Schedule>, AllocError>
+    requires { IsNumberIf states.now race }
+    ensures { IfOk result (IsScheduleIf states.now race) }
+{
+    let Some(number) = race else {
+        return Ok(None);
+    };
+    let schedule = states.schedule(number)?;
+    Ok(Some(schedule))
 }
 
 /// Searches all schedules of a program (JVMS 2.5, 2.6, 5.5, chapter 6; JLS 17), which is that of the linked classes,
@@ -142,6 +181,7 @@ pub fn search<P: Progress>(
     requires { IsProgramOf linked.now (arc_value program) }
     ensures says { IfOk result (λ s. Says linked.now limits goal.now (P.may_stop progress.now) most s.states
         s.verdict) }
+    ensures race { IfOk result (λ s. TellsRace linked.now limits s.verdict s.race) }
     ensures few { IfOk result (λ s. 1 ≤ most → s.states ≤ most) }
 {
     let machine = opened(alloc, Arc::try_clone(&program)?, limits)?;
@@ -158,9 +198,11 @@ pub fn search<P: Progress>(
         goal,
         most,
     };
-    let (verdict, walk) = visit_all(progress, &asked, walk)?;
+    let (verdict, race, walk) = visit_all(progress, &asked, walk)?;
+    let race = race_schedule(&walk.states, race)?;
     Ok(Searched {
         verdict,
         states: walk.states.len(),
+        race,
     })
 }

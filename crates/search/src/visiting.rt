@@ -1,7 +1,9 @@
 //! What a search does at a state.
 
 ghost use Rattle.std.specs.Prelude.{◌≡◌, ◌<◌, ◌≤◌, length, IfOk};
-ghost use Rattle.search.specs.Visits.{nothing_seen, HasOutcomeAt, HasVisited, IsSeenOr, ListsOr, ShowsAt, Visits};
+ghost use Rattle.search.specs.RacyStates.{HasRaceAfter, HasRaceAt, first_race};
+ghost use Rattle.search.specs.Visits.{nothing_seen, nothing_visited, HasOutcomeAt, HasVisited, IsSeenOr};
+ghost use Rattle.search.specs.Visits.{ListsOr, ShowsAt, Visits};
 
 use crate::expanding::expand;
 use crate::kinds::{Goal, Kinds};
@@ -33,6 +35,13 @@ pub(crate) struct Seen {
     pub(crate) kinds: Kinds,
 }
 
+/// What they have shown, and the first of them that is racy, by its number.
+#[derive(Drop)]
+pub(crate) struct SeenStates {
+    pub(crate) seen: Seen,
+    pub(crate) race: Option<u32>,
+}
+
 /// What a search comes to at a state.
 #[derive(Drop)]
 pub(crate) enum Visit {
@@ -52,6 +61,29 @@ impl Seen {
             outcomes: Outcomes::new(alloc),
             kinds: Kinds::none(),
         }
+    }
+}
+
+impl SeenStates {
+    /// None was visited.
+    pub(crate) fn new(alloc: Global) -> SeenStates
+        ensures { result ≡ nothing_visited }
+    {
+        SeenStates {
+            seen: Seen::new(alloc),
+            race: None,
+        }
+    }
+}
+
+/// The first racy state: the one that was told, or else the one of this number, if it is racy.
+fn first_race(race: Option<u32>, is_racy: bool, number: u32) -> Option<u32>
+    ensures { result ≡ first_race race is_racy number }
+{
+    match race {
+        Some(first) => Some(first),
+        None if is_racy => Some(number),
+        None => None,
     }
 }
 
@@ -103,16 +135,23 @@ fn is_found(
     is_outcome_found(asked, &mut seen.outcomes, outcome)
 }
 
-/// Lists what the state shows in which the machine of a walk is, unless it is to be found: then the answer is true. The
-/// only error is a want of memory.
-fn is_found_at(asked: &Asked<'_>, seen: &mut Seen, walk: &Walk) -> Result<bool, AllocError>
+/// Lists what the state of a number shows, in which the machine of a walk is, unless it is to be found: then the answer
+/// is true. The only error is a want of memory.
+fn is_found_at(
+    asked: &Asked<'_>,
+    states: &mut SeenStates,
+    walk: &Walk,
+    number: u32,
+) -> Result<bool, AllocError>
     requires { asked.now.tables.linked.now ≡ asked.now.linked.now }
     ensures { IfOk result (λ found. (outcome : _) × (kinds : _) × (ShowsAt asked.now.linked.now walk.now outcome kinds
-        × IsSeenOr asked.now.goal.now outcome kinds found seen.old seen.new)) }
+        × IsSeenOr asked.now.goal.now outcome kinds found states.old.seen states.new.seen
+        × (states.new.race ≡ first_race states.old.race kinds.race number))) }
 {
     let outcome = outcome_at(asked, walk)?;
     let kinds = kinds_at(asked.alloc, &asked.tables, &walk.machine, &outcome)?;
-    let found = is_found(asked, seen, outcome, kinds)?;
+    states.race = first_race(states.race, kinds.race, number);
+    let found = is_found(asked, &mut states.seen, outcome, kinds)?;
     Ok(found)
 }
 
@@ -120,16 +159,19 @@ fn is_found_at(asked: &Asked<'_>, seen: &mut Seen, walk: &Walk) -> Result<bool, 
 pub(crate) fn visit_state(
     asked: &Asked<'_>,
     walk: Walk,
-    seen: &mut Seen,
+    states: &mut SeenStates,
     number: u32,
 ) -> Result<(Visit, Walk), AllocError>
     requires tables { asked.now.tables.linked.now ≡ asked.now.linked.now }
-    requires visited { HasVisited asked.now.linked.now walk.states.limits asked.now.goal.now walk.states seen.old
-        number }
+    requires visited { HasVisited asked.now.linked.now walk.states.limits asked.now.goal.now walk.states
+        states.old.seen number }
+    requires race { HasRaceAt asked.now.linked.now walk.states.limits walk.states states.old.seen.kinds.race
+        states.old.race }
     requires number { number < length walk.states.schedules }
     ensures visits { IfOk result (λ r.
         Visits asked.now.linked.now walk.states.limits asked.now.goal.now asked.now.most number r.0 r.1.states
-        seen.new) }
+        states.new.seen) }
+    ensures race { IfOk result (λ r. HasRaceAfter asked.now.linked.now walk.states.limits r.0 r.1.states states.new) }
     ensures few { IfOk result (λ r. length walk.states.schedules ≤ asked.now.most
         → length r.1.states.schedules ≤ asked.now.most) }
 {
@@ -138,7 +180,7 @@ pub(crate) fn visit_state(
     if !went_on {
         return Ok((Visit::GaveUp, walk));
     }
-    if is_found_at(asked, seen, &walk)? {
+    if is_found_at(asked, states, &walk, number)? {
         let schedule = walk.states.schedule(number)?;
         return Ok((Visit::Found(schedule.joined(asked.alloc)?), walk));
     }

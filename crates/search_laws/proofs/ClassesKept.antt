@@ -9,7 +9,7 @@ use Rattle.model.specs.declared.value.Value.{Value}
 use Rattle.model.specs.Classes.{Program, is_built_in}
 use Rattle.model.specs.ClassInitialisation.{status_in, status_of, with_status_in, IsReady, IsHeld, look_by, look_at}
 use Rattle.model.specs.Names.{Name, name_eq, Member}
-use Rattle.model.specs.Opening.{opening}
+use Rattle.model.specs.Opening.{opening, opening_count}
 use Rattle.model.specs.Operands.{values}
 use Rattle.model.specs.Run.{run_from}
 use Rattle.model.specs.State.{ClassStatus, NotInitialised, InProgress, Initialised, Erroneous, StackOf, World, State}
@@ -23,7 +23,8 @@ use Rattle.search_laws.specs.Lengths.{KeepsLengths, AreLengthsKept}
 use Rattle.search_laws.specs.Writes.{Variables, Statics, WritesAtMost, KeepsVariables, AreVariablesKept}
 use Rattle.search_laws.proofs.ClassesHeld.{initialising, ClassChange, Kept, Begun, Left, IsEffect, OnEffect, event_effect, end_spares}
 use Rattle.search_laws.proofs.Events.{IsDone, done_of, state_with}
-use Rattle.search_laws.proofs.Variables.{keeps_on, lengths_of, texts_of}
+use Rattle.search_laws.proofs.Variables.{keeps_on, lengths_of}
+use Rattle.search_laws.proofs.TextsKept.{texts_on}
 use Rattle.search_laws.proofs.Runs.{first_of}
 
 -- ---- the list of statuses
@@ -255,18 +256,22 @@ module _ (trees : Program) (frames : ℕ) (state next : State) (event : Event) (
   abbrev pub left : PartOf Value
   left = part (end_of u d.left.world d.left.stack) d.left.stack
 
+  abbrev opened : ℕ
+  opened = opening_count trees
+
   module _ (writes : Variables → Bool) (at_most : WritesAtMost trees writes (thread_at state.world u) d.stack) where
-    before_end : IsEffect writes u state.world d.stack d.left
+    before_end : IsEffect opened writes u state.world d.stack d.left
     before_end =
-        subst (OnEffect writes u state.world d.stack) d.did
+        subst (OnEffect opened writes u state.world d.stack) d.did
         (event_effect writes trees frames event state.world d.stack (thread_at state.world u).status at_most)
 
-    effect_of : IsEffect writes u state.world d.stack left
+    effect_of : IsEffect opened writes u state.world d.stack left
     effect_of =
-        let s = end_spares writes u d.left.world d.left.stack in
+        let s = end_spares opened writes u d.left.world d.left.stack in
         record {
           monitors = λ t object ne own. s.monitors t object ne (before_end.monitors t object ne own);
           variables = keeps_on writes state.world.heap d.left.world.heap (end_of u d.left.world d.left.stack).heap before_end.variables s.variables;
+          texts = texts_on opened state.world.heap d.left.world.heap (end_of u d.left.world d.left.stack).heap before_end.texts s.texts;
           statics = λ field first n k. s.statics field first n ∙ before_end.statics field first n k;
           change = by before_end.change s.classes;
         }
@@ -286,7 +291,7 @@ module _ (trees : Program) (frames : ℕ) (state next : State) (event : Event) (
     statics_next field first n k =
         sym (ap (λ (z : State). value_in first field z.world.statics) d.is_next) ∙ effect_of.statics field first n k
 
-  pub effect : IsEffect all u state.world d.stack left
+  pub effect : IsEffect opened all u state.world d.stack left
   effect = effect_of all (λ going variables q. refl)
 
   -- arrays keep their lengths
@@ -294,8 +299,8 @@ module _ (trees : Program) (frames : ℕ) (state next : State) (event : Event) (
   lengths_next = lengths_of all state.world.heap next.world.heap (variables_next all (λ going variables q. refl))
 
   -- Strings keep their texts
-  pub texts_next : KeepsTexts state.world.heap next.world.heap
-  texts_next = texts_of all state.world.heap next.world.heap (variables_next all (λ going variables q. refl))
+  pub texts_next : KeepsTexts opened state.world.heap next.world.heap
+  texts_next = subst (λ (z : State). KeepsTexts opened state.world.heap z.world.heap) d.is_next effect.texts
 
   module _ (h : AreClassesHeld state) where
     own : Holds state.world.classes u (initialising d.stack)

@@ -1,16 +1,16 @@
 -- The Strings of constants have their texts in each state of a run.
-use Rattle.std.proofs.Common.{◌≡◌, ℕ, suc, ◌+◌, List, [], ◌∷◌, ◌++◌, map, length, Bool, true, false, not, Some, refl, sym, ap, ◌∙◌, subst, ⊎_elim, arith}
+use Rattle.std.proofs.Common.{◌≡◌, ℕ, suc, ◌+◌, ◌&&◌, ◌==◌, nat_le, ◌≤◌, List, [], ◌∷◌, ◌++◌, map, length, Bool, true, false, not, Some, refl, sym, ap, ◌∙◌, subst, ⊎_elim, arith}
 use Rattle.std.specs.Prelude.{slice_get}
 use Rattle.std.specs.List.{list_any, position_or_len}
-use Rattle.std.proofs.lemmas.Bool.{false≢true, true≢false, or_cases, not_from_true, cond_both}
+use Rattle.std.proofs.lemmas.Bool.{false≢true, true≢false, leb-true, or_cases, not_from_true, cond_both}
 use Rattle.std.proofs.lemmas.List.{length-map}
-use Rattle.std.proofs.lemmas.Option.{get_or_from_slice_get, same_Some}
+use Rattle.std.proofs.lemmas.Option.{get_or_from_slice_get, same_Some, slice_get_within}
 use Rattle.model.specs.declared.event.Event.{Event}
 use Rattle.model.specs.declared.value.Value.{Value}
 use Rattle.model.specs.Names.{name_eq, java_lang_class, java_io_print_stream}
 use Rattle.model.specs.Tree.{FileTree}
 use Rattle.model.specs.Classes.{Program, classes_of}
-use Rattle.model.specs.Opening.{opening_heap, opening, string_reference}
+use Rattle.model.specs.Opening.{opening_heap, opening, opening_count, string_reference}
 use Rattle.model.specs.Operands.{values}
 use Rattle.model.specs.Run.{run_from}
 use Rattle.model.specs.State.{ObjectOf, Instance, Characters, State}
@@ -19,9 +19,21 @@ use Rattle.model.specs.Texts.{decoded}
 use Rattle.model.specs.Worlds.{no_object, text_of}
 use Rattle.run_laws.proofs.laws.Classes.{names_same}
 use Rattle.run_laws.proofs.laws.Lists.{get_front, get_map}
-use Rattle.search_laws.specs.Texts.{KeepsTexts, HaveConstantsTexts}
+use Rattle.search_laws.specs.Texts.{is_unwritten, KeepsTexts, HaveConstantsTexts}
 use Rattle.search_laws.proofs.ClassesKept.{texts_kept}
+use Rattle.search_laws.proofs.TextsKept.{texts_on}
 use Rattle.search_laws.proofs.Runs.{first_of}
+
+-- an element that is there stands before the end
+there_before : {A : Type 0} (xs : List A) (k : ℕ) (x : A) → slice_get xs k ≡ Some x → nat_le (length xs) k ≡ false
+there_before xs k x e = by (nat_le (length xs) k) refl
+  where
+    by : (b : Bool) → nat_le (length xs) k ≡ b → b ≡ false
+    by true q =
+        let high : length xs ≤ k = leb-true (length xs) k q in
+        let low = slice_get_within xs k x e in
+        absurd (omega (arith, high, low))
+    by false q = refl
 
 -- ---- in the opening state
 
@@ -68,21 +80,27 @@ constant_there files bytes known =
     (get_behind (map class (classes_of files)) (strings ++ last) m
     ∙ (get_front strings last m (string at.0) (get_map string (string_texts files) m at.0 at.1.0) ∙ ap (λ text. Some (string text)) (sym is))))
 
+-- it stands before all that a run makes
+before_made : (files : Program) (bytes : List ℕ) → list_any (name_eq bytes) (string_texts files) ≡ true
+    → nat_le (opening_count files) (string_reference files bytes) ≡ false
+before_made files bytes known =
+    there_before (opening_heap values files) (string_reference files bytes) (Characters (decoded bytes)) (constant_there files bytes known)
+
 -- ---- behind events
 
 module _ (files : Program) (frames : ℕ) where
   kept_run : (events : List Event) (state last : State) → run_from files frames state events ≡ Some last
-      → KeepsTexts state.world.heap last.world.heap
+      → KeepsTexts (opening_count files) state.world.heap last.world.heap
   kept_run [] state last r k old e =
-      subst (λ (z : State). (new : ObjectOf Value) × ((slice_get z.world.heap k ≡ Some new) × (text_of new ≡ text_of old))) (same_Some state last r) (old, (e, refl))
+      subst (λ (z : State). (new : ObjectOf Value) × ((slice_get z.world.heap k ≡ Some new) × (is_unwritten (opening_count files) k old ≡ false → text_of new ≡ text_of old))) (same_Some state last r) (old, (e, λ q. refl))
   kept_run (event ∷ events) state last r k old e =
       let f = first_of files frames state last event events r in
-      let x = texts_kept files frames state f.0 event f.1.0 k old e in
-      let y = kept_run events f.0 last f.1.1 k x.0 x.1.0 in
-      (y.0, (y.1.0, y.1.1 ∙ x.1.1))
+      texts_on (opening_count files) state.world.heap f.0.world.heap last.world.heap (texts_kept files frames state f.0 event f.1.0) (kept_run events f.0 last f.1.1) k old e
 
 pub constants_texts : HaveConstantsTexts
 constants_texts files frames state reached bytes known =
     let r = string_reference files bytes in
-    let x = kept_run files frames reached.0 (opening values files) state reached.1 r (Characters (decoded bytes)) (constant_there files bytes known) in
-    ap text_of (get_or_from_slice_get state.world.heap r x.0 no_object x.1.0) ∙ x.1.1
+    let string = Characters (decoded bytes) in
+    let x = kept_run files frames reached.0 (opening values files) state reached.1 r string (constant_there files bytes known) in
+    let written : is_unwritten (opening_count files) r string ≡ false = ap (λ b. b && length (decoded bytes) == 0) (before_made files bytes known) in
+    ap text_of (get_or_from_slice_get state.world.heap r x.0 no_object x.1.0) ∙ x.1.1 written

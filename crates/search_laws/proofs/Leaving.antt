@@ -13,7 +13,7 @@ use Rattle.model.specs.BuilderMethods as builder
 use Rattle.model.specs.BuilderMethods.{BuilderAnswer, KeepsEmpty, Keeps, Adds, GivesText, builds}
 use Rattle.model.specs.ObjectMethods as telling
 use Rattle.model.specs.ObjectMethods.{ObjectAnswer, HasNoClass, IsOf, object_answer, object_place, tells, type_at}
-use Rattle.model.specs.BuiltInMethods.{BuiltInMethod, Construct, ConstructWithMessage, ConstructWithCause, ConstructWithTarget, ObjectWait, ObjectNotify, ObjectNotifyAll, ThreadStart, ThreadInterrupt, ThreadIsInterrupted, ThreadInterrupted, ThreadYield, ThreadCurrentThread, ThreadJoin, ThreadIsAlive, PrintStreamPrints, StringAnswers, StringBuilderBuilds, ObjectAnswers, built_in_method, object_of, string_operand, answered, wait_by, if_owner, start_by, join_by, built_in_does}
+use Rattle.model.specs.BuiltInMethods.{BuiltInMethod, Construct, ConstructWithMessage, ConstructWithCause, ObjectClone, ObjectWait, ObjectNotify, ObjectNotifyAll, ThreadStart, ThreadInterrupt, ThreadIsInterrupted, ThreadInterrupted, ThreadYield, ThreadCurrentThread, ThreadJoin, ThreadIsAlive, ThreadNames, PrintStreamPrints, StringAnswers, StringWrites, StringBuilderBuilds, ObjectAnswers, built_in_method, object_of, string_operand, answered, wait_by, if_owner, start_by, join_by, built_in_does}
 use Rattle.model.specs.Calls.{Chosen, Fails, Runs, runs, invoked, return_of}
 use Rattle.model.specs.Classes.{Program, Body, body_of}
 use Rattle.model.specs.Meanings.{local_meaning, meaning_of}
@@ -22,12 +22,19 @@ use Rattle.model.specs.Monitors as monitors
 use Rattle.model.specs.Monitors.{monitor_at}
 use Rattle.model.specs.Names.{Member}
 use Rattle.model.specs.Objects.{cast}
-use Rattle.model.specs.Opening.{class_reference, string_reference}
+use Rattle.model.specs.Opening.{class_reference, string_reference, string_references, opening_count}
 use Rattle.model.specs.Operands.{Slots, values}
 use Rattle.model.specs.Outcomes.{OutcomeOf, Goes, Raises, Throws, Interrupts, Calls, Returns, Waits, Free, Arithmetic, not_null}
 use Rattle.model.specs.Rows.{Row, after_row, row_target}
 use Rattle.model.specs.Sites.{MeaningOf, Site, operand, referent, int_operand}
-use Rattle.model.specs.State.{ObjectOf, Thread, Running, Waiting, World}
+use Rattle.model.specs.State.{ObjectOf, type_of, Thread, Running, Waiting, World}
+use Rattle.model.specs.declared.name_method.NameMethod.{NameMethod}
+use Rattle.model.specs.declared.name_method.NameMethod.TheVariants as naming
+use Rattle.model.specs.Cloning.{is_cloneable, cloned}
+use Rattle.model.specs.TextMethods as writing
+use Rattle.model.specs.TextMethods.{TextAnswer, IsOutsideArray, Becomes, Stores, StandsFor, text_answer, units_operand, standing_for, gives_standing, writes}
+use Rattle.model.specs.ThreadNames.{kept_name, ordinal_text, gives_name, thread_names}
+use Rattle.model.specs.Texts.{Text}
 use Rattle.model.specs.StringMethods.{StringAnswer, IsNull, IsOutside, Answers, Same, Composes, string_answer}
 use Rattle.model.specs.Worlds.{thread_at, no_thread, with_thread, with_monitors, is_owner, object_at, thread_of, is_alive}
 use Rattle.run_laws.proofs.laws.Operations.{Operation, OfRow, GetSystemStream, GetStatic, PutStatic, GetField, PutField, Println, CallVirtual, CallConstructor, CallSpecial, CallStatic, CallInterface, Return, LoadClass, LoadString, New, NewArray, NewReferenceArray, ArrayLength, LoadElement, StoreElement, CheckCast, InstanceOf, Throw, MonitorEnter, MonitorExit, operation, OfMeaning, each_meaning}
@@ -123,11 +130,41 @@ module _ (files : Program) (site : Site) (t : ℕ) (world : World) (thread : Thr
   tells_told (IsOf class) next = tt
   tells_told (telling.Composes text) next = tt
 
+  cloned_told : (b : Bool) (object : ObjectOf Value) (next : ℕ) → Told (cloned values b object next world slots rest)
+  cloned_told true object next = tt
+  cloned_told false object next = tt
+
+  standing_told : (string : Option ℕ) (next : ℕ) → Told (gives_standing values string next world slots ops rest)
+  standing_told None next = tt
+  standing_told (Some string) next = tt
+
+  writes_told : (opened : ℕ) (constants : List ℕ) (answer : TextAnswer) (next : ℕ) → Told (writes values opened constants answer next world slots ops rest)
+  writes_told opened constants writing.IsNull next = tt
+  writes_told opened constants writing.IsOutside next = tt
+  writes_told opened constants IsOutsideArray next = tt
+  writes_told opened constants (Becomes receiver text) next = tt
+  writes_told opened constants (Stores array index text) next = tt
+  writes_told opened constants (StandsFor text) next = standing_told (standing_for constants world text) next
+
+  gives_name_told : (name : Option ℕ) (text : Text) (next : ℕ) → Told (gives_name values name text next world slots ops rest)
+  gives_name_told (Some name) text next = tt
+  gives_name_told None text next = tt
+
+  names_told : (method : NameMethod) (next : ℕ) → Told (thread_names values method next world slots ops rest)
+  names_told naming.Construct next = tt
+  names_told naming.ConstructWithTarget next = tt
+  names_told naming.ConstructWithName next = null_told (referent values ops 0) _ (λ r. tt)
+  names_told naming.ConstructWithTargetAndName next = null_told (referent values ops 0) _ (λ r. tt)
+  names_told naming.GetName next =
+      let o = object_at world (object_of values ops 0) in
+      gives_name_told (values.referent (kept_name values o)) (ordinal_text values o) next
+  names_told naming.SetName next = null_told (referent values ops 0) _ (λ r. tt)
+
   built_in_told : (method : BuiltInMethod) (next : ℕ) → Told (built_in_does values files method next (next_event t) world slots ops rest)
   built_in_told Construct next = tt
   built_in_told ConstructWithMessage next = tt
   built_in_told ConstructWithCause next = tt
-  built_in_told ConstructWithTarget next = tt
+  built_in_told ObjectClone next = cloned_told (is_cloneable files (type_of (object_at world (object_of values ops 0)))) (object_at world (object_of values ops 0)) next
   built_in_told ObjectWait next = wait_told (is_owner world t (object_of values ops 0)) (thread_at world t).interrupted (object_of values ops 0)
   built_in_told ObjectNotify next = owner_told (is_owner world t (object_of values ops 0)) _ tt
   built_in_told ObjectNotifyAll next = owner_told (is_owner world t (object_of values ops 0)) _ tt
@@ -139,8 +176,11 @@ module _ (files : Program) (site : Site) (t : ℕ) (world : World) (thread : Thr
   built_in_told ThreadCurrentThread next = tt
   built_in_told ThreadJoin next = join_told (is_alive world (object_of values ops 0)) next
   built_in_told ThreadIsAlive next = tt
+  built_in_told (ThreadNames method) next = names_told method next
   built_in_told (PrintStreamPrints print) next = tt
   built_in_told (StringAnswers method) next = answered_told (string_answer method (int_operand values ops) (string_operand values world ops)) next
+  built_in_told (StringWrites method) next =
+      writes_told (opening_count files) (string_references files) (text_answer method (int_operand values ops) (string_operand values world ops) (units_operand values world ops)) next
   built_in_told (StringBuilderBuilds method) next = builds_told (string_reference files []) _ next
   built_in_told (ObjectAnswers method) next = tells_told _ next
 

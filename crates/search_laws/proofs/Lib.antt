@@ -11,6 +11,7 @@ pub mod Sole
 pub mod Program
 pub mod Lengths
 pub mod Variables
+pub mod TextsKept
 pub mod Owners
 pub mod Spares
 pub mod ClassesHeld

@@ -12,7 +12,7 @@ use Rattle.model.specs.Lookup.{select, field_member}
 use Rattle.model.specs.Meanings.{meaning_of}
 use Rattle.model.specs.Monitors as monitors
 use Rattle.model.specs.Names.{Name, Member, main_of, thread_run, initialiser_of, java_lang_error}
-use Rattle.model.specs.Opening.{arguments_reference, class_reference}
+use Rattle.model.specs.Opening.{opening_count, arguments_reference, class_reference}
 use Rattle.model.specs.Operands.{values, under}
 use Rattle.model.specs.Outcomes.{Cost, Makes, Enters, MachineException, OutcomeOf, Goes, Raises, Throws, Interrupts, Calls, Returns, Waits, NoClassDefFound, StackOverflow, IllegalMonitorState, InterruptedWait, AbstractMethod, ExceptionInInitializer}
 use Rattle.model.specs.ReferenceTypes.{ReferenceType, ClassType}
@@ -159,7 +159,7 @@ module _ (t r : ℕ) (change : Monitor → Monitor) (c : IsChange t change) wher
       -- ---- an instruction
 
       module _ (frames : ℕ) (w : World) (own : Owned t r change c w) where
-        becomes : (frame : Frame) (stack : StackOf Value) (o : OutcomeOf Value) → OutcomeSpares all v w o
+        becomes : (frame : Frame) (stack : StackOf Value) (o : OutcomeOf Value) → OutcomeSpares (opening_count files) all v w o
             → Follows (become values files frames v (f w) frame stack (outcome_in t r change c o)) (become values files frames v w frame stack o)
         becomes frame stack (Goes cost after slots to) s = by_same (become values files frames v (f w) frame stack (Goes cost (f after) slots to)) (become values files frames v w frame stack (Goes cost after slots to)) refl
         becomes frame stack (Raises fault) s = raises files fault w own (Invocation frame ∷ stack)
@@ -228,7 +228,7 @@ module _ (t r : ℕ) (change : Monitor → Monitor) (c : IsChange t change) wher
             (λ h.
             let n = relocked_apart t r change c v ne w own object count h in
             let a = with_status (with_monitors w (monitors.relock object v count w.monitors)) v Running in
-            let own_a = (relock_spares all v w w object count (itself all v w)).monitors t r ne own in
+            let own_a = (relock_spares (opening_count files) all v w w object count (itself (opening_count files) all v w)).monitors t r ne own in
             subst (λ k. Follows (after_wait values files v cause (with_status k v Running) stack) (after_wait values files v cause a stack))
             (sym (called_same t r change c v ne w own object (monitors.monitor_relock v count) n)) (returns cause a own_a stack))
 
@@ -239,7 +239,7 @@ module _ (t r : ℕ) (change : Monitor → Monitor) (c : IsChange t change) wher
     v = event.thread
 
     bytecode_follows : (frame : Frame) (stack : StackOf Value) (max_stack : ℕ) (o : Option (MeaningOf Value))
-        → OfMeaning (DoesSame t r change c event ne w own) o → OfMeaning (DoesSpare all v w event refl) o
+        → OfMeaning (DoesSame t r change c event ne w own) o → OfMeaning (DoesSpare (opening_count files) all v w event refl) o
         → Follows (bytecode_by values files frames event (f w) frame stack max_stack o) (bytecode_by values files frames event w frame stack max_stack o)
     bytecode_follows frame stack max_stack None k s =
         enabled (event.pick == 0) (event.pick == 0) WrongKind WrongKind (λ h. h) (λ h. wrong WrongKind)
@@ -262,9 +262,9 @@ module _ (t r : ℕ) (change : Monitor → Monitor) (c : IsChange t change) wher
     same_of None = tt
     same_of (Some site) = meaning_same t r change c event ne w own files site
 
-    spares_of : (o : Option Site) → OfMeaning (DoesSpare all v w event refl) (option_and_then (meaning_of values files) o)
+    spares_of : (o : Option Site) → OfMeaning (DoesSpare (opening_count files) all v w event refl) (option_and_then (meaning_of values files) o)
     spares_of None = tt
-    spares_of (Some site) = meaning_spares all v w event refl files site (λ variables q. refl)
+    spares_of (Some site) = meaning_spares (opening_count files) all v w event refl files refl site (λ variables q. refl)
 
     body_follows : (frame : Frame) (stack : StackOf Value) (o : Option Body)
         → Follows (bytecode_in values files frames event (f w) frame stack o) (bytecode_in values files frames event w frame stack o)

@@ -14,7 +14,7 @@ use Rattle.model.specs.BuilderMethods as builder
 use Rattle.model.specs.BuilderMethods.{kept_string, text_or_empty, built_text, with_string, builder_shown, BuilderAnswer, KeepsEmpty, Keeps, Adds, GivesText, builder_answer, composed, builds, builder_does}
 use Rattle.model.specs.ObjectMethods as telling
 use Rattle.model.specs.ObjectMethods.{ObjectAnswer, HasNoClass, IsOf, object_answer, object_place, tells, type_at}
-use Rattle.model.specs.BuiltInMethods.{BuiltInMethod, Construct, ConstructWithMessage, ConstructWithCause, ConstructWithTarget, ObjectWait, ObjectNotify, ObjectNotifyAll, ThreadStart, ThreadInterrupt, ThreadIsInterrupted, ThreadInterrupted, ThreadYield, ThreadCurrentThread, ThreadJoin, ThreadIsAlive, PrintStreamPrints, StringAnswers, StringBuilderBuilds, ObjectAnswers, built_in_method, object_of, string_operand, answered, wait_by, notified_one, notified, notified_all, if_owner, start_by, interrupted_in, interrupted_on, join_by, built_in_may, built_in_does, printed_by, string_shown, with_printed}
+use Rattle.model.specs.BuiltInMethods.{BuiltInMethod, Construct, ConstructWithMessage, ConstructWithCause, ObjectClone, ObjectWait, ObjectNotify, ObjectNotifyAll, ThreadStart, ThreadInterrupt, ThreadIsInterrupted, ThreadInterrupted, ThreadYield, ThreadCurrentThread, ThreadJoin, ThreadIsAlive, ThreadNames, PrintStreamPrints, StringAnswers, StringWrites, StringBuilderBuilds, ObjectAnswers, built_in_method, object_of, string_operand, answered, wait_by, notified_one, notified, notified_all, if_owner, start_by, interrupted_in, interrupted_on, join_by, built_in_may, built_in_does, printed_by, string_shown, with_printed}
 use Rattle.model.specs.Calls.{Chosen, Fails, Runs, runs, invoked, may_run, may_invoke, return_of}
 use Rattle.model.specs.Classes.{Program, Body, body_of}
 use Rattle.model.specs.MonitorMeanings.{left, may_enter_object}
@@ -24,14 +24,20 @@ use Rattle.model.specs.Monitors.{monitor_at}
 use Rattle.model.specs.Names.{Member}
 use Rattle.model.specs.Objects.{cast}
 use Rattle.model.specs.DescribedTypes.{type_named}
-use Rattle.model.specs.Opening.{class_reference, new_instance, string_reference}
+use Rattle.model.specs.Opening.{class_reference, new_instance, string_reference, string_references, opening_count}
 use Rattle.model.specs.Operands.{Slots, values}
-use Rattle.model.specs.Outcomes.{Cost, Free, Makes, Enters, Joins, OutcomeOf, Goes, Raises, Throws, Interrupts, Calls, Returns, Waits, not_null}
+use Rattle.model.specs.Outcomes.{Cost, Free, Makes, Fills, Enters, Joins, OutcomeOf, Goes, Raises, Throws, Interrupts, Calls, Returns, Waits, not_null}
 use Rattle.model.specs.Sites.{MeaningOf, Site, operand, referent, int_operand, pushing, pushing_at}
-use Rattle.model.specs.State.{ObjectOf, Primitives, References, Monitor, Waiter, Notified, Interrupted, ThreadStatus, Running, Waiting, Relock, Ended, World, Characters}
+use Rattle.model.specs.State.{ObjectOf, type_of, Primitives, References, Monitor, Waiter, Notified, Interrupted, ThreadStatus, Running, Waiting, Relock, Ended, World, Characters}
 use Rattle.model.specs.Texts.{Text}
+use Rattle.model.specs.declared.name_method.NameMethod.{NameMethod}
+use Rattle.model.specs.declared.name_method.NameMethod.TheVariants as naming
+use Rattle.model.specs.Cloning.{is_cloneable, cloned}
+use Rattle.model.specs.TextMethods as writing
+use Rattle.model.specs.TextMethods.{TextAnswer, IsOutsideArray, Becomes, Stores, StandsFor, text_answer, units_operand, standing_for, gives_standing, is_blank, with_text_at, writes}
+use Rattle.model.specs.ThreadNames.{kept_name, ordinal_text, with_name, gives_name, thread_names}
 use Rattle.model.specs.StringMethods.{StringAnswer, IsNull, IsOutside, Answers, Same, Composes, string_answer}
-use Rattle.model.specs.Worlds.{allocated, cells_of, thread_at, is_owner, is_done, object_at, with_status, with_interrupted, all_woken, with_monitors, with_entry, with_exit, entry_cost, may_enter, thread_of, is_alive, waiters_of}
+use Rattle.model.specs.Worlds.{allocated, cells_of, thread_at, is_owner, is_done, object_at, with_object, with_text, with_status, with_interrupted, all_woken, with_monitors, with_entry, with_exit, entry_cost, may_enter, thread_of, is_alive, waiters_of}
 use Rattle.model.specs.declared.print_method.PrintMethod.{PrintMethod}
 use Rattle.model.specs.declared.print_method.PrintMethod.TheVariants.{Println, PrintlnChar, PrintlnInt, PrintlnString, PrintChar, PrintInt, PrintString}
 use Rattle.run_laws.proofs.laws.Operations.{Operation, OfRow, GetSystemStream, GetStatic, PutStatic, GetField, PutField, Println, CallVirtual, CallConstructor, CallSpecial, CallStatic, CallInterface, Return, LoadClass, LoadString, New, NewArray, NewReferenceArray, ArrayLength, LoadElement, StoreElement, CheckCast, InstanceOf, Throw, MonitorEnter, MonitorExit, operation, OfMeaning, each_meaning}
@@ -246,12 +252,63 @@ module _ (t r : ℕ) (change : Monitor → Monitor) (c : IsChange t change) wher
     tells_is files (telling.Composes text) next slots rest =
         goes_is (Makes (length text)) (Makes (length text)) (allocated w (Characters text)) (allocated (f w) (Characters text)) _ next refl (allocated_same t r change c v ne w own (Characters text))
 
+    cloned_is : (b : Bool) (object : ObjectOf Value) (next : ℕ) (slots : Slots Value) (rest : List Value)
+        → Is (cloned values b object next (f w) slots rest) (cloned values b object next w slots rest)
+    cloned_is true object next slots rest =
+        goes_is (Makes (cells_of object)) (Makes (cells_of object)) (allocated w object) (allocated (f w) object) _ next refl (allocated_same t r change c v ne w own object)
+    cloned_is false object next slots rest = refl
+
+    -- a String gets its text, or keeps what it has
+    text_is : (b : Bool) (string : ℕ) (object : ObjectOf Value)
+        → (if b then with_object (f w) string object else f w) ≡ f (if b then with_object w string object else w)
+    text_is true string object = refl
+    text_is false string object = refl
+
+    standing_is : (string : Option ℕ) (next : ℕ) (slots : Slots Value) (ops rest : List Value)
+        → Is (gives_standing values string next (f w) slots ops rest) (gives_standing values string next w slots ops rest)
+    standing_is None next slots ops rest = refl
+    standing_is (Some string) next slots ops rest = refl
+
+    writes_is : (opened : ℕ) (constants : List ℕ) (answer : TextAnswer) (next : ℕ) (slots : Slots Value) (ops rest : List Value)
+        → Is (writes values opened constants answer next (f w) slots ops rest) (writes values opened constants answer next w slots ops rest)
+    writes_is opened constants writing.IsNull next slots ops rest = refl
+    writes_is opened constants writing.IsOutside next slots ops rest = refl
+    writes_is opened constants IsOutsideArray next slots ops rest = refl
+    writes_is opened constants (Becomes receiver text) next slots ops rest =
+        let string = object_of values ops receiver in
+        goes_is (Fills (length text)) (Fills (length text)) (with_text_at opened w string text) (with_text_at opened (f w) string text) _ next refl
+        (text_is (is_blank opened w string) string (with_text text (object_at w string)))
+    writes_is opened constants (Stores array index text) next slots ops rest = refl
+    writes_is opened constants (StandsFor text) next slots ops rest = standing_is (standing_for constants w text) next slots ops rest
+
+    gives_name_is : (name : Option ℕ) (text : Text) (next : ℕ) (slots : Slots Value) (ops rest : List Value)
+        → Is (gives_name values name text next (f w) slots ops rest) (gives_name values name text next w slots ops rest)
+    gives_name_is (Some name) text next slots ops rest = refl
+    gives_name_is None text next slots ops rest =
+        let thread = object_of values ops 0 in
+        let name = values.reference (length w.heap) in
+        let made = Characters text in
+        goes_is (Makes (length text)) (Makes (length text)) (with_name (allocated w made) thread name) (with_name (allocated (f w) made) thread name) _ next refl
+        (ap (λ k. with_name k thread name) (allocated_same t r change c v ne w own made))
+
+    names_is : (method : NameMethod) (next : ℕ) (slots : Slots Value) (ops rest : List Value)
+        → Is (thread_names values method next (f w) slots ops rest) (thread_names values method next w slots ops rest)
+    names_is naming.Construct next slots ops rest = refl
+    names_is naming.ConstructWithTarget next slots ops rest = refl
+    names_is naming.ConstructWithName next slots ops rest = null_is (referent values ops 0) _ _ (λ object. refl)
+    names_is naming.ConstructWithTargetAndName next slots ops rest = null_is (referent values ops 0) _ _ (λ object. refl)
+    names_is naming.GetName next slots ops rest =
+        let o = object_at w (object_of values ops 0) in
+        gives_name_is (values.referent (kept_name values o)) (ordinal_text values o) next slots ops rest
+    names_is naming.SetName next slots ops rest = null_is (referent values ops 0) _ _ (λ object. refl)
+
     built_in_is : (files : Program) (method : BuiltInMethod) (next : ℕ) (slots : Slots Value) (ops rest : List Value)
         → Is (built_in_does values files method next event (f w) slots ops rest) (built_in_does values files method next event w slots ops rest)
     built_in_is files Construct next slots ops rest = refl
     built_in_is files ConstructWithMessage next slots ops rest = refl
     built_in_is files ConstructWithCause next slots ops rest = refl
-    built_in_is files ConstructWithTarget next slots ops rest = refl
+    built_in_is files ObjectClone next slots ops rest =
+        cloned_is (is_cloneable files (type_of (object_at w (object_of values ops 0)))) (object_at w (object_of values ops 0)) next slots rest
     built_in_is files ObjectWait next slots ops rest =
         let object = object_of values ops 0 in
         waits_is (is_owner w v object) (is_owner (f w) v object) (thread_at w v).interrupted object rest refl (owner_same t r change c v ne w own object)
@@ -273,10 +330,14 @@ module _ (t r : ℕ) (change : Monitor → Monitor) (c : IsChange t change) wher
     built_in_is files ThreadCurrentThread next slots ops rest = refl
     built_in_is files ThreadJoin next slots ops rest = join_is (is_alive w (object_of values ops 0)) next slots rest
     built_in_is files ThreadIsAlive next slots ops rest = refl
+    built_in_is files (ThreadNames method) next slots ops rest = names_is method next slots ops rest
     built_in_is files (PrintStreamPrints print) next slots ops rest =
         goes_is Free Free (with_printed w (printed_by values print w ops)) (with_printed (f w) (printed_by values print (f w) ops)) _ next refl (ap (with_printed (f w)) (printed_same print ops))
     built_in_is files (StringAnswers method) next slots ops rest =
         answered_is (string_answer method (int_operand values ops) (string_operand values w ops)) next slots ops rest
+    built_in_is files (StringWrites method) next slots ops rest =
+        writes_is (opening_count files) (string_references files)
+        (text_answer method (int_operand values ops) (string_operand values w ops) (units_operand values w ops)) next slots ops rest
     built_in_is files (StringBuilderBuilds method) next slots ops rest = builder_is (string_reference files []) method next slots ops rest
     built_in_is files (ObjectAnswers method) next slots ops rest = tells_is files _ next slots rest
 
@@ -285,7 +346,7 @@ module _ (t r : ℕ) (change : Monitor → Monitor) (c : IsChange t change) wher
     built_in_may_same Construct ops = refl
     built_in_may_same ConstructWithMessage ops = refl
     built_in_may_same ConstructWithCause ops = refl
-    built_in_may_same ConstructWithTarget ops = refl
+    built_in_may_same ObjectClone ops = refl
     built_in_may_same ObjectWait ops = refl
     built_in_may_same ObjectNotify ops =
         let object = object_of values ops 0 in
@@ -300,8 +361,10 @@ module _ (t r : ℕ) (change : Monitor → Monitor) (c : IsChange t change) wher
     built_in_may_same ThreadCurrentThread ops = refl
     built_in_may_same ThreadJoin ops = refl
     built_in_may_same ThreadIsAlive ops = refl
+    built_in_may_same (ThreadNames method) ops = refl
     built_in_may_same (PrintStreamPrints print) ops = refl
     built_in_may_same (StringAnswers method) ops = refl
+    built_in_may_same (StringWrites method) ops = refl
     built_in_may_same (StringBuilderBuilds method) ops = refl
     built_in_may_same (ObjectAnswers method) ops = refl
 

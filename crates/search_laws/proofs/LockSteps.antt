@@ -7,6 +7,7 @@ use Rattle.model.specs.declared.event.Event.{Event}
 use Rattle.model.specs.declared.value.Value.{Value}
 use Rattle.model.specs.Accepted.{IsAccepted}
 use Rattle.model.specs.Classes.{Program}
+use Rattle.model.specs.Opening.{opening_count}
 use Rattle.model.specs.Operands.{values}
 use Rattle.model.specs.Run.{run_from}
 use Rattle.model.specs.State.{Monitor, Running, StackOf, World, State}
@@ -38,8 +39,8 @@ module _ (t r : ℕ) (change : Monitor → Monitor) (c : IsChange t change) (own
     abbrev d : IsDone trees frames s event next
     d = done_of trees frames s event next e
 
-    before_end : IsEffect all u s.world d.stack d.left
-    before_end = subst (OnEffect all u s.world d.stack) d.did (event_effect all trees frames event s.world d.stack (thread_at s.world u).status (λ going variables q. refl))
+    before_end : IsEffect (opening_count trees) all u s.world d.stack d.left
+    before_end = subst (OnEffect (opening_count trees) all u s.world d.stack) d.did (event_effect all trees frames event s.world d.stack (thread_at s.world u).status (λ going variables q. refl))
 
     owned_left : Owned t r change c d.left.world
     owned_left = before_end.monitors t r ne owned

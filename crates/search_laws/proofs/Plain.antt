@@ -10,17 +10,24 @@ use Rattle.model.specs.BuilderMethods as builder
 use Rattle.model.specs.BuilderMethods.{BuilderAnswer, KeepsEmpty, Keeps, Adds, GivesText, builds}
 use Rattle.model.specs.ObjectMethods as telling
 use Rattle.model.specs.ObjectMethods.{ObjectAnswer, HasNoClass, IsOf, object_answer, object_place, tells, type_at}
-use Rattle.model.specs.BuiltInMethods.{BuiltInMethod, Construct, ConstructWithMessage, ConstructWithCause, ConstructWithTarget, ObjectWait, ObjectNotify, ObjectNotifyAll, ThreadStart, ThreadInterrupt, ThreadIsInterrupted, ThreadInterrupted, ThreadYield, ThreadCurrentThread, ThreadJoin, ThreadIsAlive, PrintStreamPrints, StringAnswers, StringBuilderBuilds, ObjectAnswers, object_of, string_operand, answered, wait_by, if_owner, start_by, join_by, built_in_does}
+use Rattle.model.specs.BuiltInMethods.{BuiltInMethod, Construct, ConstructWithMessage, ConstructWithCause, ObjectClone, ObjectWait, ObjectNotify, ObjectNotifyAll, ThreadStart, ThreadInterrupt, ThreadIsInterrupted, ThreadInterrupted, ThreadYield, ThreadCurrentThread, ThreadJoin, ThreadIsAlive, ThreadNames, PrintStreamPrints, StringAnswers, StringWrites, StringBuilderBuilds, ObjectAnswers, object_of, string_operand, answered, wait_by, if_owner, start_by, join_by, built_in_does}
 use Rattle.model.specs.Classes.{Program}
 use Rattle.model.specs.MonitorMeanings.{left}
 use Rattle.model.specs.Meanings.{local_meaning}
 use Rattle.model.specs.Objects.{cast}
-use Rattle.model.specs.Opening.{string_reference}
+use Rattle.model.specs.Opening.{string_reference, string_references, opening_count}
 use Rattle.model.specs.Operands.{Slots, values}
 use Rattle.model.specs.Outcomes.{OutcomeOf, Goes, Raises, Throws, Interrupts, Calls, Returns, Waits, Free, Arithmetic, not_null}
 use Rattle.model.specs.Rows.{Row, after_row, row_target}
 use Rattle.model.specs.Sites.{Site, operand, referent, int_operand}
-use Rattle.model.specs.State.{ObjectOf, World}
+use Rattle.model.specs.State.{ObjectOf, type_of, World}
+use Rattle.model.specs.declared.name_method.NameMethod.{NameMethod}
+use Rattle.model.specs.declared.name_method.NameMethod.TheVariants as naming
+use Rattle.model.specs.Cloning.{is_cloneable, cloned}
+use Rattle.model.specs.TextMethods as writing
+use Rattle.model.specs.TextMethods.{TextAnswer, IsOutsideArray, Becomes, Stores, StandsFor, text_answer, units_operand, standing_for, gives_standing, writes}
+use Rattle.model.specs.ThreadNames.{kept_name, ordinal_text, gives_name, thread_names}
+use Rattle.model.specs.Texts.{Text}
 use Rattle.model.specs.StringMethods.{StringAnswer, IsNull, IsOutside, Answers, Same, Composes, string_answer}
 use Rattle.model.specs.Worlds.{thread_at, is_owner, object_at, thread_of, is_alive}
 
@@ -105,12 +112,48 @@ tells_plain files (telling.Answers bits) next world slots rest = tt
 tells_plain files (IsOf class) next world slots rest = tt
 tells_plain files (telling.Composes text) next world slots rest = tt
 
+cloned_plain : (b : Bool) (object : ObjectOf Value) (next : ℕ) (world : World) (slots : Slots Value) (rest : List Value)
+    → IsPlain (cloned values b object next world slots rest)
+cloned_plain true object next world slots rest = tt
+cloned_plain false object next world slots rest = tt
+
+standing_plain : (string : Option ℕ) (next : ℕ) (world : World) (slots : Slots Value) (ops rest : List Value)
+    → IsPlain (gives_standing values string next world slots ops rest)
+standing_plain None next world slots ops rest = tt
+standing_plain (Some string) next world slots ops rest = tt
+
+writes_plain : (opened : ℕ) (constants : List ℕ) (answer : TextAnswer) (next : ℕ) (world : World) (slots : Slots Value) (ops rest : List Value)
+    → IsPlain (writes values opened constants answer next world slots ops rest)
+writes_plain opened constants writing.IsNull next world slots ops rest = tt
+writes_plain opened constants writing.IsOutside next world slots ops rest = tt
+writes_plain opened constants IsOutsideArray next world slots ops rest = tt
+writes_plain opened constants (Becomes receiver text) next world slots ops rest = tt
+writes_plain opened constants (Stores array index text) next world slots ops rest = tt
+writes_plain opened constants (StandsFor text) next world slots ops rest = standing_plain (standing_for constants world text) next world slots ops rest
+
+gives_name_plain : (name : Option ℕ) (text : Text) (next : ℕ) (world : World) (slots : Slots Value) (ops rest : List Value)
+    → IsPlain (gives_name values name text next world slots ops rest)
+gives_name_plain (Some name) text next world slots ops rest = tt
+gives_name_plain None text next world slots ops rest = tt
+
+names_plain : (method : NameMethod) (next : ℕ) (world : World) (slots : Slots Value) (ops rest : List Value)
+    → IsPlain (thread_names values method next world slots ops rest)
+names_plain naming.Construct next world slots ops rest = tt
+names_plain naming.ConstructWithTarget next world slots ops rest = tt
+names_plain naming.ConstructWithName next world slots ops rest = null_plain (referent values ops 0) _ (λ r. tt)
+names_plain naming.ConstructWithTargetAndName next world slots ops rest = null_plain (referent values ops 0) _ (λ r. tt)
+names_plain naming.GetName next world slots ops rest =
+    let o = object_at world (object_of values ops 0) in
+    gives_name_plain (values.referent (kept_name values o)) (ordinal_text values o) next world slots ops rest
+names_plain naming.SetName next world slots ops rest = null_plain (referent values ops 0) _ (λ r. tt)
+
 pub built_in_plain : (files : Program) (method : BuiltInMethod) (next : ℕ) (event : Event) (world : World) (slots : Slots Value) (ops rest : List Value)
     → IsPlain (built_in_does values files method next event world slots ops rest)
 built_in_plain files Construct next event world slots ops rest = tt
 built_in_plain files ConstructWithMessage next event world slots ops rest = tt
 built_in_plain files ConstructWithCause next event world slots ops rest = tt
-built_in_plain files ConstructWithTarget next event world slots ops rest = tt
+built_in_plain files ObjectClone next event world slots ops rest =
+    cloned_plain (is_cloneable files (type_of (object_at world (object_of values ops 0)))) (object_at world (object_of values ops 0)) next world slots rest
 built_in_plain files ObjectWait next event world slots ops rest =
     wait_plain (is_owner world event.thread (object_of values ops 0)) (thread_at world event.thread).interrupted event.thread (object_of values ops 0) world rest
 built_in_plain files ObjectNotify next event world slots ops rest = owner_plain (is_owner world event.thread (object_of values ops 0)) _ tt
@@ -123,9 +166,12 @@ built_in_plain files ThreadYield next event world slots ops rest = tt
 built_in_plain files ThreadCurrentThread next event world slots ops rest = tt
 built_in_plain files ThreadJoin next event world slots ops rest = join_plain (is_alive world (object_of values ops 0)) next world slots rest
 built_in_plain files ThreadIsAlive next event world slots ops rest = tt
+built_in_plain files (ThreadNames method) next event world slots ops rest = names_plain method next world slots ops rest
 built_in_plain files (PrintStreamPrints print) next event world slots ops rest = tt
 built_in_plain files (StringAnswers method) next event world slots ops rest =
     answered_plain (string_answer method (int_operand values ops) (string_operand values world ops)) next world slots ops rest
+built_in_plain files (StringWrites method) next event world slots ops rest =
+    writes_plain (opening_count files) (string_references files) (text_answer method (int_operand values ops) (string_operand values world ops) (units_operand values world ops)) next world slots ops rest
 built_in_plain files (StringBuilderBuilds method) next event world slots ops rest = builds_plain (string_reference files []) _ next world slots ops rest
 built_in_plain files (ObjectAnswers method) next event world slots ops rest = tells_plain files _ next world slots rest
 

@@ -17,9 +17,8 @@ use Rattle.model.specs.Names.{Name}
 use Rattle.model.specs.Operands.{values, under}
 use Rattle.model.specs.Outcomes.{NoClassDefFound, IllegalMonitorState, Cost, OutcomeOf, Goes, Raises, Throws, Interrupts, Calls, Returns as ReturnsTo, Waits}
 use Rattle.model.specs.Sites.{MeaningOf, Site, site_at}
-use Rattle.model.specs.State.{types_of, Instance, Thread, Running, Frame, StackEntryOf, Invocation, StackOf, World, State}
+use Rattle.model.specs.State.{types_of, Thread, Running, Frame, StackEntryOf, Invocation, StackOf, World, State}
 use Rattle.model.specs.Step.{SteppedOf, NotEnabled, WrongKind, Next, PartOf, on_to, raised, end_of, next_by, enabled_if, unpicked, ops_of, done, needing, needing_class, returned, leaving, become, bytecode_by, bytecode_in, going_event, thread_event, stepped, step}
-use Rattle.model.specs.Outcomes.{exception_class}
 use Rattle.model.specs.MachineExceptions.{machine_exception}
 use Rattle.model.specs.Worlds.{thread_at, is_owner, with_exit, allocated}
 use Rattle.model.specs.WellTyped.{IsWellTyped}

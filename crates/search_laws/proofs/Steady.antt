@@ -25,7 +25,7 @@ use Rattle.model.specs.Frames.{frame_count, frame_with, entered_by, at_offset, a
 use Rattle.model.specs.Lookup.{find_field, is_instance_field, is_static_field}
 use Rattle.model.specs.Meanings.{meaning_of}
 use Rattle.model.specs.HiddenMembers.{is_hidden}
-use Rattle.model.specs.Names.{Name, Member}
+use Rattle.model.specs.Names.{Member}
 use Rattle.model.specs.Objects.{any_object, cast, instance_bit}
 use Rattle.model.specs.Opening.{class_reference, first_of}
 use Rattle.model.specs.Operands.{Slots, values}
@@ -317,23 +317,23 @@ module _ (files : Program) (frames t : ℕ) (frame : Frame) (stack own : StackOf
 
     -- ---- the receiver
 
-    module _ (method : Member) (named : Name) (q : Pairwise (value_meets files (types_of before.heap)) (argument_wants files method (of_class files named ∷ [])) ops) where
+    module _ (method : Member) (named : ReferenceType) (q : Pairwise (value_meets files (types_of before.heap)) (argument_wants files method (AReference (made_type files named) ∷ [])) ops) where
       abbrev receiver : Value
       receiver = operand values ops (parameter_count method)
 
-      place_of : slice_get (argument_wants files method (of_class files named ∷ [])) (parameter_count method) ≡ Some (of_class files named)
+      place_of : slice_get (argument_wants files method (AReference (made_type files named) ∷ [])) (parameter_count method) ≡ Some (AReference (made_type files named))
       place_of =
           let wants = reverse (map (declared_want files) (parameters_declared method.descriptor)) in
-          subst (λ k. slice_get (wants ++ of_class files named ∷ []) k ≡ Some (of_class files named))
+          subst (λ k. slice_get (wants ++ AReference (made_type files named) ∷ []) k ≡ Some (AReference (made_type files named)))
           (length-reverse (map (declared_want files) (parameters_declared method.descriptor)) ∙ length-map (parameters_declared method.descriptor) (declared_want files))
-          (get_last wants (of_class files named))
+          (get_last wants (AReference (made_type files named)))
 
-      meets : value_meets files (types_of before.heap) (of_class files named) receiver ≡ true
+      meets : value_meets files (types_of before.heap) (AReference (made_type files named)) receiver ≡ true
       meets =
-          wanted_at (value_meets files (types_of before.heap)) (argument_wants files method (of_class files named ∷ [])) ops (parameter_count method) (of_class files named) value.Unset q place_of
+          wanted_at (value_meets files (types_of before.heap)) (argument_wants files method (AReference (made_type files named) ∷ [])) ops (parameter_count method) (AReference (made_type files named)) value.Unset q place_of
 
       type_same : (r : ℕ) → values.referent receiver ≡ Some r → type_of (object_at after r) ≡ type_of (object_at before r)
-      type_same r e = let o = object_there receiver (made_type files (ClassType named)) meets r e in type_kept before after r o.0 extends o.1
+      type_same r e = let o = object_there receiver (made_type files named) meets r e in type_kept before after r o.0 extends o.1
 
     -- ---- the table
 
@@ -405,7 +405,7 @@ module _ (files : Program) (frames t : ℕ) (frame : Frame) (stack own : StackOf
     steady (Println call e) = plain_at (Println call e) (no_query _ call.instruction refl) (null_plain (referent values ops 1) _ (λ r. tt))
     steady (CallVirtual call e m) = λ q ready own.
         let c = called_steady (no_query _ call.instruction refl) m.method (λ world r. selected files (its_class world r) m.method)
-        (λ r k. ap (λ c. selected files c m.method) (same_class before after r (type_same m.method call.named.class q r k))) own in
+        (λ r k. ap (λ c. selected files c m.method) (same_class before after r (type_same m.method (type_named call.named.class) q r k))) own in
         record { becomes = c.becomes; may = c.may }
     steady (CallConstructor call e passes) = λ q ready own.
         let c = called_steady (no_query _ call.instruction refl) call.named (λ world r. Runs call.named) (λ r k. refl) own in
@@ -419,7 +419,7 @@ module _ (files : Program) (frames t : ℕ) (frame : Frame) (stack own : StackOf
         let choose : World → ℕ → Chosen = λ world r. if_implements (is_subtype files (type_of (object_at world r)) (ClassType call.named.class)) (selected files (its_class world r) m.method) in
         let c = called_steady (no_query _ call.instruction refl) m.method choose
         (λ r k.
-        let same = type_same m.method call.named.class q r k in
+        let same = type_same m.method (ClassType call.named.class) q r k in
         ap (λ t. if_implements (is_subtype files t (ClassType call.named.class)) (selected files (its_class after r) m.method)) same
         ∙ ap (λ c. if_implements (is_subtype files (type_of (object_at before r)) (ClassType call.named.class)) (selected files c m.method)) (same_class before after r same)) own in
         record { becomes = c.becomes; may = c.may }

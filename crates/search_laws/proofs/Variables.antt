@@ -1,5 +1,5 @@
 -- What keeps the fields of objects and the elements of arrays.
-use Rattle.std.proofs.Common.{◌≡◌, ℕ, List, [], ◌∷◌, ◌++◌, Bool, true, false, ◌==◌, if◌then◌else◌, Some, refl, sym, ap, ◌∙◌, subst}
+use Rattle.std.proofs.Common.{◌≡◌, ℕ, ◌+◌, List, [], ◌∷◌, ◌++◌, Bool, true, false, ◌==◌, if◌then◌else◌, Some, refl, sym, ap, ◌∙◌, subst}
 use Rattle.std.specs.Prelude.{slice_get, slice_set, slice_index_or}
 use Rattle.std.proofs.lemmas.Bool.{false≢true, true≢false, eqb-true, eq-eqb}
 use Rattle.std.proofs.lemmas.List.{length-set}
@@ -8,8 +8,8 @@ use Rattle.model.specs.declared.value.Value.{Value}
 use Rattle.model.specs.HiddenMembers.{is_hidden}
 use Rattle.model.specs.Names.{Member, member_eq}
 use Rattle.model.specs.State.{ObjectOf, Instance, Primitives, References, Characters}
-use Rattle.model.specs.Worlds.{no_object, value_in, with_element, with_field, with_value}
-use Rattle.search_laws.specs.Texts.{KeepsTexts}
+use Rattle.model.specs.Texts.{Text}
+use Rattle.model.specs.Worlds.{no_object, value_in, with_element, with_elements, with_text, with_field, with_value}
 use Rattle.run_laws.proofs.laws.Classes.{members_same}
 use Rattle.run_laws.proofs.laws.Lists.{get_front}
 use Rattle.run_laws.proofs.typed_runs.Threads.{get_set_at, get_set_other}
@@ -35,7 +35,7 @@ module _ (writes : Variables → Bool) where
   Keeps = KeepsVariables writes
 
   pub unchanged : (o : ObjectOf Value) → IsUnchanged writes o o
-  unchanged o = record { lengths = refl; fields = λ field first n k. refl; elements = λ n. refl; texts = refl }
+  unchanged o = record { lengths = refl; fields = λ field first n k. refl; elements = λ n. refl }
 
   pub unchanged_on : (one two three : ObjectOf Value) → IsUnchanged writes one two → IsUnchanged writes two three → IsUnchanged writes one three
   unchanged_on one two three h g =
@@ -43,7 +43,6 @@ module _ (writes : Variables → Bool) where
         lengths = g.lengths ∙ h.lengths;
         fields = λ field first n k. g.fields field first n k ∙ h.fields field first n k;
         elements = λ n. g.elements n ∙ h.elements n;
-        texts = g.texts ∙ h.texts;
       }
 
   pub keeps_same : (heap : List (ObjectOf Value)) → Keeps heap heap
@@ -78,7 +77,7 @@ module _ (writes : Variables → Bool) where
       → ((other : Member) → writes (Fields other) ≡ false → is_hidden other ≡ false → member_eq field other ≡ false)
       → IsUnchanged writes o (with_field field value o)
   put_beside field value (Instance class fields) h =
-      record { lengths = refl; fields = λ other first n k. value_other field other first value (h other n k) fields; elements = λ n. refl; texts = refl }
+      record { lengths = refl; fields = λ other first n k. value_other field other first value (h other n k) fields; elements = λ n. refl }
   put_beside field value (Primitives of elements) h = unchanged (Primitives of elements)
   put_beside field value (References of elements) h = unchanged (References of elements)
   put_beside field value (Characters text) h = unchanged (Characters text)
@@ -100,13 +99,24 @@ module _ (writes : Variables → Bool) where
   pub element_put : (index : ℕ) (value : Value) (o : ObjectOf Value) → writes Elements ≡ true → IsUnchanged writes o (with_element index value o)
   element_put index value (Instance class fields) w = unchanged (Instance class fields)
   element_put index value (Primitives of elements) w =
-      record { lengths = length-set elements index value; fields = λ field first n k. refl; elements = λ n. absurd (true≢false (sym w ∙ n)); texts = refl }
+      record { lengths = length-set elements index value; fields = λ field first n k. refl; elements = λ n. absurd (true≢false (sym w ∙ n)) }
   element_put index value (References of elements) w =
-      record { lengths = length-set elements index value; fields = λ field first n k. refl; elements = λ n. absurd (true≢false (sym w ∙ n)); texts = refl }
+      record { lengths = length-set elements index value; fields = λ field first n k. refl; elements = λ n. absurd (true≢false (sym w ∙ n)) }
   element_put index value (Characters text) w = unchanged (Characters text)
 
   pub lengths_of : (before after : List (ObjectOf Value)) → Keeps before after → KeepsLengths before after
   lengths_of before after h r old e = let x = h r old e in (x.0, (x.1.0, x.1.1.lengths))
 
-  pub texts_of : (before after : List (ObjectOf Value)) → Keeps before after → KeepsTexts before after
-  texts_of before after h r old e = let x = h r old e in (x.0, (x.1.0, x.1.1.texts))
+  -- several elements from an index on
+  pub elements_put : (index : ℕ) (values : List Value) (o : ObjectOf Value) → writes Elements ≡ true → IsUnchanged writes o (with_elements index values o)
+  elements_put index [] o w = unchanged o
+  elements_put index (value ∷ values) o w =
+      unchanged_on o (with_element index value o) (with_elements (index + 1) values (with_element index value o)) (element_put index value o w)
+      (elements_put (index + 1) values (with_element index value o) w)
+
+  -- the text of a String is no variable
+  pub text_put : (text : Text) (o : ObjectOf Value) → IsUnchanged writes o (with_text text o)
+  text_put text (Instance class fields) = unchanged (Instance class fields)
+  text_put text (Primitives of elements) = unchanged (Primitives of elements)
+  text_put text (References of elements) = unchanged (References of elements)
+  text_put text (Characters old) = record { lengths = refl; fields = λ field first n k. refl; elements = λ n. refl }

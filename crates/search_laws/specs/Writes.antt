@@ -1,5 +1,5 @@
 -- What others can still write (JLS 17.4.1), and what stays as it is where they write no more.
-use Rattle.std.specs.Prelude.{◌≡◌, ℕ, List, ◌∷◌, Option, Some, None, Bool, length, slice_get, IsTrue, IsFalse, not, ◌&&◌}
+use Rattle.std.specs.Prelude.{◌≡◌, ℕ, List, ◌∷◌, Option, Some, None, Bool, length, slice_get, IsTrue, IsFalse, not, ◌&&◌, if◌then◌else◌}
 use Rattle.std.specs.Option.{option_map, option_and_then}
 use Rattle.model.specs.declared.event.Event.{Event}
 use Rattle.model.specs.declared.instr.FieldAccess.{FieldAccess}
@@ -11,13 +11,13 @@ use Rattle.model.specs.Classes.{Program, Body, body_of}
 use Rattle.model.specs.ClassInitialisation.{status_of}
 use Rattle.model.specs.Lookup.{find_field}
 use Rattle.model.specs.HiddenMembers.{is_hidden}
-use Rattle.model.specs.Names.{Member}
-use Rattle.model.specs.Pool.{field_at}
+use Rattle.model.specs.Names.{name_eq, Member, string_get_chars}
+use Rattle.model.specs.Pool.{field_at, method_at, interface_method_at}
 use Rattle.model.specs.Run.{run_from}
 use Rattle.model.specs.Sites.{Site, site_at}
 use Rattle.model.specs.State.{ObjectOf, Frame, Invocation, StackOf, Thread, NotInitialised, World, State}
 use Rattle.model.specs.Step.{step}
-use Rattle.model.specs.Worlds.{thread_at, elements_of, fields_of, value_in, text_of}
+use Rattle.model.specs.Worlds.{thread_at, elements_of, fields_of, value_in}
 use Rattle.run_laws.specs.interleavings.Local.{is_going}
 use Rattle.search_laws.specs.Alone.{AreOfOthers}
 
@@ -34,9 +34,15 @@ put_by access.PutField field = Some (Fields field)
 put_by access.PutStatic field = Some (Statics field)
 put_by other field = None
 
+-- String.getChars stores elements; a call may run it by its descriptor alone
+abbrev pub written_by_call : Member → Option Variables
+written_by_call named = if name_eq named.descriptor string_get_chars.descriptor then Some Elements else None
+
 abbrev pub written_by : Program → Site → Instr → Option Variables
 written_by files site (instr.Field how index) = option_and_then (put_by how) (option_and_then (find_field files) (field_at site.body.pool index))
 written_by files site (instr.StoreElement kind) = Some Elements
+written_by files site (instr.Invoke how index) = option_and_then written_by_call (method_at site.body.pool index)
+written_by files site (instr.InvokeInterface index count last) = option_and_then written_by_call (interface_method_at site.body.pool index)
 written_by files site other = None
 
 abbrev pub site_written : Program → Site → Option Variables
@@ -80,13 +86,12 @@ AreWritesOfOthers files frames writes state t =
 
 -- ---- what stays where these at most are written
 
--- Hidden fields are left out, which methods of the machine put. A String keeps its text.
+-- Hidden fields are left out, which methods of the machine put.
 pub record IsUnchanged (writes : Variables → Bool) (old new : ObjectOf Value) : Type 0 where
   pub lengths : length (elements_of new) ≡ length (elements_of old)
   pub fields : (field : Member) (first : Value) → IsFalse (writes (Fields field)) → IsFalse (is_hidden field)
       → value_in first field (fields_of new) ≡ value_in first field (fields_of old)
   pub elements : IsFalse (writes Elements) → elements_of new ≡ elements_of old
-  pub texts : text_of new ≡ text_of old
 
 -- each object is there, with what it had
 abbrev pub KeepsVariables : (Variables → Bool) → List (ObjectOf Value) → List (ObjectOf Value) → Type 0

@@ -18,10 +18,12 @@
 //! - Where no other thread has an event, as where all others wait for one, its event is alone whatever it does, if it
 //!   has a single one and is in no conflict (`sole_events_are_alone`).
 //! - Each event leaves each object there, each array as many elements as it had (`arrays_keep_their_lengths`), and each
-//!   String its text (`strings_keep_their_texts`). So in each state of a run the String of a constant has the text of
-//!   the constant (`constants_keep_their_texts`).
-//!   Fields that the instruction of the thread doesn't put keep their values, and elements do where it stores none.
-//!   Left out are hidden fields (`is_hidden`), which methods without code put: the target of a Thread, the text of a
+//!   String its text, but for one that the run made and that is empty, which its constructor may give one
+//!   (`strings_keep_their_texts`). So in each state of a run the String of a constant has the text of the constant
+//!   (`constants_keep_their_texts`).
+//!   Fields that the instruction of the thread doesn't put keep their values, and elements do where it stores none; a
+//!   call by the descriptor of `String.getChars` counts as a store.
+//!   Left out are hidden fields (`is_hidden`), which methods without code put: what a Thread keeps, the text of a
 //!   StringBuilder, and what a Throwable keeps; and static fields of a class whose initialisation hasn't begun
 //!   (`variables_that_are_not_written_are_kept`).
 //! - An event is its thread's own (`IsOwnEvent`) where it changes the thread's stack alone, to the same one wherever
@@ -79,7 +81,7 @@ pub fn arrays_keep_their_lengths()
     ensures holds { AreLengthsKept }
 {}
 
-/// Each event leaves each String its text.
+/// Each event leaves each String its text, but for one that the run made and that is empty.
 pub fn strings_keep_their_texts()
     ensures holds { AreTextsKept }
 {}

@@ -12,6 +12,8 @@
 //!   int in decimal), `appended_char` (one unit) and `appended_null` (`null`). They err for want of memory alone.
 //! - What an object tells of itself is a name with `@` and an int in hexadecimal behind it (`described`);
 //!   `appended_units` is a text with units behind it.
+//! - Which part of a text, of an array of chars, lies in it is asked by `has_part`, `has_bounds` and `has_room`; `chars`
+//!   is the units of words, and `thread_name` the name of a thread without one.
 //!
 //! # Not proved
 //!
@@ -23,6 +25,7 @@ mod answer;
 mod builders;
 mod composed;
 mod descriptions;
+mod parts;
 mod questions;
 mod regions;
 
@@ -30,5 +33,6 @@ pub use answer::StringAnswer;
 pub use builders::{appended, appended_char, appended_int, appended_null};
 pub use composed::{joined, part_of, text_of_char, text_of_int};
 pub use descriptions::{appended_units, described};
+pub use parts::{chars, has_bounds, has_part, has_room, thread_name};
 pub use questions::{compared, hash_code, index_of, is_same_text, length, unit_at};
 pub use regions::regions_match;

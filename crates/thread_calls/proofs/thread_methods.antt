@@ -1,3 +1,5 @@
+pub mod ClassNames
+pub mod SpecialSites
 pub mod Rows
 pub mod Named
 pub mod Receiving

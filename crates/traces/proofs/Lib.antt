@@ -1,5 +1,6 @@
 mod Counts
 mod Escapes
+mod MemberTexts
 mod MethodPlaces
 mod OneLine
 mod Pieces

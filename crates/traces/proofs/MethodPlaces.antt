@@ -32,7 +32,7 @@ use Rattle.traces.specs.traced_events.Places.{Sees}
 use Rattle.traces.specs.declared.traced_events.frames.FrameBefore.{FrameBefore}
 use Rattle.traces.specs.declared.form.Form.{Form}
 use Rattle.traces.specs.JsonTexts.{text_member}
-use Rattle.traces.specs.Lines.{AddsLine, class_in, end_words, frame_in, head_words, instruction_words, line_words, meaning_in, method_members, method_words, nowhere_in, part, place_in}
+use Rattle.traces.specs.Lines.{AddsLine, AddsMembers, class_in, end_words, frame_in, head_words, instruction_words, line_words, meaning_in, members_in, method_members, method_words, nowhere_in, part, place_in}
 use Rattle.traces.specs.Methods.{IsPlaceOf, name_in, IsBodyOf}
 use Rattle.traces.proofs.OneLine.{is_one_line}
 
@@ -256,21 +256,21 @@ no_instruction trees o class is (Invocation frame ∷ stack) s = let bad : Some 
 -- ---- the line
 
 pub told_line : {A E : Type 0} (result : Result A E) (form : Form) (trees : Program) (n t : ℕ) (stack : StackOf ℕ)
-    (old a b c d e new source words : List ℕ) (deed : Option (List Piece))
+    (old a b c d e f new source words : List ℕ) (deed : Option (List Piece))
     → a ≡ old ++ head_words form n t → b ≡ a ++ place_in form stack → c ≡ b ++ part form (codes " ") (codes "source") source
     → d ≡ c ++ part form (codes " ") (codes "instruction") words → words ≡ instruction_words trees stack
-    → e ≡ d ++ did form deed
-    → OnOk result (new ≡ e ++ end_words form) → OnOk result (AddsLine form trees n t stack old new)
-told_line (Err fault) form trees n t stack old a b c d e new source words deed ha hb hc hd told he h = tt
-told_line (Ok value) form trees n t stack old a b c d e new source words deed ha hb hc hd told he h =
-    (line_words form trees n t stack source deed, all, (is_one_line form trees n t stack source deed, source, deed, refl))
+    → e ≡ d ++ did form deed → AddsMembers form e f
+    → OnOk result (new ≡ f ++ end_words form) → OnOk result (AddsLine form trees n t stack old new)
+told_line (Err fault) form trees n t stack old a b c d e f new source words deed ha hb hc hd told he hf h = tt
+told_line (Ok value) form trees n t stack old a b c d e f new source words deed ha hb hc hd told he hf h =
+    (line_words form trees n t stack source deed hf.0, all, (is_one_line form trees n t stack source deed hf.0, source, deed, hf.0, refl))
   where
-    six : (u v w x y z : List ℕ) → a ≡ old ++ u → b ≡ a ++ v → c ≡ b ++ w → d ≡ c ++ x → e ≡ d ++ y → new ≡ e ++ z
-        → new ≡ old ++ (u ++ (v ++ (w ++ (x ++ (y ++ z)))))
-    six u v w x y z hu hv hw hx hy hz =
+    seven : (u v w x y m z : List ℕ) → a ≡ old ++ u → b ≡ a ++ v → c ≡ b ++ w → d ≡ c ++ x → e ≡ d ++ y → f ≡ e ++ m → new ≡ f ++ z
+        → new ≡ old ++ (u ++ (v ++ (w ++ (x ++ (y ++ (m ++ z))))))
+    seven u v w x y m z hu hv hw hx hy hm hz =
         hz
-        ∙ ap (λ (l : List ℕ). l ++ z) (hy ∙ ap (λ (l : List ℕ). l ++ y) (hx ∙ ap (λ (l : List ℕ). l ++ x) (hw ∙ ap (λ (l : List ℕ). l ++ w) (hv ∙ ap (λ (l : List ℕ). l ++ v) hu))))
+        ∙ ap (λ (l : List ℕ). l ++ z) (hm ∙ ap (λ (l : List ℕ). l ++ m) (hy ∙ ap (λ (l : List ℕ). l ++ y) (hx ∙ ap (λ (l : List ℕ). l ++ x) (hw ∙ ap (λ (l : List ℕ). l ++ w) (hv ∙ ap (λ (l : List ℕ). l ++ v) hu)))))
         ∙ simp append_assoc
 
-    all : new ≡ old ++ line_words form trees n t stack source deed
-    all = six (head_words form n t) (place_in form stack) (part form (codes " ") (codes "source") source) (part form (codes " ") (codes "instruction") (instruction_words trees stack)) (did form deed) (end_words form) ha hb hc (hd ∙ ap (λ (l : List ℕ). c ++ part form (codes " ") (codes "instruction") l) told) he h
+    all : new ≡ old ++ line_words form trees n t stack source deed hf.0
+    all = seven (head_words form n t) (place_in form stack) (part form (codes " ") (codes "source") source) (part form (codes " ") (codes "instruction") (instruction_words trees stack)) (did form deed) (members_in form hf.0) (end_words form) ha hb hc (hd ∙ ap (λ (l : List ℕ). c ++ part form (codes " ") (codes "instruction") l) told) he hf.1 h

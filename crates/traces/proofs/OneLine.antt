@@ -16,8 +16,9 @@ use Rattle.traces.specs.declared.form.Form.{Form}
 use Rattle.traces.specs.declared.form.Form.TheVariants.{Plain, Columns, Json}
 use Rattle.traces.specs.JsonTexts.{escape, escaped, quoted, member, text_member}
 use Rattle.traces.specs.Quotations.{quotation, shown, shown_units}
+use Rattle.traces.specs.declared.members.DeedMembers.{DeedMembers}
 use Rattle.traces.specs.Pieces.{Piece, Words, Quoted, did, piece_in, pieces_in}
-use Rattle.traces.specs.Lines.{IsOneLine, is_within_line, class_in, end_words, frame_in, head_words, in_seven, indent, instruction_words, line_words, method_members, method_words, nowhere_in, part, place_in}
+use Rattle.traces.specs.Lines.{IsOneLine, is_within_line, class_in, deed_members, end_words, frame_in, head_words, in_seven, indent, instruction_words, line_words, members_in, method_members, method_words, nowhere_in, number_if, part, place_in, text_if}
 
 abbrev Is : List ℕ → Type 0
 Is text = is_within_line text ≡ true
@@ -192,6 +193,34 @@ dids Json (Some all) =
 dids Plain (Some all) = both (codes " | ") (pieces_in Plain all) refl (all_pieces Plain all)
 dids Columns (Some all) = both (codes " | ") (pieces_in Columns all) refl (all_pieces Columns all)
 
+texts_if : (key text : List ℕ) → Is key → Is (text_if key text)
+texts_if key [] named = refl
+texts_if key (x ∷ text) named = text_members key (x ∷ text) named
+
+numbers_if : (key : List ℕ) (n : Option ℕ) → Is key → Is (number_if key n)
+numbers_if key None named = refl
+numbers_if key (Some n) named = members key (number n) named (numbers n)
+
+deeds : (told : DeedMembers) → Is (deed_members told)
+deeds told =
+    let op = text_if (codes "op") told.op.now in
+    let monitor = text_if (codes "monitor") told.monitor.now in
+    let count = number_if (codes "count") told.count in
+    let printed = number_if (codes "printed") told.printed in
+    let started = number_if (codes "started") told.started in
+    let object = text_if (codes "object") told.object.now in
+    both op (monitor ++ (count ++ (printed ++ (started ++ object)))) (texts_if (codes "op") told.op.now refl)
+    (both monitor (count ++ (printed ++ (started ++ object))) (texts_if (codes "monitor") told.monitor.now refl)
+    (both count (printed ++ (started ++ object)) (numbers_if (codes "count") told.count refl)
+    (both printed (started ++ object) (numbers_if (codes "printed") told.printed refl)
+    (both started object (numbers_if (codes "started") told.started refl) (texts_if (codes "object") told.object.now refl)))))
+
+all_members : (form : Form) (told : Option DeedMembers) → Is (members_in form told)
+all_members Plain told = refl
+all_members Columns told = refl
+all_members Json None = refl
+all_members Json (Some told) = deeds told
+
 -- ---- the line
 
 -- before its end
@@ -215,16 +244,18 @@ begins form words text is e =
     (words ++ bracket form, e ∙ ap (λ (l : List ℕ). words ++ l) (ends form) ∙ sym (append_assoc words (bracket form) (10 ∷ [])), both words (bracket form) is (brackets form))
 
 pub is_one_line : {A : Type 0} (form : Form) (trees : Program) (n t : ℕ) (stack : StackOf A) (source : List ℕ) (deed : Option (List Piece))
-    → IsOneLine (line_words form trees n t stack source deed)
-is_one_line form trees n t stack source deed =
+    (told : Option DeedMembers) → IsOneLine (line_words form trees n t stack source deed told)
+is_one_line form trees n t stack source deed told =
     let a = head_words form n t in
     let b = place_in form stack in
     let c = part form (codes " ") (codes "source") source in
     let d = part form (codes " ") (codes "instruction") (instruction_words trees stack) in
     let e = did form deed in
-    begins form (a ++ (b ++ (c ++ (d ++ e)))) (a ++ (b ++ (c ++ (d ++ (e ++ end_words form)))))
-    (both a (b ++ (c ++ (d ++ e))) (heads form n t)
-    (both b (c ++ (d ++ e)) (places form stack)
-    (both c (d ++ e) (parts form (codes " ") (codes "source") source refl refl)
-    (both d e (parts form (codes " ") (codes "instruction") (instruction_words trees stack) refl refl) (dids form deed)))))
+    let f = members_in form told in
+    begins form (a ++ (b ++ (c ++ (d ++ (e ++ f))))) (a ++ (b ++ (c ++ (d ++ (e ++ (f ++ end_words form))))))
+    (both a (b ++ (c ++ (d ++ (e ++ f)))) (heads form n t)
+    (both b (c ++ (d ++ (e ++ f))) (places form stack)
+    (both c (d ++ (e ++ f)) (parts form (codes " ") (codes "source") source refl refl)
+    (both d (e ++ f) (parts form (codes " ") (codes "instruction") (instruction_words trees stack) refl refl)
+    (both e f (dids form deed) (all_members form told))))))
     (simp append_assoc)

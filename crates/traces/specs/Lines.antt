@@ -1,5 +1,5 @@
 -- The line of an event: where its thread stood, and its instruction (own; JVMS 2.6, 5.5).
-use Rattle.std.specs.Prelude.{◌≡◌, ℕ, ◌+◌, ◌-◌, ◌*◌, List, [], ◌∷◌, ◌++◌, Option, Bool, IsTrue, length, replicate, codes, min, nat_lt, not, ◌==◌, if◌then◌else◌}
+use Rattle.std.specs.Prelude.{◌≡◌, ℕ, ◌+◌, ◌-◌, ◌*◌, List, [], ◌∷◌, ◌++◌, Option, Some, None, Bool, IsTrue, length, replicate, codes, min, nat_lt, not, ◌==◌, if◌then◌else◌}
 use Rattle.std.specs.List.{list_all}
 use Rattle.std.specs.Option.{option_map_or}
 use Rattle.model.specs.Classes.{Program, Body, body_of}
@@ -12,6 +12,7 @@ use Rattle.listings.specs.printed_names.Printed.{printed}
 use Rattle.traces.specs.declared.form.Form.{Form}
 use Rattle.traces.specs.declared.form.Form.TheVariants.{Plain, Columns, Json}
 use Rattle.traces.specs.JsonTexts.{member, text_member}
+use Rattle.traces.specs.declared.members.DeedMembers.{DeedMembers}
 use Rattle.traces.specs.Pieces.{Piece, did}
 
 -- ---- the event
@@ -75,6 +76,35 @@ instruction_words trees [] = []
 instruction_words trees (Invocation frame ∷ stack) = option_map_or (meaning_in frame.place.offset) (body_of trees frame.method) []
 instruction_words trees (Initialisation class phase ∷ stack) = []
 
+-- ---- what was done, as members of an object
+
+abbrev pub text_if : (key text : List ℕ) → List ℕ
+text_if key [] = []
+text_if key (x ∷ text) = text_member key (x ∷ text)
+
+abbrev pub number_if : (key : List ℕ) → Option ℕ → List ℕ
+number_if key None = []
+number_if key (Some n) = member key (number n)
+
+-- a word for it, the monitor that was entered or left and how often it is entered since, how much is printed, and the thread that was started
+abbrev pub deed_members : DeedMembers → List ℕ
+deed_members told =
+    text_if (codes "op") told.op.now
+    ++ (text_if (codes "monitor") told.monitor.now
+    ++ (number_if (codes "count") told.count
+    ++ (number_if (codes "printed") told.printed
+    ++ (number_if (codes "started") told.started
+    ++ text_if (codes "object") told.object.now))))
+
+-- no other form tells it
+abbrev pub members_in : Form → Option DeedMembers → List ℕ
+members_in Json (Some told) = deed_members told
+members_in form told = []
+
+-- they stand behind a text now
+abbrev pub AddsMembers : Form → (old new : List ℕ) → Type 0
+AddsMembers form old new = (told : Option DeedMembers) × (new ≡ old ++ members_in form told)
+
 -- ---- the line
 
 -- a part that is there stands behind a mark, or is a member of an object
@@ -87,15 +117,16 @@ abbrev pub end_words : Form → List ℕ
 end_words Json = codes "}\n"
 end_words form = codes "\n"
 
--- the event, the thread's place, the source, the instruction, and what was done
-abbrev pub line_words : {A : Type 0} → Form → Program → (n t : ℕ) → StackOf A → (source : List ℕ) → Option (List Piece) → List ℕ
-line_words form trees n t stack source deed =
+-- the event, the thread's place, the source, the instruction, and what was done, in words and as members
+abbrev pub line_words : {A : Type 0} → Form → Program → (n t : ℕ) → StackOf A → (source : List ℕ) → Option (List Piece) → Option DeedMembers → List ℕ
+line_words form trees n t stack source deed told =
     head_words form n t
     ++ (place_in form stack
     ++ (part form (codes " ") (codes "source") source
     ++ (part form (codes " ") (codes "instruction") (instruction_words trees stack)
     ++ (did form deed
-    ++ end_words form))))
+    ++ (members_in form told
+    ++ end_words form)))))
 
 -- no byte of a text is a line feed
 abbrev pub is_within_line : List ℕ → Bool
@@ -107,7 +138,8 @@ IsOneLine text = (words : List ℕ) × (text ≡ line words) × IsTrue (is_withi
 
 -- the one line of an event of a thread with this stack, whatever is said of the source and of what was done
 abbrev pub IsLine : {A : Type 0} → Form → Program → (n t : ℕ) → StackOf A → List ℕ → Type 0
-IsLine form trees n t stack text = IsOneLine text × (source : List ℕ) × (deed : Option (List Piece)) × (text ≡ line_words form trees n t stack source deed)
+IsLine form trees n t stack text = IsOneLine text × (source : List ℕ) × (deed : Option (List Piece)) × (told : Option DeedMembers)
+    × (text ≡ line_words form trees n t stack source deed told)
 
 -- it stands behind a text now
 abbrev pub AddsLine : {A : Type 0} → Form → Program → (n t : ℕ) → StackOf A → (old new : List ℕ) → Type 0

@@ -10,10 +10,15 @@
 //!   those of the stack that was seen. Outside of JSON a name is written as `printed` of `listings` has it, and a text
 //!   that the event printed stands in quotation marks by `quotation`. What a line says that the event did, and of the
 //!   line of the source, nothing else is promised.
+//! - An object of JSON tells in members, too, what was done (`deed_members`): a word for it, a monitor and how often it
+//!   is entered, how much is printed, a thread that was started. Which these are, nothing is promised of.
 //! - `answer_deed`: a call of a method of String that answered is told as one that made the String of the word on top,
 //!   where there are more objects since, and else as one that pushed that word.
-//! - `builder_deed`: a constructor of StringBuilder is told as run, and another method of it that has no code as one that
-//!   pushed the word on top.
+//! - `builder_deed`: a constructor of StringBuilder is told as run, and another method of it that has no code as one
+//!   that pushed the word on top.
+//! - `naming_deed`, `writing_deed`: `getName` is told as one that made the name, where there are more objects since,
+//!   and else as one that pushed it; `intern` as one that pushed a String; a constructor of Thread or String, `setName`
+//!   and `getChars` as run.
 //! - `push_fold`, memory aside: what it adds are the words of the line of a run of local instructions, whole, by the
 //!   numbers that it is given (`fold_words`).
 //! - `ProgramNames`: `class_name` is the name of the class of a number; `push_method`, memory aside, adds the method of
@@ -22,10 +27,12 @@
 //!   offsets; objects of each kind that a monitor is of there.
 #![tactic(auto)]
 
+mod deed_words;
 mod fold;
 mod form;
 mod json;
 mod line;
+mod members;
 mod names;
 mod numbers;
 mod objects;

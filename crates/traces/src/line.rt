@@ -2,21 +2,23 @@
 
 ghost use Rattle.std.specs.Prelude.{OnOk};
 ghost use Rattle.traces.specs.traced_events.Places.{Sees};
-ghost use Rattle.traces.specs.Lines.{AddsLine};
+ghost use Rattle.traces.specs.Lines.{AddsLine, AddsMembers};
 
+use crate::deed_words::{monitor_of, printed_since, started_by, word_of};
 use crate::form::Form;
+use crate::members::{DeedMembers, push_deed_members};
 use crate::names::ProgramNames;
 use crate::parts::{Part, push_did, push_end, push_head, push_part};
 use crate::places::{push_instruction, push_place, push_source};
 use crate::said::Said;
 use crate::sorts::{Sort, sort_of};
-use crate::traced_events::{Before, told_of};
+use crate::traced_events::{Before, Told, told_of};
 use crate::words::Words;
 use classfile::Reference;
-use classfile::access_flags::has;
 use hierarchy::{ClassSet, MemberPlace};
 use linker::Linked;
 use machine_state::Shared;
+use model::built_in::BUILT_IN_CLASSES;
 use model::{Event, Instr};
 use opcodes::decode_at;
 use std::alloc::AllocError;
@@ -29,9 +31,6 @@ pub struct Line {
     pub event: Event,
     pub form: Form,
 }
-
-/// ACC_VOLATILE (JVMS table 4.5-A).
-const VOLATILE: u16 = 0x0040;
 
 const SOURCE: Part = Part {
     mark: " ",
@@ -62,14 +61,14 @@ fn flags_at(set: &ClassSet, place: MemberPlace) -> u16 {
     }
 }
 
-/// Whether the field that is named is volatile (JLS 8.3.1.4).
-fn is_volatile(linked: &Linked, field: Option<Reference<'_>>) -> bool {
+/// The flags of the field that is named; none where there is no field, or where its class is built in.
+fn flags_of(linked: &Linked, field: Option<Reference<'_>>) -> u16 {
     let Some(field) = field else {
-        return false;
+        return 0;
     };
     match linked.hierarchy().find_field(field) {
-        Some(place) => has(flags_at(linked.set(), place), VOLATILE),
-        None => false,
+        Some(place) if place.class >= BUILT_IN_CLASSES => flags_at(linked.set(), place),
+        _ => 0,
     }
 }
 
@@ -84,13 +83,13 @@ fn instr_before<'a>(
     Some((method, instr))
 }
 
-/// What an event did.
+/// What an event did, in words.
 fn push_deed(
     said: &mut Said,
     names: &ProgramNames<'_>,
     shared: &Shared,
     before: &Before,
-    event: Event,
+    told: Told,
 ) -> Result<(), AllocError> {
     let (field, sort) = match instr_before(names, before) {
         Some((method, instr)) => (field_of(&method, instr), sort_of(method.file(), instr)),
@@ -100,15 +99,54 @@ fn push_deed(
         names,
         shared,
         field,
-        is_volatile: is_volatile(names.linked, field),
+        flags: flags_of(names.linked, field),
         sort,
     };
-    words.push(said, before, told_of(before, shared, names.program, event))
+    words.push(said, before, told)
+}
+
+/// What an event did, as members of an object, where there is one.
+fn push_members(
+    text: &mut Vec<u8>,
+    spare: &mut Said,
+    names: &ProgramNames<'_>,
+    form: Form,
+    before: &Before,
+    shared: &Shared,
+    told: Told,
+) -> Result<(), AllocError>
+    ensures { OnOk result (AddsMembers form text.old.items text.new.items) }
+{
+    let Form::Json = form else {
+        return Ok(());
+    };
+    let (monitor, count) = match monitor_of(told.deed) {
+        Some(entries) => (Some(entries.object), Some(entries.count)),
+        None => (None, None),
+    };
+    let (object, started) = match started_by(told.deed, shared) {
+        Some((object, thread)) => (Some(object), Some(thread)),
+        None => (None, None),
+    };
+    spare.clear();
+    names.push_object_if(&mut spare.words, shared, monitor)?;
+    let end = spare.words.len();
+    names.push_object_if(&mut spare.words, shared, object)?;
+    let words = spare.words.as_slice();
+    let members = DeedMembers {
+        op: word_of(told).as_bytes(),
+        monitor: words.get(..end).unwrap_or(b""),
+        count,
+        printed: printed_since(before, shared),
+        started,
+        object: words.get(end..).unwrap_or(b""),
+    };
+    push_deed_members(text, members)
 }
 
 /// Writes the line of an event behind a text, by what was seen before it and the state after it: the event's number
-/// and its thread, where the thread stood, the source, the instruction, and what it did. What is said of it is gathered in
-/// `spare` before.
+/// and its thread, where the thread stood, the source, the instruction, and what it did; in an object of JSON that also
+/// in members. What is said of it is gathered in `spare` before.
 /// The only error is a want of memory.
 pub fn push_line(
     text: &mut Vec<u8>,
@@ -131,7 +169,9 @@ pub fn push_line(
     push_instruction(&mut spare.words, names, before)?;
     push_part(text, line.form, INSTRUCTION, spare.words.as_slice())?;
     spare.clear();
-    push_deed(spare, names, shared, before, line.event)?;
+    let told = told_of(before, shared, names.program, line.event);
+    push_deed(spare, names, shared, before, told)?;
     push_did(text, line.form, spare)?;
+    push_members(text, spare, names, line.form, before, shared, told)?;
     push_end(text, line.form)
 }

@@ -7,20 +7,24 @@ use crate::sorts::Sort;
 use crate::threads::{push_thread_of, push_threads};
 use crate::traced_events::{Before, Deed, Entries, Told};
 use classfile::Reference;
+use classfile::access_flags::{FINAL, has};
 use heap::ObjectKind;
 use heap::java_threads::WakeCause;
 use machine_state::Shared;
 use model::built_in::STRING;
 use std::alloc::AllocError;
 
+/// ACC_VOLATILE (JVMS table 4.5-A).
+const VOLATILE: u16 = 0x0040;
+
 /// What the words are made of: the names, the state after the event, and of the instruction the field that it names,
-/// whether that is volatile, and what its word is.
+/// the flags of that, and what its word is.
 #[derive(Clone, Copy)]
 pub(crate) struct Words<'t, 'l, 's, 'f> {
     pub(crate) names: &'t ProgramNames<'l>,
     pub(crate) shared: &'s Shared,
     pub(crate) field: Option<Reference<'f>>,
-    pub(crate) is_volatile: bool,
+    pub(crate) flags: u16,
     pub(crate) sort: Sort,
 }
 
@@ -56,7 +60,18 @@ impl Words<'_, '_, '_, '_> {
         said.quote(self.shared.printed.get(before.printed..).unwrap_or(&[]))
     }
 
-    /// `reads Counter.n = 1`, `writes Point.x of Point #34 = 1`, `reads volatile Flag.ready = true`.
+    /// `volatile ` and `final `, of a field with these flags (JVMS 4.5; JLS 8.3.1).
+    fn modifiers(&self, said: &mut Said) -> Result<(), AllocError> {
+        if has(self.flags, VOLATILE) {
+            push_words(&mut said.words, "volatile ")?;
+        }
+        if has(self.flags, FINAL) {
+            push_words(&mut said.words, "final ")?;
+        }
+        Ok(())
+    }
+
+    /// `reads Counter.n = 1`, `writes final Point.x of Point #34 = 1`, `reads volatile Flag.ready = true`.
     fn field(
         &self,
         said: &mut Said,
@@ -65,9 +80,7 @@ impl Words<'_, '_, '_, '_> {
         word: u32,
     ) -> Result<(), AllocError> {
         push_words(&mut said.words, verb)?;
-        if self.is_volatile {
-            push_words(&mut said.words, "volatile ")?;
-        }
+        self.modifiers(said)?;
         if let Some(field) = self.field {
             said.words.extend_from_slice(field.class)?;
             said.words.push(b'.')?;

@@ -22,12 +22,20 @@ public class PrintStream {
         println(String.valueOf(value));
     }
 
+    public void println(char[] units) {
+        println(String.valueOf(units));
+    }
+
     public void println(Object object) {
         println(String.valueOf(object));
     }
 
     public void print(boolean value) {
         print(String.valueOf(value));
+    }
+
+    public void print(char[] units) {
+        print(String.valueOf(units));
     }
 
     public void print(Object object) {

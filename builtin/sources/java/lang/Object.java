@@ -8,6 +8,8 @@ public class Object {
 
     public final native Class getClass();
 
+    protected native Object clone() throws CloneNotSupportedException;
+
     public final native void wait() throws InterruptedException;
 
     public final native void notify();

@@ -2,7 +2,15 @@ package java.lang;
 
 /** A text that never changes (JLS 4.3.3). */
 public final class String implements Comparable, CharSequence {
-    private String() {}
+    public String() {}
+
+    public String(String other) {}
+
+    public String(char[] units, int offset, int count) {}
+
+    public String(char[] units) {
+        this(units, 0, units.length);
+    }
 
     public native int length();
 
@@ -22,6 +30,10 @@ public final class String implements Comparable, CharSequence {
 
     public native boolean regionMatches(int at, String other, int from, int count);
 
+    public native void getChars(int begin, int end, char[] units, int at);
+
+    public native String intern();
+
     public static native String valueOf(int number);
 
     public static native String valueOf(char unit);
@@ -35,6 +47,35 @@ public final class String implements Comparable, CharSequence {
 
     public static String valueOf(boolean value) {
         return value ? "true" : "false";
+    }
+
+    public static String valueOf(char[] units) {
+        return new String(units, 0, units.length);
+    }
+
+    public static String valueOf(char[] units, int offset, int count) {
+        return new String(units, offset, count);
+    }
+
+    public static String copyValueOf(char[] units) {
+        return new String(units, 0, units.length);
+    }
+
+    public static String copyValueOf(char[] units, int offset, int count) {
+        return new String(units, offset, count);
+    }
+
+    /** The texts of the elements, of a null `null`, with the separator between each two. */
+    public static String join(CharSequence separator, CharSequence[] elements) {
+        String between = separator.toString();
+        StringBuilder joined = new StringBuilder();
+        for (int at = 0; at < elements.length; at++) {
+            if (at > 0) {
+                joined.append(between);
+            }
+            joined.append(elements[at]);
+        }
+        return joined.toString();
     }
 
     public boolean isEmpty() {
@@ -135,5 +176,85 @@ public final class String implements Comparable, CharSequence {
             end--;
         }
         return substring(begin, end);
+    }
+
+    public char[] toCharArray() {
+        char[] units = new char[length()];
+        getChars(0, units.length, units, 0);
+        return units;
+    }
+
+    public String replace(char old, char unit) {
+        if (old == unit || indexOf(old, 0) < 0) {
+            return this;
+        }
+        char[] units = toCharArray();
+        for (int at = 0; at < units.length; at++) {
+            if (units[at] == old) {
+                units[at] = unit;
+            }
+        }
+        return new String(units, 0, units.length);
+    }
+
+    /** Where the old text is empty, the other comes before each unit, and last. */
+    public String replace(CharSequence old, CharSequence other) {
+        String target = old.toString();
+        String replacement = other.toString();
+        int at = indexOf(target, 0);
+        if (at < 0) {
+            return this;
+        }
+        StringBuilder replaced = new StringBuilder();
+        int from = 0;
+        int step = target.isEmpty() ? 1 : target.length();
+        for (; at >= 0; at = at + step > length() ? -1 : indexOf(target, at + step)) {
+            replaced.append(substring(from, at)).append(replacement);
+            from = at + target.length();
+        }
+        return replaced.append(substring(from, length())).toString();
+    }
+
+    /** The receiver where it has none of the letters A to Z. */
+    public String toLowerCase() {
+        char[] units = toCharArray();
+        for (int at = 0; at < units.length; at++) {
+            units[at] = lower(units[at]);
+        }
+        String changed = new String(units, 0, units.length);
+        return equals(changed) ? this : changed;
+    }
+
+    /** The receiver where it has none of the letters a to z. */
+    public String toUpperCase() {
+        char[] units = toCharArray();
+        for (int at = 0; at < units.length; at++) {
+            char unit = units[at];
+            if (unit >= 'a' && unit <= 'z') {
+                units[at] = (char) (unit - ('a' - 'A'));
+            }
+        }
+        String changed = new String(units, 0, units.length);
+        return equals(changed) ? this : changed;
+    }
+
+    public boolean equalsIgnoreCase(String other) {
+        return other != null && length() == other.length() && compareToIgnoreCase(other) == 0;
+    }
+
+    public int compareToIgnoreCase(String other) {
+        int count = length() < other.length() ? length() : other.length();
+        for (int at = 0; at < count; at++) {
+            int difference = lower(charAt(at)) - lower(other.charAt(at));
+            if (difference != 0) {
+                return difference;
+            }
+        }
+        return length() - other.length();
+    }
+
+    /** A letter of A to Z as one of a to z, any other unit as it is. */
+    private static char lower(char unit) {
+        return unit >= 'A' && unit <= 'Z' ? (char) (unit + ('a' - 'A')) : unit;
     }
 }

@@ -37,6 +37,14 @@ public final class StringBuilder implements CharSequence {
         return append(String.valueOf(value));
     }
 
+    public StringBuilder append(char[] units) {
+        return append(String.valueOf(units));
+    }
+
+    public StringBuilder append(char[] units, int offset, int count) {
+        return append(String.valueOf(units, offset, count));
+    }
+
     public StringBuilder append(CharSequence other) {
         return append(other == null ? "null" : other.toString());
     }
@@ -77,6 +85,10 @@ public final class StringBuilder implements CharSequence {
         }
     }
 
+    public void getChars(int begin, int end, char[] units, int at) {
+        text.getChars(begin, end, units, at);
+    }
+
     public void setCharAt(int index, char unit) {
         if (index < 0 || index >= text.length()) {
             throw new StringIndexOutOfBoundsException();
@@ -110,6 +122,14 @@ public final class StringBuilder implements CharSequence {
 
     public StringBuilder insert(int at, Object object) {
         return insert(at, String.valueOf(object));
+    }
+
+    public StringBuilder insert(int at, char[] units) {
+        return replace(at, at, String.valueOf(units));
+    }
+
+    public StringBuilder insert(int at, char[] units, int offset, int count) {
+        return replace(at, at, String.valueOf(units, offset, count));
     }
 
     public StringBuilder insert(int at, CharSequence other) {

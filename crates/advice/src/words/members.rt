@@ -22,11 +22,6 @@ const OBJECT: &str = "java/lang/Object";
 
 const NO_CLOCK: &str = ": there is no clock; leave it out";
 
-const NO_NAMES: &str = ": threads have numbers, and no names; leave it out";
-
-const NO_PRIORITIES: &str =
-    ": there are no priorities, the schedule says who goes on; leave it out";
-
 const NO_DAEMONS: &str = ": there are no daemon threads; end it by a flag or an interrupt";
 
 const NO_STOP: &str = ": end it by a flag or an interrupt";
@@ -38,7 +33,7 @@ const CATCH: &str = ": catch the exception in run()";
 const APPENDED: &str = ": add a String, an int, a char, a boolean or an object";
 
 /// The cures of a class stand together, and those of all other members last.
-static MEMBERS: [Cure; 38] = [
+static MEMBERS: [Cure; 33] = [
     (STRING, "<init>", ": take a StringBuilder"),
     (
         STRING,
@@ -52,7 +47,7 @@ static MEMBERS: [Cure; 38] = [
     (
         "java/io/PrintStream",
         "",
-        ": System.out prints ints, chars, booleans and objects, and nothing else; print these",
+        ": System.out prints ints, chars, booleans, arrays of chars and objects, and nothing else; print these",
     ),
     (
         SYSTEM,
@@ -80,13 +75,13 @@ static MEMBERS: [Cure; 38] = [
     (
         THREAD,
         "<init>",
-        ": take new Thread() or new Thread(Runnable)",
+        ": take new Thread() or new Thread(Runnable), with a name or without",
     ),
-    (THREAD, "getName", NO_NAMES),
-    (THREAD, "setName", NO_NAMES),
-    (THREAD, "getId", NO_NAMES),
-    (THREAD, "setPriority", NO_PRIORITIES),
-    (THREAD, "getPriority", NO_PRIORITIES),
+    (
+        THREAD,
+        "getId",
+        ": threads have names, and no numbers; take getName()",
+    ),
     (THREAD, "setDaemon", NO_DAEMONS),
     (THREAD, "isDaemon", NO_DAEMONS),
     (THREAD, "getState", ": ask isAlive()"),
@@ -123,7 +118,6 @@ static MEMBERS: [Cure; 38] = [
     ),
     (CLASS, "", NO_REFLECTION),
     (OBJECT, "wait", ": there is no clock; take wait()"),
-    (OBJECT, "clone", ": write a method that makes the copy"),
     (OBJECT, "finalize", ": nothing calls it; leave it out"),
 ];
 

@@ -9,7 +9,7 @@ use crate::ClassFile;
 use crate::builtin::form::{BuiltInClass, class_file};
 use crate::builtin::tables::{
     FROM_ABSTRACT_METHOD_ERROR, FROM_CHAR_SEQUENCE, FROM_CLASS, FROM_ILLEGAL_ARGUMENT_EXCEPTION,
-    FROM_OBJECT, FROM_STRING, FROM_STRING_BUILDER, FROM_SYSTEM, FROM_THROWABLE,
+    FROM_OBJECT, FROM_STRING, FROM_STRING_BUILDER, FROM_SYSTEM, FROM_THREAD, FROM_THROWABLE,
 };
 use std::alloc::{AllocError, Global};
 
@@ -28,11 +28,18 @@ fn push_classes(
     Ok(())
 }
 
-/// The built-in classes 0 to 2.
+/// The built-in classes 0 to 1.
 fn from_object() -> &'static [BuiltInClass]
-    ensures { (all_fit result.now ≡ true) × (trees_of result.now ≡ built_in_from 0 3) }
+    ensures { (all_fit result.now ≡ true) × (trees_of result.now ≡ built_in_from 0 2) }
 {
     &FROM_OBJECT
+}
+
+/// The built-in class 2.
+fn from_thread() -> &'static [BuiltInClass]
+    ensures { (all_fit result.now ≡ true) × (trees_of result.now ≡ built_in_from 2 1) }
+{
+    &FROM_THREAD
 }
 
 /// The built-in class 3.
@@ -97,6 +104,7 @@ pub fn built_in_classes(alloc: Global) -> Result<Vec<ClassFile>, AllocError>
 {
     let mut classes = Vec::new(alloc);
     push_classes(&mut classes, alloc, from_object())?;
+    push_classes(&mut classes, alloc, from_thread())?;
     push_classes(&mut classes, alloc, from_string())?;
     push_classes(&mut classes, alloc, from_class())?;
     push_classes(&mut classes, alloc, from_system())?;

@@ -1,18 +1,20 @@
 -- What the operands of instructions name, and what the rows of a table say of it.
-use Rattle.std.proofs.Common.{◌≡◌, ℕ, List, [], ◌∷◌, get_or, Option, Some, None, Bool, true, false, ◌&&◌, refl, sym, ap, subst, ◌∙◌}
-use Rattle.std.specs.Prelude.{is_some}
+use Rattle.std.proofs.Common.{◌≡◌, ℕ, List, [], ◌∷◌, get_or, Option, Some, None, Bool, true, false, ◌&&◌, not, refl, sym, ap, subst, ◌∙◌}
+use Rattle.std.specs.Prelude.{is_some, option_map}
 use Rattle.std.specs.List.{list_any}
 use Rattle.std.specs.Option.{option_map_or}
-use mathlib.Core.Bool.{or-false}
+use mathlib.Core.Bool.{or-false, and-true}
 use Rattle.std.proofs.Math.ListN.{get_or-map}
-use Rattle.model.specs.Names.{Name, Member}
+use Rattle.model.specs.Names.{Name, Member, member_eq, java_lang_object, object_clone}
+use Rattle.model.specs.Lookup.{in_class}
 use Rattle.model.specs.Tree.{Entry, Utf8, Integer, Float, Long, Double, Class, String, Field, Method, InterfaceMethod, NameAndType, Unusable}
 use Rattle.model.specs.Spelling.{entry_at, text_of}
-use Rattle.model.specs.Conditions.{text_at}
+use Rattle.model.specs.Conditions.{text_at, class_text}
 use Rattle.model.specs.DescriptorScan.{element_at, field_at as scanned_at, field_type, method_type}
 use Rattle.model.specs.Pool as pools
 use Rattle.model.specs.Pool.{utf8_of, class_name_of, class_name_at, name_and_type_of, name_and_descriptor, reference, field_of_entry, method_of_entry, interface_method_of_entry, method_at, interface_method_at}
 use Rattle.model.specs.CodeParts.{descriptors_of}
+use Rattle.model.specs.Profile.{has_left_out_type, is_array_clone}
 use Rattle.classfile.specs.declared.profile.described.Described.{Described}
 use Rattle.classfile.specs.profile.Descriptions.{nothing, described, rows_of, descriptor_text, text_of_reference, member_text}
 
@@ -145,3 +147,36 @@ module _ (p : Name → Bool) (pool : List Entry) (index : ℕ) where
   pub interface_there : is_some (interface_method_at pool index) ≡ true
       → p (member_text pool index) ≡ list_any p (descriptors_of (interface_method_at pool index))
   interface_there h = subst (λ (b : Bool). (b && p (member_text pool index)) ≡ list_any p (descriptors_of (interface_method_at pool index))) h (interface_told p pool index)
+
+-- ---- clone of an array
+
+text_is : (e : Entry) (t : Name) → utf8_of e ≡ Some t → text_of e ≡ t
+text_is (Utf8 text) t h = cc
+text_is e t h = absurd cc
+
+class_is : (pool : List Entry) (e : Entry) (name : Name) → class_name_of pool e ≡ Some name → class_text pool e ≡ name
+class_is pool (Class n) name h = text_is (entry_at pool n) name h
+class_is pool e name h = absurd cc
+
+named_class : (class : Option Name) (member : Option pools.NameAndDescriptor) (m : Member) → reference class member ≡ Some m
+    → class ≡ Some m.class
+named_class None member m h = absurd cc
+named_class (Some class) None m h = absurd cc
+named_class (Some class) (Some member) m h = ap (option_map (λ (r : Member). r.class)) h
+
+-- the text of the class that a Methodref names
+called_class : (pool : List Entry) (index class member : ℕ) (m : Member) → entry_at pool index ≡ Method class member
+    → method_at pool index ≡ Some m → class_text pool (entry_at pool class) ≡ m.class
+called_class pool index class member m at named =
+    class_is pool (entry_at pool class) m.class
+    (named_class (class_name_at pool class) (pools.name_and_type_at pool member) m (sym (ap (method_of_entry pool) at) ∙ named))
+
+-- what is said of a Methodref of clone
+pub clone_told : (pool : List Entry) (index class member : ℕ) (m : Member) → entry_at pool index ≡ Method class member
+    → method_at pool index ≡ Some m → member_eq (in_class java_lang_object m) object_clone ≡ true
+    → not (has_left_out_type (class_text pool (entry_at pool class))) ≡ option_map_or is_array_clone (method_at pool index) false
+clone_told pool index class member m at named is =
+    ap (λ (text : Name). not (has_left_out_type text)) (called_class pool index class member m at named)
+    ∙ sym (and-true (not (has_left_out_type m.class)))
+    ∙ ap (λ (b : Bool). not (has_left_out_type m.class) && b) (sym is)
+    ∙ ap (λ (o : Option Member). option_map_or is_array_clone o false) (sym named)

@@ -4,14 +4,16 @@
 ghost use Rattle.std.specs.Prelude.{◌≡◌, ◌||◌, false, option_map};
 ghost use Rattle.std.specs.List.{list_any};
 ghost use Rattle.std.specs.Option.{option_map_or};
-ghost use Rattle.model.specs.Names.{constructor_name, initialiser_name};
+ghost use Rattle.model.specs.Names.{member_eq, java_lang_object, object_clone, constructor_name, initialiser_name};
+ghost use Rattle.model.specs.Lookup.{in_class};
 ghost use Rattle.model.specs.DescriptorScan.{dimensions_of};
 ghost use Rattle.model.specs.DescriptorParts.{is_array_class};
 ghost use Rattle.model.specs.Pool.{class_name_at, field_at, method_at, interface_method_at};
 ghost use Rattle.model.specs.CodeParts.{method_operand, descriptors_of, array_descriptor};
-ghost use Rattle.model.specs.Profile.{has_left_out_type, operand_of_left_out_type, left_out_array, float_constant, array_class_constant, method_of_array_class, instruction_outside_profile};
+ghost use Rattle.model.specs.Profile.{has_left_out_type, operand_of_left_out_type, left_out_array, float_constant, array_class_constant, is_array_clone, method_of_array_class, instruction_outside_profile};
 ghost use Rattle.model.specs.CodeConditions.{operand_of_wrong_kind, wrong_interface_count, wrong_interface_end, is_special, calls_named, constructor_not_by_special, calls_initialiser, new_of_array, too_many_dimensions};
 ghost use Rattle.constant_pool.specs.View.{reference_of};
+ghost use Rattle.classfile.specs.profile.Clones.{clones_array};
 ghost use Rattle.classfile.specs.profile.Descriptions.{rows_of};
 ghost use Rattle.classfile.specs.profile.Faults.{row_of, special_of, malformed_operand_by};
 
@@ -129,12 +131,48 @@ fn called(file: &ClassFile, instr: Instr) -> Option<Reference<'_>>
     }
 }
 
-/// Whether it calls a method of a class of arrays.
-fn calls_array_class(file: &ClassFile, instr: Instr) -> bool
+/// Whether a method is `clone`, as Object has it.
+fn is_clone(method: Reference<'_>) -> bool
+    ensures { result ≡ member_eq (in_class java_lang_object (reference_of method.entry)) object_clone }
+{
+    method.name == b"clone".as_slice() && method.descriptor == b"()Ljava/lang/Object;".as_slice()
+}
+
+/// Whether the Methodref of an index is to `clone`, and of no array of a type that is left out.
+fn names_clone(file: &ClassFile, rows: &[Described], index: u16) -> bool
+    requires { rows.now ≡ rows_of file.now.pool }
+    ensures { result ≡ option_map_or is_array_clone (method_at file.now.pool index) false }
+{
+    let Some(Constant::Method { class, .. }) = file.constant(index) else {
+        return false;
+    };
+    match file.method_reference(index) {
+        Some(method) => is_clone(method) && !class_says(file, rows, *class).leaves_out,
+        None => false,
+    }
+}
+
+/// Whether it clones an array, where it names a method of a class of arrays.
+fn clones(file: &ClassFile, rows: &[Described], instr: Instr) -> bool
+    requires { rows.now ≡ rows_of file.now.pool }
+    ensures { result ≡ clones_array file.now.pool instr }
+{
+    match instr {
+        Instr::Invoke {
+            invocation: Invocation::Virtual,
+            index,
+        } => names_clone(file, rows, index),
+        _ => false,
+    }
+}
+
+/// Whether it calls another method of a class of arrays than `clone`, or that otherwise than by `invokevirtual`.
+fn calls_array_class(file: &ClassFile, rows: &[Described], instr: Instr) -> bool
+    requires { rows.now ≡ rows_of file.now.pool }
     ensures { result ≡ method_of_array_class file.now.pool instr }
 {
     match called(file, instr) {
-        Some(method) => is_array_class(method.class),
+        Some(method) => is_array_class(method.class) && !clones(file, rows, instr),
         None => false,
     }
 }
@@ -148,7 +186,7 @@ pub(crate) fn is_outside(file: &ClassFile, rows: &[Described], instr: Instr) -> 
         || makes_left_out_array(file, instr)
         || loads_float(file, instr)
         || loads_array_class(file, instr)
-        || calls_array_class(file, instr)
+        || calls_array_class(file, rows, instr)
 }
 
 /// Whether an index names an entry of another kind than the instruction asks for.

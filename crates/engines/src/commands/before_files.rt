@@ -13,7 +13,7 @@ use crate::explanation::Explanation;
 use crate::fault::Fault;
 use crate::named_file::schedule_source;
 use crate::place_schedules::read_words;
-use command_line::{Command, Goal, Replay, Run, Search, Shrink};
+use command_line::{Command, Goal, Replay, Run, Search, Shrink, Trace};
 use program_files::Folder;
 use std::alloc::Global;
 
@@ -48,7 +48,7 @@ fn check_first<F: Folder>(
     match command {
         Command::Run(options) => check_run(alloc, folder, options, explanation),
         Command::Replay(options) => check_replay(alloc, folder, options, explanation),
-        Command::Trace(options) => check_schedule(alloc, folder, options.schedule.as_str()),
+        Command::Trace(options) => check_trace(alloc, folder, options, explanation),
         Command::Races(options) => check_schedule(alloc, folder, options.schedule.as_str()),
         Command::Places(options) => check_schedule(alloc, folder, options.schedule.as_str()),
         Command::Search(options) => check_search(alloc, folder, options, explanation),
@@ -88,6 +88,20 @@ fn check_replay<F: Folder>(
     if let Some(then_run) = &options.then_run {
         check_record(alloc, folder, &then_run.record, explanation)?;
     }
+    check_schedule(alloc, folder, options.schedule.as_str())
+}
+
+fn check_trace<F: Folder>(
+    alloc: Global,
+    folder: &F,
+    options: &Trace,
+    explanation: &mut Explanation,
+) -> Result<(), Fault>
+    ensures kept { IfErr result (λ fault. IsUnable fault
+        ⊎ KeepsSchedule (F.held folder.now) (string_bytes options.now.schedule) fault) }
+    ensures told { (n : ℕ) → TellsFailures (FolderMayFail F.may_fail) result n n }
+{
+    check_record(alloc, folder, &options.html, explanation)?;
     check_schedule(alloc, folder, options.schedule.as_str())
 }
 

@@ -12,6 +12,7 @@ mod outcome_texts;
 mod placings;
 mod race_tellings;
 mod replays;
+mod run_pages;
 mod runs;
 mod schedules;
 mod searches;

@@ -7,21 +7,27 @@ use Rattle.model.specs.declared.instr.ArrayKind.{ArrayKind}
 use Rattle.model.specs.declared.instr.ArrayKind.TheVariants as array_kind
 use Rattle.model.specs.declared.instr.Instr.{Instr}
 use Rattle.model.specs.declared.instr.Instr.TheVariants as instr
-use Rattle.model.specs.declared.builder_method.BuilderMethod.{BuilderMethod}
-use Rattle.model.specs.BuilderMethods.{BuilderAnswer, IsNull, KeepsEmpty, Keeps, Adds, GivesText, builds, builder_does}
+use Rattle.model.specs.BuilderMethods.{BuilderAnswer, IsNull, KeepsEmpty, Keeps, Adds, GivesText, builds}
+use Rattle.model.specs.BuiltInMethods.{BuiltInMethod, ObjectClone, StringWrites, StringBuilderBuilds, string_operand, built_in_does}
+use Rattle.model.specs.Cloning.{is_cloneable, cloned}
+use Rattle.model.specs.TextMethods as writing
+use Rattle.model.specs.TextMethods.{TextAnswer, IsOutsideArray, Becomes, Stores, StandsFor, text_answer, units_operand, standing_for, gives_standing, writes}
+use Rattle.model.specs.Opening.{string_reference, string_references, opening_count}
 use Rattle.model.specs.Classes.{Program}
 use Rattle.model.specs.Operands.{Slots, values}
 use Rattle.model.specs.Rows.{Row}
-use Rattle.model.specs.State.{ObjectOf, World}
+use Rattle.model.specs.State.{ObjectOf, type_of, World}
 use Rattle.model.specs.Outcomes.{OutcomeOf, Goes, Raises, Throws, Interrupts, Calls, Returns, Waits, not_null}
 use Rattle.model.specs.Worlds.{object_at, is_owner}
-use Rattle.model.specs.Sites.{MeaningOf, Site, operand, referent, int_operand}
+use Rattle.model.specs.Sites.{MeaningOf, Site, operand, referent, int_operand, object_of}
 use Rattle.model.specs.Objects.{cast}
 use Rattle.model.specs.Arrays.{is_negative, made_array, in_range, at_index, load_of, may_stand_in, if_storable, store_of}
 use Rattle.model.specs.MonitorMeanings.{left}
 use Rattle.model.specs.Meanings.{local_meaning, meaning_of}
 use Rattle.run_laws.proofs.laws.Operations.{Operation, OfRow, GetSystemStream, GetStatic, PutStatic, GetField, PutField, Println, CallVirtual, CallConstructor, CallSpecial, CallStatic, CallInterface, Return, LoadClass, LoadString, New, NewArray, NewReferenceArray, ArrayLength, LoadElement, StoreElement, CheckCast, InstanceOf, Throw, MonitorEnter, MonitorExit, operation, OfMeaning, each_meaning}
+use Rattle.std.proofs.lemmas.Option.{none-some}
 use Rattle.data_races.specs.EventActions.{access_by}
+use Rattle.data_races.proofs.BuilderCalls.{accessing_method}
 
 -- it goes on, or the machine makes an exception
 abbrev pub IsPlain : OutcomeOf Value → Type 0
@@ -141,15 +147,35 @@ module _ (files : Program) where
     pub meaning_plain : OfMeaning (PlainAt site.instr) (meaning_of values files site)
     meaning_plain = each_meaning values files site (PlainAt site.instr) operation_plain
 
--- ---- methods of StringBuilder without code
+-- ---- methods without code that access variables
 
-module _ (empty next : ℕ) (world : World) (slots : Slots Value) (ops rest : List Value) where
-  answer_plain : (answer : BuilderAnswer) → IsPlain (builds values empty answer next world slots ops rest)
-  answer_plain IsNull = tt
-  answer_plain KeepsEmpty = tt
-  answer_plain Keeps = tt
-  answer_plain (Adds added) = tt
-  answer_plain GivesText = tt
+module _ (files : Program) (next : ℕ) (world : World) (slots : Slots Value) (ops rest : List Value) where
+  answer_plain : (empty : ℕ) (answer : BuilderAnswer) → IsPlain (builds values empty answer next world slots ops rest)
+  answer_plain empty IsNull = tt
+  answer_plain empty KeepsEmpty = tt
+  answer_plain empty Keeps = tt
+  answer_plain empty (Adds added) = tt
+  answer_plain empty GivesText = tt
 
-  pub builder_plain : (method : BuilderMethod) → IsPlain (builder_does values empty method next world slots ops rest)
-  builder_plain method = answer_plain _
+  cloned_plain : (b : Bool) (object : ObjectOf Value) → IsPlain (cloned values b object next world slots rest)
+  cloned_plain true object = tt
+  cloned_plain false object = tt
+
+  standing_plain : (string : Option ℕ) → IsPlain (gives_standing values string next world slots ops rest)
+  standing_plain None = tt
+  standing_plain (Some string) = tt
+
+  writes_plain : (opened : ℕ) (constants : List ℕ) (answer : TextAnswer) → IsPlain (writes values opened constants answer next world slots ops rest)
+  writes_plain opened constants writing.IsNull = tt
+  writes_plain opened constants writing.IsOutside = tt
+  writes_plain opened constants IsOutsideArray = tt
+  writes_plain opened constants (Becomes receiver text) = tt
+  writes_plain opened constants (Stores array index text) = tt
+  writes_plain opened constants (StandsFor text) = standing_plain (standing_for constants world text)
+
+  pub method_plain : (event : Event) (b m : BuiltInMethod) → accessing_method b ≡ Some m → IsPlain (built_in_does values files b next event world slots ops rest)
+  method_plain event (StringBuilderBuilds method) m e = answer_plain (string_reference files []) _
+  method_plain event (StringWrites method) m e =
+      writes_plain (opening_count files) (string_references files) (text_answer method (int_operand values ops) (string_operand values world ops) (units_operand values world ops))
+  method_plain event ObjectClone m e = cloned_plain (is_cloneable files (type_of (object_at world (object_of values ops 0)))) (object_at world (object_of values ops 0))
+  method_plain event _ m e = absurd (none-some m e)

@@ -6,9 +6,8 @@ use Rattle.std.proofs.lemmas.List.{get_or-set_same}
 use Rattle.model.specs.declared.event.Event.{Event}
 use Rattle.model.specs.declared.value.Value.{Value}
 use Rattle.model.specs.Names.{Name}
-use Rattle.model.specs.BuiltInMethods.{BuiltInMethod, StringBuilderBuilds}
+use Rattle.model.specs.BuiltInMethods.{BuiltInMethod, ObjectClone, StringWrites, StringBuilderBuilds}
 use Rattle.model.specs.Classes.{Program}
-use Rattle.model.specs.Opening.{string_reference}
 use Rattle.model.specs.Operands.{Slots, values, under}
 use Rattle.model.specs.State as state
 use Rattle.model.specs.State.{Instance, types_of, Thread, Running, Frame, StackOf, World, State}
@@ -22,9 +21,10 @@ use Rattle.model.specs.Step.{SteppedOf, WrongKind, Next, PartOf, enabled_if, unp
 use Rattle.run_laws.proofs.laws.Operations.{OfMeaning}
 use Rattle.data_races.specs.Actions.{Action}
 use Rattle.data_races.specs.EventActions.{Instruction, Does, only_if, is_done, is_ready, goes_on, outcome_at, operands_of, access_by, accesses_at, accesses_of, built_in_at, built_in_accesses}
+use Rattle.data_races.proofs.BuilderCalls.{accessing_method}
 use Rattle.data_races.proofs.BuilderRuns.{does_build, does_is}
 use Rattle.event_laws.specs.access_outcomes.Accesses.{StandsAt, DoAccessesGoOn}
-use Rattle.event_laws.proofs.access_outcomes.Plain.{IsPlain, names_variable, no_access, PlainAt, meaning_plain, builder_plain}
+use Rattle.event_laws.proofs.access_outcomes.Plain.{IsPlain, names_variable, no_access, PlainAt, meaning_plain, method_plain}
 use Rattle.event_laws.proofs.event_changes.Worlds.{OutcomeLeaves}
 use Rattle.event_laws.proofs.event_changes.Table.{Leaving, meaning_leaves}
 
@@ -152,18 +152,25 @@ module _ (files : Program) (frames : ℕ) (s : State) (event : Event) (instructi
   unfolding Claim
   by_nothing none = only_nothing (goes_on (outcome_at event s.world instruction)) (not (is_some (thread_at next.world t).pending)) accesses none
 
+  -- by a method that may access variables
+  by_run : is_done t s.world instruction ≡ true → stepped values files frames s event ≡ Next cost next
+      → (b : BuiltInMethod) → accessing_method b ≡ Some b → built_in_at files s.world instruction ≡ Some b → Claim
+  by_run r e b accesses m =
+      let build = does_build files instruction.site meaning h.means s.world (operands_of instruction) b (record { runs = m; accesses = accesses }) in
+      let does = does_is files instruction.site meaning build.call event s.world (operands_of instruction) b build.called instruction.slots (under meaning.wants instruction.slots) in
+      let plain : IsPlain (outcome_at event s.world instruction) =
+      subst IsPlain (sym does) (method_plain files instruction.site.next s.world instruction.slots (operands_of instruction) (under meaning.wants instruction.slots) event b b accesses) in
+      by_plain r e (subst IsPlain outcome_is plain)
+
   -- by the built-in method that it runs
   by_method : is_done t s.world instruction ≡ true → stepped values files frames s event ≡ Next cost next
       → access_by files instruction.site (operands_of instruction) instruction.site.instr ≡ []
       → (o : Option BuiltInMethod) → built_in_at files s.world instruction ≡ o → Claim
-  by_method r e none None m = by_nothing (ap (λ xs. xs ++ option_map_or (built_in_accesses (operands_of instruction)) (built_in_at files s.world instruction) []) none ∙ ap (λ o. option_map_or (built_in_accesses (operands_of instruction)) o []) m)
-  by_method r e none (Some (StringBuilderBuilds b)) m =
-      let build = does_build files instruction.site meaning h.means s.world (operands_of instruction) b m in
-      let does = does_is files instruction.site meaning build.call event s.world (operands_of instruction) b build.called instruction.slots (under meaning.wants instruction.slots) in
-      let plain : IsPlain (outcome_at event s.world instruction) =
-      subst IsPlain (sym does) (builder_plain (string_reference files []) instruction.site.next s.world instruction.slots (operands_of instruction) (under meaning.wants instruction.slots) b) in
-      by_plain r e (subst IsPlain outcome_is plain)
-  by_method r e none (Some _) m = by_nothing (ap (λ xs. xs ++ option_map_or (built_in_accesses (operands_of instruction)) (built_in_at files s.world instruction) []) none ∙ ap (λ o. option_map_or (built_in_accesses (operands_of instruction)) o []) m)
+  by_method r e none None m = by_nothing (ap (λ xs. xs ++ option_map_or (built_in_accesses files s.world (operands_of instruction)) (built_in_at files s.world instruction) []) none ∙ ap (λ o. option_map_or (built_in_accesses files s.world (operands_of instruction)) o []) m)
+  by_method r e none (Some (StringBuilderBuilds b)) m = by_run r e (StringBuilderBuilds b) refl m
+  by_method r e none (Some (StringWrites b)) m = by_run r e (StringWrites b) refl m
+  by_method r e none (Some ObjectClone) m = by_run r e ObjectClone refl m
+  by_method r e none (Some _) m = by_nothing (ap (λ xs. xs ++ option_map_or (built_in_accesses files s.world (operands_of instruction)) (built_in_at files s.world instruction) []) none ∙ ap (λ o. option_map_or (built_in_accesses files s.world (operands_of instruction)) o []) m)
 
   by_done : (d : Bool) → is_done t s.world instruction ≡ d → stepped values files frames s event ≡ Next cost next
       → only_if (d && goes_on (outcome_at event s.world instruction)) accesses ≡ only_if (d && not (is_some (thread_at next.world t).pending)) accesses

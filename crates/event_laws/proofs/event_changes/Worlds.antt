@@ -1,21 +1,28 @@
 -- What instructions and the methods of the machine leave of classes and threads.
 use Rattle.std.proofs.Common.{◌≡◌, ℕ, List, [], ◌∷◌, Bool, true, false, Option, Some, None, refl}
-use Rattle.std.specs.Prelude.{slice_get, is_some}
+use Rattle.std.specs.Prelude.{slice_get, is_some, if◌then◌else◌}
 use Rattle.model.specs.declared.event.Event.{Event}
 use Rattle.model.specs.Classes.{Program}
-use Rattle.model.specs.Opening.{string_reference}
+use Rattle.model.specs.Opening.{string_reference, string_references, opening_count}
 use Rattle.model.specs.Operands.{Slots, Carrier}
-use Rattle.model.specs.State.{WorldOf, Monitor, Waiter, WakeCause, Notified, Interrupted, ThreadStatus, Running, Waiting, Relock, Ended}
+use Rattle.model.specs.State.{ObjectOf, type_of, WorldOf, Monitor, Waiter, WakeCause, Notified, Interrupted, ThreadStatus, Running, Waiting, Relock, Ended}
 use Rattle.model.specs.Outcomes.{OutcomeOf, Goes, Raises, Throws, Interrupts, Calls, Returns, Waits, not_null}
 use Rattle.model.specs.Monitors as monitors
-use Rattle.model.specs.Worlds.{thread_at, thread_of, is_alive, is_owner, with_monitors, with_interrupted, with_status, woken, all_woken, waiters_of}
-use Rattle.model.specs.Sites.{pushing, int_operand}
+use Rattle.model.specs.Texts.{Text}
+use Rattle.model.specs.Worlds.{thread_at, thread_of, is_alive, is_owner, object_at, with_object, with_text, with_monitors, with_interrupted, with_status, woken, all_woken, waiters_of}
+use Rattle.model.specs.Sites.{pushing, referent, int_operand}
 use Rattle.model.specs.StringMethods.{StringAnswer, IsNull, IsOutside, Answers, Same, Composes, string_answer}
 use Rattle.model.specs.BuilderMethods as builder
 use Rattle.model.specs.BuilderMethods.{BuilderAnswer, KeepsEmpty, Adds, GivesText, builds}
 use Rattle.model.specs.ObjectMethods as telling
 use Rattle.model.specs.ObjectMethods.{ObjectAnswer, HasNoClass, IsOf, object_answer, object_place, tells, type_at}
-use Rattle.model.specs.BuiltInMethods.{BuiltInMethod, Construct, ConstructWithMessage, ConstructWithCause, ConstructWithTarget, ObjectWait, ObjectNotify, ObjectNotifyAll, ThreadStart, ThreadInterrupt, ThreadIsInterrupted, ThreadInterrupted, ThreadYield, ThreadCurrentThread, ThreadJoin, ThreadIsAlive, PrintStreamPrints, StringAnswers, StringBuilderBuilds, ObjectAnswers, object_of, string_operand, answered, waiting, wait_by, notified_one, notified, notified_all, if_owner, start_by, interrupted_in, interrupted_on, join_by, built_in_does}
+use Rattle.model.specs.BuiltInMethods.{BuiltInMethod, Construct, ConstructWithMessage, ConstructWithCause, ObjectClone, ObjectWait, ObjectNotify, ObjectNotifyAll, ThreadStart, ThreadInterrupt, ThreadIsInterrupted, ThreadInterrupted, ThreadYield, ThreadCurrentThread, ThreadJoin, ThreadIsAlive, ThreadNames, PrintStreamPrints, StringAnswers, StringWrites, StringBuilderBuilds, ObjectAnswers, object_of, string_operand, answered, waiting, wait_by, notified_one, notified, notified_all, if_owner, start_by, interrupted_in, interrupted_on, join_by, built_in_does}
+use Rattle.model.specs.declared.name_method.NameMethod.{NameMethod}
+use Rattle.model.specs.declared.name_method.NameMethod.TheVariants as naming
+use Rattle.model.specs.Cloning.{is_cloneable, cloned}
+use Rattle.model.specs.TextMethods as writing
+use Rattle.model.specs.TextMethods.{TextAnswer, IsOutsideArray, Becomes, Stores, StandsFor, text_answer, units_operand, standing_for, gives_standing, is_blank, writes}
+use Rattle.model.specs.ThreadNames.{kept_name, ordinal_text, gives_name, thread_names}
 use Rattle.event_laws.proofs.event_changes.Changed.{Keeps, Leaves, keeps_same, keeps_then, keeps_thread, keeps_status, leaves_of, leaves_started}
 
 -- what an instruction leaves of a world
@@ -137,12 +144,53 @@ module _ {A : Type 0} where
     tells_leaves C files (IsOf class) next slots rest = leaves_it world
     tells_leaves C files (telling.Composes text) next slots rest = leaves_same world _ refl refl
 
+    cloned_leaves : (C : Carrier A) (b : Bool) (object : ObjectOf A) (next : ℕ) (slots : Slots A) (rest : List A)
+        → leaves (cloned C b object next world slots rest)
+    cloned_leaves C true object next slots rest = leaves_same world _ refl refl
+    cloned_leaves C false object next slots rest = tt
+
+    blank_leaves : (b : Bool) (r : ℕ) (o : ObjectOf A) → Leaves world (if b then with_object world r o else world)
+    blank_leaves true r o = leaves_same world _ refl refl
+    blank_leaves false r o = leaves_it world
+
+    standing_leaves : (C : Carrier A) (string : Option ℕ) (next : ℕ) (slots : Slots A) (ops rest : List A)
+        → leaves (gives_standing C string next world slots ops rest)
+    standing_leaves C None next slots ops rest = leaves_same world _ refl refl
+    standing_leaves C (Some string) next slots ops rest = leaves_it world
+
+    writes_leave : (C : Carrier A) (opened : ℕ) (constants : List ℕ) (answer : TextAnswer) (next : ℕ) (slots : Slots A) (ops rest : List A)
+        → leaves (writes C opened constants answer next world slots ops rest)
+    writes_leave C opened constants writing.IsNull next slots ops rest = tt
+    writes_leave C opened constants writing.IsOutside next slots ops rest = tt
+    writes_leave C opened constants IsOutsideArray next slots ops rest = tt
+    writes_leave C opened constants (Becomes receiver text) next slots ops rest =
+        blank_leaves (is_blank opened world (object_of C ops receiver)) (object_of C ops receiver) (with_text text (object_at world (object_of C ops receiver)))
+    writes_leave C opened constants (Stores array index text) next slots ops rest = leaves_same world _ refl refl
+    writes_leave C opened constants (StandsFor text) next slots ops rest = standing_leaves C (standing_for constants world text) next slots ops rest
+
+    gives_name_leaves : (C : Carrier A) (name : Option ℕ) (text : Text) (next : ℕ) (slots : Slots A) (ops rest : List A)
+        → leaves (gives_name C name text next world slots ops rest)
+    gives_name_leaves C (Some name) text next slots ops rest = leaves_it world
+    gives_name_leaves C None text next slots ops rest = leaves_same world _ refl refl
+
+    names_leave : (C : Carrier A) (method : NameMethod) (next : ℕ) (slots : Slots A) (ops rest : List A)
+        → leaves (thread_names C method next world slots ops rest)
+    names_leave C naming.Construct next slots ops rest = leaves_same world _ refl refl
+    names_leave C naming.ConstructWithTarget next slots ops rest = leaves_same world _ refl refl
+    names_leave C naming.ConstructWithName next slots ops rest = not_null_leaves world (referent C ops 0) _ (λ r. leaves_same world _ refl refl)
+    names_leave C naming.ConstructWithTargetAndName next slots ops rest = not_null_leaves world (referent C ops 0) _ (λ r. leaves_same world _ refl refl)
+    names_leave C naming.GetName next slots ops rest =
+        let o = object_at world (object_of C ops 0) in
+        gives_name_leaves C (C.referent (kept_name C o)) (ordinal_text C o) next slots ops rest
+    names_leave C naming.SetName next slots ops rest = not_null_leaves world (referent C ops 0) _ (λ r. leaves_same world _ refl refl)
+
     pub built_in_leaves : (C : Carrier A) (files : Program) (method : BuiltInMethod) (next : ℕ) (event : Event) (slots : Slots A) (ops rest : List A)
         → leaves (built_in_does C files method next event world slots ops rest)
     built_in_leaves C files Construct next event slots ops rest = leaves_it world
     built_in_leaves C files ConstructWithMessage next event slots ops rest = leaves_same world _ refl refl
     built_in_leaves C files ConstructWithCause next event slots ops rest = leaves_same world _ refl refl
-    built_in_leaves C files ConstructWithTarget next event slots ops rest = leaves_same world _ refl refl
+    built_in_leaves C files ObjectClone next event slots ops rest =
+        cloned_leaves C (is_cloneable files (type_of (object_at world (object_of C ops 0)))) (object_at world (object_of C ops 0)) next slots rest
     built_in_leaves C files ObjectWait next event slots ops rest =
         wait_by_leaves (is_owner world event.thread (object_of C ops 0)) (thread_at world event.thread).interrupted event.thread (object_of C ops 0) rest
     built_in_leaves C files ObjectNotify next event slots ops rest =
@@ -161,9 +209,13 @@ module _ {A : Type 0} where
     built_in_leaves C files ThreadCurrentThread next event slots ops rest = leaves_it world
     built_in_leaves C files ThreadJoin next event slots ops rest = join_leaves (is_alive world (object_of C ops 0)) next slots rest
     built_in_leaves C files ThreadIsAlive next event slots ops rest = leaves_it world
+    built_in_leaves C files (ThreadNames called) next event slots ops rest = names_leave C called next slots ops rest
     built_in_leaves C files (PrintStreamPrints print) next event slots ops rest = leaves_same world _ refl refl
     built_in_leaves C files (StringAnswers called) next event slots ops rest =
         answered_leaves C (string_answer called (int_operand C ops) (string_operand C world ops)) next slots ops rest
+    built_in_leaves C files (StringWrites called) next event slots ops rest =
+        writes_leave C (opening_count files) (string_references files)
+        (text_answer called (int_operand C ops) (string_operand C world ops) (units_operand C world ops)) next slots ops rest
     built_in_leaves C files (StringBuilderBuilds called) next event slots ops rest =
         builds_leaves C (string_reference files []) _ next slots ops rest
     built_in_leaves C files (ObjectAnswers called) next event slots ops rest = tells_leaves C files _ next slots rest

@@ -31,22 +31,22 @@ pub(crate) struct Details {
     pub(crate) cycles: Vec<Vec<u16>>,
 }
 
-/// The stack of the thread of a number, whose entries are taken away.
-fn taken_stack(
+/// Where the frames of the thread of a number stand.
+fn places_of(
     alloc: Global,
-    stacks: &mut Vec<ThreadStack>,
+    stacks: &[ThreadStack],
     thread: usize,
 ) -> Result<StackPlaces, AllocError> {
-    match stacks.get_mut(thread) {
-        Some(stack) => StackPlaces::taken(alloc, stack),
+    match stacks.get(thread) {
+        Some(stack) => StackPlaces::of(alloc, stack),
         None => StackPlaces::copied(alloc, None, &[]),
     }
 }
 
-/// What is known of each thread. Their stacks are empty then.
+/// What is known of each thread.
 fn facts_of(
     alloc: Global,
-    stacks: &mut Vec<ThreadStack>,
+    stacks: &[ThreadStack],
     ends: &[EndState],
     waits: &[Wait],
     throws: Vec<Thrown>,
@@ -59,7 +59,7 @@ fn facts_of(
             Some(EndState::Threw(_)) => thrown,
             _ => None,
         };
-        let stack = taken_stack(alloc, stacks, thread)?;
+        let stack = places_of(alloc, stacks, thread)?;
         facts.push(ThreadFacts {
             wait: *wait,
             stack,
@@ -106,20 +106,20 @@ fn lines_in<'a>(
     thread_lines(alloc, facts, ends)
 }
 
-/// What is told of threads that share this, and that stand so. Their stacks are empty then.
+/// What is told of threads that share this, and that stand so.
 fn details_in(
     alloc: Global,
     linked: &Linked,
     program: &Arc<LinkedProgram>,
-    shared: &mut Shared,
+    shared: &Shared,
     ends: &[EndState],
     throws: Vec<Thrown>,
 ) -> Result<Details, AllocError>
-    ensures { IfOk result (HasWaits (arc_value program.now) shared.old ends.now) }
+    ensures { IfOk result (HasWaits (arc_value program.now) shared.now ends.now) }
 {
     let waits = each_wait(alloc, shared, program, ends)?;
     let found = cycles(alloc, &waits)?;
-    let facts = facts_of(alloc, &mut shared.stacks, ends, &waits, throws)?;
+    let facts = facts_of(alloc, &shared.stacks, ends, &waits, throws)?;
     let threads = lines_in(alloc, linked, program, shared, &facts, ends)?;
     Ok(Details {
         threads,
@@ -136,12 +136,12 @@ pub(crate) fn details_of(
     program: &Arc<LinkedProgram>,
     schedule: &Schedule,
     limits: Limits,
-    mut shared: Shared,
+    shared: &Shared,
     ends: &[EndState],
 ) -> Result<Details, AllocError>
     requires { IsOfAccepted (arc_value program.now) }
-    ensures { IfOk result (HasWaits (arc_value program.now) shared ends.now) }
+    ensures { IfOk result (HasWaits (arc_value program.now) shared.now ends.now) }
 {
-    let throws = throws_of(alloc, program, schedule, limits, &shared)?;
-    details_in(alloc, linked, program, &mut shared, ends, throws)
+    let throws = throws_of(alloc, program, schedule, limits, shared)?;
+    details_in(alloc, linked, program, shared, ends, throws)
 }

@@ -138,6 +138,6 @@ pub fn explain_threads(
     let (report, _) = report_after(alloc, &machine, linked.set(), done, why)?;
     let shared = machine.into_shared();
     let ends = &report.threads;
-    let details = details_of(alloc, linked, program, schedule, limits, shared, ends)?;
+    let details = details_of(alloc, linked, program, schedule, limits, &shared, ends)?;
     text_of(alloc, ends, &details)
 }

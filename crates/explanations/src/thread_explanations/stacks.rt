@@ -31,15 +31,16 @@ pub(crate) struct StackPlaces {
 }
 
 impl StackPlaces {
-    /// Of a stack, whose entries are taken away.
-    pub(crate) fn taken(alloc: Global, stack: &mut ThreadStack) -> Result<StackPlaces, AllocError> {
+    /// Of a stack.
+    pub(crate) fn of(alloc: Global, stack: &ThreadStack) -> Result<StackPlaces, AllocError> {
         let count = stack.frame_count();
         let mut told = Vec::new(alloc);
-        while !stack.is_empty() && told.len() < MOST_FRAMES {
-            if let Some(frame) = stack.frame() {
+        let mut entries = stack.entries();
+        while !entries.is_empty() && told.len() < MOST_FRAMES {
+            if let Some(frame) = entries.frame() {
                 told.push(FramePlace::of(&frame))?;
             }
-            stack.drop_top();
+            entries.go_under();
         }
         Ok(StackPlaces { told, count })
     }

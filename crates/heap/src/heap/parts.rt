@@ -1,7 +1,7 @@
 //! The parts of a heap as they are kept, and a heap that is made of such parts again.
 
 ghost use Rattle.std.specs.Prelude.{◌≡◌, ℕ, ◌+◌, ◌<◌, ◌≤◌, length, IfOk, IfErr, OnOk, OnErr, IsTrue};
-ghost use Rattle.heap.specs.Heap.{made, words_at, with_object, IsRefused, IsSameAt};
+ghost use Rattle.heap.specs.Heap.{made, words_at, with_object, with_words, IsNotExtended, IsRefused, IsSameAt};
 
 use crate::heap::{Heap, MOST_OPENING};
 use crate::kind::ObjectKind;
@@ -166,6 +166,23 @@ impl Heap {
             words,
         )?;
         self.counted += counted;
+        Ok(())
+    }
+
+    /// An object has these words, too, behind those that it has. All of them count as cells. A refusal says that the limit
+    /// on cells stands, or that there was no memory; nothing has changed then.
+    pub fn extend(&mut self, object: u32, words: &[u32]) -> Result<(), AllocRefusal>
+        requires there { object < length self.old.objects }
+        requires fits { length (words_at self.old.objects object) + length words.now < 4294967296 }
+        ensures ok { OnOk result (self.new ≡ with_words self.old object words.now) }
+        ensures cells { OnOk result (self.old.counted + length words.now ≤ self.old.cell_limit) }
+        ensures err { IfErr result (λ refusal. IsNotExtended refusal (length words.now) self.old self.new) }
+    {
+        if words.len() > self.cells_left() as usize {
+            return Err(AllocRefusal::Cells);
+        }
+        layout::extend(&mut self.table, &mut self.cells, object, words)?;
+        self.counted += words.len() as u32;
         Ok(())
     }
 

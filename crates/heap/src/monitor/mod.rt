@@ -17,11 +17,6 @@
 //!   the object is there, and `waiters` alone takes memory. `add` puts one more monitor, without an owner, behind the
 //!   others, and for want of memory changes nothing.
 //!
-//! # Not proved
-//!
-//! - Tested in `machine_tests`: that a plain table, without lock words, answers lists of calls likewise and shows the
-//!   same after each call.
-//!
 //! # Wrong bodies
 //!
 //! - `monitor-wait-releases-one`: a wait leaves one entry, and not all; refused by `after` of `wait`: the plain

@@ -18,7 +18,7 @@ use Rattle.model.specs.AccessFlags.{is_interface_class, is_static_field, is_stat
 use Rattle.model.specs.Classes.{Program, class_of, is_interface}
 use Rattle.model.specs.Lookup.{field_of, method_of, find_field, find_interface_method}
 use Rattle.model.specs.DescriptorParts.{classes_in, classes_named}
-use Rattle.model.specs.Resolution.{is_missing, member_classes, is_uninstantiable, differs, is_system_stream, found_in_class, unresolved_instruction}
+use Rattle.model.specs.Resolution.{is_missing, member_classes, called_classes, is_uninstantiable, differs, is_system_stream, found_in_class, unresolved_instruction}
 use Rattle.link_conditions.specs.resolution.Operands.{fails_access, fails_call}
 
 -- the class of a member is not found, or one of its descriptor
@@ -29,10 +29,14 @@ member_lacks_class files m = list_any (is_missing files) (m.class ∷ classes_in
 abbrev pub field_fails : Program → FieldAccess → Member → Bool
 field_fails files how m = member_lacks_class files m || option_map_or (fails_access files how) (find_field files m) true
 
+-- the same of a method, whose class may be an array class
+abbrev pub called_lacks_class : Program → Member → Bool
+called_lacks_class files m = list_any (is_missing files) (called_classes (Some m))
+
 -- the method that is named is not found, or not as is wanted: by kind, and in an interface or a class
-abbrev pub call_fails : Program → (Member → Option Member) → Bool → Bool → Member → Bool
-call_fails files found wants_static wants_interface m =
-    member_lacks_class files m
+abbrev pub call_fails : Program → Bool → (Member → Option Member) → Bool → Bool → Member → Bool
+call_fails files lacks found wants_static wants_interface m =
+    lacks
     || (differs wants_interface (is_interface files m.class)
     || option_map_or (fails_call files wants_static) (found m) true)
 
@@ -121,9 +125,35 @@ module _ (files : Program) (found : Member → Option Member) (wants_static want
   both (Some c) None more = rw (or-true (differs wants_interface (is_interface_class c))) refl
   both (Some c) (Some g) more = ap (λ (b : Bool). more || b) (last_first (is_hidden_method g) (is_other_method (Some g)) (is_other_class (Some c)))
 
-  pub call_so : (o : Option Member) → asked_of_method o ≡ option_map_or (call_fails files found wants_static wants_interface) o false
+  pub call_so : (o : Option Member) → asked_of_method o
+      ≡ option_map_or (λ m. call_fails files (member_lacks_class files m) found wants_static wants_interface m) o false
   call_so None = refl
   call_so (Some m) = both (class_of files m.class) (found m) (list_any (is_missing files) (classes_in m.descriptor))
+
+-- a class is wanted, or an array class, which is no class of the program
+module _ (files : Program) (found : Member → Option Member) (wants_static : Bool) where
+  abbrev asked_of_called : Option Member → Bool
+  asked_of_called o =
+      list_any (is_missing files) (called_classes o)
+      || ((is_some o && is_none (option_and_then found o))
+      || (option_map_or is_hidden_method (option_and_then found o) false
+      || (is_other_method files found wants_static false (option_and_then found o)
+      || is_other_class files found wants_static false (option_and_then (λ (m : Member). class_of files m.class) o))))
+
+  called_both : (c : Option FileTree) (f : Option Member) (lacks : Bool)
+      → (lacks || (is_none f || (option_map_or is_hidden_method f false || (is_other_method files found wants_static false f || is_other_class files found wants_static false c))))
+      ≡ (lacks || (differs false (option_map_or is_interface_class c false) || option_map_or (fails_call files wants_static) f true))
+  called_both None None lacks = refl
+  called_both (Some c) None lacks = rw (or-true (differs false (is_interface_class c))) refl
+  called_both None (Some g) lacks =
+      ap (λ (b : Bool). lacks || b) (last_first files found wants_static false (is_hidden_method g) (is_other_method files found wants_static false (Some g)) false)
+  called_both (Some c) (Some g) lacks =
+      ap (λ (b : Bool). lacks || b) (last_first files found wants_static false (is_hidden_method g) (is_other_method files found wants_static false (Some g)) (is_other_class files found wants_static false (Some c)))
+
+  pub called_so : (o : Option Member) → asked_of_called o
+      ≡ option_map_or (λ m. call_fails files (called_lacks_class files m) found wants_static false m) o false
+  called_so None = refl
+  called_so (Some m) = called_both (class_of files m.class) (found m) (called_lacks_class files m)
 
 abbrev pub is_static_call : Invocation → Bool
 is_static_call invocation.Virtual = false
@@ -132,11 +162,11 @@ is_static_call invocation.Static = true
 
 module _ (files : Program) (file : FileTree) (k : ℕ) where
   pub method_asked : (how : Invocation) → unresolved_instruction files file (instrs.Invoke how k)
-      ≡ option_map_or (call_fails files (found_in_class files) (is_static_call how) false) (method_at file.pool k) false
-  method_asked invocation.Virtual = call_so files (found_in_class files) false false (method_at file.pool k)
-  method_asked invocation.Special = call_so files (found_in_class files) false false (method_at file.pool k)
-  method_asked invocation.Static = call_so files (found_in_class files) true false (method_at file.pool k)
+      ≡ option_map_or (λ m. call_fails files (called_lacks_class files m) (found_in_class files) (is_static_call how) false m) (method_at file.pool k) false
+  method_asked invocation.Virtual = called_so files (found_in_class files) false (method_at file.pool k)
+  method_asked invocation.Special = called_so files (found_in_class files) false (method_at file.pool k)
+  method_asked invocation.Static = called_so files (found_in_class files) true (method_at file.pool k)
 
   pub interface_method_asked : unresolved_instruction files file (instrs.InvokeInterface k 0 0)
-      ≡ option_map_or (call_fails files (find_interface_method files) false true) (interface_method_at file.pool k) false
+      ≡ option_map_or (λ m. call_fails files (member_lacks_class files m) (find_interface_method files) false true m) (interface_method_at file.pool k) false
   interface_method_asked = call_so files (find_interface_method files) false true (interface_method_at file.pool k)

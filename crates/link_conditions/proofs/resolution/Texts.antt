@@ -5,18 +5,19 @@ use Rattle.std.specs.Prelude.{is_some}
 use Rattle.std.specs.List.{flat_map}
 use Rattle.std.specs.Option.{option_map_or, option_to_list}
 use Rattle.std.proofs.lemmas.List.{append-nil}
+use Rattle.std.proofs.lemmas.List.Folds.{list_any-append}
 use Rattle.std.proofs.Math.ListN.{get_or-map}
 use Rattle.model.specs.declared.instr.Instr.TheVariants as instrs
 use Rattle.model.specs.Names.{Name}
 use Rattle.model.specs.Tree.{Entry, Utf8, Class, NameAndType, Unusable, FileTree}
 use Rattle.model.specs.Spelling.{entry_at, text_of}
-use Rattle.model.specs.Pool.{utf8_of, utf8_at, class_name_of, class_name_at, name_and_descriptor, name_and_type_at}
+use Rattle.model.specs.Pool.{utf8_of, utf8_at, class_name_of, class_name_at, NameAndDescriptor, name_and_descriptor, name_and_type_at, reference, reference_at}
 use Rattle.model.specs.Conditions.{text_at}
 use Rattle.model.specs.Classes.{Program}
 use Rattle.model.specs.Descriptors.{FieldType}
 use Rattle.model.specs.DescriptorScan.{element_at, field_at as scanned_at, field_type, method_type}
 use Rattle.model.specs.DescriptorParts.{class_of_element, types_in, classes_in, is_array_class, classes_named}
-use Rattle.model.specs.Resolution.{is_missing, unresolved_instruction}
+use Rattle.model.specs.Resolution.{is_missing, called_classes, unresolved_instruction}
 use Rattle.link_conditions.specs.resolution.Unresolved.{lacks_class}
 use Rattle.link_conditions.specs.resolution.Rows.{names_missing, descriptor_lacks_class, lacking_texts}
 use Rattle.link_conditions.proofs.resolution.Operands.{class_asked}
@@ -80,3 +81,21 @@ array_said files file k name text at said array =
     ∙ ap (list_any (is_missing files)) (sym none_else)
     ∙ ap (λ (o : Option Name). list_any (is_missing files) (flat_map classes_named (option_to_list o))) (sym named)
     ∙ sym (class_asked files file k)
+
+-- the class that a Methodref names, or that of an array's elements, and those of its descriptor
+pub called_said : (files : Program) (file : FileTree) (class index : ℕ) → is_some (class_name_at file.pool class) ≡ true
+    → is_some (name_and_type_at file.pool index) ≡ true
+    → (unresolved_instruction files file (instrs.CheckCast class) || descriptor_lacks_class files (name_and_type_at file.pool index))
+    ≡ list_any (is_missing files) (called_classes (reference_at file.pool class index))
+called_said files file class index c n =
+    ap (λ (b : Bool). b || descriptor_lacks_class files (name_and_type_at file.pool index)) (class_asked files file class)
+    ∙ by (class_name_at file.pool class) (name_and_type_at file.pool index) c n
+  where
+    by : (o : Option Name) (p : Option NameAndDescriptor) → is_some o ≡ true → is_some p ≡ true
+        → (list_any (is_missing files) (flat_map classes_named (option_to_list o)) || descriptor_lacks_class files p)
+        ≡ list_any (is_missing files) (called_classes (reference o p))
+    by None p c n = absurd cc
+    by (Some name) None c n = absurd cc
+    by (Some name) (Some member) c n =
+        ap (λ (names : List Name). list_any (is_missing files) names || lacks_class files member.descriptor) (append-nil (classes_named name))
+        ∙ sym (list_any-append (is_missing files) (classes_named name) (classes_in member.descriptor))

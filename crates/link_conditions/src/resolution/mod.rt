@@ -17,6 +17,12 @@
 //!
 //! - Shown by cases alone: that the place is the first, of superclass, superinterfaces and fields, and then by methods
 //!   of descriptor, instructions and exception entries. They show each condition.
+//!
+//! # Wrong bodies
+//!
+//! - `resolution-elements_of_arrays_are_not_asked`: where the class of a method is one of arrays, that of their elements
+//!   need not be found; refused by `class_or_descriptor_lacks`.
+//! - `resolution-number_of_a_thread_is_found`: a hidden field of Thread may be named; refused by `is_hidden_field`.
 
 mod class;
 mod code;

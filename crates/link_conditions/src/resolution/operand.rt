@@ -1,19 +1,19 @@
 //! Whether the class, the field or the method that an entry of the constant pool names is found as an instruction
 //! wants it (JVMS 6.5).
 
-ghost use Rattle.std.specs.Prelude.{◌≡◌, ◌&&◌, IsFalse, false};
+ghost use Rattle.std.specs.Prelude.{◌≡◌, ◌&&◌, ◌||◌, IsFalse, false};
 ghost use Rattle.std.specs.List.{list_any};
 ghost use Rattle.std.specs.Option.{option_and_then, option_map_or};
 ghost use Rattle.model.specs.declared.instr.Instr.TheVariants as instrs;
-ghost use Rattle.model.specs.Pool.{class_name_at, reference_at, field_at, method_at, interface_method_at};
+ghost use Rattle.model.specs.Pool.{class_name_at, name_and_type_at, reference_at, field_at, method_at, interface_method_at};
 ghost use Rattle.model.specs.Classes.{class_of};
 ghost use Rattle.model.specs.Linkable.{stands, DuplicateClass};
 ghost use Rattle.model.specs.DescriptorParts.{is_array_class};
-ghost use Rattle.model.specs.Resolution.{is_missing, is_missing_catch, member_classes, is_uninstantiable, wants_static_field, is_system_stream, unresolved_instruction};
+ghost use Rattle.model.specs.Resolution.{is_missing, is_missing_catch, member_classes, called_classes, is_uninstantiable, wants_static_field, is_system_stream, unresolved_instruction};
 ghost use Rattle.constant_pool.specs.View.{reference_of};
 ghost use Rattle.classfile.specs.View.{file_of};
 ghost use Rattle.hierarchy.specs.Places.{member_in, IsFieldAt, IsMethodAt};
-ghost use Rattle.link_conditions.specs.resolution.Rows.{lacking_texts};
+ghost use Rattle.link_conditions.specs.resolution.Rows.{descriptor_lacks_class, lacking_texts};
 ghost use Rattle.link_conditions.specs.resolution.Operands.{is_put_static, fails_access, fails_call};
 
 use crate::resolution::descriptor::{descriptor_lacks_class, text_lacks_class};
@@ -147,10 +147,11 @@ fn field_lacks_class(set: &ClassSet, file: &ClassFile, lacking: &[bool], index: 
     }
 }
 
-/// Whether the class of the method of a Methodref is not found, or one of its descriptor.
+/// Whether the class of the method of a Methodref is not found, or that of an array's elements, or one of its
+/// descriptor.
 fn method_lacks_class(set: &ClassSet, file: &ClassFile, lacking: &[bool], index: u16) -> bool
     requires { lacking.now ≡ lacking_texts set.now file.now.pool }
-    ensures { result ≡ list_any (is_missing set.now) (member_classes (method_at file.now.pool index)) }
+    ensures { result ≡ list_any (is_missing set.now) (called_classes (method_at file.now.pool index)) }
 {
     match file.constant(index) {
         Some(
@@ -158,7 +159,7 @@ fn method_lacks_class(set: &ClassSet, file: &ClassFile, lacking: &[bool], index:
                 class,
                 name_and_type,
             },
-        ) => member_lacks_class(set, file, lacking, *class, *name_and_type),
+        ) => called_lacks_class(set, file, lacking, *class, *name_and_type),
         _ => false,
     }
 }
@@ -182,6 +183,38 @@ fn interface_method_lacks_class(
         ) => member_lacks_class(set, file, lacking, *class, *name_and_type),
         _ => false,
     }
+}
+
+/// Whether a class is not found, or that of an array's elements, or one of a descriptor.
+fn class_or_descriptor_lacks(
+    set: &ClassSet,
+    file: &ClassFile,
+    lacking: &[bool],
+    class: u16,
+    name_and_type: u16,
+) -> bool
+    requires { lacking.now ≡ lacking_texts set.now file.now.pool }
+    ensures { result ≡ (unresolved_instruction set.now (file_of file.now) (instrs.CheckCast class)
+        || descriptor_lacks_class set.now (name_and_type_at file.now.pool name_and_type)) }
+{
+    is_class_unresolved(set, file, lacking, class)
+        || descriptor_lacks_class(set, file, lacking, name_and_type)
+}
+
+/// Whether the class of a member is not found, or that of an array's elements, or one of its descriptor.
+fn called_lacks_class(
+    set: &ClassSet,
+    file: &ClassFile,
+    lacking: &[bool],
+    class: u16,
+    name_and_type: u16,
+) -> bool
+    requires { lacking.now ≡ lacking_texts set.now file.now.pool }
+    ensures { result ≡ list_any (is_missing set.now) (called_classes (reference_at file.now.pool class name_and_type)) }
+{
+    file.class_name(class).is_some()
+        && file.name_and_type(name_and_type).is_some()
+        && class_or_descriptor_lacks(set, file, lacking, class, name_and_type)
 }
 
 fn wants_static_field(access: FieldAccess) -> bool

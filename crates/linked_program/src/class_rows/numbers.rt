@@ -1,9 +1,10 @@
 //! Numbers of classes and methods, and how many fields objects have.
 
-ghost use Rattle.std.specs.Prelude.{◌≡◌, ℕ, Some, length, IsSomeAnd};
+ghost use Rattle.std.specs.Prelude.{◌≡◌, ℕ, Some, filter, length, IsSomeAnd};
 ghost use Rattle.std.specs.Option.{option_and_then};
 ghost use Rattle.classfile.specs.View.{file_of};
 ghost use Rattle.model.specs.Classes.{name_of, super_name_of};
+ghost use Rattle.model.specs.HiddenMembers.{is_cell};
 ghost use Rattle.model.specs.Lookup.{instance_fields};
 ghost use Rattle.model.specs.Names.{Member};
 ghost use Rattle.hierarchy.specs.Places.{class_at, place_of};
@@ -70,6 +71,19 @@ pub(crate) fn field_count(
     ensures { result ≡ length (instance_fields set.now (name_of (file_of file.now))) }
 {
     match fields.slot_count(class) {
+        Some(count) => count as u32,
+        None => 0,
+    }
+}
+
+/// How many of these fields count for the limit on cells.
+pub(crate) fn cell_count(set: &ClassSet, fields: &FieldLinks, class: usize, file: &ClassFile) -> u32
+    requires linked { IsLinked set.now }
+    requires fields { AreFieldLinks set.now fields.now }
+    requires stands { class_at set.now class ≡ Some (file_of file.now) }
+    ensures { result ≡ length (filter is_cell (instance_fields set.now (name_of (file_of file.now)))) }
+{
+    match fields.cell_count(class) {
         Some(count) => count as u32,
         None => 0,
     }

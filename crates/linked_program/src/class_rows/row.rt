@@ -7,9 +7,10 @@ ghost use Rattle.linked_code.specs.ClassRows.{AreRising, IsLinkedClass};
 ghost use Rattle.linker.specs.class_constants.Constants.{slots_before};
 ghost use Rattle.linked_program.specs.class_rows.Sources.{AreSources, selections_of};
 
+use crate::class_rows::cloneable::is_cloneable;
 use crate::class_rows::initialiser::initialiser_of;
 use crate::class_rows::name::dotted_name;
-use crate::class_rows::numbers::{field_count, superclass_number};
+use crate::class_rows::numbers::{cell_count, field_count, superclass_number};
 use crate::class_rows::sources::{RowSources, Selections};
 use classfile::{ClassFile, class_name};
 use linked_code::LinkedClass;
@@ -37,7 +38,9 @@ pub(crate) fn row_of(
         name: dotted_name(alloc, file)?,
         superclass: superclass_number(set, file),
         is_interface: set.is_interface(class_name(file)),
+        is_cloneable: is_cloneable(sources.hierarchy, class_name(file)),
         fields: field_count(set, sources.fields, class, file),
+        cells: cell_count(set, sources.fields, class, file),
         initialiser: initialiser_of(set, sources.methods, class, file),
         constants: constants_of(alloc, set, sources.texts, class, file, slot)?,
         selections: selections.by_place,

@@ -1,6 +1,6 @@
 //! What rows are made from.
 
-use hierarchy::ClassSet;
+use hierarchy::{ClassSet, Hierarchy};
 use linked_code::InterfaceSelection;
 use linker::field_links::{FieldLinks, StringNumbers};
 use method_tables::method_links::MethodNumbers;
@@ -9,6 +9,8 @@ use method_tables::method_links::MethodNumbers;
 #[derive(Clone, Copy)]
 pub struct RowSources<'a> {
     pub set: &'a ClassSet,
+    /// Of the same set.
+    pub hierarchy: &'a Hierarchy,
     pub fields: &'a FieldLinks,
     pub texts: &'a StringNumbers,
     pub methods: &'a MethodNumbers,

@@ -14,6 +14,10 @@
 //! # Not proved
 //!
 //! - Not proved: that an error comes only where memory runs out or a number doesn't fit; how long it takes.
+//!
+//! # Wrong bodies
+//!
+//! - `linked_calls-array_classes_are_sought`: an array class is sought among the classes; refused by `class_searched`.
 
 mod callee;
 mod entry;

@@ -9,7 +9,7 @@ ghost use Rattle.linked_program.specs.method_rows.BuiltIns.{declared_member, ent
 
 use classfile::Reference;
 use linked_code::BuiltInMethod;
-use model::{BuilderMethod, ObjectMethod, PrintMethod, StringMethod};
+use model::{BuilderMethod, NameMethod, ObjectMethod, PrintMethod, StringMethod, TextMethod};
 
 /// A method of a built-in class that has no code.
 #[derive(Clone, Copy)]
@@ -21,7 +21,7 @@ struct Declared {
 }
 
 /// All but the constructors of exceptions, and those that only take their operands.
-const DECLARED: [Declared; 42] = [
+const DECLARED: [Declared; 53] = [
     Declared {
         class: b"java/lang/Object",
         name: b"wait",
@@ -41,10 +41,34 @@ const DECLARED: [Declared; 42] = [
         method: BuiltInMethod::ObjectNotifyAll,
     },
     Declared {
+        class: b"java/lang/Object",
+        name: b"clone",
+        descriptor: b"()Ljava/lang/Object;",
+        method: BuiltInMethod::ObjectClone,
+    },
+    Declared {
+        class: b"java/lang/Thread",
+        name: b"<init>",
+        descriptor: b"()V",
+        method: BuiltInMethod::ThreadNames(NameMethod::Construct),
+    },
+    Declared {
         class: b"java/lang/Thread",
         name: b"<init>",
         descriptor: b"(Ljava/lang/Runnable;)V",
-        method: BuiltInMethod::ConstructWithTarget,
+        method: BuiltInMethod::ThreadNames(NameMethod::ConstructWithTarget),
+    },
+    Declared {
+        class: b"java/lang/Thread",
+        name: b"<init>",
+        descriptor: b"(Ljava/lang/String;)V",
+        method: BuiltInMethod::ThreadNames(NameMethod::ConstructWithName),
+    },
+    Declared {
+        class: b"java/lang/Thread",
+        name: b"<init>",
+        descriptor: b"(Ljava/lang/Runnable;Ljava/lang/String;)V",
+        method: BuiltInMethod::ThreadNames(NameMethod::ConstructWithTargetAndName),
     },
     Declared {
         class: b"java/lang/Thread",
@@ -93,6 +117,18 @@ const DECLARED: [Declared; 42] = [
         name: b"isAlive",
         descriptor: b"()Z",
         method: BuiltInMethod::ThreadIsAlive,
+    },
+    Declared {
+        class: b"java/lang/Thread",
+        name: b"getName",
+        descriptor: b"()Ljava/lang/String;",
+        method: BuiltInMethod::ThreadNames(NameMethod::GetName),
+    },
+    Declared {
+        class: b"java/lang/Thread",
+        name: b"setName",
+        descriptor: b"(Ljava/lang/String;)V",
+        method: BuiltInMethod::ThreadNames(NameMethod::SetName),
     },
     Declared {
         class: b"java/io/PrintStream",
@@ -201,6 +237,36 @@ const DECLARED: [Declared; 42] = [
         name: b"valueOf",
         descriptor: b"(C)Ljava/lang/String;",
         method: BuiltInMethod::StringAnswers(StringMethod::ValueOfChar),
+    },
+    Declared {
+        class: b"java/lang/String",
+        name: b"<init>",
+        descriptor: b"()V",
+        method: BuiltInMethod::StringWrites(TextMethod::ConstructEmpty),
+    },
+    Declared {
+        class: b"java/lang/String",
+        name: b"<init>",
+        descriptor: b"(Ljava/lang/String;)V",
+        method: BuiltInMethod::StringWrites(TextMethod::ConstructOfString),
+    },
+    Declared {
+        class: b"java/lang/String",
+        name: b"<init>",
+        descriptor: b"([CII)V",
+        method: BuiltInMethod::StringWrites(TextMethod::ConstructOfChars),
+    },
+    Declared {
+        class: b"java/lang/String",
+        name: b"getChars",
+        descriptor: b"(II[CI)V",
+        method: BuiltInMethod::StringWrites(TextMethod::GetChars),
+    },
+    Declared {
+        class: b"java/lang/String",
+        name: b"intern",
+        descriptor: b"()Ljava/lang/String;",
+        method: BuiltInMethod::StringWrites(TextMethod::Intern),
     },
     Declared {
         class: b"java/lang/StringBuilder",

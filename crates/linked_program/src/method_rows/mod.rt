@@ -15,6 +15,11 @@
 //! # Not proved
 //!
 //! - Shown by nothing: that `method_rows` answers where memory is there.
+//!
+//! # Wrong bodies
+//!
+//! - `method_rows-clone_notifies`: Object.clone is another method of Object; refused by `built_in_method`.
+//! - `method_rows-get_name_sets_it`: Thread.getName is setName; refused by `built_in_method`.
 
 mod built_in;
 mod kind;

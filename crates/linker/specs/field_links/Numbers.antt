@@ -5,7 +5,7 @@ use Rattle.std.specs.List.{position_or_len}
 use Rattle.model.specs.Tree.{FileTree}
 use Rattle.model.specs.Names.{Name, name_eq}
 use Rattle.model.specs.Pool.{class_name_at, string_at}
-use Rattle.model.specs.StringConstants.{division_text, string_texts}
+use Rattle.model.specs.StringConstants.{division_text, main_text, string_texts}
 use Rattle.model.specs.Texts.{Text, decoded}
 use Rattle.model.specs.Classes.{Program}
 use Rattle.hierarchy.specs.Places.{class_at, place_of}
@@ -53,12 +53,14 @@ pub record StringTables : Type 0 where
   pub rows : List (List (Option ℕ))
   -- in UTF-16 code units, by their numbers
   pub texts : List Text
-  -- the number of the empty one, and of what a division by zero tells
+  -- the number of the empty one, of what a division by zero tells, and of the name of the first thread
   pub empty : ℕ
   pub division : ℕ
+  pub main : ℕ
 
 pub record AreStringNumbers (files : Program) (tables : StringTables) : Type 0 where
   pub rows : SayNumbers files tables.rows
   pub texts : tables.texts ≡ map decoded (string_texts files)
   pub empty : tables.empty ≡ position_or_len (name_eq []) (string_texts files)
   pub division : tables.division ≡ position_or_len (name_eq division_text) (string_texts files)
+  pub main : tables.main ≡ position_or_len (name_eq main_text) (string_texts files)

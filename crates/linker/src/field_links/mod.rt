@@ -10,12 +10,13 @@
 //!   many of the slots count for the limit on cells (`is_cell`).
 //! - `ClassNumbers` and `StringNumbers`: a Class entry by the place of its class, a String entry by the place of its
 //!   text among all texts (`string_texts`): those of the files, of the built-in classes and of the machine, each once.
-//!   `into_texts` gives these in UTF-16 code units (`decoded`), `empty_text` and `division_text` the places of the empty
-//!   one and of `/ by zero`. The getters take no memory.
+//!   `into_texts` gives these in UTF-16 code units (`decoded`); `empty_text`, `division_text` and `main_text` give the
+//!   places of the empty one, of `/ by zero` and of `main`. The getters take no memory.
 //!
 //! # Wrong bodies
 //!
 //! - `field_links-main_is_no_text`: the machine's text `main` is left out; refused by `add_machine_texts`.
+//! - `field_links-main_is_another_text`: the empty text stands for `main`; refused by `StringNumbers::new`.
 //! - `field_links-system_err_is_out`: System.err is linked as System.out; refused by `named_link`.
 //! - `field_links-hidden_fields_count`: each field counts for the limit on cells; refused by `own_count`.
 

@@ -7,7 +7,7 @@ ghost use Rattle.model.specs.BuiltIn.{built_in_classes};
 ghost use Rattle.model.specs.Classes.{Program};
 ghost use Rattle.model.specs.Names.{name_eq};
 ghost use Rattle.model.specs.Pool.{string_at};
-ghost use Rattle.model.specs.StringConstants.{division_text, texts_in, file_texts, machine_texts, string_texts};
+ghost use Rattle.model.specs.StringConstants.{division_text, main_text, texts_in, file_texts, machine_texts, string_texts};
 ghost use Rattle.model.specs.Texts.{decoded};
 ghost use Rattle.classfile.specs.View.{file_of};
 ghost use Rattle.link_conditions.specs.limits_of_linking.Texts.{with_texts};
@@ -34,6 +34,8 @@ pub struct StringNumbers {
     empty: usize,
     /// The number of what a division by zero tells.
     division: usize,
+    /// The number of the name of the first thread.
+    main: usize,
 }
 
 impl Model for StringNumbers {
@@ -47,6 +49,7 @@ impl Model for StringNumbers {
       texts = map (λ text. text.items) s.texts.items;
       empty = s.empty;
       division = s.division;
+      main = s.main;
     } };
 }
 
@@ -183,6 +186,7 @@ impl StringNumbers {
             texts: decoded_texts(alloc, &texts)?,
             empty: number_or_count(&texts, b""),
             division: number_or_count(&texts, b"/ by zero"),
+            main: number_or_count(&texts, b"main"),
         })
     }
 
@@ -218,6 +222,14 @@ impl StringNumbers {
             → result ≡ position_or_len (name_eq division_text) (string_texts files) }
     {
         self.division
+    }
+
+    /// The number of the name of the first thread.
+    pub fn main_text(&self) -> usize
+        ensures { (files : Program) → AreStringNumbers files self.now
+            → result ≡ position_or_len (name_eq main_text) (string_texts files) }
+    {
+        self.main
     }
 
     /// The texts in their order, in UTF-16 code units.

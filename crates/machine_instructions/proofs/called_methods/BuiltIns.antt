@@ -9,7 +9,9 @@ use Rattle.model.specs.declared.print_method.PrintMethod.TheVariants.{Println}
 use Rattle.model.specs.declared.builder_method.BuilderMethod.{BuilderMethod}
 use Rattle.model.specs.declared.string_method.StringMethod.{StringMethod}
 use Rattle.model.specs.declared.object_method.ObjectMethod.TheVariants as asked
-use Rattle.model.specs.Names.{Name, name_eq, Member, member_eq, constructor_name}
+use Rattle.model.specs.declared.name_method.NameMethod.{NameMethod}
+use Rattle.model.specs.declared.text_method.TextMethod.{TextMethod}
+use Rattle.model.specs.Names.{Name, name_eq, Member, java_lang_thread}
 use Rattle.model.specs.AccessFlags.{is_private_method}
 use Rattle.model.specs.BuiltIn.{built_in_classes}
 use Rattle.model.specs.DescriptorScan.{element_at, field_at, field_type, parameters_at, method_type}
@@ -17,29 +19,32 @@ use Rattle.model.specs.Classes.{Program}
 use Rattle.model.specs.Calls.{is_one, parameter_count}
 use Rattle.model.specs.DescribedTypes.{parameters_declared}
 use Rattle.model.specs.Lookup.{is_static_method}
-use Rattle.model.specs.BuiltInMethods.{BuiltInMethod, Construct, ConstructWithMessage, ConstructWithCause, ConstructWithTarget, ObjectWait, ObjectNotify, ObjectNotifyAll, ThreadStart, ThreadInterrupt, ThreadIsInterrupted, ThreadInterrupted, ThreadYield, ThreadCurrentThread, ThreadJoin, ThreadIsAlive, PrintStreamPrints, StringAnswers, StringBuilderBuilds, ObjectAnswers, of_thread, built_in_methods, built_in_method, constructor_of, is_row_of}
+use Rattle.model.specs.BuiltInMethods.{BuiltInMethod, Construct, ConstructWithMessage, ConstructWithCause, ObjectClone, ObjectWait, ObjectNotify, ObjectNotifyAll, ThreadStart, ThreadInterrupt, ThreadIsInterrupted, ThreadInterrupted, ThreadYield, ThreadCurrentThread, ThreadJoin, ThreadIsAlive, ThreadNames, PrintStreamPrints, StringAnswers, StringWrites, StringBuilderBuilds, ObjectAnswers, built_in_methods, built_in_method, constructor_of, is_row_of}
 use Rattle.run_laws.proofs.laws.Classes.{members_same, names_same}
 use Rattle.run_laws.proofs.laws.Found.{found_passes, found_has, every_all}
 use Rattle.run_laws.proofs.word_runs.WordBuiltIns.{passes, passed}
-use Rattle.machine_instructions.specs.thread_methods.Called.{string_operands, builder_operands}
+use Rattle.machine_instructions.specs.thread_methods.Called.{string_operands, text_operands, named_place, builder_operands}
 
--- Thread.<init>(Runnable)
-abbrev pub target_constructor : Member
-target_constructor = of_thread constructor_name (codes "(Ljava/lang/Runnable;)V")
+-- those that name a Thread are Thread's, and none is private
+abbrev pub naming_of : BuiltInMethod → Option NameMethod
+naming_of (ThreadNames names) = Some names
+naming_of _ = None
 
-abbrev pub member_for : BuiltInMethod → Option Member
-member_for ConstructWithTarget = Some target_constructor
-member_for _ = None
+abbrev is_of_thread : Program → Member → NameMethod → Bool
+is_of_thread files method names = name_eq method.class java_lang_thread && not (is_one is_private_method files method)
 
-all_known : list_all (passes member_for (refl, (refl, refl)) member_eq) built_in_methods ≡ true
-all_known = refl
-
-pub known : (method is : Member) → member_for (built_in_method method) ≡ Some is → method ≡ is
-known method is e = members_same method is (passed member_for (refl, (refl, refl)) member_eq all_known method is e)
-
-pub target_is_public : (files : Program) → is_one is_private_method files target_constructor ≡ false
+all_of_thread : (files : Program) → list_all (passes naming_of (refl, (refl, refl)) (is_of_thread files)) built_in_methods ≡ true
 unfolding built_in_classes
-target_is_public files = refl
+all_of_thread files = refl
+
+pub record OfThread (files : Program) (method : Member) : Type 0 where
+  pub class : method.class ≡ java_lang_thread
+  pub public : is_one is_private_method files method ≡ false
+
+pub of_thread : (files : Program) (method : Member) (names : NameMethod) → naming_of (built_in_method method) ≡ Some names → OfThread files method
+of_thread files method names e =
+    let both = and_parts (name_eq method.class java_lang_thread) _ (passed naming_of (refl, (refl, refl)) (is_of_thread files) (all_of_thread files) method names e) in
+    record { class = names_same method.class java_lang_thread both.0; public = not-true (is_one is_private_method files method) both.1 }
 
 -- ---- the receiver of a method of the machine, if it has one
 
@@ -52,7 +57,7 @@ abbrev pub receiver_place : BuiltInMethod → Option ℕ
 receiver_place Construct = None
 receiver_place ConstructWithMessage = None
 receiver_place ConstructWithCause = None
-receiver_place ConstructWithTarget = Some 1
+receiver_place ObjectClone = Some 0
 receiver_place ObjectWait = Some 0
 receiver_place ObjectNotify = Some 0
 receiver_place ObjectNotifyAll = Some 0
@@ -64,8 +69,10 @@ receiver_place ThreadYield = None
 receiver_place ThreadCurrentThread = None
 receiver_place ThreadJoin = Some 0
 receiver_place ThreadIsAlive = Some 0
+receiver_place (ThreadNames names) = Some (named_place names)
 receiver_place (PrintStreamPrints print) = Some (print_place print)
 receiver_place (StringAnswers string) = None
+receiver_place (StringWrites writes) = None
 receiver_place (StringBuilderBuilds builds) = None
 receiver_place (ObjectAnswers asked.HashCode) = Some 0
 receiver_place (ObjectAnswers asked.IdentityHashCode) = None
@@ -111,6 +118,24 @@ pub string_counted : (files : Program) (method : Member) (string : StringMethod)
     → string_operands string ≡ operands_of files method
 string_counted files method string e =
     eqb-true (string_operands string) (operands_of files method) (passed string_of (refl, (refl, refl)) (is_counted files) (all_counted files) method string e)
+
+-- ---- of a constructor of String, and of a method that takes its text apart
+
+abbrev pub writes_of : BuiltInMethod → Option TextMethod
+writes_of (StringWrites writes) = Some writes
+writes_of _ = None
+
+abbrev is_text_counted : Program → Member → TextMethod → Bool
+is_text_counted files method writes = text_operands writes == operands_of files method
+
+all_texts_counted : (files : Program) → list_all (passes writes_of (refl, (refl, refl)) (is_text_counted files)) built_in_methods ≡ true
+unfolding built_in_classes method_type parameters_at field_at field_type element_at
+all_texts_counted files = refl
+
+pub text_counted : (files : Program) (method : Member) (writes : TextMethod) → writes_of (built_in_method method) ≡ Some writes
+    → text_operands writes ≡ operands_of files method
+text_counted files method writes e =
+    eqb-true (text_operands writes) (operands_of files method) (passed writes_of (refl, (refl, refl)) (is_text_counted files) (all_texts_counted files) method writes e)
 
 -- ---- of a method of StringBuilder
 

@@ -5,6 +5,7 @@ use Rattle.std.specs.Option.{option_map_or}
 use Rattle.std.proofs.lemmas.Bool.{false≢true, and_parts}
 use Rattle.std.proofs.lemmas.List.{length-map, length-reverse}
 use Rattle.std.proofs.lemmas.Option.{slice_get_within, same_Some}
+use Rattle.model.specs.declared.name_method.NameMethod.{NameMethod}
 use Rattle.model.specs.declared.object_method.ObjectMethod.TheVariants as asked
 use Rattle.model.specs.Names.{Member, java_lang_thread, java_lang_throwable}
 use Rattle.model.specs.Classes.{Program, body_of}
@@ -40,11 +41,11 @@ use Rattle.machine_state.specs.declared.state.Shared.{Shared}
 use Rattle.machine_state.specs.Instructions.{Does, instruction_event}
 use Rattle.machine_state.specs.linked_frames.Frames.{IsRunning}
 use Rattle.machine_state.proofs.linked_frames.Frames.{top_shown, finds, meaning_is, event_is, offset_is}
-use Rattle.machine_instructions.specs.thread_methods.Called.{RefersTo, AreArguments}
+use Rattle.machine_instructions.specs.thread_methods.Called.{RefersTo, AreArguments, named_place}
 use Rattle.machine_instructions.specs.called_methods.Frames.{object_under, raised_by}
 use Rattle.machine_instructions.specs.called_methods.Invoked.{IsInvoking, invoked_event}
 use Rattle.machine_instructions.proofs.called_methods.MessageConstructors.{keeps_message}
-use Rattle.machine_instructions.proofs.called_methods.BuiltIns.{message_count, cause_count, described_counted, target_constructor, member_for, known, receiver_place, placed, string_of, string_counted, builder_of, builder_counted}
+use Rattle.machine_instructions.proofs.called_methods.BuiltIns.{message_count, cause_count, described_counted, naming_of, receiver_place, placed, string_of, string_counted, writes_of, text_counted, builder_of, builder_counted}
 use Rattle.machine_instructions.proofs.called_methods.RunMethods.{raises}
 
 -- ---- lists and words
@@ -100,7 +101,7 @@ at_most_one false = omega arith
 
 module _ (trees : Program) (heap : List (ObjectOf ℕ)) (stack : List ℕ) (n r : ℕ) (word : slice_get (take (n + 1) stack) n ≡ Some (suc r))
     (object : ObjectOf ℕ) (there : slice_get heap r ≡ Some object)
-    (m : Member) (same_count : parameter_count m ≡ n) (target : m ≡ target_constructor → has_class_below trees java_lang_thread object ≡ true)
+    (m : Member) (same_count : parameter_count m ≡ n) (thread : (names : NameMethod) → naming_of (built_in_method m) ≡ Some names → has_class_below trees java_lang_thread object ≡ true)
     (throwable : keeps_message (built_in_method m) ≡ true → has_class_below trees java_lang_throwable object ≡ true) where
   refers : (of : BuiltInMethod) → built_in_of of ≡ built_in_method m → (k : ℕ) → receiver_place (built_in_of of) ≡ Some k
       → (test : ObjectOf ℕ → Bool) → test object ≡ true → RefersTo heap (take (n + 1) stack) k test
@@ -128,7 +129,7 @@ module _ (trees : Program) (heap : List (ObjectOf ℕ)) (stack : List ℕ) (n r 
 
   pub arguments_of : (of : BuiltInMethod) → built_in_of of ≡ built_in_method m → AreArguments trees heap (take (n + 1) stack) of
   arguments_of method.Construct e = tt
-  arguments_of method.ConstructWithTarget e = refers method.ConstructWithTarget e 1 refl (has_class_below trees java_lang_thread) (target (known m target_constructor (ap member_for (sym e))))
+  arguments_of method.ObjectClone e = refers method.ObjectClone e 0 refl is_any refl
   arguments_of method.ConstructWithMessage e = kept method.ConstructWithMessage e refl 1 (message_count m (sym e))
   arguments_of method.ConstructWithCause e = kept method.ConstructWithCause e refl 2 (cause_count m (sym e))
   arguments_of method.ObjectWait e = refers method.ObjectWait e 0 refl is_any refl
@@ -142,11 +143,17 @@ module _ (trees : Program) (heap : List (ObjectOf ℕ)) (stack : List ℕ) (n r 
   arguments_of method.ThreadCurrentThread e = tt
   arguments_of method.ThreadJoin e = refers method.ThreadJoin e 0 refl is_any refl
   arguments_of method.ThreadIsAlive e = refers method.ThreadIsAlive e 0 refl is_any refl
+  arguments_of (method.ThreadNames names) e = refers (method.ThreadNames names) e (named_place names) refl (has_class_below trees java_lang_thread) (thread names (ap naming_of (sym e)))
   arguments_of (method.PrintStreamPrints print) e = let within = slice_get_within (take (n + 1) stack) n (suc r) word in omega (arith, within)
   arguments_of (method.StringAnswers string) e =
       let within = slice_get_within (take (n + 1) stack) n (suc r) word in
       let most = at_most_one (is_one is_static_method trees m) in
       let count = string_counted trees m string (ap string_of (sym e)) in
+      omega (arith, within, most, count, same_count)
+  arguments_of (method.StringWrites writes) e =
+      let within = slice_get_within (take (n + 1) stack) n (suc r) word in
+      let most = at_most_one (is_one is_static_method trees m) in
+      let count = text_counted trees m writes (ap writes_of (sym e)) in
       omega (arith, within, most, count, same_count)
   arguments_of (method.StringBuilderBuilds builds) e =
       let within = slice_get_within (take (n + 1) stack) n (suc r) word in
@@ -274,7 +281,7 @@ module _ (trees : Program) (p : LinkedProgram) (bounds : Bounds) (inflated : Lis
             → site.next ≡ offset_in code.starts.items (is.shown.place + 1)
             → ((m : Member) → choose world r ≡ Runs m
             → (parameter_count m ≡ parameter_count callee)
-            × ((m ≡ target_constructor → has_class_below trees java_lang_thread (there test each).object ≡ true)
+            × (((names : NameMethod) → naming_of (built_in_method m) ≡ Some names → has_class_below trees java_lang_thread (there test each).object ≡ true)
             × (is_one is_abstract_method trees m ≡ false → body_of trees m ≡ None → keeps_message (built_in_method m) ≡ true
             → has_class_below trees java_lang_throwable (there test each).object ≡ true)))
             → (operands : ℕ) → operands ≡ parameters + 1

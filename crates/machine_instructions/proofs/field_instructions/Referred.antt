@@ -87,6 +87,8 @@ module _ (trees : Program) (p : LinkedProgram) (bounds : Bounds) (old : Shared) 
           ready = r.world_is.ready;
           threads = r.world_is.threads;
           printed = r.world_is.printed;
+          interned = r.world_is.interned;
+          unnamed = r.world_is.unnamed;
         };
         limits = record {
           opening = r.limits.opening;
@@ -111,6 +113,8 @@ module _ (trees : Program) (p : LinkedProgram) (bounds : Bounds) (old : Shared) 
           ready = r.world_is.ready;
           threads = r.world_is.threads;
           printed = r.world_is.printed;
+          interned = r.world_is.interned;
+          unnamed = r.world_is.unnamed;
         };
         limits = record {
           opening = r.limits.opening;

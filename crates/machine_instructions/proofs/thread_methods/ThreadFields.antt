@@ -1,4 +1,4 @@
--- The field `target` is the first of each object of Thread or of a class below it.
+-- The fields of Thread are the first of each object of Thread or of a class below it.
 use Rattle.std.proofs.Common.{◌≡◌, ℕ, zero, suc, Bool, true, false, ltb, List, [], ◌∷◌, ◌++◌, length, reverse, Option, Some, refl, sym, ap, ◌∙◌, ⊎_elim, arith}
 use Rattle.std.proofs.lemmas.Bool.{false≢true, or_cases}
 use Rattle.std.proofs.lemmas.Bool.Decides.{nat_tests}
@@ -7,7 +7,7 @@ use Rattle.std.proofs.lemmas.Grind.{flat_map-append}
 use Rattle.std.specs.Prelude.{position}
 use Rattle.std.specs.Option.{option_map_or}
 use Rattle.std.specs.List.{flat_map}
-use Rattle.model.specs.Names.{Name, Member, name_eq, member_eq, java_lang_object, java_lang_string, java_lang_thread, thread_target}
+use Rattle.model.specs.Names.{Name, Member, name_eq, member_eq, java_lang_object, java_lang_string, java_lang_thread, thread_target, thread_name, thread_ordinal, thread_priority}
 use Rattle.model.specs.BuiltIn.{built_in_classes}
 use Rattle.model.specs.Classes.{Program, superclass_of, classes_of, is_within, is_subclass, lineage_of}
 use Rattle.model.specs.Lookup.{own_instance_fields, instance_fields}
@@ -21,13 +21,25 @@ use Rattle.run_laws.specs.word_operands.Receivers.{has_class_below}
 -- ---- first in a list
 
 abbrev Begins : List Member → Type 0
-Begins fields = (rest : List Member) × (fields ≡ thread_target ∷ rest)
+Begins fields = (rest : List Member) × (fields ≡ thread_target ∷ thread_name ∷ thread_ordinal ∷ thread_priority ∷ rest)
 
 zero_lt : (n : ℕ) → ltb 0 (suc n) ≡ true
 zero_lt n = grind (arith, nat_tests)
 
 first : {A : Type 0} (p : A → Bool) (x : A) (xs : List A) → p x ≡ true → position p (x ∷ xs) ≡ Some 0
 first p x xs h = rw (h, zero_lt (length xs)) refl
+
+one_lt : (n : ℕ) → ltb 1 (suc (suc n)) ≡ true
+one_lt n = grind (arith, nat_tests)
+
+second : {A : Type 0} (p : A → Bool) (x y : A) (xs : List A) → p x ≡ false → p y ≡ true → position p (x ∷ y ∷ xs) ≡ Some 1
+second p x y xs h k = rw (h, k, one_lt (length xs)) refl
+
+two_lt : (n : ℕ) → ltb 2 (suc (suc (suc n))) ≡ true
+two_lt n = grind (arith, nat_tests)
+
+third : {A : Type 0} (p : A → Bool) (x y z : A) (xs : List A) → p x ≡ false → p y ≡ false → p z ≡ true → position p (x ∷ y ∷ z ∷ xs) ≡ Some 2
+third p x y z xs h k l = rw (h, k, l, two_lt (length xs)) refl
 
 module _ (files : Program) where
   abbrev fields_to : ℕ → Name → List Member
@@ -43,7 +55,7 @@ module _ (files : Program) where
         ∙ ap (λ (l : List Member). l ++ flat_map (own_instance_fields files) (c ∷ [])) b.1,
   )
 
-  of_thread : (n : ℕ) → fields_to (suc n) java_lang_thread ≡ thread_target ∷ []
+  of_thread : (n : ℕ) → fields_to (suc n) java_lang_thread ≡ thread_target ∷ thread_name ∷ thread_ordinal ∷ thread_priority ∷ []
   unfolding built_in_classes
   of_thread zero = refl
   of_thread (suc n) = refl
@@ -74,11 +86,24 @@ module _ (files : Program) where
       (λ s q v. before n c s q (begins k n s (ends_above files (suc n) c s q e) v)) (superclass_of files c) refl h)
       (or_cases (name_eq c java_lang_thread) _ w)
 
-  pub target_slot : Rooted files → (class : Name) → is_subclass files class java_lang_thread ≡ true
-      → slot_in (instance_fields files class) thread_target ≡ Some 0
-  target_slot rooted class below =
-      let b = begins (length (classes_of files)) (length (classes_of files)) class (rooted class) below in
-      ap (λ (fields : List Member). slot_in fields thread_target) b.1 ∙ first (λ (f : Member). member_eq f thread_target) thread_target b.0 refl
+  module _ (rooted : Rooted files) (class : Name) (below : is_subclass files class java_lang_thread ≡ true) where
+    fields_begin : Begins (instance_fields files class)
+    fields_begin = begins (length (classes_of files)) (length (classes_of files)) class (rooted class) below
+
+    pub target_slot : slot_in (instance_fields files class) thread_target ≡ Some 0
+    target_slot =
+        ap (λ (fields : List Member). slot_in fields thread_target) fields_begin.1
+        ∙ first (λ (f : Member). member_eq f thread_target) thread_target (thread_name ∷ thread_ordinal ∷ thread_priority ∷ fields_begin.0) refl
+
+    pub name_slot : slot_in (instance_fields files class) thread_name ≡ Some 1
+    name_slot =
+        ap (λ (fields : List Member). slot_in fields thread_name) fields_begin.1
+        ∙ second (λ (f : Member). member_eq f thread_name) thread_target thread_name (thread_ordinal ∷ thread_priority ∷ fields_begin.0) refl refl
+
+    pub ordinal_slot : slot_in (instance_fields files class) thread_ordinal ≡ Some 2
+    ordinal_slot =
+        ap (λ (fields : List Member). slot_in fields thread_ordinal) fields_begin.1
+        ∙ third (λ (f : Member). member_eq f thread_ordinal) thread_target thread_name thread_ordinal (thread_priority ∷ fields_begin.0) refl refl refl
 
   -- an array is no Thread
   object_below : is_subclass files java_lang_object java_lang_thread ≡ false

@@ -18,7 +18,7 @@ picks_some pick some = by (pick == 0) refl
 pub not_notify : (called : BuiltInMethod) → (called ≡ method.ObjectNotify → ⊥) → (event : Event) → (event.pick ≡ 0 → ⊥)
     → (world : WorldOf ℕ) (ops : List ℕ) → built_in_may words (built_in_of called) event world ops ≡ false
 not_notify method.Construct other event some world ops = picks_some event.pick some
-not_notify method.ConstructWithTarget other event some world ops = picks_some event.pick some
+not_notify method.ObjectClone other event some world ops = picks_some event.pick some
 not_notify method.ConstructWithMessage other event some world ops = picks_some event.pick some
 not_notify method.ConstructWithCause other event some world ops = picks_some event.pick some
 not_notify method.ObjectWait other event some world ops = picks_some event.pick some
@@ -33,7 +33,9 @@ not_notify method.ThreadCurrentThread other event some world ops = picks_some ev
 not_notify method.ThreadJoin other event some world ops =
     ap (λ b. b && may_join world event.thread (object_of words ops 0)) (picks_some event.pick some)
 not_notify method.ThreadIsAlive other event some world ops = picks_some event.pick some
+not_notify (method.ThreadNames names) other event some world ops = picks_some event.pick some
 not_notify (method.PrintStreamPrints print) other event some world ops = picks_some event.pick some
 not_notify (method.StringAnswers string) other event some world ops = picks_some event.pick some
+not_notify (method.StringWrites writes) other event some world ops = picks_some event.pick some
 not_notify (method.StringBuilderBuilds builds) other event some world ops = picks_some event.pick some
 not_notify (method.ObjectAnswers builds) other event some world ops = picks_some event.pick some

@@ -205,6 +205,8 @@ module _ {trees : Program} {p : LinkedProgram} {bounds : Bounds} {inflated : Lis
             ready = is.lent.represents.world_is.ready;
             threads = is.lent.represents.world_is.threads;
             printed = is.lent.represents.world_is.printed;
+            interned = is.lent.represents.world_is.interned;
+            unnamed = is.lent.represents.world_is.unnamed;
           };
           limits = record {
             opening = is.lent.represents.limits.opening;

@@ -3,6 +3,10 @@ use Rattle.std.specs.Prelude.{◌≡◌, ◌<◌, ◌≤◌, ℕ, suc, List, ◌
 use Rattle.model.specs.declared.event.Event.{Event}
 use Rattle.model.specs.declared.string_method.StringMethod.{StringMethod}
 use Rattle.model.specs.declared.string_method.StringMethod.TheVariants.{Length, CharAt, Equals, HashCode, CompareTo, Concat, Substring, IndexOf, RegionMatches, ValueOfInt, ValueOfChar}
+use Rattle.model.specs.declared.text_method.TextMethod.{TextMethod}
+use Rattle.model.specs.declared.text_method.TextMethod.TheVariants as texts
+use Rattle.model.specs.declared.name_method.NameMethod.{NameMethod}
+use Rattle.model.specs.declared.name_method.NameMethod.TheVariants as names
 use Rattle.model.specs.declared.builder_method.BuilderMethod.{BuilderMethod}
 use Rattle.model.specs.declared.builder_method.BuilderMethod.TheVariants.{ConstructEmpty, ConstructOfString, AppendString, AppendInt, AppendChar, AppendBuilder, ToString}
 use Rattle.model.specs.declared.object_method.ObjectMethod.{ObjectMethod}
@@ -52,6 +56,23 @@ string_operands RegionMatches = 5
 string_operands ValueOfInt = 1
 string_operands ValueOfChar = 1
 
+-- the same of a constructor of String, and of one that takes its text apart
+abbrev pub text_operands : TextMethod → ℕ
+text_operands texts.ConstructEmpty = 1
+text_operands texts.ConstructOfString = 2
+text_operands texts.ConstructOfChars = 4
+text_operands texts.GetChars = 5
+text_operands texts.Intern = 1
+
+-- the place of the Thread among the operands of a method that names it
+abbrev pub named_place : NameMethod → ℕ
+named_place names.Construct = 0
+named_place names.ConstructWithTarget = 1
+named_place names.ConstructWithName = 1
+named_place names.ConstructWithTargetAndName = 2
+named_place names.GetName = 0
+named_place names.SetName = 1
+
 -- the same of one of StringBuilder
 abbrev pub builder_operands : BuilderMethod → ℕ
 builder_operands ConstructEmpty = 1
@@ -74,9 +95,9 @@ AreTold heap operands asked.Described = 1 < length operands
 -- String or StringBuilder reads is there.
 abbrev pub AreArguments : Program → List (ObjectOf ℕ) → List ℕ → BuiltInMethod → Type 0
 AreArguments trees heap operands method.Construct = Unit {0}
-AreArguments trees heap operands method.ConstructWithTarget = RefersTo heap operands 1 (has_class_below trees java_lang_thread)
 AreArguments trees heap operands method.ConstructWithMessage = RefersTo heap operands 1 (has_class_below trees java_lang_throwable)
 AreArguments trees heap operands method.ConstructWithCause = RefersTo heap operands 2 (has_class_below trees java_lang_throwable)
+AreArguments trees heap operands method.ObjectClone = RefersTo heap operands 0 is_any
 AreArguments trees heap operands method.ObjectWait = RefersTo heap operands 0 is_any
 AreArguments trees heap operands method.ObjectNotify = RefersTo heap operands 0 is_any
 AreArguments trees heap operands method.ObjectNotifyAll = RefersTo heap operands 0 is_any
@@ -88,8 +109,10 @@ AreArguments trees heap operands method.ThreadYield = Unit {0}
 AreArguments trees heap operands method.ThreadCurrentThread = Unit {0}
 AreArguments trees heap operands method.ThreadJoin = RefersTo heap operands 0 is_any
 AreArguments trees heap operands method.ThreadIsAlive = RefersTo heap operands 0 is_any
+AreArguments trees heap operands (method.ThreadNames names) = RefersTo heap operands (named_place names) (has_class_below trees java_lang_thread)
 AreArguments trees heap operands (method.PrintStreamPrints print) = 0 < length operands
 AreArguments trees heap operands (method.StringAnswers string) = string_operands string ≤ length operands
+AreArguments trees heap operands (method.StringWrites writes) = text_operands writes ≤ length operands
 AreArguments trees heap operands (method.StringBuilderBuilds builds) = builder_operands builds ≤ length operands
 AreArguments trees heap operands (method.ObjectAnswers asked) = AreTold heap operands asked
 

@@ -3,7 +3,8 @@
 ghost use Rattle.machine_instructions.specs.thread_methods.Called.{CanCall, DoesCall};
 
 use crate::thread_methods::{
-    builders, lives, messages, objects, printing, strings, targets, waiting,
+    builders, clones, lives, messages, names, objects, passing, printing, strings, text_writes,
+    waiting,
 };
 use linked_code::{BuiltInMethod, LinkedProgram};
 use machine_state::{Effect, EventRefusal, Shared};
@@ -26,13 +27,13 @@ fn run_unpicked(
 {
     match method {
         BuiltInMethod::Construct | BuiltInMethod::ThreadYield => {
-            targets::pass(stack, operands, next)
+            passing::pass(stack, operands, next)
         }
-        BuiltInMethod::ConstructWithTarget => targets::set_target(shared, stack, operands, next),
         BuiltInMethod::ConstructWithMessage => {
             messages::set_message(shared, stack, operands, next)
         }
         BuiltInMethod::ConstructWithCause => messages::set_cause(shared, stack, operands, next),
+        BuiltInMethod::ObjectClone => clones::clone(shared, stack, program, operands, next),
         BuiltInMethod::ObjectWait => waiting::wait(shared, stack, thread, operands, next),
         BuiltInMethod::ObjectNotify => waiting::notify(shared, stack, thread, 0, operands, next),
         BuiltInMethod::ObjectNotifyAll => {
@@ -51,11 +52,17 @@ fn run_unpicked(
         }
         BuiltInMethod::ThreadJoin => lives::join(shared, stack, thread, operands, next),
         BuiltInMethod::ThreadIsAlive => lives::ask_alive(shared, stack, operands, next),
+        BuiltInMethod::ThreadNames(method) => {
+            names::name_call(shared, stack, method, operands, next)
+        }
         BuiltInMethod::PrintStreamPrints(print) => {
             printing::print(shared, stack, print, operands, next)
         }
         BuiltInMethod::StringAnswers(method) => {
             strings::answer_call(shared, stack, method, operands, next)
+        }
+        BuiltInMethod::StringWrites(method) => {
+            text_writes::write_call(shared, stack, program, method, operands, next)
         }
         BuiltInMethod::StringBuilderBuilds(method) => {
             builders::build(shared, stack, program, method, operands, next)

@@ -1,5 +1,6 @@
 //! What calls of built-in methods do, which have no code: waiting and notifying, threads, printing, what Strings
-//! answer, what StringBuilders do, what objects tell of themselves, and messages and causes of exceptions.
+//! answer and how they get their texts, what StringBuilders do, what objects tell of themselves, copies of objects, names
+//! of threads, and messages and causes of exceptions.
 //!
 //! # Proved
 //!
@@ -14,6 +15,13 @@
 //!   operand, or an exception. A String that is made is a new object, whose words are the units of its text.
 //! - A method of StringBuilder does what `builder_does` says. `append` makes a String of the receiver's text and what
 //!   is added; it becomes the text, and the receiver is answered. `toString` answers the text, and makes nothing.
+//! - A constructor of String gives the text that `text_answer` says to a String that the run made and that is empty, at
+//!   the cost of cells; any other keeps its own. `getChars` makes units elements of an array. `intern` answers the
+//!   String that stands for a text: a constant, the first that was interned, or else the receiver, which is kept.
+//! - `clone` makes one more object with the same words of an array, and of an object whose class is Cloneable and no
+//!   Thread (`cloned`); of any other it raises an exception.
+//! - A Thread keeps its target, its name and its number as `ThreadNames` of `model` says. `getName` answers the name;
+//!   where there is none, a new String becomes it.
 //!
 //! # Not proved
 //!
@@ -25,15 +33,20 @@
 
 mod builders;
 mod called;
+mod chars;
+mod clones;
 mod growth;
+mod interned;
 mod lives;
 mod messages;
 mod moves;
+mod names;
 mod new_strings;
 mod objects;
+mod passing;
 mod printing;
 mod strings;
-mod targets;
+mod text_writes;
 mod texts;
 mod type_names;
 mod waiting;

@@ -49,11 +49,11 @@ module _ (trees : Program) (p : LinkedProgram) (bounds : Bounds) (world : WorldO
   is_full : old.heap.object_limit ≤ heap.made old.heap → nat_le bounds.objects (objects_made trees world) ≡ true
   is_full above = (λ i. nat_le (sym r.limits.objects i) (sym made_is i)) ∙ le-leb old.heap.object_limit (heap.made old.heap) above
 
-  cells_fit : (count : ℕ) → old.heap.counted + count ≤ old.heap.cell_limit
+  pub cells_fit : (count : ℕ) → old.heap.counted + count ≤ old.heap.cell_limit
       → nat_lt bounds.cells (cells_made trees world + count) ≡ false
   cells_fit count below = (λ i. nat_lt (sym r.limits.cells i) (sym r.world_is.counted i + count)) ∙ le-ltb old.heap.cell_limit (old.heap.counted + count) below
 
-  cells_pass : (count : ℕ) → old.heap.cell_limit < old.heap.counted + count
+  pub cells_pass : (count : ℕ) → old.heap.cell_limit < old.heap.counted + count
       → nat_lt bounds.cells (cells_made trees world + count) ≡ true
   cells_pass count above = (λ i. nat_lt (sym r.limits.cells i) (sym r.world_is.counted i + count)) ∙ lt-ltb old.heap.cell_limit (old.heap.counted + count) above
 
@@ -82,6 +82,8 @@ module _ (trees : Program) (p : LinkedProgram) (bounds : Bounds) (world : WorldO
           ready = r.world_is.ready;
           threads = r.world_is.threads;
           printed = r.world_is.printed;
+          interned = r.world_is.interned;
+          unnamed = r.world_is.unnamed;
         };
         limits = record {
           opening = r.limits.opening;

@@ -134,6 +134,8 @@ module _ (read : AreClassesRead) (trees : Program) (p : LinkedProgram) (bounds :
             ready = r.world_is.ready;
             threads = r.world_is.threads;
             printed = r.world_is.printed;
+            interned = r.world_is.interned;
+            unnamed = r.world_is.unnamed;
           };
           limits = record {
             opening = r.limits.opening;

@@ -35,7 +35,7 @@ set_here [] k old new e = absurd cc
 set_here (y ∷ ys) zero old new e = refl
 set_here (y ∷ ys) (suc k) old new e = set_here ys k old new e
 
-set_elsewhere : {A : Type 0} (xs : List A) (k j : ℕ) (new : A) → (k ≡ j → ⊥) → slice_get (slice_set xs k new) j ≡ slice_get xs j
+pub set_elsewhere : {A : Type 0} (xs : List A) (k j : ℕ) (new : A) → (k ≡ j → ⊥) → slice_get (slice_set xs k new) j ≡ slice_get xs j
 set_elsewhere [] k j new n = refl
 set_elsewhere (y ∷ ys) zero zero new n = absurd (n refl)
 set_elsewhere (y ∷ ys) zero (suc j) new n = refl
@@ -188,6 +188,8 @@ module _ (trees : Program) (p : LinkedProgram) (bounds : Bounds) (world : WorldO
               ready = λ n other there. ap (λ l. slice_get l n) ready_now ∙ ready_at n other there (name_eq class other) refl;
               threads = r.world_is.threads;
               printed = r.world_is.printed;
+              interned = r.world_is.interned;
+              unnamed = r.world_is.unnamed;
             };
             limits = record {
               opening = r.limits.opening;

@@ -41,6 +41,8 @@ module _ (trees : Program) (p : LinkedProgram) (bounds : Bounds) (world : WorldO
           ready = r.world_is.ready;
           threads = refl;
           printed = r.world_is.printed;
+          interned = r.world_is.interned;
+          unnamed = r.world_is.unnamed;
         };
         limits = record {
           opening = r.limits.opening;

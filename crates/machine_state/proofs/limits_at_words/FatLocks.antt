@@ -7,7 +7,7 @@ use Rattle.std.proofs.lemmas.List.Sums.{sum_by_push, sum_by-set}
 use Rattle.model.specs.declared.end.RunCause.TheVariants as cause
 use Rattle.model.specs.declared.monitor_answer.MonitorAnswer.TheVariants.{Done, Held}
 use Rattle.model.specs.State.{Monitor}
-use Rattle.model.specs.Outcomes.{Cost, Free, Makes, Starts, Enters, Joins}
+use Rattle.model.specs.Outcomes.{Cost, Free, Makes, Fills, Starts, Enters, Joins}
 use Rattle.model.specs.Monitors.{Answered, answers_done, owned, owns, as_entrant, monitor_at}
 use Rattle.model.specs.LimitStands.{is_inflating_entry, with_inflated, inflated_by, is_crowded}
 use Rattle.heap.specs.declared.monitor.call.Call.{Call}
@@ -73,6 +73,7 @@ flags_go : (cost : Cost) (flags : List Bool) (objects : List ℕ) → AreFlags f
     → AreFlags (flags_after cost flags) (inflated_by cost objects)
 flags_go Free flags objects h there = h
 flags_go (Makes cells) flags objects h there = one_more flags objects h
+flags_go (Fills cells) flags objects h there = h
 flags_go Starts flags objects h there = h
 flags_go (Enters object count) flags objects h there = entry_set flags objects object h there (is_inflating_entry count)
 flags_go (Joins object) flags objects h there = flag_set flags objects object h there

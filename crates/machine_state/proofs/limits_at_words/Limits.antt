@@ -12,7 +12,7 @@ use Rattle.model.specs.Classes.{Program}
 use Rattle.model.specs.Operands.{words, values, word_of}
 use Rattle.model.specs.State.{ObjectOf, World, StateOf, State}
 use Rattle.model.specs.Opening.{opening_heap}
-use Rattle.model.specs.Outcomes.{Cost, Free, Makes, Starts, Enters, Joins}
+use Rattle.model.specs.Outcomes.{Cost, Free, Makes, Fills, Starts, Enters, Joins}
 use Rattle.model.specs.Step.{SteppedOf, NotEnabled, WrongKind, Next, stepped}
 use Rattle.model.specs.Run.{run}
 use Rattle.model.specs.LimitStands.{Bounds, opening_count, objects_made, cells_made, is_crowded, inflated, limit_of, limit_at}
@@ -50,6 +50,7 @@ module _ (files : Program) (bounds : Bounds) (crowded : ℕ → Bool) where
   taken_same : (state : State) (cost : Cost) → limit_in files bounds crowded state.world cost ≡ limit_of files bounds crowded state cost
   taken_same state Free = refl
   taken_same state (Makes cells) = refl
+  taken_same state (Fills cells) = refl
   taken_same state Starts = refl
   taken_same state (Enters object count) = refl
   taken_same state (Joins object) = refl
@@ -61,6 +62,9 @@ module _ (files : Program) (bounds : Bounds) (crowded : ℕ → Bool) where
       let objects = objects_made_same files world in
       let all = cells_made_same files world in
       λ i. if nat_le bounds.objects (objects i) then Some cause.Objects else if nat_lt bounds.cells (all i + cells) then Some cause.Cells else None
+  taken_words world (Fills cells) =
+      let all = cells_made_same files world in
+      λ i. if nat_lt bounds.cells (all i + cells) then Some cause.Cells else None
   taken_words world Starts = refl
   taken_words world (Enters object count) = refl
   taken_words world (Joins object) = refl

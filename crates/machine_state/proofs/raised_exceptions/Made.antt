@@ -1,5 +1,5 @@
 -- An exception that is allocated and pending, and one that is refused.
-use Rattle.std.proofs.Common.{◌≡◌, ℕ, List, [], Some, true, Result, Ok, Err, slice_index_or, slice_set, length, refl, sym, ap, subst, ◌∙◌, inl}
+use Rattle.std.proofs.Common.{◌≡◌, ℕ, List, Some, true, Result, Ok, Err, slice_index_or, slice_set, length, refl, sym, ap, subst, ◌∙◌, inl}
 use Rattle.std.specs.Result.{IsErrAnd}
 use Rattle.std.proofs.lemmas.List.{length-set}
 use Rattle.model.specs.Classes.{Program}
@@ -74,6 +74,8 @@ module _ (trees : Program) (p : LinkedProgram) (bounds : Bounds) (inflated : Lis
                 ready = m.represents.world_is.ready;
                 threads = threads_are ∙ (λ i. pending_in change t (r.world_is.threads i) (m.next i));
                 printed = m.represents.world_is.printed;
+                interned = m.represents.world_is.interned;
+                unnamed = m.represents.world_is.unnamed;
               };
               limits = record {
                 opening = m.represents.limits.opening;

@@ -14,6 +14,7 @@ message_is trees p program exception.Arithmetic = program.linked.division_text
 message_is trees p program exception.ArrayIndexOutOfBounds = refl
 message_is trees p program exception.StringIndexOutOfBounds = refl
 message_is trees p program exception.NegativeArraySize = refl
+message_is trees p program exception.CloneNotSupported = refl
 message_is trees p program exception.ArrayStore = refl
 message_is trees p program exception.ClassCast = refl
 message_is trees p program exception.IllegalMonitorState = refl

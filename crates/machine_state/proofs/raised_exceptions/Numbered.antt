@@ -16,6 +16,7 @@ numbered trees exception.Arithmetic = record { class = (_, refl, refl); other = 
 numbered trees exception.ArrayIndexOutOfBounds = record { class = (_, refl, refl); other = refl; fields = refl }
 numbered trees exception.StringIndexOutOfBounds = record { class = (_, refl, refl); other = refl; fields = refl }
 numbered trees exception.NegativeArraySize = record { class = (_, refl, refl); other = refl; fields = refl }
+numbered trees exception.CloneNotSupported = record { class = (_, refl, refl); other = refl; fields = refl }
 numbered trees exception.ArrayStore = record { class = (_, refl, refl); other = refl; fields = refl }
 numbered trees exception.ClassCast = record { class = (_, refl, refl); other = refl; fields = refl }
 numbered trees exception.IllegalMonitorState = record { class = (_, refl, refl); other = refl; fields = refl }

@@ -1,5 +1,5 @@
 -- What an exception tells that the machine makes: its message and its cause, by their words.
-use Rattle.std.proofs.Common.{◌≡◌, ℕ, zero, suc, List, [], ◌∷◌, Option, Some, None, map, refl, sym, ap, subst, ◌∙◌}
+use Rattle.std.proofs.Common.{◌≡◌, ℕ, suc, List, [], ◌∷◌, Option, Some, None, map, refl, sym, ap, subst, ◌∙◌}
 use Rattle.std.specs.Option.{option_map_or}
 use Rattle.model.specs.Names.{Name, Member, throwable_message, throwable_cause, throwable_suppressed}
 use Rattle.model.specs.Classes.{Program}

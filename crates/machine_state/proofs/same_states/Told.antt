@@ -1,5 +1,5 @@
 -- What is kept shows one state at most.
-use Rattle.std.proofs.Common.{◌≡◌, ℕ, suc, List, [], ◌∷◌, Option, true, false, refl, sym, ap, ◌∙◌, subst}
+use Rattle.std.proofs.Common.{◌≡◌, ℕ, suc, List, [], ◌∷◌, Option, false, refl, sym, ap, ◌∙◌, subst}
 use Rattle.std.specs.Prelude.{map}
 use Rattle.std.proofs.lemmas.Bool.{true≢false}
 use Rattle.std.proofs.lemmas.Option.{same_Some}
@@ -186,8 +186,18 @@ module _ (files : Program) (p : LinkedProgram) where
 
 -- ---- a state
 
-abbrev world_of : List (ObjectOf ℕ) → List (Member × ℕ) → List (Name × ClassStatus) → List Monitor → List Thread → List ℕ → WorldOf ℕ
-world_of heap statics classes monitors threads printed = record { heap = heap; statics = statics; classes = classes; monitors = monitors; threads = threads; printed = printed }
+abbrev world_of : List (ObjectOf ℕ) → List (Member × ℕ) → List (Name × ClassStatus) → List Monitor → List Thread → List ℕ → List ℕ → ℕ → WorldOf ℕ
+world_of heap statics classes monitors threads printed interned unnamed =
+    record {
+      heap = heap;
+      statics = statics;
+      classes = classes;
+      monitors = monitors;
+      threads = threads;
+      printed = printed;
+      interned = interned;
+      unnamed = unnamed;
+    }
 
 module _ (files : Program) (p : LinkedProgram) (one other : Shared) (alike : AreAlike one other) where
   worlds_once : (world there : WorldOf ℕ) → ShowsWorld files p one world → ShowsWorld files p other there → world ≡ there
@@ -198,12 +208,9 @@ module _ (files : Program) (p : LinkedProgram) (one other : Shared) (alike : Are
       let monitors = sym a.monitors ∙ (alike.monitors ∙ b.monitors) in
       let threads = sym a.threads ∙ (alike.threads ∙ b.threads) in
       let printed = sym a.printed ∙ (alike.printed ∙ b.printed) in
-      ap (λ x. world_of x world.statics world.classes world.monitors world.threads world.printed) objects
-      ∙ (ap (λ x. world_of there.heap x world.classes world.monitors world.threads world.printed) statics
-      ∙ (ap (λ x. world_of there.heap there.statics x world.monitors world.threads world.printed) classes
-      ∙ (ap (λ x. world_of there.heap there.statics there.classes x world.threads world.printed) monitors
-      ∙ (ap (λ x. world_of there.heap there.statics there.classes there.monitors x world.printed) threads
-      ∙ ap (λ x. world_of there.heap there.statics there.classes there.monitors there.threads x) printed))))
+      let interned = sym a.interned ∙ (alike.interned ∙ b.interned) in
+      let unnamed = sym a.unnamed ∙ (alike.unnamed ∙ b.unnamed) in
+      λ i. world_of (objects i) (statics i) (classes i) (monitors i) (threads i) (printed i) (interned i) (unnamed i)
 
 abbrev state_of : WorldOf ℕ → List (StackOf ℕ) → StateOf ℕ
 state_of world stacks = record { world = world; stacks = stacks }

@@ -12,7 +12,7 @@ use Rattle.heap.specs.declared.kind.NarrowKind.TheVariants as narrow
 use Rattle.heap.specs.declared.kind.ObjectKind.{ObjectKind}
 use Rattle.heap.specs.declared.kind.ObjectKind.TheVariants as kind
 use Rattle.heap.specs.Elements.{stored}
-use Rattle.heap.specs.Heap.{Object, words_of, words_at, changed, with_word}
+use Rattle.heap.specs.Heap.{Object, words_of, words_at, changed, put_field, with_word}
 use Rattle.linked_code.specs.declared.types.LinkedType.{LinkedType}
 use Rattle.linked_code.specs.Numbers.{slot_in}
 use Rattle.machine_state.specs.shown_objects.Shown.{names_of, words_in, cells_of, IsKindOf, ShowsObject, ShowsObjects, ShowsStatics}
@@ -164,6 +164,19 @@ module _ (files : Program) (components : List LinkedType) where
             });
         counted = λ index word. counts_same ms r m (with_element index (kept_in m word) m) e (element_cells m index (kept_in m word));
       }
+
+-- a word that is put among the elements of an array as it is
+pub element_put : (files : Program) (components : List LinkedType) (os : List Object) (ms : List (ObjectOf ℕ)) → ShowsObjects files components os ms
+    → (r : ℕ) (m : ObjectOf ℕ) → slice_get ms r ≡ Some m → is_array m ≡ true → (index word : ℕ)
+    → ShowsObjects files components (put_field os r index word) (slice_set ms r (with_element index word m))
+element_put files components os ms h r m e array index word =
+    let found = shown_at files components os ms r m h e in
+    let o = found.0 in
+    changed_at files components os ms r o (with_element index word m) (with_word index word) h found.1
+    (record {
+      kind = still_kind files components o.kind m index word found.2.kind;
+      words = ap (λ l. slice_set l index word) found.2.words ∙ sym (set_cells m index word array);
+    })
 
 pub are_statics : (files : Program) (slots : List ℕ) (statics : List (Member × ℕ)) → ShowsStatics files slots statics → (field : Member)
     (slot : ℕ) → slot_in (static_fields files) field ≡ Some slot → IsStatic files slots statics slot field

@@ -1,5 +1,5 @@
 -- Strings: they have no fields, and their units are of 16 bits.
-use Rattle.std.proofs.Common.{◌≡◌, ℕ, List, [], ◌∷◌, Option, Some, None, Bool, true, false, if◌then◌else◌, ◌<◌, ◌^◌, arith, refl, sym, ap, ◌∙◌}
+use Rattle.std.proofs.Common.{◌≡◌, ℕ, List, [], ◌∷◌, Some, None, Bool, true, false, if◌then◌else◌, ◌<◌, ◌^◌, arith, refl, sym, ap, ◌∙◌}
 use Rattle.std.proofs.lemmas.List.Elements.{All-nil, All-cons}
 use Rattle.model.specs.Names.{Name, Member, java_lang_string}
 use Rattle.model.specs.BuiltIn.{built_in_classes}

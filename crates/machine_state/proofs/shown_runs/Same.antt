@@ -23,6 +23,8 @@ same_stacks trees p bounds inflated old new state h items =
           ready = r.world_is.ready;
           threads = r.world_is.threads;
           printed = r.world_is.printed;
+          interned = r.world_is.interned;
+          unnamed = r.world_is.unnamed;
         };
         limits = record {
           opening = r.limits.opening;

@@ -8,7 +8,7 @@ use Rattle.model.specs.Classes.{Program}
 use Rattle.model.specs.Accepted.{IsAccepted}
 use Rattle.model.specs.LimitStands.{Bounds, inflated_by, is_inflating_entry}
 use Rattle.model.specs.Operands.{words}
-use Rattle.model.specs.Outcomes.{Cost, Free, Makes, Starts, Enters, Joins}
+use Rattle.model.specs.Outcomes.{Cost, Free, Makes, Fills, Starts, Enters, Joins}
 use Rattle.model.specs.State.{StackOf, WorldOf, StateOf}
 use Rattle.model.specs.Step.{SteppedOf, Next, PartOf, part, thread_at, thread_event, settled, with_part, event_of, stepped}
 use Rattle.model.specs.Words.{AreWellTypedWords}
@@ -60,6 +60,8 @@ represents_in trees p bounds old new world r same = subst (λ (s : Shared). Repr
             ready = r.world_is.ready;
             threads = r.world_is.threads;
             printed = r.world_is.printed;
+            interned = r.world_is.interned;
+            unnamed = r.world_is.unnamed;
           };
           limits = record {
             opening = r.limits.opening;
@@ -97,6 +99,7 @@ stacks_lent trees p bounds inflated shared state h t from e other lent placed =
 flags_made : (cost : Cost) (flags : List Bool) → length (flags_after cost flags) ≡ length flags + made cost
 flags_made Free flags = omega arith
 flags_made (Makes cells) flags = length-append flags (false ∷ [])
+flags_made (Fills cells) flags = omega arith
 flags_made Starts flags = omega arith
 flags_made (Enters object count) flags = entered (is_inflating_entry count)
   where

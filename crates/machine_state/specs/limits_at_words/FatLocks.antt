@@ -7,7 +7,7 @@ use Rattle.model.specs.declared.monitor_answer.MonitorAnswer.{MonitorAnswer}
 use Rattle.model.specs.declared.monitor_answer.MonitorAnswer.TheVariants.{Done}
 use Rattle.model.specs.Classes.{Program}
 use Rattle.model.specs.State.{WakeCause, Relock, Thread, StateOf}
-use Rattle.model.specs.Outcomes.{Cost, Free, Makes, Starts, Enters, Joins}
+use Rattle.model.specs.Outcomes.{Cost, Free, Makes, Fills, Starts, Enters, Joins}
 use Rattle.model.specs.Monitors.{owns, monitor_at, enter}
 use Rattle.model.specs.LimitStands.{is_inflating_entry, inflated_by, is_crowded, entry_limit}
 use Rattle.model.specs.Words.{AreWellTypedWords}
@@ -29,6 +29,7 @@ pub record AreFlags (flags : List Bool) (objects : List ℕ) : Type 0 where
 abbrev pub flags_after : Cost → List Bool → List Bool
 flags_after Free flags = flags
 flags_after (Makes cells) flags = flags ++ false ∷ []
+flags_after (Fills cells) flags = flags
 flags_after Starts flags = flags
 flags_after (Enters object count) flags = if is_inflating_entry count then slice_set flags object true else flags
 flags_after (Joins object) flags = slice_set flags object true
@@ -37,6 +38,7 @@ flags_after (Joins object) flags = slice_set flags object true
 abbrev pub IsOneOf : Cost → ℕ → Type 0
 IsOneOf Free objects = Unit {0}
 IsOneOf (Makes cells) objects = Unit {0}
+IsOneOf (Fills cells) objects = Unit {0}
 IsOneOf Starts objects = Unit {0}
 IsOneOf (Enters object count) objects = object < objects
 IsOneOf (Joins object) objects = object < objects

@@ -7,7 +7,7 @@ use Rattle.model.specs.Classes.{Program}
 use Rattle.model.specs.Operands.{words, values}
 use Rattle.model.specs.State.{WorldOf, StateOf, State}
 use Rattle.model.specs.Opening.{opening_heap}
-use Rattle.model.specs.Outcomes.{Cost, Free, Makes, Starts, Enters, Joins}
+use Rattle.model.specs.Outcomes.{Cost, Free, Makes, Fills, Starts, Enters, Joins}
 use Rattle.model.specs.Step.{SteppedOf, NotEnabled, WrongKind, Next, stepped}
 use Rattle.model.specs.Run.{run}
 use Rattle.model.specs.LimitStands.{Bounds, opening_count, objects_made, cells_made, entry_limit, is_crowded, inflated, limit_at, limit_after}
@@ -18,17 +18,19 @@ use Rattle.run_laws.specs.monitor_counts.Counts.{IsLonger}
 
 -- ---- the limit that an event would pass, by the world before it
 
+abbrev pub cells_limit_in : {A : Type 0} → Program → Bounds → WorldOf A → ℕ → Option RunCause
+cells_limit_in files bounds world cells = if nat_lt bounds.cells (cells_made files world + cells) then Some cause.Cells else None
+
 -- of both, objects are answered
 abbrev pub allocation_limit_in : {A : Type 0} → Program → Bounds → WorldOf A → ℕ → Option RunCause
 allocation_limit_in files bounds world cells =
-    if nat_le bounds.objects (objects_made files world) then Some cause.Objects
-    else if nat_lt bounds.cells (cells_made files world + cells) then Some cause.Cells
-    else None
+    if nat_le bounds.objects (objects_made files world) then Some cause.Objects else cells_limit_in files bounds world cells
 
 -- by what the event takes, and whether an object's monitor is not inflated and cannot be
 abbrev pub limit_in : {A : Type 0} → Program → Bounds → (ℕ → Bool) → WorldOf A → Cost → Option RunCause
 limit_in files bounds crowded world Free = None
 limit_in files bounds crowded world (Makes cells) = allocation_limit_in files bounds world cells
+limit_in files bounds crowded world (Fills cells) = cells_limit_in files bounds world cells
 limit_in files bounds crowded world Starts = if nat_le bounds.threads (length world.threads) then Some cause.Threads else None
 limit_in files bounds crowded world (Enters object count) = entry_limit (crowded object) count
 limit_in files bounds crowded world (Joins object) = if crowded object then Some cause.Monitors else None

@@ -1,7 +1,7 @@
 -- Exceptions that the machine makes, with no call of a constructor (JVMS 2.10).
 use Rattle.std.specs.Prelude.{◌≡◌, ◌+◌, ◌<◌, ◌≤◌, ◌^◌, ℕ, suc, List, [], ◌∷◌, Option, Some, false, length, Result, Ok, Err}
 use Rattle.std.specs.Option.{option_map_or}
-use Rattle.model.specs.BuiltInNumbers.{abstract_method_error, arithmetic_exception, array_index_out_of_bounds_exception, array_store_exception, class_cast_exception, illegal_monitor_state_exception, illegal_thread_state_exception, incompatible_class_change_error, interrupted_exception, negative_array_size_exception, no_class_def_found_error, null_pointer_exception, stack_overflow_error, string_index_out_of_bounds_exception}
+use Rattle.model.specs.BuiltInNumbers.{abstract_method_error, arithmetic_exception, array_index_out_of_bounds_exception, array_store_exception, class_cast_exception, clone_not_supported_exception, illegal_monitor_state_exception, illegal_thread_state_exception, incompatible_class_change_error, interrupted_exception, negative_array_size_exception, no_class_def_found_error, null_pointer_exception, stack_overflow_error, string_index_out_of_bounds_exception}
 use Rattle.model.specs.Names.{Name, Member, name_eq, java_lang_string, throwable_message, throwable_cause, throwable_suppressed}
 use Rattle.model.specs.Classes.{Program}
 use Rattle.model.specs.Lookup.{instance_fields}
@@ -37,6 +37,7 @@ class_number exception.Arithmetic = arithmetic_exception
 class_number exception.ArrayIndexOutOfBounds = array_index_out_of_bounds_exception
 class_number exception.StringIndexOutOfBounds = string_index_out_of_bounds_exception
 class_number exception.NegativeArraySize = negative_array_size_exception
+class_number exception.CloneNotSupported = clone_not_supported_exception
 class_number exception.ArrayStore = array_store_exception
 class_number exception.ClassCast = class_cast_exception
 class_number exception.IllegalMonitorState = illegal_monitor_state_exception

@@ -7,7 +7,8 @@ use Rattle.linked_code.specs.declared.program.LinkedProgram.{LinkedProgram}
 use Rattle.machine_state.specs.declared.state.Shared.{Shared}
 use Rattle.machine_state.specs.state_events.Whole.{IsShown}
 
--- Objects with their monitors, static fields, classes, threads with their stacks, and the text printed are the same.
+-- Objects with their monitors, static fields, classes, threads with their stacks, the text printed, the Strings interned and the
+-- count of Threads without a name are the same.
 pub record AreAlike (one other : Shared) : Type 0 where
   pub objects : one.heap.objects ≡ other.heap.objects
   pub monitors : one.heap.locks.monitors ≡ other.heap.locks.monitors
@@ -15,6 +16,8 @@ pub record AreAlike (one other : Shared) : Type 0 where
   pub statuses : one.statuses.items ≡ other.statuses.items
   pub threads : one.threads.threads ≡ other.threads.threads
   pub printed : one.printed.items ≡ other.printed.items
+  pub interned : one.interned.items ≡ other.interned.items
+  pub unnamed : one.unnamed ≡ other.unnamed
   pub stacks : one.stacks.items ≡ other.stacks.items
 
 -- two that are alike show the same words, whichever locks are inflated

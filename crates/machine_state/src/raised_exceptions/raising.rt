@@ -24,6 +24,7 @@ fn class_of(fault: MachineException) -> u32
         MachineException::ArrayIndexOutOfBounds => built_in::ARRAY_INDEX_OUT_OF_BOUNDS_EXCEPTION,
         MachineException::StringIndexOutOfBounds => built_in::STRING_INDEX_OUT_OF_BOUNDS_EXCEPTION,
         MachineException::NegativeArraySize => built_in::NEGATIVE_ARRAY_SIZE_EXCEPTION,
+        MachineException::CloneNotSupported => built_in::CLONE_NOT_SUPPORTED_EXCEPTION,
         MachineException::ArrayStore => built_in::ARRAY_STORE_EXCEPTION,
         MachineException::ClassCast => built_in::CLASS_CAST_EXCEPTION,
         MachineException::IllegalMonitorState => built_in::ILLEGAL_MONITOR_STATE_EXCEPTION,

@@ -140,7 +140,7 @@ module _ (trees : Program) (p : LinkedProgram) (at : ℕ → ℕ) (code : List L
 
   direct : (parameters method : ℕ) → IsDirectCall trees site parameters method → Mays (linked.InvokeSpecial parameters method) meaning
   direct parameters method (CallsConstructor callee is counted instance constructs numbered) = calling _ _ refl is refl
-  direct parameters method (CallsSpecial named callee is counted other found numbered) = calling _ _ refl is refl
+  direct parameters method (CallsSpecial named callee is counted other found numbered special) = calling _ _ refl is refl
   direct parameters method (CallsOnly named callee is counted numbered) = calling _ _ refl is refl
 
 -- ---- each instruction, in a line

@@ -69,7 +69,7 @@ module _ (trees : Program) (p : LinkedProgram) (at : ℕ → ℕ) (code : List L
 
   direct : (parameters method : ℕ) → IsDirectCall trees site parameters method → IsNeeded trees meaning.looks None
   direct parameters method (CallsConstructor callee is counted instance constructs numbered) = none _ is refl
-  direct parameters method (CallsSpecial named callee is counted other found numbered) = none _ is refl
+  direct parameters method (CallsSpecial named callee is counted other found numbered special) = none _ is refl
   direct parameters method (CallsOnly named callee is counted numbered) = none _ is refl
 
   system : (stream : ℕ) → meaning_of words trees site ≡ Some (system_stream_meaning words (at (k + 1)) stream)

@@ -1,16 +1,17 @@
 -- The objects of the opening heap are those of the definitions.
 use Rattle.std.proofs.Common.{Vec, Global, ◌≡◌, ℕ, suc, ◌≤◌, List, [], ◌∷◌, ◌++◌, map, length, replicate, refl, sym, ap, subst, ◌∙◌}
-use Rattle.model.specs.Names.{Member, java_lang_class, java_lang_thread, java_io_print_stream, thread_target}
+use Rattle.model.specs.Names.{Member, java_lang_class, java_lang_thread, java_io_print_stream, thread_target, thread_name, thread_ordinal, thread_priority}
 use Rattle.model.specs.Tree.{FileTree}
 use Rattle.model.specs.BuiltIn.{built_in_classes}
 use Rattle.model.specs.Classes.{Program, classes_of}
 use Rattle.model.specs.DescribedTypes.{DeclaredType, DeclaredInt, DeclaredReference, field_declared}
 use Rattle.model.specs.Lookup.{instance_fields}
-use Rattle.model.specs.StringConstants.{string_texts}
+use Rattle.model.specs.StringConstants.{string_texts, main_text}
 use Rattle.model.specs.Texts.{Text, decoded}
 use Rattle.model.specs.Operands.{words}
 use Rattle.model.specs.State.{ObjectOf, Instance, Characters}
-use Rattle.model.specs.Opening.{first_value, with_first, new_instance, opening_heap}
+use Rattle.model.specs.Opening.{first_value, first_of, with_first, main_thread_object, string_reference, opening_heap}
+use Rattle.model.specs.Worlds.{with_value}
 use Rattle.heap.specs.declared.kind.ObjectKind.TheVariants as kind
 use Rattle.heap.specs.Heap.{Object, fresh}
 use Rattle.linked_code.specs.declared.class.LinkedClass.{LinkedClass}
@@ -23,7 +24,7 @@ use Rattle.machine_state.specs.shown_objects.Shown.{names_of, words_in, AreUnits
 use Rattle.machine_state.proofs.shown_objects.Strings.{string_at, decoded_units}
 use Rattle.machine_state.proofs.shown_objects.Objects.{counted}
 use Rattle.machine_state.specs.Shown.{IsProgram}
-use Rattle.machine_threads.specs.machine_opening.Opened.{opening_objects, string_object}
+use Rattle.machine_threads.specs.machine_opening.Opened.{main_thread, opening_objects, string_object}
 use Rattle.model.specs.BuiltInNumbers.{class_number, print_stream_number, thread_number}
 
 -- ---- lists that are shown
@@ -61,7 +62,7 @@ first_words (field ∷ fields) =
 
 -- ---- each object
 
-thread_fields : (trees : Program) → instance_fields trees java_lang_thread ≡ thread_target ∷ []
+thread_fields : (trees : Program) → instance_fields trees java_lang_thread ≡ thread_target ∷ thread_name ∷ thread_ordinal ∷ thread_priority ∷ []
 unfolding built_in_classes
 thread_fields trees = refl
 
@@ -81,13 +82,30 @@ module _ (trees : Program) (components : List LinkedType) where
   shows_string : (units text : Text) → AreUnits text → units ≡ text → ShowsObject trees components (string_object units) (Characters text)
   shows_string units text small same = record { kind = (string_at trees, small); words = same }
 
-  shows_thread : ShowsObject trees components (fresh (kind.Instance thread_number) 1) (new_instance words trees java_lang_thread)
-  shows_thread =
+  -- a Thread has its name, and nothing else yet
+  name_put : (target old ordinal priority name : ℕ)
+      → with_value thread_name name ((thread_target, target) ∷ (thread_name, old) ∷ (thread_ordinal, ordinal) ∷ (thread_priority, priority) ∷ [])
+      ≡ (thread_target, target) ∷ (thread_name, name) ∷ (thread_ordinal, ordinal) ∷ (thread_priority, priority) ∷ []
+  name_put target old ordinal priority name = refl
+
+  zero_first : (field : Member) → 0 ≡ first_of words field
+  zero_first field = sym (first_is (field_declared field.descriptor))
+
+  named_fields : (fields : List Member) → fields ≡ thread_target ∷ thread_name ∷ thread_ordinal ∷ thread_priority ∷ [] → (name : ℕ)
+      → (names_of (with_value thread_name name (map (with_first words) fields)) ≡ fields)
+      × (0 ∷ name ∷ 0 ∷ 0 ∷ [] ≡ words_in (with_value thread_name name (map (with_first words) fields)))
+  named_fields fields is name =
+      let put = name_put (first_of words thread_target) (first_of words thread_name) (first_of words thread_ordinal) (first_of words thread_priority) name in
+      subst (λ (l : List Member). (names_of (with_value thread_name name (map (with_first words) l)) ≡ l)
+      × (0 ∷ name ∷ 0 ∷ 0 ∷ [] ≡ words_in (with_value thread_name name (map (with_first words) l)))) (sym is)
+      (ap names_of put, (λ i. zero_first thread_target i ∷ name ∷ zero_first thread_ordinal i ∷ zero_first thread_priority i ∷ []) ∙ sym (ap words_in put))
+
+  shows_thread : (name : ℕ) → name ≡ suc (string_reference trees main_text) → ShowsObject trees components (main_thread name) (main_thread_object words trees)
+  shows_thread name is =
+      let named = named_fields (instance_fields trees java_lang_thread) (thread_fields trees) (suc (string_reference trees main_text)) in
       record {
-        kind = (thread_at trees, first_names (instance_fields trees java_lang_thread), refl);
-        words =
-            sym (ap (λ (fields : List Member). replicate (length fields) 0) (thread_fields trees))
-            ∙ first_words (instance_fields trees java_lang_thread);
+        kind = (thread_at trees, named.0, refl);
+        words = ap (λ n. 0 ∷ n ∷ 0 ∷ 0 ∷ []) is ∙ named.1;
       }
 
 module _ (trees : Program) (components : List LinkedType) where
@@ -129,7 +147,7 @@ module _ (trees : Program) (p : LinkedProgram) (linked : IsLinkedProgram trees p
   unfolding opening_heap
   objects_shown =
       let c = p.components.items in
-      (shows_print_stream trees c, (record { kind = linked.string_component; words = refl }, (shows_thread trees c, rest_shown)))
+      (shows_print_stream trees c, (record { kind = linked.string_component; words = refl }, (shows_thread trees c p.main_text linked.main_text, rest_shown)))
 
   pub object_count : length (opening_objects p) ≡ length (opening_heap words trees)
   object_count = counted trees p.components.items (opening_objects p) (opening_heap words trees) objects_shown

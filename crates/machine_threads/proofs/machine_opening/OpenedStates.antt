@@ -44,6 +44,8 @@ module _ (trees : Program) (p : LinkedProgram) (program : IsProgram trees p) (li
     (ready_are : shared.ready.items ≡ replicate 37 true ++ replicate (length p.classes.items - 37) false)
     (threads_are : shared.threads ≡ record { threads = new_thread main_thread_reference ∷ []; limit = limits.threads })
     (printed_are : shared.printed.items ≡ [])
+    (interned_are : shared.interned.items ≡ [])
+    (unnamed_is : shared.unnamed ≡ 0)
     (stacks_are : shared.stacks.items ≡ [] ∷ []) where
   count : length (opening_objects p) ≡ length (opening_heap words trees)
   count = object_count trees p program.linked
@@ -70,6 +72,8 @@ module _ (trees : Program) (p : LinkedProgram) (program : IsProgram trees p) (li
             ready = subst (λ l. AreInitialised trees l (opening words trees).world) (sym ready_are) (built_in_are_ready trees p program);
             threads = ap (λ (t : ThreadTable). t.threads) threads_are;
             printed = printed_are;
+            interned = interned_are;
+            unnamed = unnamed_is;
           };
           limits = record {
             opening = ap (λ (heap : Heap). heap.opening) heap_is ∙ count ∙ limits_same.opened trees;

@@ -85,6 +85,8 @@ begun_shown trees p bounds t new world r =
         ready = r.world_is.ready;
         threads = ap (begun_threads t) r.world_is.threads;
         printed = r.world_is.printed;
+        interned = r.world_is.interned;
+        unnamed = r.world_is.unnamed;
       };
       limits = record {
         opening = r.limits.opening;

@@ -70,4 +70,4 @@ module _ (trees : Program) (p : LinkedProgram) (program : IsProgram trees p) (ob
       let at : IsClassAt trees class (receiver_class (type_of m)) = receiver trees p.components.items m (subst (λ (k : ObjectKind). IsKindOf trees p.components.items k m) (sym same) shown.2.kind) in
       subst (IsChosenBy trees found)
       (ap (λ b. if b then Runs thread_run else if_concrete trees (select trees (receiver_class (type_of m)) thread_run)) (run_is_public trees) ∙ ap (λ n. if_concrete trees (select trees n thread_run)) (class_same m))
-      (selects trees java_lang_thread thread_run program.linked.run_place (type_of m) assignable at)
+      (selects trees (ClassType java_lang_thread) thread_run program.linked.run_place (type_of m) assignable at)

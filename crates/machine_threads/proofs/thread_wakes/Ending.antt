@@ -97,7 +97,7 @@ module _ (trees : Program) (p : LinkedProgram) (t : ℕ) (world : WorldOf ℕ) w
   empty_over (shown ∷ others) own shows empty e =
       let none : length (shown ∷ others) ≡ 0 = eqb-true (length (shown ∷ others)) 0 empty in absurd (omega (arith, none))
 
--- ---- nothing is printed by it
+-- ---- nothing is printed by it, and no String interned
 
 woken_printed : (object : ℕ) (cause : WakeCause) (world : WorldOf ℕ) (waiters : List Waiter)
     → (all_woken object cause world waiters).printed ≡ world.printed
@@ -115,6 +115,22 @@ printed_same : (t : ℕ) (world : WorldOf ℕ) (own : StackOf ℕ) → (end_of t
 printed_same t world [] = end_printed t world (is_over (thread_at world t))
 printed_same t world (entry ∷ own) = refl
 
+woken_interned : (object : ℕ) (cause : WakeCause) (world : WorldOf ℕ) (waiters : List Waiter)
+    → (all_woken object cause world waiters).interned ≡ world.interned
+woken_interned object cause world [] = refl
+woken_interned object cause world (waiter ∷ waiters) = woken_interned object cause (woken object cause world waiter) waiters
+
+end_interned : (t : ℕ) (world : WorldOf ℕ) (over : Bool) → (with_end world t over).interned ≡ world.interned
+end_interned t world true =
+    let over : WorldOf ℕ = with_thread world t (ended (thread_at world t)) in
+    let object = (thread_at world t).object in
+    woken_interned object Notified (with_monitors over (monitors.wake_all object over.monitors)) (waiters_of over object)
+end_interned t world false = refl
+
+interned_same : (t : ℕ) (world : WorldOf ℕ) (own : StackOf ℕ) → (end_of t world own).interned ≡ world.interned
+interned_same t world [] = end_interned t world (is_over (thread_at world t))
+interned_same t world (entry ∷ own) = refl
+
 -- an event that is refused is so with the end of the thread, too
 pub refused_settled : (t : ℕ) (trees : Program) (bounds : Bounds) (inflated : List ℕ) (world : WorldOf ℕ) (from : List ShownEntry) (stepped : SteppedOf (PartOf ℕ))
     (told : EventRefusal) → IsRefused trees bounds inflated world from stepped told
@@ -124,13 +140,16 @@ refused_settled t trees bounds inflated world from stepped told r =
       cost = r.cost;
       next = part (end_of t r.next.world r.next.stack) r.next.stack;
       is = ap (settled t) r.is;
-      may = subst (λ printed. MayBeRefused trees bounds inflated world r.cost (takes printed) told) (sym (printed_same t r.next.world r.next.stack)) r.may;
+      may = subst (λ takes. MayBeRefused trees bounds inflated world r.cost takes told)
+          (λ i. takes (sym (printed_same t r.next.world r.next.stack) i) (sym (interned_same t r.next.world r.next.stack) i)) r.may;
     }
   where
-    -- by what is printed after it
-    takes : List ℕ → Bool
-    takes printed =
-        takes_shared r.cost || (has_grown (shown_counts from) (operand_counts r.next.stack) || nat_lt (length world.printed) (length printed))
+    -- by what is printed and what Strings are interned after it
+    takes : List ℕ → List ℕ → Bool
+    takes printed interned =
+        takes_shared r.cost
+        || (has_grown (shown_counts from) (operand_counts r.next.stack)
+        || (nat_lt (length world.printed) (length printed) || nat_lt (length world.interned) (length interned)))
 
 -- ---- the event before
 

@@ -7,14 +7,21 @@ use Rattle.model.specs.Classes.{Program, Body, body_of}
 use Rattle.model.specs.ObjectMethods as object
 use Rattle.model.specs.ObjectMethods.{ObjectAnswer, object_answer, object_place, tells, type_at}
 use Rattle.model.specs.Operands.{Slots, words}
-use Rattle.model.specs.Outcomes.{OutcomeOf, Interrupts}
+use Rattle.model.specs.Outcomes.{OutcomeOf, Interrupts, not_null}
 use Rattle.model.specs.StringMethods.{StringAnswer, IsNull, IsOutside, Answers, Same, Composes, string_answer}
 use Rattle.model.specs.BuilderMethods as builder
 use Rattle.model.specs.BuilderMethods.{BuilderAnswer, builder_answer, builder_shown, builds}
 use Rattle.model.specs.Sites.{Site, referent, int_operand}
-use Rattle.model.specs.Opening.{string_reference}
-use Rattle.model.specs.State.{WorldOf}
-use Rattle.model.specs.Worlds.{is_owner, is_alive, thread_at, thread_of, waiters_of, string_shown}
+use Rattle.model.specs.Cloning.{is_cloneable, cloned}
+use Rattle.model.specs.declared.name_method.NameMethod.{NameMethod}
+use Rattle.model.specs.declared.name_method.NameMethod.TheVariants as names
+use Rattle.model.specs.TextMethods as text
+use Rattle.model.specs.TextMethods.{TextAnswer, text_answer, gives_standing, standing_for, units_operand, writes}
+use Rattle.model.specs.Texts.{Text}
+use Rattle.model.specs.ThreadNames.{gives_name, kept_name, ordinal_text, thread_names}
+use Rattle.model.specs.Opening.{opening_count, string_reference, string_references}
+use Rattle.model.specs.State.{ObjectOf, WorldOf, type_of}
+use Rattle.model.specs.Worlds.{is_owner, is_alive, object_at, thread_at, thread_of, waiters_of, string_shown}
 use Rattle.model.specs.BuiltInMethods as built_in
 use Rattle.model.specs.BuiltInMethods.{BuiltInMethod, built_in_method, built_in_may, built_in_does, object_of, wait_by, if_owner, start_by, join_by, string_operand, answered}
 use Rattle.model.specs.Calls.{Chosen, Fails, Runs, may_run, runs, may_invoke, invoked}
@@ -66,11 +73,51 @@ told_stays (object.Answers bits) files next world slots rest = tt
 told_stays (object.IsOf class) files next world slots rest = tt
 told_stays (object.Composes text) files next world slots rest = tt
 
+clone_stays : (b : Bool) (object : ObjectOf ℕ) (next : ℕ) (world : WorldOf ℕ) (slots : Slots ℕ) (rest : List ℕ)
+    → Stays (cloned words b object next world slots rest)
+clone_stays true object next world slots rest = tt
+clone_stays false object next world slots rest = tt
+
+-- of one that wants a name
+kept_stays : (name : Option ℕ) (go : ℕ → OutcomeOf ℕ) → ((r : ℕ) → Stays (go r)) → Stays (not_null name go)
+kept_stays None go h = tt
+kept_stays (Some r) go h = h r
+
+given_stays : (name : Option ℕ) (text : Text) (next : ℕ) (world : WorldOf ℕ) (slots : Slots ℕ) (ops rest : List ℕ)
+    → Stays (gives_name words name text next world slots ops rest)
+given_stays None text next world slots ops rest = tt
+given_stays (Some name) text next world slots ops rest = tt
+
+name_stays : (method : NameMethod) (next : ℕ) (world : WorldOf ℕ) (slots : Slots ℕ) (ops rest : List ℕ)
+    → Stays (thread_names words method next world slots ops rest)
+name_stays names.Construct next world slots ops rest = tt
+name_stays names.ConstructWithTarget next world slots ops rest = tt
+name_stays names.ConstructWithName next world slots ops rest = kept_stays (referent words ops 0) _ (λ r. tt)
+name_stays names.ConstructWithTargetAndName next world slots ops rest = kept_stays (referent words ops 0) _ (λ r. tt)
+name_stays names.GetName next world slots ops rest =
+    given_stays (words.referent (kept_name words (object_at world (object_of words ops 0)))) (ordinal_text words (object_at world (object_of words ops 0))) next world slots ops rest
+name_stays names.SetName next world slots ops rest = kept_stays (referent words ops 0) _ (λ r. tt)
+
+standing_stays : (string : Option ℕ) (next : ℕ) (world : WorldOf ℕ) (slots : Slots ℕ) (ops rest : List ℕ)
+    → Stays (gives_standing words string next world slots ops rest)
+standing_stays None next world slots ops rest = tt
+standing_stays (Some string) next world slots ops rest = tt
+
+write_stays : (answer : TextAnswer) (opened : ℕ) (constants : List ℕ) (next : ℕ) (world : WorldOf ℕ) (slots : Slots ℕ) (ops rest : List ℕ)
+    → Stays (writes words opened constants answer next world slots ops rest)
+write_stays text.IsNull opened constants next world slots ops rest = tt
+write_stays text.IsOutside opened constants next world slots ops rest = tt
+write_stays text.IsOutsideArray opened constants next world slots ops rest = tt
+write_stays (text.Becomes receiver units) opened constants next world slots ops rest = tt
+write_stays (text.Stores array index units) opened constants next world slots ops rest = tt
+write_stays (text.StandsFor units) opened constants next world slots ops rest = standing_stays (standing_for constants world units) next world slots ops rest
+
 -- a built-in method calls nothing
 pub built_in_stays : (files : Program) (of : BuiltInMethod) (next t : ℕ) (world : WorldOf ℕ) (slots : Slots ℕ) (ops rest : List ℕ)
     → Stays (built_in_does words files of next (event_of t) world slots ops rest)
 built_in_stays files built_in.Construct next t world slots ops rest = tt
-built_in_stays files built_in.ConstructWithTarget next t world slots ops rest = tt
+built_in_stays files built_in.ObjectClone next t world slots ops rest =
+    clone_stays (is_cloneable files (type_of (object_at world (object_of words ops 0)))) (object_at world (object_of words ops 0)) next world slots rest
 built_in_stays files built_in.ConstructWithMessage next t world slots ops rest = tt
 built_in_stays files built_in.ConstructWithCause next t world slots ops rest = tt
 built_in_stays files built_in.ObjectWait next t world slots ops rest = wait_stays (is_owner world t (object_of words ops 0)) (thread_at world t).interrupted t _ world rest
@@ -84,9 +131,13 @@ built_in_stays files built_in.ThreadYield next t world slots ops rest = tt
 built_in_stays files built_in.ThreadCurrentThread next t world slots ops rest = tt
 built_in_stays files built_in.ThreadJoin next t world slots ops rest = join_stays (is_alive world (object_of words ops 0)) next world slots rest
 built_in_stays files built_in.ThreadIsAlive next t world slots ops rest = tt
+built_in_stays files (built_in.ThreadNames names) next t world slots ops rest = name_stays names next world slots ops rest
 built_in_stays files (built_in.PrintStreamPrints print) next t world slots ops rest = tt
 built_in_stays files (built_in.StringAnswers method) next t world slots ops rest =
     answer_stays (string_answer method (int_operand words ops) (string_operand words world ops)) next world slots ops rest
+built_in_stays files (built_in.StringWrites writes) next t world slots ops rest =
+    write_stays (text_answer writes (int_operand words ops) (string_operand words world ops) (units_operand words world ops)) (opening_count files)
+    (string_references files) next world slots ops rest
 built_in_stays files (built_in.StringBuilderBuilds method) next t world slots ops rest =
     build_stays
     (builder_answer method (int_operand words ops 0) (is_none (referent words ops 0)) (string_shown world (referent words ops 0)) (builder_shown words world (referent words ops 0)))
@@ -107,7 +158,7 @@ notify_may true n = by (nat_lt 0 n) refl
 pub built_in_allowed : (called : linked.BuiltInMethod) → (called ≡ method.ThreadJoin → ⊥) → (t : ℕ) (world : WorldOf ℕ) (ops : List ℕ)
     → built_in_may words (built_in_of called) (event_of t) world ops ≡ true
 built_in_allowed method.Construct n t world ops = refl
-built_in_allowed method.ConstructWithTarget n t world ops = refl
+built_in_allowed method.ObjectClone n t world ops = refl
 built_in_allowed method.ConstructWithMessage n t world ops = refl
 built_in_allowed method.ConstructWithCause n t world ops = refl
 built_in_allowed method.ObjectWait n t world ops = refl
@@ -121,8 +172,10 @@ built_in_allowed method.ThreadYield n t world ops = refl
 built_in_allowed method.ThreadCurrentThread n t world ops = refl
 built_in_allowed method.ThreadJoin n t world ops = absurd (n refl)
 built_in_allowed method.ThreadIsAlive n t world ops = refl
+built_in_allowed (method.ThreadNames names) n t world ops = refl
 built_in_allowed (method.PrintStreamPrints print) n t world ops = refl
 built_in_allowed (method.StringAnswers of) n t world ops = refl
+built_in_allowed (method.StringWrites writes) n t world ops = refl
 built_in_allowed (method.StringBuilderBuilds of) n t world ops = refl
 built_in_allowed (method.ObjectAnswers of) n t world ops = refl
 
@@ -137,7 +190,7 @@ held_by : (files : Program) (of : BuiltInMethod) (next t : ℕ) (world : WorldOf
     → built_in_may words of (event_of t) world ops ≡ false → built_in_does words files of next (event_of t) world slots ops rest ≡ Interrupts
 held_by files built_in.ThreadJoin next t world slots ops rest h = join_held (is_alive world (object_of words ops 0)) (thread_at world t).interrupted next world slots rest h
 held_by files built_in.Construct next t world slots ops rest h = absurd (true≢false h)
-held_by files built_in.ConstructWithTarget next t world slots ops rest h = absurd (true≢false h)
+held_by files built_in.ObjectClone next t world slots ops rest h = absurd (true≢false h)
 held_by files built_in.ConstructWithMessage next t world slots ops rest h = absurd (true≢false h)
 held_by files built_in.ConstructWithCause next t world slots ops rest h = absurd (true≢false h)
 held_by files built_in.ObjectWait next t world slots ops rest h = absurd (true≢false h)
@@ -150,8 +203,10 @@ held_by files built_in.ThreadInterrupted next t world slots ops rest h = absurd 
 held_by files built_in.ThreadYield next t world slots ops rest h = absurd (true≢false h)
 held_by files built_in.ThreadCurrentThread next t world slots ops rest h = absurd (true≢false h)
 held_by files built_in.ThreadIsAlive next t world slots ops rest h = absurd (true≢false h)
+held_by files (built_in.ThreadNames names) next t world slots ops rest h = absurd (true≢false h)
 held_by files (built_in.PrintStreamPrints print) next t world slots ops rest h = absurd (true≢false h)
 held_by files (built_in.StringAnswers method) next t world slots ops rest h = absurd (true≢false h)
+held_by files (built_in.StringWrites writes) next t world slots ops rest h = absurd (true≢false h)
 held_by files (built_in.StringBuilderBuilds method) next t world slots ops rest h = absurd (true≢false h)
 held_by files (built_in.ObjectAnswers method) next t world slots ops rest h = absurd (true≢false h)
 

@@ -99,7 +99,7 @@ module _ (trees : Program) (p : LinkedProgram) (at : ℕ → ℕ) (code : List L
 
   direct_calls : (parameters method : ℕ) → IsDirectCall trees site parameters method → IsCall trees site meaning
   direct_calls parameters method (CallsConstructor callee is counted instance constructs numbered) = of (IsCall trees site) _ is (calls_constructor trees site callee)
-  direct_calls parameters method (CallsSpecial named callee is counted other found numbered) = of (IsCall trees site) _ is (calls_special trees site named.class callee)
+  direct_calls parameters method (CallsSpecial named callee is counted other found numbered special) = of (IsCall trees site) _ is (calls_special trees site named.class callee)
   direct_calls parameters method (CallsOnly named callee is counted numbered) = of (IsCall trees site) _ is (calls_virtual trees site named callee)
 
   pub special_calls : (parameters method : ℕ) → IsLinked trees p at code site k (linked.InvokeSpecial parameters method)

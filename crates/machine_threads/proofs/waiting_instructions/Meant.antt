@@ -8,7 +8,7 @@ use Rattle.std.proofs.lemmas.Option.{same_Some}
 use Rattle.model.specs.Names.{Name, Member, name_eq, java_lang_class, java_lang_string}
 use Rattle.model.specs.BuiltIn.{built_in_classes}
 use Rattle.model.specs.BuiltInMethods.{BuiltInMethod, Construct, ConstructWithMessage, ConstructWithCause, built_in_methods, constructor_of, is_row_of, built_in_method, built_in_may}
-use Rattle.model.specs.Calls.{Chosen, Runs, may_run, may_invoke, invoked, selected, its_class, if_implements, of_class, special_class, call_on, static_call, virtual_call, interface_call, special_call, constructor_call, leads_after, constructed_leads}
+use Rattle.model.specs.Calls.{Chosen, Runs, may_run, may_invoke, invoked, selected, its_class, if_implements, of_class, of_named, special_class, call_on, static_call, virtual_call, interface_call, special_call, constructor_call, leads_after, constructed_leads}
 use Rattle.model.specs.Classes.{Program, Body, body_of, is_built_in}
 use Rattle.model.specs.Meaning.{waiting_at}
 use Rattle.model.specs.Meanings.{meaning_of}
@@ -116,7 +116,7 @@ calls_static trees site callee = record {
 
 pub calls_virtual : (trees : Program) (site : Site) (named : Name) (callee : Member)
     → IsCall trees site (virtual_call words trees site named callee)
-calls_virtual trees site named callee = calls_on trees site callee (of_class trees named ∷ []) (leads_after trees site callee) (λ world r. selected trees (its_class world r) callee)
+calls_virtual trees site named callee = calls_on trees site callee (of_named trees named ∷ []) (leads_after trees site callee) (λ world r. selected trees (its_class world r) callee)
 
 pub calls_interface : (trees : Program) (site : Site) (named : Name) (callee : Member)
     → IsCall trees site (interface_call words trees site named callee)

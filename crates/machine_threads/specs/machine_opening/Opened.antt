@@ -29,12 +29,16 @@ pub record AddsObjects (objects : List Object) (old new : Heap) : Type 0 where
 
 -- ---- the objects, by the numbers of their classes: the built-in classes come first in each program
 
--- the PrintStream of System.out, the arguments, and the Thread of main, whose one field is its target
-abbrev pub first_objects : ℕ → List Object
-first_objects string_component =
+-- the Thread of main, by the word of its name; its other fields are its target, its number and its priority
+abbrev pub main_thread : ℕ → Object
+main_thread name = record { kind = kind.Instance thread_number; words = 0 ∷ name ∷ 0 ∷ 0 ∷ [] }
+
+-- the PrintStream of System.out, the arguments, and the Thread of main
+abbrev pub first_objects : (string_component name : ℕ) → List Object
+first_objects string_component name =
     fresh (kind.Instance print_stream_number) 0
     ∷ fresh (kind.References string_component) 0
-    ∷ fresh (kind.Instance thread_number) 1
+    ∷ main_thread name
     ∷ []
 
 -- a String, whose words are the units of its text
@@ -44,6 +48,6 @@ string_object text = record { kind = kind.Instance string_number; words = text }
 -- then a Class for each class, a String for each text, and the PrintStream of System.err
 abbrev pub opening_objects : LinkedProgram → List Object
 opening_objects p =
-    first_objects p.string_component
+    first_objects p.string_component p.main_text
     ++ (replicate (length p.classes.items) (fresh (kind.Instance class_number) 0)
     ++ (map (λ text. string_object text.items) p.texts.items ++ fresh (kind.Instance print_stream_number) 0 ∷ []))

@@ -3,16 +3,14 @@
 ghost use Rattle.std.specs.Prelude.{◌≡◌, ◌+◌, ◌<◌, ◌≤◌, [], ◌∷◌, length, map, replicate, OnOk, IfOk};
 ghost use Rattle.heap.specs.Heap.{fresh};
 ghost use Rattle.heap.specs.declared.kind.ObjectKind.{ObjectKind};
-ghost use Rattle.machine_threads.specs.machine_opening.Opened.{AddsObjects, opened, first_objects, opening_objects, string_object};
+ghost use Rattle.machine_threads.specs.machine_opening.Opened.{AddsObjects, opened, first_objects, main_thread, opening_objects};
+ghost use Rattle.machine_threads.specs.machine_opening.Opened.{string_object};
 
 use heap::{Heap, ObjectKind};
 use linked_code::LinkedProgram;
 use model::Limits;
 use model::built_in::{CLASS, PRINT_STREAM, STRING, THREAD};
 use std::alloc::{AllocError, Global};
-
-/// How many fields a Thread has: `target` alone.
-const THREAD_FIELDS: u32 = 1;
 
 /// Adds an object, behind those of the opening state that are there.
 fn add(heap: &mut Heap, kind: ObjectKind, count: u32) -> Result<(), AllocError>
@@ -72,10 +70,21 @@ fn add_strings(alloc: Global, heap: &mut Heap, texts: &[Vec<u16>]) -> Result<(),
     Ok(())
 }
 
-/// Adds the PrintStream of System.out, the array that main gets, and the Thread of main.
-fn add_first(heap: &mut Heap, string_component: u32) -> Result<(), AllocError>
+/// Adds the Thread of main: its target, its name, its number and its priority.
+fn add_main_thread(heap: &mut Heap, name: u32) -> Result<(), AllocError>
+    requires { length heap.old.objects < 294967295 }
+    ensures { OnOk result (AddsObjects (main_thread name ∷ []) heap.old heap.new) }
+{
+    let kind = ObjectKind::Instance {
+        class: THREAD as u32,
+    };
+    heap.add_opening_words(kind, &[0, name, 0, 0])
+}
+
+/// Adds the PrintStream of System.out, the array that main gets, and the Thread of main, whose name has this word.
+fn add_first(heap: &mut Heap, string_component: u32, name: u32) -> Result<(), AllocError>
     requires { length heap.old.objects + 3 ≤ 294967295 }
-    ensures { OnOk result (AddsObjects (first_objects string_component) heap.old heap.new) }
+    ensures { OnOk result (AddsObjects (first_objects string_component name) heap.old heap.new) }
 {
     let print_stream = ObjectKind::Instance {
         class: PRINT_STREAM as u32,
@@ -85,13 +94,7 @@ fn add_first(heap: &mut Heap, string_component: u32) -> Result<(), AllocError>
     };
     add(heap, print_stream, 0)?;
     add(heap, arguments, 0)?;
-    add(
-        heap,
-        ObjectKind::Instance {
-            class: THREAD as u32,
-        },
-        THREAD_FIELDS,
-    )
+    add_main_thread(heap, name)
 }
 
 /// The objects of the opening state: behind the first ones a Class for each class, a String for each text of a
@@ -105,7 +108,7 @@ pub(crate) fn opening_heap(
     ensures { IfOk result (λ heap. heap ≡ opened limits (opening_objects program.now)) }
 {
     let mut heap = Heap::new(alloc, limits);
-    add_first(&mut heap, program.string_component)?;
+    add_first(&mut heap, program.string_component, program.main_text)?;
     add_instances(&mut heap, CLASS as u32, program.classes.len() as u32)?;
     add_strings(alloc, &mut heap, &program.texts)?;
     add_instances(&mut heap, PRINT_STREAM as u32, 1)?;

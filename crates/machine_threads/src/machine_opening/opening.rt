@@ -51,6 +51,8 @@ pub fn opening_state(
         ready: opening_ready(alloc, program)?,
         threads: Threads::new(alloc, limits.threads, MAIN_THREAD_OBJECT)?,
         printed: Vec::new(alloc),
+        interned: Vec::new(alloc),
+        unnamed: 0,
         stacks: opening_stacks(alloc)?,
         heap: opening_heap(alloc, program, limits)?,
     })

@@ -2,6 +2,7 @@
 use Rattle.std.specs.Prelude.{ℕ, List, map}
 use Rattle.model.specs.Names.{Name, Member}
 use Rattle.model.specs.Classes.{Program}
+use Rattle.model.specs.ReferenceTypes.{ClassType}
 use Rattle.linked_code.specs.declared.class.LinkedClass.{LinkedClass}
 use Rattle.linked_code.specs.declared.class.InterfaceSelection.{InterfaceSelection}
 use Rattle.linked_code.specs.Selection.{IsSelection, IsInterfaceSelection}
@@ -18,7 +19,7 @@ interface_rows_in classes = map (λ (class : LinkedClass). class.interface_selec
 abbrev pub AreSelectionsCarried : Type 0
 AreSelectionsCarried =
     (files : Program) (classes : List LinkedClass) (named : Name) (method : Member) (place : ℕ)
-    → IsSelectionInRows files (rows_in classes) named method place → IsSelection files classes named method place
+    → IsSelectionInRows files (rows_in classes) named method place → IsSelection files classes (ClassType named) method place
 
 abbrev pub AreInterfaceSelectionsCarried : Type 0
 AreInterfaceSelectionsCarried =

@@ -10,8 +10,7 @@
 //!   `find_interface_method`. Of `SelectedMethods`: the number of the method that a class selects, by `select`; it
 //!   walks superclasses, with one search among numbers a step. `declared_by` and `superclass` are what its table has of
 //!   a class (`declared_number`): the method that the class itself declares (`AreDeclared`), and its superclass.
-//! - The getters take no memory. - Tested in `linking_tests`, on a program of six classes and interfaces beside the
-//!   built-in classes: numbers, references, selections, calls.
+//! - The getters take no memory.
 
 mod call;
 mod call_table;

@@ -27,6 +27,7 @@ object_methods =
     constructor
     ∷ declared native_method (codes "hashCode") (codes "()I")
     ∷ declared final_native_method (codes "getClass") (codes "()Ljava/lang/Class;")
+    ∷ declared 0x0104 (codes "clone") (codes "()Ljava/lang/Object;")
     ∷ declared final_native_method (codes "wait") (codes "()V")
     ∷ declared final_native_method (codes "notify") (codes "()V")
     ∷ declared final_native_method (codes "notifyAll") (codes "()V")

@@ -9,22 +9,32 @@ abbrev pub print_stream_println_code : List ℕ
 print_stream_println_code =
     0x2a ∷ 0x1b ∷ 0xb8 ∷ 0 ∷ 10 ∷ 0xb6 ∷ 0 ∷ 14 ∷ 0xb1 ∷ []
 
--- PrintStream.println(Ljava/lang/Object;)V: 0 aload_0, 1 aload_1, 2 invokestatic String.valueOf, 5 invokevirtual
--- println, 8 return
+-- PrintStream.println([C)V: 0 aload_0, 1 aload_1, 2 invokestatic String.valueOf, 5 invokevirtual println, 8 return
 abbrev pub print_stream_println_2_code : List ℕ
 print_stream_println_2_code =
     0x2a ∷ 0x2b ∷ 0xb8 ∷ 0 ∷ 17 ∷ 0xb6 ∷ 0 ∷ 14 ∷ 0xb1 ∷ []
 
+-- PrintStream.println(Ljava/lang/Object;)V: 0 aload_0, 1 aload_1, 2 invokestatic String.valueOf, 5 invokevirtual
+-- println, 8 return
+abbrev pub print_stream_println_3_code : List ℕ
+print_stream_println_3_code =
+    0x2a ∷ 0x2b ∷ 0xb8 ∷ 0 ∷ 20 ∷ 0xb6 ∷ 0 ∷ 14 ∷ 0xb1 ∷ []
+
 -- PrintStream.print(Z)V: 0 aload_0, 1 iload_1, 2 invokestatic String.valueOf, 5 invokevirtual print, 8 return
 abbrev pub print_stream_print_code : List ℕ
 print_stream_print_code =
-    0x2a ∷ 0x1b ∷ 0xb8 ∷ 0 ∷ 10 ∷ 0xb6 ∷ 0 ∷ 20 ∷ 0xb1 ∷ []
+    0x2a ∷ 0x1b ∷ 0xb8 ∷ 0 ∷ 10 ∷ 0xb6 ∷ 0 ∷ 23 ∷ 0xb1 ∷ []
+
+-- PrintStream.print([C)V: 0 aload_0, 1 aload_1, 2 invokestatic String.valueOf, 5 invokevirtual print, 8 return
+abbrev pub print_stream_print_2_code : List ℕ
+print_stream_print_2_code =
+    0x2a ∷ 0x2b ∷ 0xb8 ∷ 0 ∷ 17 ∷ 0xb6 ∷ 0 ∷ 23 ∷ 0xb1 ∷ []
 
 -- PrintStream.print(Ljava/lang/Object;)V: 0 aload_0, 1 aload_1, 2 invokestatic String.valueOf, 5 invokevirtual print, 8
 -- return
-abbrev pub print_stream_print_2_code : List ℕ
-print_stream_print_2_code =
-    0x2a ∷ 0x2b ∷ 0xb8 ∷ 0 ∷ 17 ∷ 0xb6 ∷ 0 ∷ 20 ∷ 0xb1 ∷ []
+abbrev pub print_stream_print_3_code : List ℕ
+print_stream_print_3_code =
+    0x2a ∷ 0x2b ∷ 0xb8 ∷ 0 ∷ 20 ∷ 0xb6 ∷ 0 ∷ 23 ∷ 0xb1 ∷ []
 
 -- PrintStream.flush()V: 0 return
 abbrev pub print_stream_flush_code : List ℕ
@@ -33,11 +43,13 @@ print_stream_flush_code =
 
 abbrev pub print_stream_coded : List Coded
 print_stream_coded =
-    coded 0x0001 11 21 2 2 print_stream_println_code
-    ∷ coded 0x0001 11 22 2 2 print_stream_println_2_code
-    ∷ coded 0x0001 18 21 2 2 print_stream_print_code
-    ∷ coded 0x0001 18 22 2 2 print_stream_print_2_code
-    ∷ coded 0x0001 23 24 0 1 print_stream_flush_code
+    coded 0x0001 11 24 2 2 print_stream_println_code
+    ∷ coded 0x0001 11 25 2 2 print_stream_println_2_code
+    ∷ coded 0x0001 11 26 2 2 print_stream_println_3_code
+    ∷ coded 0x0001 21 24 2 2 print_stream_print_code
+    ∷ coded 0x0001 21 25 2 2 print_stream_print_2_code
+    ∷ coded 0x0001 21 26 2 2 print_stream_print_3_code
+    ∷ coded 0x0001 27 28 0 1 print_stream_flush_code
     ∷ []
 
 abbrev pub print_stream_methods : List Declared
@@ -55,8 +67,9 @@ abbrev pub print_stream_operands : List Entry
 print_stream_operands =
     Utf8 (codes "java/lang/String") ∷ Class 5 ∷ Utf8 (codes "valueOf") ∷ Utf8 (codes "(Z)Ljava/lang/String;")
     ∷ NameAndType 7 8 ∷ Method 6 9 ∷ Utf8 (codes "println") ∷ Utf8 (codes "(Ljava/lang/String;)V") ∷ NameAndType 11 12
-    ∷ Method 2 13 ∷ Utf8 (codes "(Ljava/lang/Object;)Ljava/lang/String;") ∷ NameAndType 7 15 ∷ Method 6 16
-    ∷ Utf8 (codes "print") ∷ NameAndType 18 12 ∷ Method 2 19 ∷ Utf8 (codes "(Z)V")
+    ∷ Method 2 13 ∷ Utf8 (codes "([C)Ljava/lang/String;") ∷ NameAndType 7 15 ∷ Method 6 16
+    ∷ Utf8 (codes "(Ljava/lang/Object;)Ljava/lang/String;") ∷ NameAndType 7 18 ∷ Method 6 19 ∷ Utf8 (codes "print")
+    ∷ NameAndType 21 12 ∷ Method 2 22 ∷ Utf8 (codes "(Z)V") ∷ Utf8 (codes "([C)V")
     ∷ Utf8 (codes "(Ljava/lang/Object;)V") ∷ Utf8 (codes "flush") ∷ Utf8 (codes "()V") ∷ Utf8 (codes "Code") ∷ []
 
 abbrev pub print_stream_class : FileTree

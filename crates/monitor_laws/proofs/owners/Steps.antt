@@ -15,7 +15,7 @@ use Rattle.model.specs.Operands.{Carrier, words, values, under}
 use Rattle.model.specs.Lookup.{select, field_member}
 use Rattle.model.specs.Opening.{arguments_reference, class_reference}
 use Rattle.model.specs.State.{Monitor, types_of, InProgress, Erroneous, WakeCause, Notified, Interrupted, ThreadStatus, Running, Waiting, Relock, Ended, FrameOf, Phase, Super, End, Invocation, Initialisation, StackOf, WorldOf, StateOf}
-use Rattle.model.specs.Outcomes.{Cost, MachineException, OutcomeOf, Goes, Raises, Throws, Interrupts, Calls, Returns, Waits, NoClassDefFound, StackOverflow, IllegalMonitorState, InterruptedWait, AbstractMethod, ExceptionInInitializer}
+use Rattle.model.specs.Outcomes.{Cost, MachineException, OutcomeOf, Goes, Raises, Throws, Interrupts, Calls, Returns, Waits, NoClassDefFound, StackOverflow, IllegalMonitorState, InterruptedWait, AbstractMethod}
 use Rattle.model.specs.Monitors as monitors
 use Rattle.model.specs.Worlds.{thread_at, with_thread, with_begun, with_static, put_value, object_at, class_of_object, is_owner, may_enter, with_entry, entry_cost, with_exit, with_interrupted, is_done}
 use Rattle.model.specs.ClassInitialisation.{status_of, with_class_status, constant_value, with_constant, with_constants, Look, IsReady, IsNew, IsHeld, HasFailed, look_by}

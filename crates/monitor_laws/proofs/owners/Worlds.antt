@@ -1,21 +1,28 @@
 -- What instructions and the methods of the machine make of a world keeps owners.
 use Rattle.std.proofs.Common.{◌≡◌, ℕ, List, [], ◌∷◌, Bool, true, false, Option, Some, None, refl, ap, ◌∙◌}
-use Rattle.std.specs.Prelude.{slice_get, is_some}
+use Rattle.std.specs.Prelude.{slice_get, is_some, if◌then◌else◌}
 use Rattle.model.specs.declared.event.Event.{Event}
 use Rattle.model.specs.Classes.{Program}
-use Rattle.model.specs.Opening.{string_reference}
+use Rattle.model.specs.Opening.{string_reference, string_references, opening_count}
 use Rattle.model.specs.Operands.{Slots, Carrier}
-use Rattle.model.specs.State.{Monitor, WorldOf, Waiter, WakeCause, Notified, ThreadStatus, Running, Waiting, Relock, Ended}
+use Rattle.model.specs.State.{ObjectOf, type_of, Monitor, WorldOf, Waiter, WakeCause, Notified, ThreadStatus, Running, Waiting, Relock, Ended}
 use Rattle.model.specs.Outcomes.{OutcomeOf, Goes, Raises, Throws, Interrupts, Calls, Returns, Waits, not_null}
 use Rattle.model.specs.Monitors as monitors
-use Rattle.model.specs.Worlds.{thread_at, thread_of, is_alive, is_owner, with_monitors, woken, all_woken, waiters_of}
-use Rattle.model.specs.Sites.{pushing, int_operand}
+use Rattle.model.specs.Texts.{Text}
+use Rattle.model.specs.Worlds.{thread_at, thread_of, is_alive, is_owner, object_at, with_object, with_text, with_monitors, woken, all_woken, waiters_of}
+use Rattle.model.specs.Sites.{pushing, referent, int_operand}
 use Rattle.model.specs.StringMethods.{StringAnswer, IsNull, IsOutside, Answers, Same, Composes, string_answer}
 use Rattle.model.specs.BuilderMethods as builder
 use Rattle.model.specs.BuilderMethods.{BuilderAnswer, KeepsEmpty, Keeps, Adds, GivesText, builds}
 use Rattle.model.specs.ObjectMethods as telling
 use Rattle.model.specs.ObjectMethods.{ObjectAnswer, HasNoClass, IsOf, object_answer, object_place, tells, type_at}
-use Rattle.model.specs.BuiltInMethods.{BuiltInMethod, Construct, ConstructWithMessage, ConstructWithCause, ConstructWithTarget, ObjectWait, ObjectNotify, ObjectNotifyAll, ThreadStart, ThreadInterrupt, ThreadIsInterrupted, ThreadInterrupted, ThreadYield, ThreadCurrentThread, ThreadJoin, ThreadIsAlive, PrintStreamPrints, StringAnswers, StringBuilderBuilds, ObjectAnswers, object_of, string_operand, answered, wait_by, notified_one, notified, notified_all, if_owner, start_by, interrupted_in, interrupted_on, join_by, built_in_does}
+use Rattle.model.specs.BuiltInMethods.{BuiltInMethod, Construct, ConstructWithMessage, ConstructWithCause, ObjectClone, ObjectWait, ObjectNotify, ObjectNotifyAll, ThreadStart, ThreadInterrupt, ThreadIsInterrupted, ThreadInterrupted, ThreadYield, ThreadCurrentThread, ThreadJoin, ThreadIsAlive, ThreadNames, PrintStreamPrints, StringAnswers, StringWrites, StringBuilderBuilds, ObjectAnswers, object_of, string_operand, answered, wait_by, notified_one, notified, notified_all, if_owner, start_by, interrupted_in, interrupted_on, join_by, built_in_does}
+use Rattle.model.specs.declared.name_method.NameMethod.{NameMethod}
+use Rattle.model.specs.declared.name_method.NameMethod.TheVariants as naming
+use Rattle.model.specs.Cloning.{is_cloneable, cloned}
+use Rattle.model.specs.TextMethods as writing
+use Rattle.model.specs.TextMethods.{TextAnswer, IsOutsideArray, Becomes, Stores, StandsFor, text_answer, units_operand, standing_for, gives_standing, is_blank, writes}
+use Rattle.model.specs.ThreadNames.{kept_name, ordinal_text, gives_name, thread_names}
 use Rattle.monitor_laws.specs.owners.Owners.{KeepsOwners}
 use Rattle.monitor_laws.proofs.owners.Monitors.{any_keeps, more_keeps, call_changes, call_keeps, as_owner_keeps}
 
@@ -133,12 +140,56 @@ module _ {A : Type 0} where
       tells_kept C files (IsOf class) next slots rest = same_kept p world.monitors
       tells_kept C files (telling.Composes text) next slots rest = any_keeps p world.monitors _ (more_keeps world.monitors)
 
+      -- and that of a copy
+      cloned_kept : (C : Carrier A) (b : Bool) (object : ObjectOf A) (next : ℕ) (slots : Slots A) (rest : List A)
+          → kept (cloned C b object next world slots rest)
+      cloned_kept C true object next slots rest = any_keeps p world.monitors _ (more_keeps world.monitors)
+      cloned_kept C false object next slots rest = tt
+
+      -- what is changed keeps its monitor
+      blank_kept : (b : Bool) (r : ℕ) (o : ObjectOf A) → KeepsOwners p world.monitors (if b then with_object world r o else world).monitors
+      blank_kept true r o = same_kept p world.monitors
+      blank_kept false r o = same_kept p world.monitors
+
+      standing_kept : (C : Carrier A) (string : Option ℕ) (next : ℕ) (slots : Slots A) (ops rest : List A)
+          → kept (gives_standing C string next world slots ops rest)
+      standing_kept C None next slots ops rest = same_kept p world.monitors
+      standing_kept C (Some string) next slots ops rest = same_kept p world.monitors
+
+      writes_kept : (C : Carrier A) (opened : ℕ) (constants : List ℕ) (answer : TextAnswer) (next : ℕ) (slots : Slots A) (ops rest : List A)
+          → kept (writes C opened constants answer next world slots ops rest)
+      writes_kept C opened constants writing.IsNull next slots ops rest = tt
+      writes_kept C opened constants writing.IsOutside next slots ops rest = tt
+      writes_kept C opened constants IsOutsideArray next slots ops rest = tt
+      writes_kept C opened constants (Becomes receiver text) next slots ops rest =
+          blank_kept (is_blank opened world (object_of C ops receiver)) (object_of C ops receiver) (with_text text (object_at world (object_of C ops receiver)))
+      writes_kept C opened constants (Stores array index text) next slots ops rest = same_kept p world.monitors
+      writes_kept C opened constants (StandsFor text) next slots ops rest = standing_kept C (standing_for constants world text) next slots ops rest
+
+      gives_name_kept : (C : Carrier A) (name : Option ℕ) (text : Text) (next : ℕ) (slots : Slots A) (ops rest : List A)
+          → kept (gives_name C name text next world slots ops rest)
+      gives_name_kept C (Some name) text next slots ops rest = same_kept p world.monitors
+      gives_name_kept C None text next slots ops rest = any_keeps p world.monitors _ (more_keeps world.monitors)
+
+      names_kept : (C : Carrier A) (method : NameMethod) (next : ℕ) (slots : Slots A) (ops rest : List A)
+          → kept (thread_names C method next world slots ops rest)
+      names_kept C naming.Construct next slots ops rest = same_kept p world.monitors
+      names_kept C naming.ConstructWithTarget next slots ops rest = same_kept p world.monitors
+      names_kept C naming.ConstructWithName next slots ops rest = not_null_kept p w world.monitors (referent C ops 0) _ (λ r e. same_kept p world.monitors)
+      names_kept C naming.ConstructWithTargetAndName next slots ops rest =
+          not_null_kept p w world.monitors (referent C ops 0) _ (λ r e. same_kept p world.monitors)
+      names_kept C naming.GetName next slots ops rest =
+          let o = object_at world (object_of C ops 0) in
+          gives_name_kept C (C.referent (kept_name C o)) (ordinal_text C o) next slots ops rest
+      names_kept C naming.SetName next slots ops rest = not_null_kept p w world.monitors (referent C ops 0) _ (λ r e. same_kept p world.monitors)
+
     pub built_in_kept : (p : Option ℕ) (C : Carrier A) (files : Program) (method : BuiltInMethod) (next : ℕ) (event : Event) (slots : Slots A) (ops rest : List A)
         → OutcomeKept p (object_of C ops 0) world.monitors (built_in_does C files method next event world slots ops rest)
     built_in_kept p C files Construct next event slots ops rest = same_kept p world.monitors
     built_in_kept p C files ConstructWithMessage next event slots ops rest = same_kept p world.monitors
     built_in_kept p C files ConstructWithCause next event slots ops rest = same_kept p world.monitors
-    built_in_kept p C files ConstructWithTarget next event slots ops rest = same_kept p world.monitors
+    built_in_kept p C files ObjectClone next event slots ops rest =
+        cloned_kept p (object_of C ops 0) C (is_cloneable files (type_of (object_at world (object_of C ops 0)))) (object_at world (object_of C ops 0)) next slots rest
     built_in_kept p C files ObjectWait next event slots ops rest =
         wait_by_kept p (object_of C ops 0) (is_owner world event.thread (object_of C ops 0)) (thread_at world event.thread).interrupted event.thread rest
     built_in_kept p C files ObjectNotify next event slots ops rest =
@@ -159,9 +210,13 @@ module _ {A : Type 0} where
     built_in_kept p C files ThreadCurrentThread next event slots ops rest = same_kept p world.monitors
     built_in_kept p C files ThreadJoin next event slots ops rest = join_kept p (object_of C ops 0) (is_alive world (object_of C ops 0)) next slots rest
     built_in_kept p C files ThreadIsAlive next event slots ops rest = same_kept p world.monitors
+    built_in_kept p C files (ThreadNames called) next event slots ops rest = names_kept p (object_of C ops 0) C called next slots ops rest
     built_in_kept p C files (PrintStreamPrints print) next event slots ops rest = same_kept p world.monitors
     built_in_kept p C files (StringAnswers called) next event slots ops rest =
         answered_kept p (object_of C ops 0) C (string_answer called (int_operand C ops) (string_operand C world ops)) next slots ops rest
+    built_in_kept p C files (StringWrites called) next event slots ops rest =
+        writes_kept p (object_of C ops 0) C (opening_count files) (string_references files)
+        (text_answer called (int_operand C ops) (string_operand C world ops) (units_operand C world ops)) next slots ops rest
     built_in_kept p C files (StringBuilderBuilds called) next event slots ops rest =
         builds_kept p (object_of C ops 0) C (string_reference files []) _ next slots ops rest
     built_in_kept p C files (ObjectAnswers called) next event slots ops rest = tells_kept p (object_of C ops 0) C files _ next slots rest

@@ -10,7 +10,7 @@ use Rattle.model.specs.declared.builder_method.BuilderMethod.TheVariants.{Constr
 use Rattle.model.specs.declared.value.Value.{Value}
 use Rattle.model.specs.BuilderMethods.{IsNull, Keeps, builds, builder_does}
 use Rattle.model.specs.BuiltIn.{built_in_classes}
-use Rattle.model.specs.BuiltInMethods.{StringBuilderBuilds}
+use Rattle.model.specs.BuiltInMethods.{BuiltInMethod, StringBuilderBuilds}
 use Rattle.model.specs.BuiltInNumbers.{string_builder_number}
 use Rattle.model.specs.Classes.{Program}
 use Rattle.model.specs.Names.{Member, builder_text}
@@ -24,11 +24,13 @@ use Rattle.race_places.specs.declared.run_actions.Variable.TheVariants as variab
 use Rattle.race_places.specs.named_actions.Names.{named_action, IsOfField}
 use Rattle.data_races.specs.Actions as named
 use Rattle.data_races.specs.Variables.{InstanceField, declares_volatile}
-use Rattle.data_races.specs.EventActions.{goes_on, text_access, builder_accesses}
+use Rattle.data_races.specs.EventActions.{goes_on, only_if, text_access, builder_accesses}
 use Rattle.field_names.specs.named_fields.Fields.{names_of, member_at, no_member}
 use Rattle.next_accesses.specs.accesses.Accesses.{object_under, read_of, write_of, IsRightIf}
-use Rattle.next_accesses.specs.builder_texts.Texts.{accesses_in, one_access, AreRight, text_of, text_under, appending, texts_accessed, throws_on, texts_on}
+use Rattle.next_accesses.specs.builder_texts.Texts.{accesses_in, one_access, text_of, text_under, appending, texts_accessed, throws_on, texts_on}
+use Rattle.next_accesses.specs.next_access.Next.{AreAllRight, AreNamed}
 use Rattle.next_accesses.specs.read_operands.Reads.{IsReference}
+use Rattle.next_accesses.proofs.next_access.Right.{named_none, right_both, right_if}
 
 -- ---- the field of the text
 
@@ -47,8 +49,8 @@ text_right trees r = (
 )
 
 -- each operand that a method takes as an object is read by its word
-abbrev pub ReadsAll : List ℕ → List Value → BuilderMethod → Type 0
-ReadsAll operands ops b = (k : ℕ) → is_place_of (object_places (StringBuilderBuilds b)) k ≡ true → IsReference ops operands k
+abbrev pub ReadsAll : List ℕ → List Value → BuiltInMethod → Type 0
+ReadsAll operands ops m = (k : ℕ) → is_place_of (object_places m) k ≡ true → IsReference ops operands k
 
 -- ---- one access
 
@@ -114,7 +116,7 @@ module _ (trees : Program) where
         ∙ (ap (λ l. (l ++ map its_name added) ++ map its_name last) (read_at 1 e)
         ∙ (ap (λ l. (text_access ops 1 named.Read ++ l) ++ map its_name last) (read_at 0 f) ∙ ap (λ l. (text_access ops 1 named.Read ++ text_access ops 0 named.Read) ++ l) (write_at 1 e))))
 
-    pub texts_named : (b : BuilderMethod) → ReadsAll operands ops b → map its_name (accesses_in (texts_accessed operands b)) ≡ builder_accesses ops b
+    pub texts_named : (b : BuilderMethod) → ReadsAll operands ops (StringBuilderBuilds b) → map its_name (accesses_in (texts_accessed operands b)) ≡ builder_accesses ops b
     texts_named ConstructEmpty h = one_write 0 (h 0 refl)
     texts_named ConstructOfString h = one_write 1 (h 1 refl)
     texts_named AppendString h = appended (h 1 refl)
@@ -123,14 +125,21 @@ module _ (trees : Program) where
     texts_named AppendBuilder h = appended_one (h 1 refl) (h 0 refl)
     texts_named ToString h = one_read 0 (h 0 refl)
 
-  one_right : (o : Option Action) → IsRightIf trees o → AreRight trees (one_access o)
-  one_right o h = record { first = h; second = tt; third = tt }
+  three_right : (o p q : Option Action) → IsRightIf trees o → IsRightIf trees p → IsRightIf trees q
+      → AreAllRight trees (option_to_list o ++ option_to_list p ++ option_to_list q)
+  three_right o p q e f g =
+      right_both trees (option_to_list o ++ option_to_list p) (option_to_list q)
+      (right_both trees (option_to_list o) (option_to_list p) (right_if trees o e) (right_if trees p f)) (right_if trees q g)
 
-  appending_right : (operands : List ℕ) (added : Option ℕ) → AreRight trees (appending operands (text_of added))
+  one_right : (o : Option Action) → IsRightIf trees o → AreAllRight trees (accesses_in (one_access o))
+  one_right o h = three_right o None None h tt tt
+
+  appending_right : (operands : List ℕ) (added : Option ℕ) → AreAllRight trees (accesses_in (appending operands (text_of added)))
   appending_right operands added =
-      record { first = read_right (object_under operands 1); second = read_right added; third = write_right (object_under operands 1) }
+      let text = object_under operands 1 in
+      three_right (read_of false (text_of text)) (read_of false (text_of added)) (write_of false (text_of text)) (read_right text) (read_right added) (write_right text)
 
-  pub texts_right : (operands : List ℕ) (b : BuilderMethod) → AreRight trees (texts_accessed operands b)
+  texts_right : (operands : List ℕ) (b : BuilderMethod) → AreAllRight trees (accesses_in (texts_accessed operands b))
   texts_right operands ConstructEmpty = one_right _ (write_right (object_under operands 0))
   texts_right operands ConstructOfString = one_right _ (write_right (object_under operands 1))
   texts_right operands AppendString = appending_right operands None
@@ -138,6 +147,15 @@ module _ (trees : Program) where
   texts_right operands AppendChar = appending_right operands None
   texts_right operands AppendBuilder = appending_right operands (object_under operands 0)
   texts_right operands ToString = one_right _ (read_right (object_under operands 0))
+
+  -- those of the call
+  pub texts_seen : (operands : List ℕ) (ops : List Value) (b : BuilderMethod) → ReadsAll operands ops (StringBuilderBuilds b)
+      → AreNamed trees (accesses_in (texts_on operands b)) (only_if (not (throws_on operands b)) (builder_accesses ops b))
+  texts_seen operands ops b h = by (throws_on operands b)
+    where
+      by : (x : Bool) → AreNamed trees (accesses_in (if x then one_access None else texts_accessed operands b)) (only_if (not x) (builder_accesses ops b))
+      by true = named_none trees
+      by false = record { are = texts_named operands ops b h; right = texts_right operands b }
 
 -- ---- whether it throws
 
@@ -153,7 +171,7 @@ module _ (empty next : ℕ) (world : World) (slots : Slots Value) (operands : Li
   string_goes true = refl
   string_goes false = refl
 
-  pub goes_unless : (b : BuilderMethod) → ReadsAll operands ops b → goes_on (builder_does values empty b next world slots ops rest) ≡ not (throws_on operands b)
+  pub goes_unless : (b : BuilderMethod) → ReadsAll operands ops (StringBuilderBuilds b) → goes_on (builder_does values empty b next world slots ops rest) ≡ not (throws_on operands b)
   goes_unless ConstructEmpty h = refl
   goes_unless ConstructOfString h =
       string_goes (is_none (referent values ops 0)) ∙ ap not (ap is_none (h 0 refl) ∙ word_null (slice_index_or operands 0 0))

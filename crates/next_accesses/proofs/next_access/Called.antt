@@ -1,16 +1,16 @@
--- The method of StringBuilder that is told of an instruction is the one that it runs.
+-- The method without code that is told of an instruction is the one that it runs.
 use Rattle.std.proofs.Common.{◌≡◌, refl, sym, ap, subst, ◌∙◌, ℕ, List, [], map, Bool, true, false, Option, Some, None, if◌then◌else◌}
 use Rattle.std.specs.Prelude.{is_some, slice_get}
 use Rattle.std.specs.Option.{option_and_then, option_map}
 use Rattle.std.proofs.lemmas.Option.{same_Some, none-some}
-use Rattle.model.specs.declared.builder_method.BuilderMethod.{BuilderMethod}
+use Rattle.next_accesses.specs.declared.accessing_calls.AccessingMethod.{AccessingMethod}
 use Rattle.model.specs.declared.instr.Instr.{Instr}
 use Rattle.model.specs.declared.instr.Instr.TheVariants as instr
 use Rattle.model.specs.declared.instr.Invocation.TheVariants as invocation
 use Rattle.model.specs.declared.value.Value.{Value}
-use Rattle.model.specs.BuiltInMethods.{BuiltInMethod, StringBuilderBuilds}
+use Rattle.model.specs.BuiltInMethods.{BuiltInMethod, ObjectClone, StringWrites, StringBuilderBuilds}
 use Rattle.model.specs.Calls.{parameter_count, special_class}
-use Rattle.model.specs.Classes.{Program, Body, body_of, body_in, with_pool, name_of, class_of}
+use Rattle.model.specs.Classes.{Program, Body, body_of, body_in, with_pool, name_of, class_of, is_subclass}
 use Rattle.model.specs.Instruction.{Sized, sized_at}
 use Rattle.model.specs.LimitStands.{Bounds}
 use Rattle.model.specs.Lookup.{find_method}
@@ -20,9 +20,9 @@ use Rattle.model.specs.Pool.{method_at, interface_method_at}
 use Rattle.model.specs.Sites.{MeaningOf, Site, site_with}
 use Rattle.model.specs.State.{ObjectOf, types_of, State}
 use Rattle.model.specs.Tree.{FileTree, CodeTree, MethodTree}
-use Rattle.model.specs.Words.{map_world}
+use Rattle.model.specs.Words.{map_frame, map_world, words_of}
 use Rattle.run_laws.specs.soundness.Runs.{IsNoEventWrong}
-use Rattle.run_laws.specs.word_operands.Receivers.{receiver, receiver_of, has_class_below, is_any, AreReceived}
+use Rattle.run_laws.specs.word_operands.Receivers.{receiver, receiver_of, is_called_on, is_any, AreReceived}
 use Rattle.run_laws.proofs.laws.Unrefused.{names_differ}
 use Rattle.hierarchy.specs.Places.{class_at, place_of}
 use Rattle.hierarchy.specs.declared.place.MemberPlace.{MemberPlace}
@@ -38,12 +38,14 @@ use Rattle.machine_state.specs.declared.state.Shared.{Shared}
 use Rattle.machine_state.specs.linked_frames.Frames.{AreTopsShown}
 use Rattle.machine_state.specs.shown_objects.Shown.{ShowsObjects}
 use Rattle.data_races.specs.EventActions.{Instruction, operands_of, without_code, method_run, built_in_at}
+use Rattle.data_races.proofs.BuilderCalls.{accessing_method}
 use Rattle.data_races.proofs.BuilderRuns.{does_build}
 use Rattle.thread_rules.specs.next_rules.Meant.{IsAtInstruction}
-use Rattle.next_accesses.specs.builder_calls.Called.{as_builder, IsReceiverThere, CallsVirtual, CallsInterface, CallsSpecial, CallsBy, CallsIn, TellsBuilder, called_virtual, called_interface, called_special}
+use Rattle.next_accesses.specs.accessing_calls.Called.{as_accessing, IsReceiverThere, CallsVirtual, CallsInterface, CallsSpecial, CallsBy, CallsIn, TellsAccessing, called_virtual, called_interface, called_special}
 use Rattle.next_accesses.specs.next_access.Next.{IsReached}
 use Rattle.next_accesses.specs.read_operands.Reads.{AreOperandsRead}
-use Rattle.next_accesses.proofs.builder_calls.Receiving.{receiver_there, virtual_told, interface_told, special_told, virtual_names, interface_names, special_names, constructor_there, special_is, static_looks}
+use Rattle.next_accesses.proofs.accessing_calls.SpecialSites.{above}
+use Rattle.next_accesses.proofs.accessing_calls.Receiving.{receiver_there, virtual_told, interface_told, special_told, virtual_names, interface_names, special_names, constructor_there, static_looks}
 use Rattle.next_accesses.proofs.next_access.Meant.{operands_are, numbered, body_is, finds, received}
 
 -- ---- the class of a method, by the place of its number
@@ -100,8 +102,8 @@ module _ (wrong : IsNoEventWrong) (receives : AreReceived) (reads : AreOperandsR
   abbrev heap : List (ObjectOf ℕ)
   heap = (map_world word_of state.world).heap
 
-  abbrev told_of : Option BuilderMethod
-  told_of = option_and_then as_builder (built_in_at trees state.world instruction)
+  abbrev told_of : Option AccessingMethod
+  told_of = option_and_then as_accessing (built_in_at trees state.world instruction)
 
   site_method : site.method ≡ method
   site_method = by (sized_at at.stands.body.code.code at.stands.frame.place.offset) at.stands.at
@@ -139,7 +141,7 @@ module _ (wrong : IsNoEventWrong) (receives : AreReceived) (reads : AreOperandsR
     in_file : (index : ℕ) (named : Member) → method_at site.body.pool index ≡ Some named → method_at c.file.pool index ≡ Some named
     in_file index named e = subst (λ pool. method_at pool index ≡ Some named) pool_is e
 
-    module _ (told : Option BuilderMethod) where
+    module _ (told : Option AccessingMethod) where
       virtual : (index : ℕ) → site.instr ≡ instr.Invoke invocation.Virtual index
           → ((named : Member) → method_at c.file.pool index ≡ Some named → CallsVirtual trees p shared.heap.objects frame.operands named told) → told ≡ told_of
       virtual index i calls = by (method_at site.body.pool index) refl
@@ -148,7 +150,7 @@ module _ (wrong : IsNoEventWrong) (receives : AreReceived) (reads : AreOperandsR
           by None e = absurd (virtual_names trees site instruction.meaning at.stands.means index method i e)
           by (Some named) e =
               calls named (in_file index named e) r.program heap shows
-              (there named (has_class_below trees named.class) (ap (receiver_of trees site) i ∙ ap (option_map (λ (m : Member). receiver (parameter_count m) (has_class_below trees m.class))) e))
+              (there named (is_called_on trees named.class) (ap (receiver_of trees site) i ∙ ap (option_map (λ (m : Member). receiver (parameter_count m) (is_called_on trees m.class))) e))
               ∙ sym (subst (λ ns. told_of ≡ called_virtual trees heap ns named) words_are
               (virtual_told trees site state.world max instruction.slots instruction.meaning all_found at.stands.means index named i e))
 
@@ -174,8 +176,11 @@ module _ (wrong : IsNoEventWrong) (receives : AreReceived) (reads : AreOperandsR
           by : (o : Option ℕ) → place_of trees (special_class trees (name_of c.file) named.class) ≡ o → is_some o ≡ true
           by (Some n) q = refl
           by None q =
-              let f = special_is trees site instruction.meaning at.stands.means index named i e other in
-              absurd (special_there trees (r.program.files, r.program.linkable) place.class c.file c.class_is named f.method f.found q)
+              let above_it : is_subclass trees (name_of c.file) named.class ≡ true =
+              ap (λ n. is_subclass trees n named.class) c.named
+              ∙ above trees p bounds r.inflated t shared stack (words_of state) (map_frame word_of at.stands.frame) at.rest at.code site at.meaning at.linked at.runs index named i e other
+              in
+              absurd (special_there trees (r.program.files, r.program.linkable) place.class c.file c.class_is named above_it q)
 
       special : (index : ℕ) → site.instr ≡ instr.Invoke invocation.Special index
           → ((named : Member) → method_at c.file.pool index ≡ Some named → CallsSpecial trees p frame.operands (name_of c.file) named told) → told ≡ told_of
@@ -191,23 +196,31 @@ module _ (wrong : IsNoEventWrong) (receives : AreReceived) (reads : AreOperandsR
               (special_told trees site state.world max instruction.slots instruction.meaning all_found at.stands.means index named i e)))
 
     -- any other instruction runs none
-    builder_in_of : (b : BuilderMethod) (o : Option BuiltInMethod) → option_and_then as_builder o ≡ Some b → o ≡ Some (StringBuilderBuilds b)
-    builder_in_of b None e = absurd (none-some b e)
-    builder_in_of b (Some (StringBuilderBuilds x)) e = ap (λ y. Some (StringBuilderBuilds y)) (same_Some x b e)
-    builder_in_of b (Some _) e = absurd (none-some b e)
+    record Runs (b : AccessingMethod) (o : Option BuiltInMethod) : Type 0 where
+      method : BuiltInMethod
+      is : o ≡ Some method
+      accesses : accessing_method method ≡ Some method
+
+    runs_of : (b : AccessingMethod) (o : Option BuiltInMethod) → option_and_then as_accessing o ≡ Some b → Runs b o
+    runs_of b None e = absurd (none-some b e)
+    runs_of b (Some (StringBuilderBuilds x)) e = record { method = StringBuilderBuilds x; is = refl; accesses = refl }
+    runs_of b (Some (StringWrites x)) e = record { method = StringWrites x; is = refl; accesses = refl }
+    runs_of b (Some ObjectClone) e = record { method = ObjectClone; is = refl; accesses = refl }
+    runs_of b (Some _) e = absurd (none-some b e)
 
     static : (index : ℕ) → site.instr ≡ instr.Invoke invocation.Static index → None ≡ told_of
     static index i =
         none_or_some told_of
         (λ b e.
-        let d = does_build trees site instruction.meaning at.stands.means state.world (operands_of instruction) b (builder_in_of b (built_in_at trees state.world instruction) e) in
+        let m = runs_of b (built_in_at trees state.world instruction) e in
+        let d = does_build trees site instruction.meaning at.stands.means state.world (operands_of instruction) m.method (record { runs = m.is; accesses = m.accesses }) in
         static_looks trees site instruction.meaning at.stands.means index method i (ap (λ (m : MeaningOf Value). m.looks) d.call.is))
 
     other : (i : Instr) → site.instr ≡ i → method_run trees site state.world (operands_of instruction) i ≡ None → None ≡ told_of
     other i e none =
-        sym (ap (λ o. option_and_then as_builder (option_and_then (λ (m : Member). without_code m (body_of trees m)) o)) (ap (method_run trees site state.world (operands_of instruction)) e ∙ none))
+        sym (ap (λ o. option_and_then as_accessing (option_and_then (λ (m : Member). without_code m (body_of trees m)) o)) (ap (method_run trees site state.world (operands_of instruction)) e ∙ none))
 
-    by_instr : (i : Instr) → site.instr ≡ i → (told : Option BuilderMethod) → CallsBy trees p shared.heap.objects frame.operands c.file i told → told ≡ told_of
+    by_instr : (i : Instr) → site.instr ≡ i → (told : Option AccessingMethod) → CallsBy trees p shared.heap.objects frame.operands c.file i told → told ≡ told_of
     by_instr (instr.Invoke invocation.Virtual index) e told h = virtual told index e h
     by_instr (instr.Invoke invocation.Special index) e told h = special told index e h
     by_instr (instr.Invoke invocation.Static index) e told h = h ∙ static index e
@@ -217,15 +230,15 @@ module _ (wrong : IsNoEventWrong) (receives : AreReceived) (reads : AreOperandsR
 -- ---- what a function tells
 
 module _ (wrong : IsNoEventWrong) (receives : AreReceived) (reads : AreOperandsRead) (tops : AreTopsShown) (trees : Program) (p : LinkedProgram)
-    (shared : Shared) (t : ℕ) (frame : ShownFrame) (i : Instr) (told : Option BuilderMethod) where
+    (shared : Shared) (t : ℕ) (frame : ShownFrame) (i : Instr) (told : Option AccessingMethod) where
   pub called_told : (place : MemberPlace) → option_map (member_at trees) (Some place) ≡ option_map (λ (m : Member). Some m) (slice_get (methods_of trees) frame.method)
-      → CallsIn trees p shared.heap.objects frame.operands place.class i told → TellsBuilder trees p shared t frame i told
+      → CallsIn trees p shared.heap.objects frame.operands place.class i told → TellsAccessing trees p shared t frame i told
   called_told place e calls bounds state r stack at top is =
       let number = numbered wrong receives reads tops trees p shared t frame bounds state r stack at top in
       let c = in_class trees place at.stands.frame.method (placed trees frame.method place e at.stands.frame.method number) in
       by_instr wrong receives reads tops trees p shared t frame bounds state r stack at top place c i is told (calls c.file c.class_is)
 
-  pub no_place : None ≡ option_map (λ (m : Member). Some m) (slice_get (methods_of trees) frame.method) → TellsBuilder trees p shared t frame i told
+  pub no_place : None ≡ option_map (λ (m : Member). Some m) (slice_get (methods_of trees) frame.method) → TellsAccessing trees p shared t frame i told
   no_place e bounds state r stack at top is =
       let number = numbered wrong receives reads tops trees p shared t frame bounds state r stack at top in
       let there : slice_get (methods_of trees) frame.method ≡ Some at.stands.frame.method = ap (λ l. slice_get l frame.method) (same_methods trees) ∙ number in

@@ -16,15 +16,19 @@ use Rattle.model.specs.declared.instr.Instr.TheVariants as instr
 use Rattle.model.specs.Names.{Name, Member, builder_text}
 use Rattle.model.specs.Pool.{field_at}
 use Rattle.model.specs.Classes.{Program}
-use Rattle.model.specs.Lookup.{find_field}
+use Rattle.model.specs.Lookup.{find_field, instance_fields}
 use Rattle.model.specs.Operands.{values}
-use Rattle.model.specs.State.{World, Notified, Interrupted}
-use Rattle.model.specs.Worlds.{thread_at, thread_of, is_owner}
+use Rattle.model.specs.ReferenceTypes.{ReferenceType, ClassType, PrimitiveArray, ReferenceArray}
+use Rattle.model.specs.Rows.{counting}
+use Rattle.model.specs.declared.text_method.TextMethod.{TextMethod}
+use Rattle.model.specs.declared.text_method.TextMethod.TheVariants as text_method
+use Rattle.model.specs.State.{World, Notified, Interrupted, type_of}
+use Rattle.model.specs.Worlds.{thread_at, thread_of, is_owner, object_at, elements_of}
 use Rattle.model.specs.Sites.{Site, referent, int_operand}
-use Rattle.model.specs.BuiltInMethods.{BuiltInMethod, ObjectWait, ThreadStart, ThreadInterrupt, ThreadIsInterrupted, ThreadInterrupted, ThreadJoin, ThreadIsAlive, StringBuilderBuilds}
+use Rattle.model.specs.BuiltInMethods.{BuiltInMethod, ObjectWait, ThreadStart, ThreadInterrupt, ThreadIsInterrupted, ThreadInterrupted, ThreadJoin, ThreadIsAlive, ObjectClone, StringWrites, StringBuilderBuilds}
 use Rattle.data_races.specs.Variables.{Variable, InstanceField, StaticField, Element}
 use Rattle.data_races.specs.Actions.{Action, Read, Write, Lock, Unlock, Finish, Start, Interrupt, ClearInterrupt, Wake, FinishInitialisation, FindStarted, FindFinished, FindInterrupted, FindNotInterrupted, FindInitialised}
-use Rattle.data_races.specs.EventActions.{Rule, Begins, Does, Initialises, Relocks, Other, needed_class, only_if, is_finished, found_class, of_thread, is_over, found_alive, found_status, found_own, found_by_join, found_on, interrupts_on, at_reference, is_variable, named_access, field_access, access_by, text_access, builder_accesses, built_in_accesses, accesses_at, built_in_at, receiver_of, is_done, goes_on, outcome_at, operands_of, finds_of, accesses_of, interrupts_of, owned, waiting, besides, finished_classes, started, end_actions, clear_actions, actions_to}
+use Rattle.data_races.specs.EventActions.{Rule, Begins, Does, Initialises, Relocks, Other, needed_class, only_if, is_finished, found_class, of_thread, is_over, found_alive, found_status, found_own, found_by_join, found_on, interrupts_on, at_reference, is_variable, named_access, field_access, access_by, text_access, builder_accesses, elements_accessed, element_accesses, string_accesses, copy_accesses, clone_accesses, built_in_accesses, accesses_at, built_in_at, receiver_of, is_done, goes_on, outcome_at, operands_of, finds_of, accesses_of, interrupts_of, owned, waiting, besides, finished_classes, started, end_actions, clear_actions, actions_to}
 use Rattle.model.specs.ClassInitialisation.{status_of}
 use Rattle.next_accesses.specs.next_access.Next.{is_access}
 
@@ -167,16 +171,53 @@ all_builder ops AppendBuilder =
     (all_both (text_access ops 1 Read) (text_access ops 0 Read) (all_text ops 1 Read (λ v. refl)) (all_text ops 0 Read (λ v. refl))) (all_text ops 1 Write (λ v. refl))
 all_builder ops ToString = all_text ops 0 Read (λ v. refl)
 
-all_method : (ops : List Value) (o : Option BuiltInMethod) → reads_of (option_map_or (built_in_accesses ops) o []) ≡ option_map_or (built_in_accesses ops) o []
-all_method ops None = refl
-all_method ops (Some (StringBuilderBuilds b)) = all_builder ops b
-all_method ops (Some _) = refl
+all_mapped : {A : Type 0} (f : A → Action) (xs : List A) → ((x : A) → is_access (f x) ≡ true) → reads_of (map f xs) ≡ map f xs
+all_mapped f [] h = refl
+all_mapped f (x ∷ xs) h =
+    ap (λ b. if b then f x ∷ reads_of (map f xs) else reads_of (map f xs)) (h x) ∙ ap (λ l. f x ∷ l) (all_mapped f xs h)
+
+all_elements : (f : Variable → Action) → ((v : Variable) → is_access (f v) ≡ true) → (array index count : ℕ)
+    → reads_of (elements_accessed f array index count) ≡ elements_accessed f array index count
+all_elements f h array index count = all_mapped (λ k. f (Element array k)) (counting index count) (λ k. h (Element array k))
+
+all_array : (ops : List Value) (k : ℕ) (f : Variable → Action) → ((v : Variable) → is_access (f v) ≡ true) → (index count : ℕ)
+    → reads_of (element_accesses ops k f index count) ≡ element_accesses ops k f index count
+all_array ops k f h index count = by (referent values ops k)
+  where
+    by : (o : Option ℕ) → reads_of (option_map_or (λ array. elements_accessed f array index count) o [])
+        ≡ option_map_or (λ array. elements_accessed f array index count) o []
+    by None = refl
+    by (Some array) = all_elements f h array index count
+
+all_string : (ops : List Value) (m : TextMethod) → reads_of (string_accesses ops m) ≡ string_accesses ops m
+all_string ops text_method.ConstructEmpty = refl
+all_string ops text_method.ConstructOfString = refl
+all_string ops text_method.ConstructOfChars = all_array ops 2 Read (λ v. refl) (int_operand values ops 1) (int_operand values ops 0)
+all_string ops text_method.GetChars = all_array ops 1 Write (λ v. refl) (int_operand values ops 0) (int_operand values ops 2 - int_operand values ops 3)
+all_string ops text_method.Intern = refl
+
+all_copied : (files : Program) (object : ℕ) (type : ReferenceType) (count : ℕ) → reads_of (copy_accesses files object type count) ≡ copy_accesses files object type count
+all_copied files object (ClassType class) count = all_mapped (λ field. Read (InstanceField object field)) (filter is_variable (instance_fields files class)) (λ field. refl)
+all_copied files object (PrimitiveArray of) count = all_elements Read (λ v. refl) object 0 count
+all_copied files object (ReferenceArray of) count = all_elements Read (λ v. refl) object 0 count
+
+all_cloned : (files : Program) (world : World) (o : Option ℕ) → reads_of (option_map_or (clone_accesses files world) o []) ≡ option_map_or (clone_accesses files world) o []
+all_cloned files world None = refl
+all_cloned files world (Some r) = all_copied files r (type_of (object_at world r)) (length (elements_of (object_at world r)))
+
+all_method : (files : Program) (world : World) (ops : List Value) (o : Option BuiltInMethod)
+    → reads_of (option_map_or (built_in_accesses files world ops) o []) ≡ option_map_or (built_in_accesses files world ops) o []
+all_method files world ops None = refl
+all_method files world ops (Some (StringBuilderBuilds b)) = all_builder ops b
+all_method files world ops (Some (StringWrites m)) = all_string ops m
+all_method files world ops (Some ObjectClone) = all_cloned files world (referent values ops 0)
+all_method files world ops (Some _) = refl
 
 all_of : (files : Program) (event : Event) (world : World) (r : Rule) → reads_of (accesses_of files event world r) ≡ accesses_of files event world r
 all_of files event world (Does instruction) =
     all_if (is_done event.thread world instruction && goes_on (outcome_at event world instruction)) (accesses_at files world instruction)
-    (all_both (access_by files instruction.site (operands_of instruction) instruction.site.instr) (option_map_or (built_in_accesses (operands_of instruction)) (built_in_at files world instruction) [])
-    (all_accesses files instruction.site (operands_of instruction) instruction.site.instr) (all_method (operands_of instruction) (built_in_at files world instruction)))
+    (all_both (access_by files instruction.site (operands_of instruction) instruction.site.instr) (option_map_or (built_in_accesses files world (operands_of instruction)) (built_in_at files world instruction) [])
+    (all_accesses files instruction.site (operands_of instruction) instruction.site.instr) (all_method files world (operands_of instruction) (built_in_at files world instruction)))
 all_of files event world _ = refl
 
 -- ---- all of them

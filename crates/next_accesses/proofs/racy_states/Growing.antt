@@ -1,8 +1,6 @@
 -- What was found of the first threads, and of one more.
-use Rattle.std.proofs.Common.{◌≡◌, ℕ, zero, suc, ◌+◌, ◌<◌, List, [], ◌∷◌, ◌++◌, Option, Some, None, length, map, append_assoc, refl, sym, ap, subst, ◌∙◌, arith}
+use Rattle.std.proofs.Common.{◌≡◌, ℕ, zero, suc, ◌+◌, ◌<◌, List, [], ◌∷◌, ◌++◌, Option, Some, None, length, map, refl, sym, ap, subst, ◌∙◌, arith}
 use Rattle.std.specs.Prelude.{◌⊎◌, slice_get}
-use Rattle.std.specs.Option.{option_to_list}
-use Rattle.std.proofs.lemmas.List.{append-nil, map-append}
 use Rattle.std.proofs.Common.{inl, inr}
 use Rattle.model.specs.Classes.{Program}
 use Rattle.linked_code.specs.declared.program.LinkedProgram.{LinkedProgram}
@@ -10,9 +8,7 @@ use Rattle.machine_state.specs.declared.state.Shared.{Shared}
 use Rattle.race_places.specs.declared.run_actions.Action.{Action}
 use Rattle.race_places.specs.declared.run_actions.RunAction.{RunAction}
 use Rattle.next_accesses.specs.next_access.Next.{TellsNext}
-use Rattle.next_accesses.specs.declared.builder_texts.EventAccesses.{EventAccesses}
-use Rattle.next_accesses.specs.builder_texts.Texts.{accesses_in}
-use Rattle.next_accesses.specs.racy_states.Racy.{next_of, with_next, with_accesses, IsNext, IsFound, AreNext}
+use Rattle.next_accesses.specs.racy_states.Racy.{next_of, with_accesses, IsNext, IsFound, AreNext}
 use Rattle.next_accesses.proofs.racy_states.Places.{MappedFrom, mapped_from, mapped_at}
 
 still_at : {A : Type 0} (xs ys : List A) (y : A) (k : ℕ) → slice_get xs k ≡ Some y → slice_get (xs ++ ys) k ≡ Some y
@@ -32,25 +28,8 @@ below_or (suc u) (suc t) h = by (below_or u t (omega (arith, h)))
 
 -- ---- what is added for a thread
 
-abbrev news : (t : ℕ) → EventAccesses → List RunAction
-news t told = map (next_of t) (accesses_in told)
-
-one_added : (t : ℕ) (o : Option Action) (found : List RunAction) → with_next t o found ≡ found ++ map (next_of t) (option_to_list o)
-one_added t None found = sym (append-nil found)
-one_added t (Some a) found = refl
-
-all_added : (t : ℕ) (told : EventAccesses) (found : List RunAction) → with_accesses t told found ≡ found ++ news t told
-all_added t told found =
-    let f = next_of t in
-    let one = option_to_list told.first in
-    let two = option_to_list told.second in
-    let three = option_to_list told.third in
-    one_added t told.third (with_next t told.second (with_next t told.first found))
-    ∙ (ap (λ l. l ++ map f three) (one_added t told.second (with_next t told.first found))
-    ∙ (ap (λ l. (l ++ map f two) ++ map f three) (one_added t told.first found)
-    ∙ (ap (λ l. l ++ map f three) (append_assoc found (map f one) (map f two))
-    ∙ (append_assoc found (map f one ++ map f two) (map f three)
-    ∙ (ap (λ l. found ++ (l ++ map f three)) (sym (map-append f one two)) ∙ ap (λ l. found ++ l) (sym (map-append f (one ++ two) three)))))))
+abbrev news : (t : ℕ) → List Action → List RunAction
+news t told = map (next_of t) told
 
 get_right : {A : Type 0} (xs ys : List A) (k : ℕ) → slice_get (xs ++ ys) (length xs + k) ≡ slice_get ys k
 get_right [] ys k = let e : 0 + k ≡ k = omega arith in ap (slice_get ys) e
@@ -69,7 +48,7 @@ module _ (trees : Program) (p : LinkedProgram) (shared : Shared) where
       nothing : (k : ℕ) (a : RunAction) → slice_get [] k ≡ Some a → ⊥
       nothing k a e = cc
 
-  module _ (t : ℕ) (found : List RunAction) (h : AreNext trees p shared t found) (told : EventAccesses) (tells : TellsNext trees p shared t told) where
+  module _ (t : ℕ) (found : List RunAction) (h : AreNext trees p shared t found) (told : List Action) (tells : TellsNext trees p shared t told) where
     -- what was found of a thread stays
     found_more : (u : ℕ) → IsFound trees p shared found u → IsFound trees p shared (found ++ news t told) u
     found_more u f =
@@ -84,10 +63,10 @@ module _ (trees : Program) (p : LinkedProgram) (shared : Shared) where
         record {
           told = told;
           tells = tells;
-          among = λ k a e. (length found + k, get_right found (news t told) k ∙ mapped_at (next_of t) (accesses_in told) a k e);
+          among = λ k a e. (length found + k, get_right found (news t told) k ∙ mapped_at (next_of t) told a k e);
         }
 
-    is_new : (b : RunAction) → MappedFrom (next_of t) (accesses_in told) b → (b.thread < suc t) × IsNext trees p shared b.thread b.action
+    is_new : (b : RunAction) → MappedFrom (next_of t) told b → (b.thread < suc t) × IsNext trees p shared b.thread b.action
     is_new b m =
         subst (λ (c : RunAction). (c.thread < suc t) × IsNext trees p shared c.thread c.action) m.is
         (omega arith, record { told = told; tells = tells; place = m.is_in.place; at = m.is_in.at })
@@ -102,7 +81,7 @@ module _ (trees : Program) (p : LinkedProgram) (shared : Shared) where
         each : (k : ℕ) (b : RunAction) → (slice_get found k ≡ Some b) ⊎ ((j : ℕ) × (slice_get (news t told) j ≡ Some b))
             → (b.thread < suc t) × IsNext trees p shared b.thread b.action
         each k b (inl e) = let g = h.each k b e in (omega (arith, g.0), g.1)
-        each k b (inr e) = is_new b (mapped_from (next_of t) (accesses_in told) b e.0 e.1)
+        each k b (inr e) = is_new b (mapped_from (next_of t) told b e.0 e.1)
 
         by : (u : ℕ) → (u < t) ⊎ (u ≡ t) → IsFound trees p shared (found ++ news t told) u
         by u (inl g) = found_more u (h.all u g)
@@ -111,4 +90,4 @@ module _ (trees : Program) (p : LinkedProgram) (shared : Shared) where
     pub one_more : (new : List RunAction) → new ≡ with_accesses t told found → AreNext trees p shared (t + 1) new
     one_more new is =
         let same : suc t ≡ t + 1 = omega arith in
-        subst (λ (n : ℕ). AreNext trees p shared n new) same (subst (AreNext trees p shared (suc t)) (sym (is ∙ all_added t told found)) one_after)
+        subst (λ (n : ℕ). AreNext trees p shared n new) same (subst (AreNext trees p shared (suc t)) (sym is) one_after)

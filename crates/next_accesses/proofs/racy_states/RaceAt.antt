@@ -27,9 +27,6 @@ use Rattle.data_races.specs.EventActions.{actions_of}
 use Rattle.data_races.specs.Races.{ActionOfRun, in_event, next_actions, have_conflict, is_racy, IsRacy, memory_order}
 use Rattle.field_names.specs.named_fields.Fields.{names_of}
 use Rattle.next_accesses.specs.declared.racy_states.Race.{Race}
-use Rattle.next_accesses.specs.declared.builder_texts.EventAccesses.{EventAccesses}
-use Rattle.next_accesses.specs.accesses.Accesses.{IsRightIf}
-use Rattle.next_accesses.specs.builder_texts.Texts.{accesses_in}
 use Rattle.next_accesses.specs.next_access.Next.{IsReached, is_access, accesses_next, AreAccesses}
 use Rattle.next_accesses.specs.racy_states.Racy.{conflict, do_conflict, IsRaceIn, IsRaceOf, next_of, IsNext, IsFound, AreNext, TellsState, DoesAccess, IsRaceAt, IsRaceIf, TellsRace}
 use Rattle.next_accesses.proofs.racy_states.Alike.{conflicts_alike}
@@ -69,27 +66,17 @@ module _ (trees : Program) (apart : AreApart (names_of trees)) (frames : ℕ) (s
   its_name a = named_action (names_of trees) a
 
   -- what is told of a thread is among its next actions
-  told_in : (t : ℕ) (a : Action) → DoesAccess trees frames state t a → IsIn (next_actions trees frames state t) (in_event t 0 (its_name a))
+  pub told_in : (t : ℕ) (a : Action) → DoesAccess trees frames state t a → IsIn (next_actions trees frames state t) (in_event t 0 (its_name a))
   told_in t a h =
       mapped (in_event t 0) (actions_of trees frames state (record { thread = t; pick = 0 })) (its_name a)
       (kept_from is_access (actions_of trees frames state (record { thread = t; pick = 0 })) (its_name a) h.place
-      (ap (λ xs. slice_get xs h.place) (sym h.are.are) ∙ mapped_at its_name (accesses_in h.told) a h.place h.at))
-
-  right_by : (o p q : Option Action) → IsRightIf trees o → IsRightIf trees p → IsRightIf trees q → (a : Action) (k : ℕ)
-      → slice_get (option_to_list o ++ option_to_list p ++ option_to_list q) k ≡ Some a → IsRight (names_of trees) trees a
-  right_by (Some x) p q r s t a zero e = subst (IsRight (names_of trees) trees) (same_Some x a e) r
-  right_by (Some x) p q r s t a (suc k) e = right_by None p q tt s t a k e
-  right_by None (Some x) q r s t a zero e = subst (IsRight (names_of trees) trees) (same_Some x a e) s
-  right_by None (Some x) q r s t a (suc k) e = right_by None None q tt tt t a k e
-  right_by None None (Some x) r s t a zero e = subst (IsRight (names_of trees) trees) (same_Some x a e) t
-  right_by None None (Some x) r s t a (suc k) e = absurd cc
-  right_by None None None r s t a k e = absurd cc
+      (ap (λ xs. slice_get xs h.place) (sym h.are.are) ∙ mapped_at its_name h.told a h.place h.at))
 
   -- and right
   is_right : (t : ℕ) (a : Action) → DoesAccess trees frames state t a → IsRight (names_of trees) trees a
-  is_right t a h = right_by h.told.first h.told.second h.told.third h.are.right.first h.are.right.second h.are.right.third a h.place h.at
+  is_right t a h = h.are.right.each h.place a h.at
 
-  alike : (a b : RunAction) → DoesAccess trees frames state a.thread a.action → DoesAccess trees frames state b.thread b.action
+  pub alike : (a b : RunAction) → DoesAccess trees frames state a.thread a.action → DoesAccess trees frames state b.thread b.action
       → (memory_order trees).conflict (in_event a.thread 0 (its_name a.action)) (in_event b.thread 0 (its_name b.action)) ≡ do_conflict a b
   alike a b g h = ap (λ t. not (a.thread == b.thread) && t) (conflicts_alike (names_of trees) trees apart a.action b.action (is_right a.thread a.action g) (is_right b.thread b.action h))
 
@@ -113,22 +100,22 @@ module _ (trees : Program) (apart : AreApart (names_of trees)) (frames : ℕ) (s
       (any_of (λ u. have_conflict trees these (next_actions trees frames state u)) (counting 0 count) b.thread b.thread (counted_at count b.thread other_below) meets))
 
   -- an access of a thread is among those that are told of it
-  record Told (t : ℕ) (x : named.Action) (told : EventAccesses) : Type 0 where
+  record Told (t : ℕ) (x : named.Action) (told : List Action) : Type 0 where
     access : Action
     place : ℕ
-    at : slice_get (accesses_in told) place ≡ Some access
+    at : slice_get told place ≡ Some access
     named_so : its_name access ≡ x
 
   told_from : (t : ℕ) (x : named.Action) (k : ℕ) → slice_get (actions_of trees frames state (record { thread = t; pick = 0 })) k ≡ Some x → is_access x ≡ true
-      → (told : EventAccesses) → AreAccesses trees frames state t told → Told t x told
+      → (told : List Action) → AreAccesses trees frames state t told → Told t x told
   told_from t x k e access told h =
       let held = kept is_access (actions_of trees frames state (record { thread = t; pick = 0 })) x k e access in
-      let from = mapped_from its_name (accesses_in told) x held.place (ap (λ xs. slice_get xs held.place) h.are ∙ held.at) in
+      let from = mapped_from its_name told x held.place (ap (λ xs. slice_get xs held.place) h.are ∙ held.at) in
       record { access = from.item; place = from.is_in.place; at = from.is_in.at; named_so = from.is }
 
   module _ (p : LinkedProgram) (shared : Shared) (bounds : Bounds) (frames_are : bounds.frames ≡ frames) (reached : IsReached trees p bounds shared state)
       (found : List RunAction) (threads : ℕ) (threads_are : threads ≡ count) (next : AreNext trees p shared threads found) where
-    its : (t : ℕ) (told : EventAccesses) → AreAccesses trees bounds.frames state t told → AreAccesses trees frames state t told
+    its : (t : ℕ) (told : List Action) → AreAccesses trees bounds.frames state t told → AreAccesses trees frames state t told
     its t told h = subst (λ n. AreAccesses trees n state t told) frames_are h
 
     does : (t : ℕ) (a : Action) → IsNext trees p shared t a → DoesAccess trees frames state t a
@@ -147,6 +134,7 @@ module _ (trees : Program) (apart : AreApart (names_of trees)) (frames : ℕ) (s
           racy = racy_by h.first h.second (subst (λ n. h.first.thread < n) threads_are first.0) (subst (λ n. h.second.thread < n) threads_are second.0) these others h.do_so;
           these = these;
           others = others;
+          do_so = h.do_so;
         })
 
     -- ---- none

@@ -4,25 +4,19 @@ use Rattle.std.specs.Option.{option_map, option_to_list}
 use Rattle.model.specs.declared.builder_method.BuilderMethod.{BuilderMethod}
 use Rattle.model.specs.declared.builder_method.BuilderMethod.TheVariants.{ConstructEmpty, ConstructOfString, AppendString, AppendInt, AppendChar, AppendBuilder, ToString}
 use Rattle.model.specs.BuiltInNumbers.{string_builder_number}
-use Rattle.model.specs.Classes.{Program}
 use Rattle.race_places.specs.declared.run_actions.Variable.{Variable}
 use Rattle.race_places.specs.declared.run_actions.Variable.TheVariants as variable
 use Rattle.race_places.specs.declared.run_actions.Action.{Action}
-use Rattle.next_accesses.specs.accesses.Accesses.{object_under, read_of, write_of, IsRightIf}
-use Rattle.next_accesses.specs.declared.builder_texts.EventAccesses.{EventAccesses}
+use Rattle.next_accesses.specs.accesses.Accesses.{object_under, read_of, write_of}
+use Rattle.next_accesses.specs.declared.builder_texts.TextAccesses.{TextAccesses}
 
--- ---- what an event accesses, in its order
+-- ---- what a method accesses, in its order
 
-abbrev pub accesses_in : EventAccesses → List Action
+abbrev pub accesses_in : TextAccesses → List Action
 accesses_in told = option_to_list told.first ++ option_to_list told.second ++ option_to_list told.third
 
-abbrev pub one_access : Option Action → EventAccesses
+abbrev pub one_access : Option Action → TextAccesses
 one_access access = record { first = access; second = None; third = None }
-
-pub record AreRight (files : Program) (told : EventAccesses) : Type 0 where
-  pub first : IsRightIf files told.first
-  pub second : IsRightIf files told.second
-  pub third : IsRightIf files told.third
 
 -- ---- texts of StringBuilders
 
@@ -34,10 +28,10 @@ text_of object = option_map (λ r. variable.InstanceField r string_builder_numbe
 abbrev pub text_under : List ℕ → ℕ → Option Variable
 text_under operands place = text_of (object_under operands place)
 
-abbrev pub appending : List ℕ → Option Variable → EventAccesses
+abbrev pub appending : List ℕ → Option Variable → TextAccesses
 appending operands added = record { first = read_of false (text_under operands 1); second = read_of false added; third = write_of false (text_under operands 1) }
 
-abbrev pub texts_accessed : List ℕ → BuilderMethod → EventAccesses
+abbrev pub texts_accessed : List ℕ → BuilderMethod → TextAccesses
 texts_accessed operands ConstructEmpty = one_access (write_of false (text_under operands 0))
 texts_accessed operands ConstructOfString = one_access (write_of false (text_under operands 1))
 texts_accessed operands AppendString = appending operands None
@@ -54,5 +48,5 @@ throws_on operands ConstructOfString = slice_index_or operands 0 0 == 0
 throws_on operands _ = false
 
 -- what it accesses, unless it throws
-abbrev pub texts_on : List ℕ → BuilderMethod → EventAccesses
+abbrev pub texts_on : List ℕ → BuilderMethod → TextAccesses
 texts_on operands method = if throws_on operands method then one_access None else texts_accessed operands method

@@ -13,13 +13,12 @@ use Rattle.thread_stacks.specs.Stacks.{ShownFrame, ShownEntry}
 use Rattle.machine_state.specs.declared.state.Shared.{Shared}
 use Rattle.machine_state.specs.Shown.{IsProgram}
 use Rattle.machine_state.specs.state_events.Whole.{IsShown}
-use Rattle.race_places.specs.named_actions.Names.{named_action}
+use Rattle.race_places.specs.declared.run_actions.Action.{Action}
+use Rattle.race_places.specs.named_actions.Names.{IsRight, named_action}
 use Rattle.data_races.specs.Actions as named
 use Rattle.data_races.specs.EventActions.{actions_of}
 use Rattle.thread_rules.specs.next_rules.Meant.{IsAtInstruction}
 use Rattle.field_names.specs.named_fields.Fields.{names_of}
-use Rattle.next_accesses.specs.declared.builder_texts.EventAccesses.{EventAccesses}
-use Rattle.next_accesses.specs.builder_texts.Texts.{accesses_in, AreRight}
 
 -- a state to which a run of accepted files led, and whose words are shown
 pub record IsReached (trees : Program) (p : LinkedProgram) (bounds : Bounds) (shared : Shared) (state : State) : Type 0 where
@@ -40,22 +39,33 @@ is_access _ = false
 abbrev pub accesses_next : Program → ℕ → State → ℕ → List named.Action
 accesses_next files frames state t = filter is_access (actions_of files frames state (record { thread = t; pick = 0 }))
 
--- these alone, in their order, by the names of the class files
-pub record AreAccesses (trees : Program) (frames : ℕ) (state : State) (t : ℕ) (told : EventAccesses) : Type 0 where
-  pub are : map (named_action (names_of trees)) (accesses_in told) ≡ accesses_next trees frames state t
-  pub right : AreRight trees told
+-- actions by the names of the class files
+abbrev pub names_given : Program → List Action → List named.Action
+names_given trees told = map (named_action (names_of trees)) told
+
+pub record AreAllRight (trees : Program) (told : List Action) : Type 0 where
+  pub each : (k : ℕ) (a : Action) → slice_get told k ≡ Some a → IsRight (names_of trees) trees a
+
+-- these are told, in their order
+pub record AreNamed (trees : Program) (told : List Action) (actions : List named.Action) : Type 0 where
+  pub are : names_given trees told ≡ actions
+  pub right : AreAllRight trees told
+
+-- the accesses alone
+abbrev pub AreAccesses : Program → (frames : ℕ) → State → (t : ℕ) → List Action → Type 0
+AreAccesses trees frames state t told = AreNamed trees told (accesses_next trees frames state t)
 
 -- in whatever state that was reached
-abbrev pub TellsNext : Program → LinkedProgram → Shared → (t : ℕ) → EventAccesses → Type 0
+abbrev pub TellsNext : Program → LinkedProgram → Shared → (t : ℕ) → List Action → Type 0
 TellsNext trees p shared t told =
     (bounds : Bounds) (state : State) → IsReached trees p bounds shared state → AreAccesses trees bounds.frames state t told
 
 -- of a thread that has this stack
-abbrev pub TellsStack : Program → LinkedProgram → Shared → (t : ℕ) → List ShownEntry → EventAccesses → Type 0
+abbrev pub TellsStack : Program → LinkedProgram → Shared → (t : ℕ) → List ShownEntry → List Action → Type 0
 TellsStack trees p shared t stack told = slice_get shared.stacks.items t ≡ Some stack → TellsNext trees p shared t told
 
 -- of a thread that stands at an instruction in this frame
-abbrev pub TellsFrame : Program → LinkedProgram → Shared → (t : ℕ) → ShownFrame → EventAccesses → Type 0
+abbrev pub TellsFrame : Program → LinkedProgram → Shared → (t : ℕ) → ShownFrame → List Action → Type 0
 TellsFrame trees p shared t frame told =
     (bounds : Bounds) (state : State) → (reached : IsReached trees p bounds shared state)
     → (stack : List ShownEntry) (at : IsAtInstruction trees p bounds reached.inflated t shared stack state) → at.runs.shown ≡ frame

@@ -1,5 +1,5 @@
 -- Races of states (JLS 17.4.5), by the words of a machine.
-use Rattle.std.specs.Prelude.{◌≡◌, ◌<◌, ℕ, List, [], ◌∷◌, ◌++◌, Option, Some, None, Bool, true, false, IsTrue, IsFalse, not, ◌&&◌, ◌||◌, ◌==◌, slice_get}
+use Rattle.std.specs.Prelude.{◌≡◌, ◌<◌, ℕ, List, [], ◌∷◌, ◌++◌, Option, Some, None, Bool, true, false, IsTrue, IsFalse, map, not, ◌&&◌, ◌||◌, ◌==◌, slice_get}
 use Rattle.std.specs.List.{list_any}
 use Rattle.model.specs.declared.event.Event.{Event}
 use Rattle.model.specs.Classes.{Program}
@@ -16,8 +16,6 @@ use Rattle.race_places.specs.declared.run_actions.Action.TheVariants as action
 use Rattle.race_places.specs.declared.run_actions.RunAction.{RunAction}
 use Rattle.data_races.specs.Races.{IsRacy}
 use Rattle.next_accesses.specs.declared.racy_states.Race.{Race}
-use Rattle.next_accesses.specs.declared.builder_texts.EventAccesses.{EventAccesses}
-use Rattle.next_accesses.specs.builder_texts.Texts.{accesses_in}
 use Rattle.next_accesses.specs.next_access.Next.{AreAccesses, TellsNext}
 
 -- ---- conflicts (17.4.1)
@@ -72,25 +70,21 @@ IsRaceIn actions (Some race) = IsRaceOf actions race
 abbrev pub next_of : (t : ℕ) → Action → RunAction
 next_of t a = record { thread = t; event = 0; action = a }
 
-abbrev pub with_next : (t : ℕ) → Option Action → List RunAction → List RunAction
-with_next t None found = found
-with_next t (Some a) found = found ++ next_of t a ∷ []
-
-abbrev pub with_accesses : (t : ℕ) → EventAccesses → List RunAction → List RunAction
-with_accesses t told found = with_next t told.third (with_next t told.second (with_next t told.first found))
+abbrev pub with_accesses : (t : ℕ) → List Action → List RunAction → List RunAction
+with_accesses t told found = found ++ map (next_of t) told
 
 -- an access is among those that are told of a thread
 pub record IsNext (trees : Program) (p : LinkedProgram) (shared : Shared) (t : ℕ) (a : Action) : Type 0 where
-  pub told : EventAccesses
+  pub told : List Action
   pub tells : TellsNext trees p shared t told
   pub place : ℕ
-  pub at : slice_get (accesses_in told) place ≡ Some a
+  pub at : slice_get told place ≡ Some a
 
 -- what was found of a thread
 pub record IsFound (trees : Program) (p : LinkedProgram) (shared : Shared) (found : List RunAction) (t : ℕ) : Type 0 where
-  pub told : EventAccesses
+  pub told : List Action
   pub tells : TellsNext trees p shared t told
-  pub among : (k : ℕ) (a : Action) → slice_get (accesses_in told) k ≡ Some a → (j : ℕ) × (slice_get found j ≡ Some (next_of t a))
+  pub among : (k : ℕ) (a : Action) → slice_get told k ≡ Some a → (j : ℕ) × (slice_get found j ≡ Some (next_of t a))
 
 pub record AreNext (trees : Program) (p : LinkedProgram) (shared : Shared) (threads : ℕ) (found : List RunAction) : Type 0 where
   pub each : (k : ℕ) (a : RunAction) → slice_get found k ≡ Some a → (a.thread < threads) × IsNext trees p shared a.thread a.action
@@ -106,16 +100,17 @@ TellsState trees m Holds told =
 
 -- the next event of a thread does an access
 pub record DoesAccess (trees : Program) (frames : ℕ) (state : State) (t : ℕ) (a : Action) : Type 0 where
-  pub told : EventAccesses
+  pub told : List Action
   pub are : AreAccesses trees frames state t told
   pub place : ℕ
-  pub at : slice_get (accesses_in told) place ≡ Some a
+  pub at : slice_get told place ≡ Some a
 
--- the next events of two threads do these accesses, and the state is racy
+-- the next events of two threads do these accesses, which conflict, and the state is racy
 pub record IsRaceAt (trees : Program) (frames : ℕ) (state : State) (race : Race) : Type 0 where
   pub racy : IsRacy trees frames state
   pub these : DoesAccess trees frames state race.thread race.access
   pub others : DoesAccess trees frames state race.other race.other_access
+  pub do_so : do_conflict (next_of race.thread race.access) (next_of race.other race.other_access) ≡ true
 
 -- or it is not racy
 abbrev pub IsRaceIf : Program → ℕ → State → Option Race → Type 0

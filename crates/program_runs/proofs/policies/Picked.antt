@@ -83,7 +83,7 @@ module _ (all : AreInstructionsDone) (p : LinkedProgram) (t count : ℕ) (shared
           → IsDirectCall trees site parameters method → meaning.looks ≡ None
       by trees bounds inflated state frame rest code site meaning is (CallsConstructor callee means counted instance constructs numbered) =
           ap (λ (m : MeaningOf ℕ). m.looks) (meaning_is trees p bounds inflated t shared stack state frame rest code site meaning (linked.InvokeSpecial parameters method) is (constructor_call words trees site callee) means)
-      by trees bounds inflated state frame rest code site meaning is (CallsSpecial named callee means counted other found chosen) =
+      by trees bounds inflated state frame rest code site meaning is (CallsSpecial named callee means counted other found chosen special) =
           ap (λ (m : MeaningOf ℕ). m.looks) (meaning_is trees p bounds inflated t shared stack state frame rest code site meaning (linked.InvokeSpecial parameters method) is (special_call words trees site named.class callee) means)
       by trees bounds inflated state frame rest code site meaning is (CallsOnly named callee means counted numbered) =
           ap (λ (m : MeaningOf ℕ). m.looks) (meaning_is trees p bounds inflated t shared stack state frame rest code site meaning (linked.InvokeSpecial parameters method) is (virtual_call words trees site named callee) means)

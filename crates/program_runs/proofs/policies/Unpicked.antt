@@ -49,7 +49,7 @@ and_false a b e = ap (λ x. x && b) e
 pub others_may : (b : BuiltInMethod) → (b ≡ built_in.ObjectNotify → ⊥) → (t k : ℕ) (world : WorldOf ℕ) (ops : List ℕ)
     → built_in_may words b (picked t (suc k)) world ops ≡ false
 others_may built_in.Construct n t k world ops = past_zero k
-others_may built_in.ConstructWithTarget n t k world ops = past_zero k
+others_may built_in.ObjectClone n t k world ops = past_zero k
 others_may built_in.ConstructWithMessage n t k world ops = past_zero k
 others_may built_in.ConstructWithCause n t k world ops = past_zero k
 others_may built_in.ObjectWait n t k world ops = past_zero k
@@ -63,8 +63,10 @@ others_may built_in.ThreadYield n t k world ops = past_zero k
 others_may built_in.ThreadCurrentThread n t k world ops = past_zero k
 others_may built_in.ThreadJoin n t k world ops = and_false (suc k == 0) _ (past_zero k)
 others_may built_in.ThreadIsAlive n t k world ops = past_zero k
+others_may (built_in.ThreadNames names) n t k world ops = past_zero k
 others_may (built_in.PrintStreamPrints print) n t k world ops = past_zero k
 others_may (built_in.StringAnswers method) n t k world ops = past_zero k
+others_may (built_in.StringWrites writes) n t k world ops = past_zero k
 others_may (built_in.StringBuilderBuilds method) n t k world ops = past_zero k
 others_may (built_in.ObjectAnswers method) n t k world ops = past_zero k
 

@@ -26,7 +26,7 @@
 //! # Not proved
 //!
 //! - That memory is there. `oracle/seeds.py` makes the schedules once more, by the documents and by `oracle/machine.py`
-//!   alone, and tests compare them (`policy_tests` of `run_tests`).
+//!   alone, and cases compare them (`policies`).
 //!
 //! # Wrong bodies
 //!

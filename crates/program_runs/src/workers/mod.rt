@@ -25,8 +25,8 @@
 //!
 //! - Shown by tests alone (`worker_tests`): that bursts of two Java threads overlap (`gate_two_bursts_at_once`, which a
 //!   body with one worker fails, and one that holds the lock during bursts, and one without bursts); that bursts are
-//!   committed (`one_worker_commits_bursts`, by the schedule of one worker); that recorded runs replay to the equal
-//!   report (`what_is_recorded_replays`, with 1, 2 and 4 workers, with bursts and without).
+//!   committed (`one_worker_commits_bursts`, by the schedule of one worker).
+//! - Shown by cases too: that recorded runs replay to the equal report, by 1, 2 and 4 workers, with bursts and without.
 //! - Shown by `tools/try-files` alone: that a gate is shown what the run has done so far (`is_watching` of `Gate`).
 //! - Neither proved nor shown: which schedule comes of several workers, that they end, that each gets the lock in turn,
 //!   and how fast they are.

@@ -1,7 +1,6 @@
 -- What is added to the actions of an event, part by part.
 use Rattle.std.proofs.Common.{zero, suc, ◌<◌, ◌≤◌, length, arith, ◌≡◌, ℕ, List, [], ◌∷◌, ◌++◌, Option, Some, None, refl, sym, ap, subst, ◌∙◌}
 use Rattle.std.specs.Prelude.{slice_get}
-use Rattle.std.specs.Option.{option_to_list}
 use Rattle.std.proofs.lemmas.List.{append_assoc}
 use Rattle.std.proofs.lemmas.Option.{same_Some, none-some}
 use Rattle.model.specs.declared.value.Value.{Value}
@@ -22,10 +21,7 @@ use Rattle.linked_code.specs.declared.program.LinkedProgram.{LinkedProgram}
 use Rattle.thread_stacks.specs.Stacks.{ShownEntry}
 use Rattle.machine_state.specs.declared.state.Shared.{Shared}
 use Rattle.race_places.specs.declared.run_actions.Action.{Action}
-use Rattle.table_actions.specs.tables.Told.{listed}
-use Rattle.next_accesses.specs.declared.builder_texts.EventAccesses.{EventAccesses}
-use Rattle.next_accesses.specs.builder_texts.Texts.{accesses_in}
-use Rattle.next_accesses.specs.next_access.Next.{IsReached}
+use Rattle.next_accesses.specs.next_access.Next.{IsReached, AreAccesses, TellsNext}
 use Rattle.state_actions.specs.wait_ends.Ends.{threads_of}
 use Rattle.race_actions.specs.declared.event_actions.EventActions.{EventActions}
 use Rattle.race_actions.specs.declared.looking.EventBefore.{EventBefore}
@@ -35,10 +31,6 @@ use Rattle.race_actions.proofs.looking.Events.{shown_of}
 use Rattle.race_actions.proofs.event_actions.Telling.{mapped_at}
 
 -- ---- lists
-
-listed_is : (o : Option Action) → listed o ≡ option_to_list o
-listed_is None = refl
-listed_is (Some a) = refl
 
 pub three_added : (old one two three a b c : List Action) → one ≡ old ++ a → two ≡ one ++ b → three ≡ two ++ c → three ≡ old ++ (a ++ b ++ c)
 three_added old one two three a b c e f g =
@@ -51,12 +43,6 @@ pub four_added : (old one two three four a b c d : List Action) → one ≡ old 
 four_added old one two three four a b c d e f g h =
     h ∙ ap (λ l. l ++ d) (three_added old one two three a b c e f g) ∙ append_assoc old (a ++ b ++ c) d
 
-pub accesses_added : (old one two three : List Action) (told : EventAccesses) → one ≡ old ++ listed told.first → two ≡ one ++ listed told.second → three ≡ two ++ listed told.third
-    → three ≡ old ++ accesses_in told
-accesses_added old one two three told e f g =
-    three_added old one two three (option_to_list told.first) (option_to_list told.second) (option_to_list told.third)
-    (e ∙ ap (λ l. old ++ l) (listed_is told.first)) (f ∙ ap (λ l. one ++ l) (listed_is told.second)) (g ∙ ap (λ l. two ++ l) (listed_is told.third))
-
 -- ---- before the event
 
 pub thread_known : (trees : Program) (p : LinkedProgram) (shared : Shared) (t : ℕ) (stack : List ShownEntry) → Some stack ≡ slice_get shared.stacks.items t
@@ -68,8 +54,9 @@ pub no_thread : (trees : Program) (p : LinkedProgram) (shared : Shared) (t : ℕ
 no_thread trees p shared t none told stack at = absurd (none-some stack (none ∙ at))
 
 pub looks_at : (trees : Program) (p : LinkedProgram) (shared : Shared) (t : ℕ) (e : EventActions) (told : Option EventBefore) → KnowsThread trees p shared t told → e.before ≡ told
+    → (accesses : List Action) → e.accesses.items ≡ accesses → TellsNext trees p shared t accesses
     → (object : ℕ) → object ≡ (thread_at shared.threads.threads t).object → e.waiting.items ≡ threads_of (monitor_at shared.heap.locks.monitors object).waiters → LooksAt trees p shared t e
-looks_at trees p shared t e told knows is object object_is waiting bounds state own reached at =
+looks_at trees p shared t e told knows is accesses accesses_are tells object object_is waiting bounds state own reached at =
     let shown = shown_of trees p shared.stacks.items (words_of state).stacks reached.shown.stacks t (map_stack word_of own) (mapped_at (map_stack word_of) state.stacks t own at) in
     let k = knows shown.0 shown.1 in
     let world_is = reached.shown.represents.world_is in
@@ -77,6 +64,7 @@ looks_at trees p shared t e told knows is object object_is waiting bounds state 
       before = k.0;
       is = is ∙ k.1;
       known = k.2 shown.1 bounds state reached;
+      accesses = subst (λ l. AreAccesses trees bounds.frames state t l) (sym accesses_are) (tells bounds state reached);
       waiting =
           waiting
           ∙ ap (λ (l : List Monitor). threads_of (monitor_at l object).waiters) world_is.monitors

@@ -16,44 +16,8 @@ use Rattle.race_places.specs.named_actions.Names.{Names, IsRight, named_action}
 use Rattle.data_races.specs.Actions as named
 use Rattle.data_races.specs.EventActions.{Rule, Begins, Does, Initialises, Relocks, Other, only_if, of_thread, is_over, found_alive, found_status, found_own, found_by_join, found_on, interrupts_on, is_done, built_in_at, receiver_of, finds_of, interrupts_of, end_actions, clear_actions, besides, waiting}
 use Rattle.field_names.specs.named_fields.Fields.{names_of}
-use Rattle.next_accesses.specs.declared.builder_texts.EventAccesses.{EventAccesses}
-use Rattle.next_accesses.specs.accesses.Accesses.{IsRightIf}
-use Rattle.next_accesses.specs.builder_texts.Texts.{accesses_in, AreRight}
+pub use Rattle.next_accesses.proofs.next_access.Right.{right_none, right_more, right_both}
 use Rattle.race_actions.specs.looking.Known.{AreAllRight, names_given}
-
--- ---- parts of a list
-
-pub right_none : (trees : Program) → AreAllRight trees []
-right_none trees = record { each = λ k a e. absurd (none-some a e) }
-
-pub right_more : (trees : Program) (x : Action) (xs : List Action) → IsRight (names_of trees) trees x → AreAllRight trees xs → AreAllRight trees (x ∷ xs)
-right_more trees x xs h hs = record { each = each }
-  where
-    each : (k : ℕ) (a : Action) → slice_get (x ∷ xs) k ≡ Some a → IsRight (names_of trees) trees a
-    each zero a e = subst (λ (y : Action). IsRight (names_of trees) trees y) (same_Some x a e) h
-    each (suc k) a e = hs.each k a e
-
-right_first : (trees : Program) (x : Action) (xs : List Action) → AreAllRight trees (x ∷ xs) → IsRight (names_of trees) trees x
-right_first trees x xs h = h.each 0 x refl
-
-right_rest : (trees : Program) (x : Action) (xs : List Action) → AreAllRight trees (x ∷ xs) → AreAllRight trees xs
-right_rest trees x xs h = record { each = λ k a e. h.each (suc k) a e }
-
-pub right_both : (trees : Program) (xs ys : List Action) → AreAllRight trees xs → AreAllRight trees ys → AreAllRight trees (xs ++ ys)
-right_both trees [] ys h g = g
-right_both trees (x ∷ xs) ys h g = right_more trees x (xs ++ ys) (right_first trees x xs h) (right_both trees xs ys (right_rest trees x xs h) g)
-
--- ---- accesses
-
-access_right : (trees : Program) (o : Option Action) → IsRightIf trees o → AreAllRight trees (option_to_list o)
-access_right trees None h = right_none trees
-access_right trees (Some x) h = right_more trees x [] h (right_none trees)
-
-pub accesses_right : (trees : Program) (told : EventAccesses) → AreRight trees told → AreAllRight trees (accesses_in told)
-accesses_right trees told h =
-    right_both trees (option_to_list told.first ++ option_to_list told.second) (option_to_list told.third)
-    (right_both trees (option_to_list told.first) (option_to_list told.second) (access_right trees told.first h.first) (access_right trees told.second h.second))
-    (access_right trees told.third h.third)
 
 -- ---- actions that are plain
 

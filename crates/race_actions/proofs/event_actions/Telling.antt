@@ -36,7 +36,6 @@ use Rattle.table_actions.specs.tables.Owners.{OwnsTheRest}
 use Rattle.table_actions.specs.tables.Told.{all_found, listed}
 use Rattle.field_names.specs.named_fields.Fields.{names_of}
 use Rattle.linked_code.specs.Numbers.{IsClassIf}
-use Rattle.next_accesses.specs.builder_texts.Texts.{accesses_in}
 use Rattle.next_accesses.specs.next_access.Next.{IsReached}
 use Rattle.state_actions.specs.changed_monitors.Changed.{OfEvent, IsChanged}
 use Rattle.state_actions.specs.class_ends.Classes.{Shows, IsOfClass}
@@ -47,7 +46,7 @@ use Rattle.race_actions.specs.looking.Known.{IsKnown, AreAllRight, names_given}
 use Rattle.race_actions.specs.event_actions.Told.{HasLooked, AreLocked, AreLeft, AreActions, TellsActions, found_in}
 use Rattle.race_actions.proofs.looking.Events.{IsShownBy, shown_by, names_are, has_class}
 use Rattle.race_actions.proofs.event_actions.Picks.{accesses_same}
-use Rattle.race_actions.proofs.event_actions.Right.{ArePlain, right_none, right_more, right_both, accesses_right, plain_all_right, plain_mapped, plain_finds, plain_interrupted, plain_clear, plain_end}
+use Rattle.race_actions.proofs.event_actions.Right.{ArePlain, right_none, right_more, right_both, plain_all_right, plain_mapped, plain_finds, plain_interrupted, plain_clear, plain_end}
 
 -- ---- lists
 
@@ -77,7 +76,7 @@ pub record Pieces (trees : Program) (bounds : Bounds) (state : State) (e : Event
   pub stack : List ShownEntry
   pub there : slice_get shared.stacks.items t ≡ Some stack
   pub locked : List Action
-  pub are_locked : AreLocked t shared.heap.locks.monitors stack before locked
+  pub are_locked : AreLocked t shared.heap.locks.monitors stack before e.accesses.items locked
   pub left : List Action
   pub are_left : AreLeft t shared before left
   pub front : List Action
@@ -188,8 +187,8 @@ module _ (classes : AreClassesKept) (added : AreThreadsAdded) (wakes : DoEndsWak
   ends_are : given pieces.ends.told ≡ end_actions t state.world next.world
   ends_are = pieces.ends.are (names_of trees) state.world next.world threads_are waits
 
-  accesses_are : given (accesses_in before.accesses) ≡ accesses_of trees event state.world (rule_of trees state t)
-  accesses_are = known.accesses.are ∙ accesses_same trees bounds.frames state event cost next steps
+  accesses_are : given e.accesses.items ≡ accesses_of trees event state.world (rule_of trees state t)
+  accesses_are = pieces.looked.accesses.are ∙ accesses_same trees bounds.frames state event cost next steps
 
   -- ---- all together
 
@@ -232,8 +231,8 @@ module _ (classes : AreClassesKept) (added : AreThreadsAdded) (wakes : DoEndsWak
   locked_are : given pieces.locked ≡ locks ++ accesses ++ unlocks
   locked_are =
       ap given pieces.are_locked.are
-      ∙ mapped_both (listed pieces.are_locked.lock ++ accesses_in before.accesses) (listed pieces.are_locked.unlock) (locks ++ accesses) unlocks
-      (mapped_both (listed pieces.are_locked.lock) (accesses_in before.accesses) locks accesses locks_are accesses_are) unlocks_are
+      ∙ mapped_both (listed pieces.are_locked.lock ++ e.accesses.items) (listed pieces.are_locked.unlock) (locks ++ accesses) unlocks
+      (mapped_both (listed pieces.are_locked.lock) e.accesses.items locks accesses locks_are accesses_are) unlocks_are
 
   left_are : given pieces.left ≡ starts ++ interrupts ++ clears ++ finishes
   left_are =
@@ -277,9 +276,9 @@ module _ (classes : AreClassesKept) (added : AreThreadsAdded) (wakes : DoEndsWak
   locked_right : AreAllRight trees pieces.locked
   locked_right =
       subst (AreAllRight trees) (sym pieces.are_locked.are)
-      (right_both trees (listed pieces.are_locked.lock ++ accesses_in before.accesses) (listed pieces.are_locked.unlock)
-      (right_both trees (listed pieces.are_locked.lock) (accesses_in before.accesses)
-      (plain_list (listed pieces.are_locked.lock) _ locks_are (plain_mapped (λ r. named.Lock r) (besides (owned t next.world) (owned t state.world)) (λ r. refl))) (accesses_right trees before.accesses known.accesses.right))
+      (right_both trees (listed pieces.are_locked.lock ++ e.accesses.items) (listed pieces.are_locked.unlock)
+      (right_both trees (listed pieces.are_locked.lock) e.accesses.items
+      (plain_list (listed pieces.are_locked.lock) _ locks_are (plain_mapped (λ r. named.Lock r) (besides (owned t next.world) (owned t state.world)) (λ r. refl))) pieces.looked.accesses.right)
       (plain_list (listed pieces.are_locked.unlock) _ unlocks_are (plain_mapped (λ r. named.Unlock r) (besides (owned t state.world) (owned t next.world)) (λ r. refl))))
 
   left_right : AreAllRight trees pieces.left

@@ -38,7 +38,7 @@ use Rattle.thread_rules.specs.next_rules.Meant.{IsAtInstruction, MeansRule, AreR
 use Rattle.thread_rules.specs.next_rules.Rules.{IsRule}
 use Rattle.hierarchy.specs.Places.{class_at}
 use Rattle.field_names.specs.named_fields.Fields.{names_of}
-use Rattle.next_accesses.specs.next_access.Next.{IsReached, TellsNext}
+use Rattle.next_accesses.specs.next_access.Next.{IsReached}
 use Rattle.state_actions.specs.class_ends.Classes.{Shows, NamesClasses, FindsClass, IsOfClass, WasFinished}
 use Rattle.state_actions.specs.meant_before.Said.{IsSaid, IsNextInstruction, MeansBefore}
 use Rattle.race_actions.specs.declared.looking.EventBefore.{EventBefore}
@@ -238,12 +238,12 @@ pub event_known : AreRulesMeant → (trees : Program) (p : LinkedProgram) (share
     → IsRule (thread_at shared.threads.threads t) stack r → (standing : Standing) → KnowsBy trees p shared t stack r standing
     → (needed : Option ℕ) → NeedsBy p r t standing.class needed → (told : EventBefore)
     → FindsClass shared needed told.found_class
-    → TellsFinds shared t r standing.called told.finds → TellsNext trees p shared t told.accesses
+    → TellsFinds shared t r standing.called told.finds
     → TellsInterrupt shared standing.called told.interrupt
     → MeansBefore r stack standing.instruction told.monitor.object → WasOwner t told.monitor.object shared.heap.locks.monitors told.monitor.was_owner
     → told.depth ≡ length stack → told.threads ≡ length shared.threads.threads → told.was_interrupted ≡ (thread_at shared.threads.threads t).interrupted
     → InitialisesOnTop stack told.class → IsFinishedIf shared told.class told.was_finished → told.site ≡ standing.site → KnowsEvent trees p shared t stack told
-event_known rules trees p shared t stack r is standing knows needed needs told finds_class finds accesses interrupt means_monitor was_owner depth threads interrupted_is initialises
+event_known rules trees p shared t stack r is standing knows needed needs told finds_class finds interrupt means_monitor was_owner depth threads interrupted_is initialises
     was_finished site there bounds state reached =
     let program = reached.program in
     let represents = reached.shown.represents in
@@ -262,7 +262,6 @@ event_known rules trees p shared t stack r is standing knows needed needs told f
       class = finds_class.1 trees p bounds state.world (names_of trees) (needed_class trees t (rule_of trees state t)) shows (names_are trees) class_if;
       class_right = class_right trees needed (needed_class trees t (rule_of trees state t)) class_if told.found_class finds_class.0;
       finds = λ event same. found trees p bounds shared t stack state reached standing event same r means knows told.finds finds;
-      accesses = accesses bounds state reached;
       interrupt = λ event same. interrupted trees p bounds shared t stack state reached standing event same r means knows told.interrupt interrupt.1 interrupt.0;
       meant = λ event same.
           let by_event : IsSaid told.monitor.object (meant_before words trees event (map_world word_of state.world) (map_stack word_of own) (worlds.thread_at state.world event.thread).status) =

@@ -18,8 +18,8 @@ use Rattle.data_races.specs.Actions as named
 use Rattle.data_races.specs.EventActions.{actions_of, clear_actions, started}
 use Rattle.table_actions.specs.tables.Owners.{OwnsTheRest, WasOwner, TellsLocks, TellsUnlocks}
 use Rattle.table_actions.specs.tables.Told.{MayStartOne, all_found, listed}
-use Rattle.next_accesses.specs.builder_texts.Texts.{accesses_in}
-use Rattle.next_accesses.specs.next_access.Next.{IsReached}
+pub use Rattle.next_accesses.specs.next_access.Added.{Adds}
+use Rattle.next_accesses.specs.next_access.Next.{IsReached, AreAccesses}
 use Rattle.state_actions.specs.changed_monitors.Changed.{ChangesMonitor}
 use Rattle.state_actions.specs.class_ends.Classes.{FinishesClass}
 use Rattle.state_actions.specs.declared.changed_monitors.MonitorBefore.{MonitorBefore}
@@ -40,6 +40,7 @@ pub record HasLooked (trees : Program) (bounds : Bounds) (state : State) (t : �
   pub before : EventBefore
   pub is : e.before ≡ Some before
   pub known : IsKnown trees bounds.frames state t before
+  pub accesses : AreAccesses trees bounds.frames state t e.accesses.items
   pub waiting : e.waiting.items ≡ threads_of (waiters_of state.world (thread_at state.world t).object)
   pub p : LinkedProgram
   pub shared : Shared
@@ -52,18 +53,14 @@ LooksAt trees p shared t e =
 
 -- ---- parts of what is told
 
--- other actions stand behind those that were there
-abbrev pub Adds : (List Action → Type 0) → (old new : List Action) → Type 0
-Adds Are old new = (told : List Action) × (new ≡ old ++ told) × Are told
-
 abbrev pub found_in : EventBefore → List Action
 found_in before = listed before.found_class ++ all_found before.finds
 
 -- the lock and the unlock, and the accesses between them
-pub record AreLocked (t : ℕ) (monitors : List Monitor) (stack : List ShownEntry) (before : EventBefore) (told : List Action) : Type 0 where
+pub record AreLocked (t : ℕ) (monitors : List Monitor) (stack : List ShownEntry) (before : EventBefore) (accesses told : List Action) : Type 0 where
   pub lock : Option Action
   pub unlock : Option Action
-  pub are : told ≡ listed lock ++ accesses_in before.accesses ++ listed unlock
+  pub are : told ≡ listed lock ++ accesses ++ listed unlock
   pub monitor : MonitorBefore
   pub changes : ChangesMonitor monitors stack before.depth before.monitor monitor
   pub locks : (old : List Monitor) → OwnsTheRest t monitor.object old monitors → WasOwner t monitor.object old monitor.was_owner → TellsLocks t old monitors lock

@@ -30,7 +30,8 @@ use Rattle.thread_rules.specs.declared.next_rules.NextRule.{NextRule}
 use Rattle.thread_rules.specs.declared.next_rules.NextRule.TheVariants as rule
 use Rattle.thread_rules.specs.next_rules.Meant.{IsAtInstruction}
 use Rattle.field_names.specs.named_fields.Fields.{names_of}
-use Rattle.next_accesses.specs.next_access.Next.{IsReached, AreAccesses}
+use Rattle.next_accesses.specs.next_access.Next.{IsReached}
+pub use Rattle.next_accesses.specs.next_access.Next.{AreAllRight, names_given}
 use Rattle.state_actions.specs.class_ends.Classes.{IsFinished, WasFinished}
 use Rattle.state_actions.specs.meant_before.Said.{IsSaid}
 use Rattle.race_actions.specs.declared.looking.CodeSite.{CodeSite}
@@ -102,26 +103,19 @@ IsFinishedIf shared (Some class) told = IsFinished shared class told
 
 -- ---- the event
 
-abbrev pub names_given : Program → List Action → List NamedAction
-names_given trees told = map (named_action (names_of trees)) told
-
-pub record AreAllRight (trees : Program) (told : List Action) : Type 0 where
-  pub each : (k : ℕ) (a : Action) → slice_get told k ≡ Some a → IsRight (names_of trees) trees a
-
 -- where its thread runs an instruction, that stands in the frame on top, at the place which is told
 abbrev pub IsSiteOf : Program → State → (t : ℕ) → StackOf Value → CodeSite → Type 0
 IsSiteOf trees state t own site =
     (instruction : Instruction) (frame : Frame) (rest : StackOf Value) → rule_of trees state t ≡ Does instruction → own ≡ model.Invocation frame ∷ rest
     → IsMethodAt trees site.method frame.method × (site.offset ≡ frame.place.offset)
 
--- what the next event of a thread finds, accesses and interrupts, which monitor it means, and what has to be known besides of the state
+-- what the next event of a thread finds and whom it interrupts, which monitor it means, and what has to be known besides of the state
 pub record IsKnown (trees : Program) (frames : ℕ) (state : State) (t : ℕ) (told : EventBefore) : Type 0 where
   pub own : StackOf Value
   pub own_is : slice_get state.stacks t ≡ Some own
   pub class : names_given trees (listed told.found_class) ≡ found_class state.world (needed_class trees t (rule_of trees state t))
   pub class_right : AreAllRight trees (listed told.found_class)
   pub finds : (event : Event) → event.thread ≡ t → names_given trees (all_found told.finds) ≡ finds_of trees event state.world (rule_of trees state t)
-  pub accesses : AreAccesses trees frames state t told.accesses
   pub interrupt : (event : Event) → event.thread ≡ t → names_given trees (listed told.interrupt) ≡ interrupts_of trees event state.world (rule_of trees state t)
   pub meant : (event : Event) → event.thread ≡ t
       → IsSaid told.monitor.object (meant_before words trees event (map_world word_of state.world) (map_stack word_of own) (thread_at state.world t).status)

@@ -22,7 +22,7 @@ use Rattle.model.specs.Run.{run, run_from}
 use Rattle.data_races.specs.Variables.{Variable, is_volatile}
 use Rattle.run_laws.proofs.word_runs.WordMeanings.{Kinded}
 use Rattle.data_races.specs.Actions.{Action, Read, Write, conflicts, synchronizes, is_read, is_write}
-use Rattle.data_races.specs.EventActions.{only_if, Instruction, Rule, Begins, Does, Initialises, Relocks, Other, accesses_at, operands_of, is_done, is_ready, goes_on, outcome_at, accesses_of, actions_to, actions_of, rule_of}
+use Rattle.data_races.specs.EventActions.{only_if, Instruction, Rule, Begins, Does, Initialises, Relocks, Other, accesses_at, is_done, is_ready, goes_on, outcome_at, accesses_of, actions_to, actions_of, rule_of}
 use Rattle.data_races.specs.HappensBefore.{HappensBefore, IsRace}
 use Rattle.data_races.specs.Races.{ActionOfRun, in_event, actions_from, actions_of_run, memory_order, HasRace, next_actions, IsRacy}
 use Rattle.data_races.proofs.Order.{get_left}
@@ -176,7 +176,7 @@ module _ (files : Program) (frames : ℕ) (s : State) (t : ℕ) (a : Action) (d 
       let finds = finds_later files (types_of s.world.heap) (types_of other.world.heap) more it.meaning.wants d.at.body.code.max_stack d.at.frame.place.slots p.0 in
       let kinds = subst (λ (x : Slots Value). Kinded files (types_of s.world.heap) it.meaning.wants (ops_of values it.meaning x)) (sym d.at.slots)
       (kinded files (types_of s.world.heap) it.meaning.wants d.at.body.code.max_stack d.at.frame.place.slots p.0) in
-      let accesses = later_is files it a d.at.means s.world other.world more kinds d.accesses in
+      let accesses = later_is files it a d.at.means s.world other.world (grown_keeps files s.world other.world same) more kinds d.accesses in
       let may = subst (λ (x : Slots Value). IsTrue (it.meaning.may e other.world (ops_of values it.meaning x))) d.at.slots (picks files it a d.at.means e other.world accesses) in
       let ready : IsTrue (is_done t other.world it) =
       subst (λ (cs : List (Name × ClassStatus)). IsTrue (is_ready (look_at t (record s.world { classes = cs }) it.meaning.looks))) (sym same.classes) d.done in

@@ -1,27 +1,31 @@
 -- What instructions that access elements ask of arrays, and references of objects: so it is in each later world.
 use Rattle.std.proofs.Common.{◌≡◌, refl, sym, ◌∙◌, ap, subst, ℕ, zero, suc, ◌≤◌, List, [], ◌∷◌, length, arith}
-use Rattle.std.specs.Prelude.{◌+◌, Option, Some, None, Bool, true, false, ◌&&◌, nat_lt, nat_le, slice_get, slice_index_or, drop, IsTrue}
+use Rattle.std.specs.Prelude.{◌+◌, Option, Some, None, Bool, true, false, ◌&&◌, ◌==◌, nat_lt, nat_le, slice_get, slice_index_or, drop, IsTrue}
 use Rattle.std.specs.Option.{option_map, option_map_or}
-use Rattle.std.proofs.lemmas.Bool.{false≢true, and_parts, and_from, le-ltb}
+use Rattle.std.proofs.lemmas.Bool.{false≢true, true≢false, and_parts, and_from, le-ltb}
 use Rattle.std.proofs.lemmas.Option.{same_Some, none-some, get_or_from_slice_get, slice_get-map}
 use Rattle.model.specs.declared.value.Value.{Value}
 use Rattle.model.specs.declared.value.Value.TheVariants as value
 use Rattle.model.specs.Arrays.{in_range, may_stand_in}
 use Rattle.model.specs.Classes.{Program}
-use Rattle.model.specs.Operands.{Slots, Wants, values, over_values, reads_meet, pops_meet, is_ready}
+use Rattle.model.specs.Operands.{Slots, Wants, values, over_values, reads_meet, pops_meet}
 use Rattle.model.specs.ReferenceTypes.{ReferenceType, ClassType}
 use Rattle.model.specs.State.{ObjectOf, Instance, Primitives, References, Characters, type_of, types_of, World}
 use Rattle.model.specs.Types.{OfType, Want, AnyWord, AnInt, AnyReference, AReference, AReceiver, AnOwner, AnArray, AByteArray, is_object_of, is_value_of, is_array_type, is_byte_array_type, is_value_with, value_meets}
 use Rattle.model.specs.WellTyped.{Extends}
-use Rattle.model.specs.Worlds.{no_object, object_at, elements_of}
+use Rattle.model.specs.Worlds.{no_object, object_at, elements_of, string_text, text_of}
 use Rattle.run_laws.proofs.laws.Order.{has_type_more}
 use Rattle.race_laws.proofs.racy_states.Shapes.{IsGrown, extends}
 
--- an index that is one of an array is so later, and what could stand in an array can so later
+-- an index that is one of an array is so later, what could stand in an array can so later, an array that has elements has as many, and
+-- a String that has a text has that
 pub record KeepsArrays (files : Program) (world later : World) : Type 0 where
   pub ranges : (r index : ℕ) → IsTrue (in_range world r index) → IsTrue (in_range later r index)
   pub stores : (r : ℕ) (value : Value) → IsTrue (may_stand_in values files world (object_at world r) value)
       → IsTrue (may_stand_in values files later (object_at later r) value)
+  pub counts : (r : ℕ) → (length (elements_of (object_at world r)) == 0) ≡ false
+      → length (elements_of (object_at later r)) ≡ length (elements_of (object_at world r))
+  pub texts : (r : ℕ) → (length (text_of (object_at world r)) == 0) ≡ false → string_text (object_at later r) ≡ string_text (object_at world r)
 
 none_or : {A : Type 0} (xs : List A) (k : ℕ) (d : A) → slice_get xs k ≡ None → slice_index_or xs k d ≡ d
 none_or [] k d e = refl
@@ -31,13 +35,20 @@ none_or (x ∷ xs) (suc k) d e = none_or xs k d e
 below_none : (n : ℕ) → IsTrue (nat_lt n 0) → ⊥
 below_none n h = let low : 0 ≤ n = omega arith in false≢true (sym (le-ltb n 0 low) ∙ h)
 
+-- each String that has a text has that
+abbrev pub AreTextsKept : List (ObjectOf Value) → List (ObjectOf Value) → Type 0
+AreTextsKept before after =
+    (r : ℕ) (old : ObjectOf Value) → slice_get before r ≡ Some old
+    → (new : ObjectOf Value) × ((slice_get after r ≡ Some new) × ((length (text_of old) == 0) ≡ false → string_text new ≡ string_text old))
+
 -- each object is there, with as many elements as it had
 abbrev pub AreLengthsKept : List (ObjectOf Value) → List (ObjectOf Value) → Type 0
 AreLengthsKept before after =
     (r : ℕ) (old : ObjectOf Value) → slice_get before r ≡ Some old
     → (new : ObjectOf Value) × ((slice_get after r ≡ Some new) × (length (elements_of new) ≡ length (elements_of old)))
 
-module _ (files : Program) (world later : World) (types : Extends (types_of world.heap) (types_of later.heap)) (lengths : AreLengthsKept world.heap later.heap) where
+module _ (files : Program) (world later : World) (types : Extends (types_of world.heap) (types_of later.heap)) (lengths : AreLengthsKept world.heap later.heap)
+    (texts : AreTextsKept world.heap later.heap) where
   instance_kept : (want : ReferenceType) (r : ℕ) (o : Option ReferenceType) → slice_get (types_of world.heap) r ≡ o → IsTrue (is_object_of files want o)
       → IsTrue (is_object_of files want (slice_get (types_of later.heap) r))
   instance_kept want r None e h = absurd (false≢true h)
@@ -100,13 +111,34 @@ module _ (files : Program) (world later : World) (types : Extends (types_of worl
       absurd (false≢true (subst (λ o. IsTrue (may_stand_in values files world o v)) (none_or world.heap r no_object e) h))
   store_by r v (Some old) e h = store_kept r old e v h
 
+  count_by : (r : ℕ) (o : Option (ObjectOf Value)) → slice_get world.heap r ≡ o → (length (elements_of (object_at world r)) == 0) ≡ false
+      → length (elements_of (object_at later r)) ≡ length (elements_of (object_at world r))
+  count_by r None e n = absurd (true≢false (sym (ap (λ (o : ObjectOf Value). length (elements_of o) == 0) (none_or world.heap r no_object e)) ∙ n))
+  count_by r (Some old) e n =
+      ap (λ o. length (elements_of o)) (is_new r old e) ∙ ((lengths r old e).1.1 ∙ sym (ap (λ o. length (elements_of o)) (is_old r old e)))
+
+  text_by : (r : ℕ) (o : Option (ObjectOf Value)) → slice_get world.heap r ≡ o → (length (text_of (object_at world r)) == 0) ≡ false
+      → string_text (object_at later r) ≡ string_text (object_at world r)
+  text_by r None e n = absurd (true≢false (sym (ap (λ (o : ObjectOf Value). length (text_of o) == 0) (none_or world.heap r no_object e)) ∙ n))
+  text_by r (Some old) e n =
+      let x = texts r old e in
+      ap string_text (get_or_from_slice_get later.heap r x.0 no_object x.1.0)
+      ∙ (x.1.1 (ap (λ o. length (text_of o) == 0) (sym (is_old r old e)) ∙ n) ∙ sym (ap string_text (is_old r old e)))
+
   pub keeps_arrays : KeepsArrays files world later
-  keeps_arrays = record { ranges = λ r index h. range_by r index (slice_get world.heap r) refl h; stores = λ r v h. store_by r v (slice_get world.heap r) refl h }
+  keeps_arrays =
+      record {
+        ranges = λ r index h. range_by r index (slice_get world.heap r) refl h;
+        stores = λ r v h. store_by r v (slice_get world.heap r) refl h;
+        counts = λ r n. count_by r (slice_get world.heap r) refl n;
+        texts = λ r n. text_by r (slice_get world.heap r) refl n;
+      }
 
 -- so of a world that has grown
 pub grown_keeps : (files : Program) (w v : World) → IsGrown w v → KeepsArrays files w v
 grown_keeps files w v grown =
     keeps_arrays files w v (extends w.heap v.heap grown.objects) (λ r old e. let p = grown.objects r old e in (p.0, (p.1.0, p.1.1.size)))
+    (λ r old e. let p = grown.objects r old e in (p.0, (p.1.0, p.1.1.text)))
 
 -- ---- operands that are found are found later
 

@@ -23,12 +23,12 @@ use Rattle.model.specs.ClassInitialisation.{status_of}
 use Rattle.model.specs.Sites.{referent}
 use Rattle.data_races.specs.Actions.{Action, Read, Write, Lock, Unlock, Start, Wake, Finish, ClearInterrupt, FinishInitialisation, FindInitialised, synchronizes, conflicts, is_read, is_write}
 use Rattle.data_races.specs.Variables.{InstanceField, is_volatile}
-use Rattle.data_races.specs.EventActions.{Instruction, Rule, Does, only_if, found_class, is_finished, needed_class, operands_of, receiver_of, found_on, interrupts_on, is_done, finds_of, accesses_of, goes_on, outcome_at, interrupts_of, access_by, accesses_at, at_reference, named_access, is_variable, field_access, owned, besides, started, clear_actions, finished_classes, end_actions, waiting, is_over, actions_to}
+use Rattle.data_races.specs.EventActions.{Instruction, Rule, Does, only_if, found_class, is_finished, needed_class, operands_of, receiver_of, is_done, finds_of, accesses_of, goes_on, outcome_at, interrupts_of, access_by, accesses_at, at_reference, named_access, is_variable, field_access, owned, besides, started, clear_actions, finished_classes, end_actions, waiting, is_over, actions_to}
 use Rattle.data_races.proofs.Decided.{In, from_map}
 use Rattle.race_laws.proofs.racy_states.Upto.{to_finds, to_locks, to_accesses, to_unlocks, to_starts, to_interrupts, to_clears, to_finished}
 use Rattle.race_laws.proofs.racy_states.Shapes.{IsGrown}
 pub use Rattle.race_laws.proofs.racy_states.Accesses.{in_cases}
-use Rattle.race_laws.proofs.racy_states.Accesses.{in_left, in_right, Access, OfInstruction, OfText, access_is, no_method, finds_nothing, interrupts_nothing, text_is_plain, IsOfText, ReadsText, WritesText, is_of_text}
+use Rattle.race_laws.proofs.racy_states.Accesses.{in_left, in_right, Access, OfInstruction, OfMethod, access_is, no_method, finds_nothing, interrupts_nothing, text_is_plain, IsOfText, ReadsText, WritesText, IsPlainAccess, OfBuilder, IsRead, WritesElement, is_plain_access}
 
 or_right : (a b : Bool) → IsTrue b → IsTrue (a || b)
 or_right true b h = refl
@@ -87,6 +87,12 @@ text_silent files c (WritesText r e) =
     subst (λ (x : Action). IsSilent files x) (sym e)
     (λ later. ap (λ b. b && is_read (InstanceField r builder_text) later) (text_is_plain files))
 
+-- nor is an element, and what is read leaves nothing
+plain_silent : (files : Program) (c : Action) → IsPlainAccess files c → IsSilent files c
+plain_silent files c (OfBuilder e) = text_silent files c e
+plain_silent files c (IsRead variable e) = subst (λ (x : Action). IsSilent files x) (sym e) (λ later. refl)
+plain_silent files c (WritesElement array index e) = subst (λ (x : Action). IsSilent files x) (sym e) (λ later. refl)
+
 module _ (files : Program) (t : ℕ) (old new : World) (instruction : Instruction) (a : Action) (same : IsGrown old new)
     (accesses : Access files instruction a old) (silent : IsSilent files a)
     (running : (thread_at old t).status ≡ Running) where
@@ -143,8 +149,8 @@ module _ (files : Program) (t : ℕ) (old new : World) (instruction : Instructio
   beside : (c : Action) → Access files instruction a old → Access files instruction c old → IsSilent files c
   beside c (OfInstruction g) (OfInstruction h) =
       subst (λ (x : Action). IsSilent files x) (one_of (operands_of instruction) instruction.site.instr a c g h) silent
-  beside c of (OfText b at h) = text_silent files c (is_of_text (operands_of instruction) c b h)
-  beside c (OfText b at g) (OfInstruction h) = absurd (none-some _ (sym (no_method files instruction c h old) ∙ at))
+  beside c of (OfMethod b at h) = plain_silent files c (is_plain_access files old (operands_of instruction) c b h)
+  beside c (OfMethod b at g) (OfInstruction h) = absurd (none-some _ (sym (no_method files instruction c h old) ∙ at.runs))
 
   in_accesses : (c : Action) → In c (accesses_of files e old (Does instruction)) → IsSilent files c
   in_accesses c h =

@@ -33,12 +33,12 @@ use Rattle.race_runs.specs.finder.Events.{label_at}
 
 -- ---- actions that are no accesses
 
-abbrev is_silent : named.Action → Bool
+abbrev pub is_silent : named.Action → Bool
 is_silent (named.Read variable) = false
 is_silent (named.Write variable) = false
 is_silent _ = true
 
-abbrev AreSilent : List named.Action → Type 0
+abbrev pub AreSilent : List named.Action → Type 0
 AreSilent xs = list_all is_silent xs ≡ true
 
 both_silent : (xs ys : List named.Action) → AreSilent xs → AreSilent ys → AreSilent (xs ++ ys)
@@ -70,7 +70,7 @@ class_silent world (Some class) = by (is_finished (status_of world class))
     by true = refl
     by false = refl
 
-abbrev Runs : Rule → Type 0
+abbrev pub Runs : Rule → Type 0
 Runs rule = (instruction : Instruction) × (rule ≡ Does instruction)
 
 -- an event whose thread runs no instruction accesses nothing
@@ -130,7 +130,7 @@ module _ (files : Program) (event : Event) (old new : World) (rule : Rule) where
       (mapped_silent (λ u. named.Start u) (started old new) (λ u. refl)))
       (all_silent interrupts (plain_interrupted files event old rule))
 
-  event_silent : (Runs rule → ⊥) → AreSilent (actions_to files event old rule new)
+  pub event_silent : (Runs rule → ⊥) → AreSilent (actions_to files event old rule new)
   event_silent h =
       both_silent (to_interrupts ++ clears ++ finishes) ends
       (both_silent (to_interrupts ++ clears) finishes (both_silent to_interrupts clears (interrupted_silent h) (all_silent clears (plain_clear event.thread old new)))

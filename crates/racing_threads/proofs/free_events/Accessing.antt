@@ -8,7 +8,7 @@ use Rattle.std.proofs.lemmas.Option.{same_Some, none-some}
 use Rattle.model.specs.declared.instr.Instr.{Instr}
 use Rattle.model.specs.declared.instr.Instr.TheVariants as instr
 use Rattle.model.specs.declared.value.Value.{Value}
-use Rattle.model.specs.BuiltInMethods.{BuiltInMethod, StringBuilderBuilds}
+use Rattle.model.specs.BuiltInMethods.{BuiltInMethod}
 use Rattle.model.specs.Classes.{Program, body_of}
 use Rattle.model.specs.Frames.{at_offset}
 use Rattle.model.specs.Names.{Member}
@@ -21,7 +21,7 @@ use Rattle.data_races.specs.Actions.{Action, Read, Write, conflicts}
 use Rattle.data_races.specs.EventActions.{Instruction, Rule, Begins, Does, Initialises, Relocks, Other, without_code, method_run, access_by, accesses_at, operands_of, is_done, goes_on, outcome_at, accesses_of, actions_to, actions_of, rule_of}
 use Rattle.data_races.specs.Races.{ActionOfRun, in_event, memory_order, next_actions}
 use Rattle.data_races.proofs.Decided.{In, from_map}
-use Rattle.race_laws.proofs.racy_states.Accesses.{Access, OfInstruction, OfText, access_is}
+use Rattle.race_laws.proofs.racy_states.Accesses.{Access, OfInstruction, OfMethod, access_is}
 use Rattle.race_laws.proofs.racy_states.Parts.{is_access, access_part}
 use Rattle.race_laws.proofs.racy_states.Silent.{in_only_if}
 use Rattle.race_laws.proofs.racy_states.Stepping.{IsAt, is_at, steps_by, goes}
@@ -72,7 +72,7 @@ module _ (files : Program) (site : Site) (ops : List Value) (a : Action) where
 
 may_do : (files : Program) (instruction : Instruction) (a : Action) (world : World) → Access files instruction a world → may_access instruction.site.instr ≡ true
 may_do files instruction a world (OfInstruction h) = accesses_by files instruction.site (operands_of instruction) a instruction.site.instr h
-may_do files instruction a world (OfText b h g) = runs_by files instruction.site (operands_of instruction) a instruction.site.instr world (StringBuilderBuilds b) h
+may_do files instruction a world (OfMethod b h g) = runs_by files instruction.site (operands_of instruction) a instruction.site.instr world b h.runs
 
 pub record IsToAccess (files : Program) (state : State) (t : ℕ) : Type 0 where
   pub instruction : Instruction

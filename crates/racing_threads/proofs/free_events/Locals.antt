@@ -1,5 +1,5 @@
 -- A local instruction accesses no variable.
-use Rattle.std.proofs.Common.{◌≡◌, ℕ, List, ◌∷◌, None, true, refl, sym, ap, ◌∙◌}
+use Rattle.std.proofs.Common.{◌≡◌, ℕ, ◌∷◌, None, true, refl, sym, ap, ◌∙◌}
 use Rattle.std.specs.Prelude.{Option, if◌then◌else◌, is_none, slice_get}
 use Rattle.std.specs.Option.{option_map, option_and_then}
 use Rattle.std.proofs.lemmas.Bool.{false≢true}

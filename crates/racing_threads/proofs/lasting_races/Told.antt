@@ -1,11 +1,14 @@
 -- In well-typed states with the same words the threads are about to do the same accesses.
 use Rattle.std.proofs.Common.{◌≡◌, refl, sym, ◌∙◌, ap, subst, ℕ, List, [], ◌∷◌, ◌++◌, map}
-use Rattle.std.specs.Prelude.{Option, Some, None, Bool, true, false, slice_get, IsTrue}
+use Rattle.std.specs.Prelude.{Option, Some, None, Bool, true, false, ◌-◌, length, slice_get, IsTrue}
+use Rattle.std.proofs.lemmas.List.{length-map}
 use Rattle.std.specs.Option.{option_map, option_map_or, option_and_then}
 use Rattle.std.proofs.lemmas.Bool.{cond_both}
 use Rattle.std.proofs.lemmas.Option.{same_Some, none-some, slice_get-map}
 use Rattle.model.specs.declared.builder_method.BuilderMethod.{BuilderMethod}
 use Rattle.model.specs.declared.builder_method.BuilderMethod.TheVariants.{ConstructEmpty, ConstructOfString, AppendString, AppendInt, AppendChar, AppendBuilder, ToString}
+use Rattle.model.specs.declared.text_method.TextMethod.{TextMethod}
+use Rattle.model.specs.declared.text_method.TextMethod.TheVariants as text_method
 use Rattle.model.specs.declared.event.Event.{Event}
 use Rattle.model.specs.declared.instr.ArrayKind.{ArrayKind}
 use Rattle.model.specs.declared.instr.ArrayKind.TheVariants as array_kind
@@ -15,7 +18,7 @@ use Rattle.model.specs.declared.instr.Instr.{Instr}
 use Rattle.model.specs.declared.instr.Instr.TheVariants as instr
 use Rattle.model.specs.declared.value.Value.{Value}
 use Rattle.model.specs.Arrays.{load_of, store_of}
-use Rattle.model.specs.BuiltInMethods.{StringBuilderBuilds}
+use Rattle.model.specs.BuiltInMethods.{BuiltInMethod, ObjectClone, StringWrites, StringBuilderBuilds}
 use Rattle.model.specs.ClassInitialisation.{look_at}
 use Rattle.model.specs.Calls.{argument_wants, of_class, parameter_count}
 use Rattle.model.specs.Classes.{Program, body_of}
@@ -29,11 +32,11 @@ use Rattle.model.specs.Pool.{field_at}
 use Rattle.model.specs.ReferenceTypes.{Char, Short, Int, ReferenceType, PrimitiveArray, ReferenceArray}
 use Rattle.model.specs.Sites.{MeaningOf, Site, site_at, referent, int_operand}
 use Rattle.model.specs.State as state
-use Rattle.model.specs.State.{type_of, types_of, Thread, Frame, FrameOf, Initialisation, StackOf, World, WorldOf, State, StateOf}
+use Rattle.model.specs.State.{ObjectOf, type_of, types_of, Thread, Frame, FrameOf, Initialisation, StackOf, World, WorldOf, State, StateOf}
 use Rattle.model.specs.Step.{ops_of}
 use Rattle.model.specs.Types.{Want, AReference, AnOwner, AByteArray, value_meets}
 use Rattle.model.specs.Words.{map_slots, map_frame}
-use Rattle.model.specs.Worlds.{thread_at, object_at}
+use Rattle.model.specs.Worlds.{thread_at, object_at, elements_of}
 use Rattle.run_laws.specs.laws.Steps.{Rooted}
 use Rattle.run_laws.specs.word_runs.Words.{map_outcome}
 use Rattle.run_laws.proofs.laws.Lists.{Pairwise}
@@ -44,14 +47,14 @@ use Rattle.run_laws.proofs.word_runs.WordBuiltIns.{object_places, wants_on, agre
 use Rattle.run_laws.proofs.word_runs.WordEvents.{stack_words}
 use Rattle.run_laws.proofs.word_runs.WordMeanings.{Kinded, Same, int_words, referent_words}
 use Rattle.run_laws.proofs.word_runs.WordTable.{SameIf, meaning_same}
-use Rattle.run_laws.proofs.word_runs.WordWorlds.{KeepsTexts, world_words, object_at_words, type_words}
+use Rattle.run_laws.proofs.word_runs.WordWorlds.{KeepsTexts, world_words, object_at_words, elements_words, type_words}
 use Rattle.data_races.specs.Actions.{Action, Read, Write}
-use Rattle.data_races.specs.EventActions.{Instruction, is_ready, operands_of, goes_on, outcome_at, access_by, only_if, is_variable, named_access, field_access, text_access, builder_accesses}
+use Rattle.data_races.specs.EventActions.{Instruction, is_ready, operands_of, goes_on, outcome_at, access_by, only_if, is_variable, named_access, field_access, text_access, builder_accesses, elements_accessed, string_accesses, copy_accesses, clone_accesses, built_in_accesses}
 use Rattle.data_races.specs.Variables.{Variable, InstanceField, Element}
 use Rattle.data_races.proofs.Decided.{In}
 use Rattle.data_races.proofs.BuilderCalls.{IsCallOn}
 use Rattle.data_races.proofs.BuilderRuns.{Called, builds_by, does_build, kinds_of, wanted}
-use Rattle.race_laws.proofs.racy_states.Accesses.{Access, OfInstruction, OfText}
+use Rattle.race_laws.proofs.racy_states.Accesses.{Access, OfInstruction, OfMethod}
 use Rattle.race_laws.proofs.racy_states.Stepping.{event_of_thread, IsAt}
 use Rattle.search_laws.specs.Alone.{HaveSameWords}
 use Rattle.search_laws.proofs.Operands.{kinded}
@@ -216,6 +219,27 @@ module _ (ops others : List Value) where
       ∙ ap (λ xs. text_access ops 1 Read ++ text_access ops 0 Read ++ xs) (text_same 1 Write (at 1 refl)))
   builder_same ToString at = text_same 0 Read (at 0 refl)
 
+-- ---- other methods without code that access variables
+
+module _ (ops others : List Value) (same : map word_of others ≡ map word_of ops) where
+  elements_same : (make : Variable → Action) (o p : Option ℕ) (i j n m : ℕ) → p ≡ o → j ≡ i → m ≡ n
+      → option_map_or (λ array. elements_accessed make array j m) p [] ≡ option_map_or (λ array. elements_accessed make array i n) o []
+  elements_same make o p i j n m e f g = λ x. option_map_or (λ array. elements_accessed make array (f x) (g x)) (e x) []
+
+  string_same : (method : TextMethod)
+      → ((k : ℕ) → is_place_of (object_places (StringWrites method)) k ≡ true → referent values others k ≡ referent values ops k)
+      → string_accesses others method ≡ string_accesses ops method
+  string_same text_method.ConstructEmpty at = refl
+  string_same text_method.ConstructOfString at = refl
+  string_same text_method.ConstructOfChars at =
+      elements_same (λ v. Read v) (referent values ops 2) (referent values others 2) (int_operand values ops 1) (int_operand values others 1) (int_operand values ops 0) (int_operand values others 0)
+      (at 2 refl) (ints_alike ops others 1 same) (ints_alike ops others 0 same)
+  string_same text_method.GetChars at =
+      elements_same (λ v. Write v) (referent values ops 1) (referent values others 1) (int_operand values ops 0) (int_operand values others 0)
+      (int_operand values ops 2 - int_operand values ops 3) (int_operand values others 2 - int_operand values others 3)
+      (at 1 refl) (ints_alike ops others 0 same) (λ x. ints_alike ops others 2 same x - ints_alike ops others 3 same x)
+  string_same text_method.Intern at = refl
+
 -- the words of a world tell the types of its objects
 same_type : (one other : World) (r : ℕ) → world_words other ≡ world_words one → type_of (object_at other r) ≡ type_of (object_at one r)
 same_type one other r e =
@@ -223,19 +247,41 @@ same_type one other r e =
     ∙ (sym (ap type_of (object_at_words other r))
     ∙ (ap (λ (w : WorldOf ℕ). type_of (object_at w r)) e ∙ (ap type_of (object_at_words one r) ∙ type_words (object_at one r))))
 
+-- and how many elements they have
+same_size : (one other : World) (r : ℕ) → world_words other ≡ world_words one → length (elements_of (object_at other r)) ≡ length (elements_of (object_at one r))
+same_size one other r e =
+    sym (counted other)
+    ∙ (ap (λ (w : WorldOf ℕ). length (elements_of (object_at w r))) e ∙ counted one)
+  where
+    counted : (w : World) → length (elements_of (object_at (world_words w) r)) ≡ length (elements_of (object_at w r))
+    counted w =
+        ap (λ (o : ObjectOf ℕ). length (elements_of o)) (object_at_words w r)
+        ∙ (ap (λ (l : List ℕ). length l) (elements_words (object_at w r)) ∙ length-map (elements_of (object_at w r)) word_of)
+
 module _ (files : Program) (site : Site) (meaning : MeaningOf Value) (c : IsCallOn files site meaning) (one other : World) (same_worlds : world_words other ≡ world_words one)
     (types other_types : List ReferenceType) (ops others : List Value) (kinds : Kinded files types meaning.wants ops)
     (other_kinds : Kinded files other_types meaning.wants others) (same : map word_of others ≡ map word_of ops) where
-  record BuildsAlike (b : BuilderMethod) : Type 0 where
+  record BuildsAlike (b : BuiltInMethod) : Type 0 where
     called : Called files site meaning c other others b
-    accesses : builder_accesses others b ≡ builder_accesses ops b
+    accesses : built_in_accesses files other others b ≡ built_in_accesses files one ops b
+
+  clone_same : (o : Option ℕ) → option_map_or (clone_accesses files other) o [] ≡ option_map_or (clone_accesses files one) o []
+  clone_same None = refl
+  clone_same (Some r) = λ x. copy_accesses files r (same_type one other r same_worlds x) (same_size one other r same_worlds x)
+
+  method_same : (b : BuiltInMethod) → ((k : ℕ) → is_place_of (object_places b) k ≡ true → referent values others k ≡ referent values ops k)
+      → built_in_accesses files other others b ≡ built_in_accesses files one ops b
+  method_same (StringBuilderBuilds method) at = builder_same ops others method at
+  method_same (StringWrites method) at = string_same ops others same method at
+  method_same ObjectClone at = ap (λ o. option_map_or (clone_accesses files other) o []) (at 0 refl) ∙ clone_same (referent values ops 0)
+  method_same _ at = refl
 
   wants_of_method : (m : Member) → m.descriptor ≡ c.method.descriptor → (objects : List ReferenceType) (vs : List Value) → Kinded files objects meaning.wants vs
       → Pairwise (value_meets files objects) (wants_on files m.descriptor c.receiver) vs
   wants_of_method m e objects vs k =
       subst (λ n. Pairwise (value_meets files objects) (wants_on files n c.receiver) vs) (sym e) (kinds_of files site meaning c objects vs k)
 
-  builds_alike : (b : BuilderMethod) → Called files site meaning c one ops b → BuildsAlike b
+  builds_alike : (b : BuiltInMethod) → Called files site meaning c one ops b → BuildsAlike b
   builds_alike b h =
       let place = parameter_count c.method in
       let wants = argument_wants files c.method (c.receiver ∷ []) in
@@ -244,7 +290,7 @@ module _ (files : Program) (site : Site) (meaning : MeaningOf Value) (c : IsCall
       let described = c.describes one h.object h.method h.chosen in
       let agrees = agrees_on files types h.method c.receiver ops c.object (wants_of_method h.method described types ops kinds) in
       let others_agree = agrees_on files other_types h.method c.receiver others c.object (wants_of_method h.method described other_types others other_kinds) in
-      let at : (k : ℕ) → is_place_of (object_places (StringBuilderBuilds b)) k ≡ true → referent values others k ≡ referent values ops k =
+      let at : (k : ℕ) → is_place_of (object_places b) k ≡ true → referent values others k ≡ referent values ops k =
       λ k p.
       let q = subst (λ m. is_place_of (object_places m) k ≡ true) (sym h.is) p in
       sym (others_agree k q) ∙ (ap (λ ns. referent words ns k) same ∙ agrees k q) in
@@ -253,11 +299,12 @@ module _ (files : Program) (site : Site) (meaning : MeaningOf Value) (c : IsCall
           method = h.method;
           no_code = h.no_code;
           is = h.is;
+          accesses = h.accesses;
           object = h.object;
           on = on ∙ h.on;
           chosen = c.by_type one other h.object (same_type one other h.object same_worlds) ∙ h.chosen;
         };
-        accesses = builder_same ops others b at;
+        accesses = method_same b at;
       }
 
 -- ---- states
@@ -355,11 +402,11 @@ module _ (files : Program) (rooted : Rooted files) (one other : State) (like : H
 
     same_access : Access files it a one.world → Access files theirs a other.world
     same_access (OfInstruction h) = OfInstruction (subst (λ l. In a l) (sym (same_accesses h)) h)
-    same_access (OfText b h g) =
+    same_access (OfMethod b h g) =
         let build = does_build files it.site meaning d.at.means one.world ops b h in
         let c = build.call in
         let alike = builds_alike files it.site meaning c one.world other.world (ap (λ (w : StateOf ℕ). w.world) like.same) (types_of one.world.heap) (types_of other.world.heap) ops others kinds other_kinds same_ops b build.called in
-        OfText b (builds_by files it.site meaning c other.world others b alike.called) (subst (λ l. In a l) (sym alike.accesses) g)
+        OfMethod b (builds_by files it.site meaning c other.world others b alike.called) (subst (λ l. In a l) (sym alike.accesses) g)
 
     same_onward : goes_on (outcome_at event other.world theirs) ≡ goes_on (outcome_at event one.world it)
     same_onward =

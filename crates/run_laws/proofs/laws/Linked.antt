@@ -65,6 +65,9 @@ pub record Linked (files : Program) : Type 0 where
   -- a private method that a class's method reference finds stands in the class or above it
   pub private_is_above : (named found : Member) (m : MethodTree) → IsCallable named → find_method files named ≡ Some found
       → method_of files found ≡ Some m → is_private_method m ≡ true → is_subclass files named.class found.class ≡ true
+  -- and the reference names no array class
+  pub private_is_of_class : (named found : Member) (m : MethodTree) → IsCallable named → find_method files named ≡ Some found
+      → method_of files found ≡ Some m → is_private_method m ≡ true → is_array_class named.class ≡ false
   pub interface_found_is_public : (named found : Member) (m : MethodTree) → IsCallable named → is_interface files named.class ≡ true
       → find_interface_method files named ≡ Some found → method_of files found ≡ Some m → is_private_method m ≡ false
   -- no instruction calls the initialiser of a class (JVMS 4.9.1)

@@ -1,8 +1,8 @@
 -- What linking gives of instructions: the conditions of each at the boundaries of a method's code.
-use Rattle.std.proofs.Common.{◌≡◌, ℕ, zero, suc, ◌+◌, List, [], ◌∷◌, ◌++◌, Bool, true, false, not, ◌&&◌, ◌||◌, option_map, Option, Some, None, refl, sym, ap, ◌∙◌, subst, arith}
+use Rattle.std.proofs.Common.{◌≡◌, ℕ, zero, suc, ◌+◌, List, [], ◌∷◌, Bool, true, false, not, ◌&&◌, ◌||◌, option_map, Option, Some, None, refl, sym, ap, ◌∙◌, subst, arith}
 use Rattle.std.specs.Prelude.{slice_index_or}
-use Rattle.std.specs.Option.{option_map_or, is_none, option_and_then, option_to_list}
-use Rattle.std.specs.List.{list_any, list_all, flat_map}
+use Rattle.std.specs.Option.{option_map_or, is_none, option_and_then}
+use Rattle.std.specs.List.{list_any, list_all}
 use Rattle.std.proofs.lemmas.Bool.{false≢true, true≢false, or_parts, or_from, not-true}
 use Rattle.model.specs.declared.instr.Instr.{Instr}
 use Rattle.model.specs.declared.instr.Instr.TheVariants.{Invoke, InvokeInterface}
@@ -15,12 +15,11 @@ use Rattle.model.specs.AccessFlags.{is_interface_class}
 use Rattle.model.specs.BuiltIn.{built_in_classes}
 use Rattle.model.specs.Classes.{Program, Body, name_of, class_of, code_in, with_pool, body_of, is_interface, is_subclass, is_method}
 use Rattle.model.specs.Instruction.{Sized, instr_at, sized_at, wide_at, table_switch_at, lookup_switch_at}
-use Rattle.model.specs.DescriptorParts.{classes_named}
 use Rattle.model.specs.OpcodeTable.{low_form, high_form}
 use Rattle.model.specs.DescriptorScan.{element_at, field_at, field_type, parameters_at, method_type}
 use Rattle.model.specs.InstructionStarts.{starts_from, is_start}
 use Rattle.model.specs.Profile.{unknown_opcode}
-use Rattle.model.specs.CodeParts.{marked_from, decodes, any_code, any_instruction, any_instruction_in, class_operand, field_operand, method_operand}
+use Rattle.model.specs.CodeParts.{marked_from, decodes, any_code, any_instruction, any_instruction_in, method_operand}
 use Rattle.model.specs.CodeConditions.{jump_off_boundary, unsorted_matches, local_above_max, operand_of_wrong_kind, wrong_interface_count, wrong_interface_end, constructor_not_by_special, calls_initialiser, is_class_aside, special_of_class_aside, new_of_array, too_many_dimensions, malformed_instruction, malformed_code, has_malformed_code}
 use Rattle.model.specs.Resolution.{is_missing, differs, member_classes, operand_classes, superclass_missing, interface_missing, operand_class_missing, new_of_abstract, field_missing, field_of_other_kind, puts_system_stream, names_hidden_field, names_hidden_method, method_missing, method_of_other_kind, call_on_other_kind, unresolved_instruction, is_unresolved}
 use Rattle.run_laws.proofs.laws.Lists.{every_weaken}
@@ -234,16 +233,15 @@ module _ (files : Program) where
         → option_map_or test (class_of files named.class) false ≡ false
     of_named o named test e h = subst (λ x. option_map_or test (option_and_then (λ (m : Member). class_of files m.class) x) false ≡ false) e h
 
-    found_class : (pool : List Entry) (i : Instr) (file : FileTree) (named : Member) → file.pool ≡ pool → field_operand pool i ≡ None
-        → class_operand pool i ≡ None → method_operand pool i ≡ Some named → operand_class_missing files file i ≡ false
+    found_class : (pool : List Entry) (index count last : ℕ) (file : FileTree) (named : Member) → file.pool ≡ pool
+        → interface_method_at pool index ≡ Some named → operand_class_missing files file (InvokeInterface index count last) ≡ false
         → is_none (class_of files named.class) ≡ false
-    found_class pool i file named p f c m h =
-        let in_pool : list_any (is_missing files) (operand_classes pool i) ≡ false = subst (λ q. list_any (is_missing files) (operand_classes q i) ≡ false) p h in
-        let fields : list_any (is_missing files) (flat_map classes_named [] ++ (member_classes None ++ member_classes (Some named))) ≡ false =
-        subst (λ o. list_any (is_missing files) (flat_map classes_named [] ++ (member_classes None ++ member_classes o)) ≡ false) m
-        (subst (λ o. list_any (is_missing files) (flat_map classes_named [] ++ (member_classes o ++ member_classes (method_operand pool i))) ≡ false) f
-        (subst (λ o. list_any (is_missing files) (flat_map classes_named (option_to_list o) ++ (member_classes (field_operand pool i) ++ member_classes (method_operand pool i))) ≡ false) c in_pool)) in
-        (or_parts (is_none (class_of files named.class)) _ fields).0
+    found_class pool index count last file named p m h =
+        let in_pool : list_any (is_missing files) (member_classes (interface_method_at pool index)) ≡ false =
+        subst (λ q. list_any (is_missing files) (operand_classes q (InvokeInterface index count last)) ≡ false) p h in
+        let named_so : list_any (is_missing files) (member_classes (Some named)) ≡ false =
+        subst (λ o. list_any (is_missing files) (member_classes o) ≡ false) m in_pool in
+        (or_parts (is_none (class_of files named.class)) _ named_so).0
 
     pub calls_class : (method : Member) (body : Body) (offset size : ℕ) (how : Invocation) (index : ℕ) (named : Member)
         → body_of files method ≡ Some body → is_start body.code.code offset ≡ true
@@ -268,5 +266,5 @@ module _ (files : Program) where
         on_body (λ b. is_start b.code.code offset ≡ true → sized_at b.code.code offset ≡ Some (InvokeInterface index count last, size) → interface_method_at b.pool index ≡ Some named → is_interface files named.class ≡ true) method body e
         (λ c start is m.
         let h = or_parts (operand_class_missing files c.home.file (InvokeInterface index count last)) (call_on_other_kind files c.home.file (InvokeInterface index count last)) (well_named method body c offset (InvokeInterface index count last) start (instr_of c.code.code offset (InvokeInterface index count last) size is)) in
-        an_interface (class_of files named.class) (found_class c.home.file.pool (InvokeInterface index count last) c.home.file named refl refl refl m h.0)
+        an_interface (class_of files named.class) (found_class c.home.file.pool index count last c.home.file named refl m h.0)
         (of_named (interface_method_at c.home.file.pool index) named (λ (f : FileTree). differs true (is_interface_class f)) m h.1))

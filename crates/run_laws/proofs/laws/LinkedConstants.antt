@@ -11,7 +11,7 @@ use Rattle.model.specs.Conditions.{text_at, is_constant_of, constant_fits, field
 use Rattle.model.specs.BuiltIn.{built_in_classes}
 use Rattle.model.specs.Classes.{Program, class_of}
 use Rattle.model.specs.ClassInitialisation.{constant_in}
-use Rattle.model.specs.StringConstants.{is_other_text, distinct, texts_in, division_text, machine_texts, string_texts}
+use Rattle.model.specs.StringConstants.{is_other_text, distinct, texts_in, main_text, division_text, machine_texts, string_texts}
 use Rattle.run_laws.proofs.laws.Lists.{every_weaken}
 use Rattle.run_laws.proofs.laws.Found.{every_all}
 use Rattle.run_laws.proofs.laws.Classes.{names_same, name_self}
@@ -114,6 +114,9 @@ module _ (files : Program) where
 
   text_of_machine : (b : Name) → list_any (name_eq b) machine_texts ≡ true → list_any (name_eq b) (string_texts files) ≡ true
   text_of_machine b h = texts_once b _ (any_back b (flat_map texts_in files) _ (any_back b (flat_map texts_in built_in_classes) machine_texts h))
+
+  pub main_is_text : list_any (name_eq main_text) (string_texts files) ≡ true
+  main_is_text = text_of_machine main_text refl
 
   pub division_is_text : list_any (name_eq division_text) (string_texts files) ≡ true
   division_is_text = text_of_machine division_text refl

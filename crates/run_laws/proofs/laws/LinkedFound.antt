@@ -14,11 +14,11 @@ use Rattle.model.specs.Classes.{Program, Body, super_name_of, classes_of, class_
 use Rattle.model.specs.ReferenceTypes.{ClassType, is_subclass_or_implements, is_assignable}
 use Rattle.model.specs.DescribedTypes.{made_type}
 use Rattle.model.specs.DescriptorParts.{is_array_class}
-use Rattle.model.specs.Lookup.{method_of, where_so, in_class, first_found, method_in_class, any_method, find_method, is_public_instance_method, find_interface_method}
+use Rattle.model.specs.Lookup.{method_of, where_so, in_class, first_found, method_in_class, any_method, searched_class, find_method, is_public_instance_method, find_interface_method}
 use Rattle.model.specs.Hierarchy.{catch_class, is_no_throwable}
 use Rattle.run_laws.proofs.laws.Lists.{every_weaken}
 use Rattle.run_laws.proofs.laws.Found.{found_has, none_any, every_all, map_or_at, option_cases}
-use Rattle.run_laws.proofs.laws.Classes.{names_same, name_self, subclass_self, subclass_trans, within_subclass}
+use Rattle.run_laws.proofs.laws.Classes.{names_same, name_self, subclass_self, subclass_trans, within_subclass, above_object}
 use Rattle.run_laws.proofs.laws.RootedOf.{lineage_within}
 use Rattle.run_laws.proofs.laws.Homes.{coded_of}
 use Rattle.run_laws.proofs.laws.Linked.{IsCallable}
@@ -103,25 +103,47 @@ module _ (files : Program) where
     not_private named found m class callable i e q =
         interface_is_public files ok (in_class class named) m (subst (λ f. method_of files f ≡ Some m) e q) i callable
 
-    pub private_is_above : (named found : Member) (m : MethodTree) → IsCallable named → find_method files named ≡ Some found
-        → method_of files found ≡ Some m → is_private_method m ≡ true → is_subclass files named.class found.class ≡ true
-    private_is_above named found m callable e q private =
-        ⊎_elim
-        (λ above.
-        let n = length (classes_of files) in
-        let f = found_first (λ y. is_within files n named.class y ≡ true) any_method named (lineage files named.class) found (lineage_within files n n named.class (omega arith)) above in
-        subst (λ (x : Member). is_subclass files named.class x.class ≡ true) (sym f.2) f.1)
-        (λ aside.
-        let f = found_first (λ y. is_interface files y ≡ true) any_method named (all_superinterfaces files named.class) found (all_interfaces files ok named.class) aside in
-        absurd (false≢true (sym (not_private named found m f.0 callable f.1 f.2 q) ∙ private)))
-        (or_some (first_found (method_in_class files any_method named) (lineage files named.class)) _ found e)
-
     object_public : (m : MethodTree) (name descriptor : Name)
         → method_of files (record { class = java_lang_object; name = name; descriptor = descriptor }) ≡ Some m → is_private_method m ≡ false
     unfolding built_in_classes
     object_public m name descriptor e =
         not-true (is_private_method m)
         (found_has (λ x. not (is_private_method x) ≡ true) (is_method object_class.pool name descriptor) object_class.methods m (every_all (λ x. not (is_private_method x)) object_class.methods refl) e)
+
+    -- what is found private is found from a class that the class of an array is not
+    private_of : (named found : Member) (m : MethodTree) → IsCallable named → find_method files named ≡ Some found
+        → method_of files found ≡ Some m → is_private_method m ≡ true
+        → (is_subclass files (searched_class named.class) found.class ≡ true) × (found ≡ in_class found.class named)
+    private_of named found m callable e q private =
+        let class = searched_class named.class in
+        ⊎_elim
+        (λ above.
+        let n = length (classes_of files) in
+        let f = found_first (λ y. is_within files n class y ≡ true) any_method named (lineage files class) found (lineage_within files n n class (omega arith)) above in
+        (subst (λ (x : Member). is_subclass files class x.class ≡ true) (sym f.2) f.1, f.2 ∙ ap (λ (x : Member). in_class x.class named) (sym f.2)))
+        (λ aside.
+        let f = found_first (λ y. is_interface files y ≡ true) any_method named (all_superinterfaces files class) found (all_interfaces files ok class) aside in
+        absurd (false≢true (sym (not_private named found m f.0 callable f.1 f.2 q) ∙ private)))
+        (or_some (first_found (method_in_class files any_method named) (lineage files class)) _ found e)
+
+    -- Object has no private method
+    pub private_is_of_class : (named found : Member) (m : MethodTree) → IsCallable named → find_method files named ≡ Some found
+        → method_of files found ≡ Some m → is_private_method m ≡ true → is_array_class named.class ≡ false
+    private_is_of_class named found m callable e q private = by (is_array_class named.class) refl
+      where
+        by : (b : Bool) → is_array_class named.class ≡ b → is_array_class named.class ≡ false
+        by false a = a
+        by true a =
+            let x = private_of named found m callable e q private in
+            let top : java_lang_object ≡ found.class = above_object files found.class (subst (λ b. is_subclass files (if b then java_lang_object else named.class) found.class ≡ true) a x.0) in
+            let there = subst (λ (y : Member). method_of files y ≡ Some m) (x.1 ∙ ap (λ c. in_class c named) (sym top)) q in
+            absurd (false≢true (sym (object_public m named.name named.descriptor there) ∙ private))
+
+    pub private_is_above : (named found : Member) (m : MethodTree) → IsCallable named → find_method files named ≡ Some found
+        → method_of files found ≡ Some m → is_private_method m ≡ true → is_subclass files named.class found.class ≡ true
+    private_is_above named found m callable e q private =
+        subst (λ b. is_subclass files (if b then java_lang_object else named.class) found.class ≡ true) (private_is_of_class named found m callable e q private)
+        (private_of named found m callable e q private).0
 
     pub interface_found_is_public : (named found : Member) (m : MethodTree) → IsCallable named → is_interface files named.class ≡ true
         → find_interface_method files named ≡ Some found → method_of files found ≡ Some m → is_private_method m ≡ false

@@ -8,7 +8,7 @@ use Rattle.run_laws.proofs.laws.LinkedMain.{main}
 use Rattle.run_laws.proofs.laws.LinkedMethods.{native, static_is_concrete, private_is_concrete, constructor_is_concrete, constructor_returns_nothing, interface_is_public}
 use Rattle.run_laws.proofs.laws.LinkedCode.{callable, callable_interface, calls_class, calls_interface, special}
 use Rattle.run_laws.proofs.laws.LinkedClasses.{rooted, interface_super}
-use Rattle.run_laws.proofs.laws.LinkedFound.{private_is_above, interface_found_is_public, subtype_made, catches}
+use Rattle.run_laws.proofs.laws.LinkedFound.{private_is_above, private_is_of_class, interface_found_is_public, subtype_made, catches}
 use Rattle.run_laws.proofs.laws.LinkedConstants.{constants_fit, string_known}
 
 pub linked_of : (bytes : List (List ℕ)) (files : Program) → AreSpelled bytes files → some_stands files ≡ false → Linked files
@@ -24,6 +24,7 @@ linked_of bytes files spelled h =
       interface_is_public = interface_is_public files ok;
       private_is_concrete = private_is_concrete files ok;
       private_is_above = private_is_above files ok;
+      private_is_of_class = private_is_of_class files ok;
       interface_found_is_public = interface_found_is_public files ok;
       callable = callable files ok;
       callable_interface = callable_interface files ok;

@@ -4,7 +4,7 @@ use Rattle.std.specs.Prelude.{slice_get, slice_set, slice_index_or}
 use Rattle.std.specs.List.{remove}
 use Rattle.std.proofs.lemmas.Bool.{false≢true, cond_both, eq-eqb, or_left, or_right}
 use Rattle.model.specs.State.{Monitor, Waiter, ThreadStatus, Running, Waiting, Relock, Ended, Thread, new_thread}
-use Rattle.model.specs.Outcomes.{Cost, Free, Makes, Starts, Enters, Joins}
+use Rattle.model.specs.Outcomes.{Cost, Free, Makes, Fills, Starts, Enters, Joins}
 use Rattle.model.specs.Monitors.{Answered, answers_done, unlocked, owned, released, owns, as_owner, as_entrant, monitor_enter, monitor_exit, monitor_wait, monitor_notify, monitor_interrupt, monitor_relock, without, relock_from, monitor_at, at_object}
 use Rattle.model.specs.Worlds.{no_thread}
 use Rattle.run_laws.specs.monitor_counts.Counts.{is_fat_after, Returns, IsStatusCounted, IsOwnerCounted, IsMonitorCounted, AreCounted}
@@ -58,6 +58,7 @@ each_without P t (w ∷ ws) h =
 pub fat_still : (cost : Cost) (fat : ℕ → Bool) (object : ℕ) → fat object ≡ true → is_fat_after cost fat object ≡ true
 fat_still Free fat object e = e
 fat_still (Makes cells) fat object e = e
+fat_still (Fills cells) fat object e = e
 fat_still Starts fat object e = e
 fat_still (Enters entered count) fat object e = or_left _ _ e
 fat_still (Joins joined) fat object e = or_left _ _ e

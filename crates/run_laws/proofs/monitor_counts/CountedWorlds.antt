@@ -1,23 +1,30 @@
 -- What events and the methods of the machine make of a world in which counts are right.
 use Rattle.std.proofs.Common.{◌≡◌, ℕ, zero, suc, List, [], ◌∷◌, Bool, true, false, Option, Some, None, refl}
-use Rattle.std.specs.Prelude.{slice_get, is_some}
+use Rattle.std.specs.Prelude.{slice_get, is_some, if◌then◌else◌}
 use Rattle.std.specs.Option.{is_none}
 use Rattle.model.specs.Classes.{Program}
-use Rattle.model.specs.Opening.{string_reference}
+use Rattle.model.specs.Opening.{string_reference, string_references, opening_count}
 use Rattle.model.specs.declared.event.Event.{Event}
 use Rattle.model.specs.Operands.{Slots, Carrier}
-use Rattle.model.specs.State.{WorldOf, Waiter, WakeCause, Notified, Interrupted, ThreadStatus, Running, Waiting, Relock, Ended}
+use Rattle.model.specs.State.{ObjectOf, type_of, WorldOf, Waiter, WakeCause, Notified, Interrupted, ThreadStatus, Running, Waiting, Relock, Ended}
 use Rattle.model.specs.ObjectMethods as telling
 use Rattle.model.specs.ObjectMethods.{ObjectAnswer, HasNoClass, IsOf, object_answer, object_place, tells, type_at}
 use Rattle.model.specs.BuilderMethods as building
 use Rattle.model.specs.BuilderMethods.{BuilderAnswer, KeepsEmpty, Keeps, Adds, GivesText, builder_answer, builder_shown, builds}
 use Rattle.model.specs.Outcomes.{Cost, Joins, OutcomeOf, Goes, Raises, Throws, Interrupts, Calls, Returns, Waits, not_null}
 use Rattle.model.specs.Monitors as monitors
+use Rattle.model.specs.Texts.{Text}
 use Rattle.model.specs.StringMethods.{StringAnswer, IsNull, IsOutside, Answers, Same, Composes, string_answer}
 use Rattle.model.specs.Monitors.{unlocked, owns, monitor_at}
-use Rattle.model.specs.Worlds.{thread_at, thread_of, is_alive, is_owner, string_shown, with_monitors, with_entry, entry_cost, with_exit, with_status, with_interrupted, woken, all_woken, waiters_of}
+use Rattle.model.specs.Worlds.{thread_at, thread_of, is_alive, is_owner, object_at, with_object, with_text, string_shown, with_monitors, with_entry, entry_cost, with_exit, with_status, with_interrupted, woken, all_woken, waiters_of}
 use Rattle.model.specs.Sites.{referent, int_operand, pushing}
-use Rattle.model.specs.BuiltInMethods.{BuiltInMethod, Construct, ConstructWithMessage, ConstructWithCause, ConstructWithTarget, ObjectWait, ObjectNotify, ObjectNotifyAll, ThreadStart, ThreadInterrupt, ThreadIsInterrupted, ThreadInterrupted, ThreadYield, ThreadCurrentThread, ThreadJoin, ThreadIsAlive, PrintStreamPrints, StringAnswers, StringBuilderBuilds, ObjectAnswers, object_of, waiting, wait_by, notified_one, notified, notified_all, if_owner, start_by, interrupted_in, interrupted_on, join_by, string_operand, answered, built_in_does}
+use Rattle.model.specs.BuiltInMethods.{BuiltInMethod, Construct, ConstructWithMessage, ConstructWithCause, ObjectClone, ObjectWait, ObjectNotify, ObjectNotifyAll, ThreadStart, ThreadInterrupt, ThreadIsInterrupted, ThreadInterrupted, ThreadYield, ThreadCurrentThread, ThreadJoin, ThreadIsAlive, ThreadNames, PrintStreamPrints, StringAnswers, StringWrites, StringBuilderBuilds, ObjectAnswers, object_of, waiting, wait_by, notified_one, notified, notified_all, if_owner, start_by, interrupted_in, interrupted_on, join_by, string_operand, answered, built_in_does}
+use Rattle.model.specs.declared.name_method.NameMethod.{NameMethod}
+use Rattle.model.specs.declared.name_method.NameMethod.TheVariants as naming
+use Rattle.model.specs.Cloning.{is_cloneable, cloned}
+use Rattle.model.specs.TextMethods as writing
+use Rattle.model.specs.TextMethods.{TextAnswer, IsOutsideArray, Becomes, Stores, StandsFor, text_answer, units_operand, standing_for, gives_standing, is_blank, writes}
+use Rattle.model.specs.ThreadNames.{kept_name, ordinal_text, gives_name, thread_names}
 use Rattle.run_laws.specs.monitor_counts.Counts.{is_fat_after, IsStatusCounted, AreMonitorsCounted, Returns as ReturnsTo}
 use Rattle.run_laws.proofs.monitor_counts.Counted.{Each, fat_still, fat_joined, counted_more, owner_entries, enter_counted, exit_counted, wait_counted, notify_counted, emptied_counted, interrupt_counted, relock_counted, as_owner_counted, with_one, with_same, more_threads, more_monitors, called}
 
@@ -173,12 +180,55 @@ module _ {A : Type 0} where
     tells_counted C files (IsOf class) next slots rest = h
     tells_counted C files (telling.Composes text) next slots rest = more_monitors fat world.monitors world.threads h
 
+    cloned_counted : (C : Carrier A) (b : Bool) (object : ObjectOf A) (next : ℕ) (slots : Slots A) (rest : List A)
+        → OutcomeCounted fat (cloned C b object next world slots rest)
+    cloned_counted C true object next slots rest = more_monitors fat world.monitors world.threads h
+    cloned_counted C false object next slots rest = tt
+
+    -- a String or an array that is changed keeps its monitor
+    blank_counted : (b : Bool) (r : ℕ) (o : ObjectOf A) → AreMonitorsCounted fat (if b then with_object world r o else world)
+    blank_counted true r o = h
+    blank_counted false r o = h
+
+    standing_counted : (C : Carrier A) (string : Option ℕ) (next : ℕ) (slots : Slots A) (ops rest : List A)
+        → OutcomeCounted fat (gives_standing C string next world slots ops rest)
+    standing_counted C None next slots ops rest = h
+    standing_counted C (Some string) next slots ops rest = h
+
+    writes_counted : (C : Carrier A) (opened : ℕ) (constants : List ℕ) (answer : TextAnswer) (next : ℕ) (slots : Slots A) (ops rest : List A)
+        → OutcomeCounted fat (writes C opened constants answer next world slots ops rest)
+    writes_counted C opened constants writing.IsNull next slots ops rest = tt
+    writes_counted C opened constants writing.IsOutside next slots ops rest = tt
+    writes_counted C opened constants IsOutsideArray next slots ops rest = tt
+    writes_counted C opened constants (Becomes receiver text) next slots ops rest =
+        let o = object_of C ops receiver in
+        blank_counted (is_blank opened world o) o (with_text text (object_at world o))
+    writes_counted C opened constants (Stores array index text) next slots ops rest = h
+    writes_counted C opened constants (StandsFor text) next slots ops rest = standing_counted C (standing_for constants world text) next slots ops rest
+
+    gives_name_counted : (C : Carrier A) (name : Option ℕ) (text : Text) (next : ℕ) (slots : Slots A) (ops rest : List A)
+        → OutcomeCounted fat (gives_name C name text next world slots ops rest)
+    gives_name_counted C (Some name) text next slots ops rest = h
+    gives_name_counted C None text next slots ops rest = more_monitors fat world.monitors world.threads h
+
+    names_counted : (C : Carrier A) (method : NameMethod) (next : ℕ) (slots : Slots A) (ops rest : List A)
+        → OutcomeCounted fat (thread_names C method next world slots ops rest)
+    names_counted C naming.Construct next slots ops rest = h
+    names_counted C naming.ConstructWithTarget next slots ops rest = h
+    names_counted C naming.ConstructWithName next slots ops rest = not_null_counted fat (referent C ops 0) _ (λ r. h)
+    names_counted C naming.ConstructWithTargetAndName next slots ops rest = not_null_counted fat (referent C ops 0) _ (λ r. h)
+    names_counted C naming.GetName next slots ops rest =
+        let o = object_at world (object_of C ops 0) in
+        gives_name_counted C (C.referent (kept_name C o)) (ordinal_text C o) next slots ops rest
+    names_counted C naming.SetName next slots ops rest = not_null_counted fat (referent C ops 0) _ (λ r. h)
+
     pub built_in_counted : (C : Carrier A) (files : Program) (method : BuiltInMethod) (next : ℕ) (event : Event) (slots : Slots A) (ops rest : List A)
         → OutcomeCounted fat (built_in_does C files method next event world slots ops rest)
     built_in_counted C files Construct next event slots ops rest = h
     built_in_counted C files ConstructWithMessage next event slots ops rest = h
     built_in_counted C files ConstructWithCause next event slots ops rest = h
-    built_in_counted C files ConstructWithTarget next event slots ops rest = h
+    built_in_counted C files ObjectClone next event slots ops rest =
+        cloned_counted C (is_cloneable files (type_of (object_at world (object_of C ops 0)))) (object_at world (object_of C ops 0)) next slots rest
     built_in_counted C files ObjectWait next event slots ops rest =
         wait_by_counted (is_owner world event.thread (object_of C ops 0)) (thread_at world event.thread).interrupted event.thread (object_of C ops 0) rest refl
     built_in_counted C files ObjectNotify next event slots ops rest =
@@ -195,9 +245,13 @@ module _ {A : Type 0} where
     built_in_counted C files ThreadCurrentThread next event slots ops rest = h
     built_in_counted C files ThreadJoin next event slots ops rest = join_counted (is_alive world (object_of C ops 0)) next slots rest
     built_in_counted C files ThreadIsAlive next event slots ops rest = h
+    built_in_counted C files (ThreadNames method) next event slots ops rest = names_counted C method next slots ops rest
     built_in_counted C files (PrintStreamPrints print) next event slots ops rest = h
     built_in_counted C files (StringAnswers method) next event slots ops rest =
         answered_counted C (string_answer method (int_operand C ops) (string_operand C world ops)) next slots ops rest
+    built_in_counted C files (StringWrites method) next event slots ops rest =
+        writes_counted C (opening_count files) (string_references files)
+        (text_answer method (int_operand C ops) (string_operand C world ops) (units_operand C world ops)) next slots ops rest
     built_in_counted C files (StringBuilderBuilds method) next event slots ops rest =
         builds_counted C (string_reference files [])
         (builder_answer method (int_operand C ops 0) (is_none (referent C ops 0)) (string_shown world (referent C ops 0)) (builder_shown C world (referent C ops 0)))

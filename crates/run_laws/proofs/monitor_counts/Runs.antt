@@ -8,7 +8,7 @@ use Rattle.model.specs.declared.event.Event.{Event}
 use Rattle.model.specs.Classes.{Program}
 use Rattle.model.specs.Operands.{Carrier, words, values}
 use Rattle.model.specs.State.{State, new_thread}
-use Rattle.model.specs.Outcomes.{Cost, Free, Makes, Starts, Enters, Joins}
+use Rattle.model.specs.Outcomes.{Cost, Free, Makes, Fills, Starts, Enters, Joins}
 use Rattle.model.specs.Monitors.{unlocked}
 use Rattle.model.specs.Worlds.{no_thread}
 use Rattle.model.specs.Opening.{opening, opening_heap, main_thread_reference}
@@ -70,6 +70,7 @@ pub inflated_are : (cost : Cost) (objects : List ℕ) (object : ℕ)
     → is_inflated (inflated_by cost objects) object ≡ is_fat_after cost (is_inflated objects) object
 inflated_are Free objects object = refl
 inflated_are (Makes cells) objects object = refl
+inflated_are (Fills cells) objects object = refl
 inflated_are Starts objects object = refl
 inflated_are (Enters entered count) objects object = with_entry (is_inflating_entry count) objects entered object
 inflated_are (Joins joined) objects object = with_one objects joined object

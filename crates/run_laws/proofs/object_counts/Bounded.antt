@@ -15,7 +15,7 @@ use Rattle.model.specs.StringConstants.{texts_in, file_texts, machine_texts, str
 use Rattle.model.specs.Operands.{Carrier, words, values}
 use Rattle.model.specs.State.{ObjectOf, Instance, State, Characters}
 use Rattle.model.specs.Opening.{opening, opening_heap}
-use Rattle.model.specs.Outcomes.{Cost, Free, Makes, Starts, Enters, Joins}
+use Rattle.model.specs.Outcomes.{Cost, Free, Makes, Fills, Starts, Enters, Joins}
 use Rattle.model.specs.Step.{SteppedOf, NotEnabled, WrongKind, Next, stepped, next_by}
 use Rattle.model.specs.Run.{run_from}
 use Rattle.model.specs.LimitStands.{Bounds, opening_count, objects_made, is_crowded, inflated_by, if_next, limit_of, within_limits_from}
@@ -79,6 +79,7 @@ module _ (files : Program) (bounds : Bounds) where
   grown crowded state (Makes cells) n h e b =
       let room = leb-false bounds.objects (objects_made files state.world) (no_limit _ _ _ h) in
       omega (arith, e, b, room)
+  grown crowded state (Fills cells) n h e b = omega (arith, e, b)
   grown crowded state Starts n h e b = omega (arith, e, b)
   grown crowded state (Enters object count) n h e b = omega (arith, e, b)
   grown crowded state (Joins object) n h e b = omega (arith, e, b)

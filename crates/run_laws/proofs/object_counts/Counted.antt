@@ -1,25 +1,32 @@
 -- How many objects there are after what an instruction does: outcomes, the changes of the world, and the methods of the
 -- machine.
-use Rattle.std.proofs.Common.{◌≡◌, ℕ, ◌+◌, List, [], ◌∷◌, ◌++◌, length, Bool, true, false, Option, Some, None, refl, ◌∙◌, arith}
+use Rattle.std.proofs.Common.{◌≡◌, ℕ, ◌+◌, List, [], ◌∷◌, ◌++◌, map, length, Bool, true, false, Option, Some, None, refl, ◌∙◌, arith}
 use Rattle.std.specs.Prelude.{if◌then◌else◌, slice_get, is_some}
 use Rattle.std.specs.Option.{is_none}
 use Rattle.std.proofs.lemmas.List.{length-set, length_push}
 use Rattle.model.specs.declared.event.Event.{Event}
-use Rattle.model.specs.Names.{thread_target, throwable_message, throwable_cause, builder_text}
+use Rattle.model.specs.Names.{thread_target, thread_name, thread_ordinal, throwable_message, throwable_cause, builder_text}
 use Rattle.model.specs.Classes.{Program}
-use Rattle.model.specs.Opening.{string_reference}
+use Rattle.model.specs.Opening.{string_reference, string_references, opening_count}
 use Rattle.model.specs.Operands.{Slots, Carrier}
-use Rattle.model.specs.State.{ObjectOf, WorldOf, Waiter, WakeCause, Notified, ThreadStatus, Running, Waiting, Relock, Ended, Characters}
+use Rattle.model.specs.State.{ObjectOf, type_of, WorldOf, Waiter, WakeCause, Notified, ThreadStatus, Running, Waiting, Relock, Ended, Characters}
 use Rattle.model.specs.Monitors as monitors
+use Rattle.model.specs.Texts.{Text}
 use Rattle.model.specs.StringMethods.{StringAnswer, IsNull, IsOutside, Answers, Same, Composes, string_answer}
 use Rattle.model.specs.ObjectMethods as telling
 use Rattle.model.specs.ObjectMethods.{ObjectAnswer, HasNoClass, IsOf, object_answer, object_place, tells, type_at}
 use Rattle.model.specs.BuilderMethods as building
 use Rattle.model.specs.BuilderMethods.{BuilderAnswer, KeepsEmpty, Keeps, Adds, GivesText, builder_answer, built_text, builder_shown, builds}
 use Rattle.model.specs.Outcomes.{OutcomeOf, Goes, Raises, Throws, Interrupts, Calls, Returns, Waits, not_null}
-use Rattle.model.specs.Worlds.{thread_at, thread_of, is_alive, object_at, allocated, string_shown, with_object, with_field, is_owner, with_monitors, woken, all_woken, waiters_of}
+use Rattle.model.specs.Worlds.{thread_at, thread_of, is_alive, object_at, allocated, string_shown, with_object, with_field, with_elements, with_text, is_owner, with_monitors, woken, all_woken, waiters_of}
 use Rattle.model.specs.Sites.{operand, referent, int_operand, pushing}
-use Rattle.model.specs.BuiltInMethods.{BuiltInMethod, Construct, ConstructWithMessage, ConstructWithCause, ConstructWithTarget, ObjectWait, ObjectNotify, ObjectNotifyAll, ThreadStart, ThreadInterrupt, ThreadIsInterrupted, ThreadInterrupted, ThreadYield, ThreadCurrentThread, ThreadJoin, ThreadIsAlive, PrintStreamPrints, StringAnswers, StringBuilderBuilds, ObjectAnswers, object_of, wait_by, notified_one, notified, notified_all, if_owner, start_by, interrupted_in, interrupted_on, join_by, string_operand, answered, built_in_does}
+use Rattle.model.specs.BuiltInMethods.{BuiltInMethod, Construct, ConstructWithMessage, ConstructWithCause, ObjectClone, ObjectWait, ObjectNotify, ObjectNotifyAll, ThreadStart, ThreadInterrupt, ThreadIsInterrupted, ThreadInterrupted, ThreadYield, ThreadCurrentThread, ThreadJoin, ThreadIsAlive, ThreadNames, PrintStreamPrints, StringAnswers, StringWrites, StringBuilderBuilds, ObjectAnswers, object_of, wait_by, notified_one, notified, notified_all, if_owner, start_by, interrupted_in, interrupted_on, join_by, string_operand, answered, built_in_does}
+use Rattle.model.specs.declared.name_method.NameMethod.{NameMethod}
+use Rattle.model.specs.declared.name_method.NameMethod.TheVariants as naming
+use Rattle.model.specs.Cloning.{is_cloneable, cloned}
+use Rattle.model.specs.TextMethods as writing
+use Rattle.model.specs.TextMethods.{TextAnswer, IsOutsideArray, Becomes, Stores, StandsFor, text_answer, char_value, units_operand, standing_for, gives_standing, is_blank, writes}
+use Rattle.model.specs.ThreadNames.{kept_name, ordinal_text, gives_name, thread_names}
 use Rattle.run_laws.specs.object_counts.Bounds.{made}
 
 -- ---- lists
@@ -135,6 +142,72 @@ module _ {A : Type 0} where
   tells_counted C files (IsOf class) next world slots rest = unchanged (length world.heap)
   tells_counted C files (telling.Composes text) next world slots rest = length_push world.heap (Characters text)
 
+  -- a copy is one object
+  cloned_counted : (C : Carrier A) (b : Bool) (object : ObjectOf A) (next : ℕ) (world : WorldOf A) (slots : Slots A) (rest : List A)
+      → OutcomeCounted (length world.heap) (cloned C b object next world slots rest)
+  cloned_counted C true object next world slots rest = length_push world.heap object
+  cloned_counted C false object next world slots rest = tt
+
+  -- ---- Strings and Threads that are changed
+
+  put_count : (world : WorldOf A) (r : ℕ) (o : ObjectOf A) → length (with_object world r o).heap ≡ length world.heap + 0
+  put_count world r o = same_count (length (with_object world r o).heap) (length world.heap) (object_count world r o)
+
+  blank_count : (b : Bool) (world : WorldOf A) (r : ℕ) (o : ObjectOf A)
+      → length (if b then with_object world r o else world).heap ≡ length world.heap + 0
+  blank_count true world r o = put_count world r o
+  blank_count false world r o = unchanged (length world.heap)
+
+  standing_counted : (C : Carrier A) (string : Option ℕ) (next : ℕ) (world : WorldOf A) (slots : Slots A) (ops rest : List A)
+      → OutcomeCounted (length world.heap) (gives_standing C string next world slots ops rest)
+  standing_counted C None next world slots ops rest = unchanged (length world.heap)
+  standing_counted C (Some string) next world slots ops rest = unchanged (length world.heap)
+
+  writes_counted : (C : Carrier A) (opened : ℕ) (constants : List ℕ) (answer : TextAnswer) (next : ℕ) (world : WorldOf A) (slots : Slots A)
+      (ops rest : List A) → OutcomeCounted (length world.heap) (writes C opened constants answer next world slots ops rest)
+  writes_counted C opened constants writing.IsNull next world slots ops rest = tt
+  writes_counted C opened constants writing.IsOutside next world slots ops rest = tt
+  writes_counted C opened constants IsOutsideArray next world slots ops rest = tt
+  writes_counted C opened constants (Becomes receiver text) next world slots ops rest =
+      let o = object_of C ops receiver in
+      blank_count (is_blank opened world o) world o (with_text text (object_at world o))
+  writes_counted C opened constants (Stores array index text) next world slots ops rest =
+      let o = object_of C ops array in
+      put_count world o (with_elements index (map (char_value C) text) (object_at world o))
+  writes_counted C opened constants (StandsFor text) next world slots ops rest =
+      standing_counted C (standing_for constants world text) next world slots ops rest
+
+  gives_name_counted : (C : Carrier A) (name : Option ℕ) (text : Text) (next : ℕ) (world : WorldOf A) (slots : Slots A) (ops rest : List A)
+      → OutcomeCounted (length world.heap) (gives_name C name text next world slots ops rest)
+  gives_name_counted C (Some name) text next world slots ops rest = unchanged (length world.heap)
+  gives_name_counted C None text next world slots ops rest =
+      let o = object_of C ops 0 in
+      let made = allocated world (Characters text) in
+      object_count made o (with_field thread_name (C.reference (length world.heap)) (object_at made o)) ∙ length_push world.heap (Characters text)
+
+  -- a Thread keeps what it is given
+  names_counted : (C : Carrier A) (method : NameMethod) (next : ℕ) (world : WorldOf A) (slots : Slots A) (ops rest : List A)
+      → OutcomeCounted (length world.heap) (thread_names C method next world slots ops rest)
+  names_counted C naming.Construct next world slots ops rest =
+      let o = object_of C ops 0 in
+      put_count world o (with_field thread_ordinal (C.int world.unnamed) (object_at world o))
+  names_counted C naming.ConstructWithTarget next world slots ops rest =
+      let o = object_of C ops 1 in
+      put_count world o (with_field thread_ordinal (C.int world.unnamed) (with_field thread_target (operand C ops 0) (object_at world o)))
+  names_counted C naming.ConstructWithName next world slots ops rest =
+      let o = object_of C ops 1 in
+      not_null_counted (length world.heap) (referent C ops 0) _ (λ r. put_count world o (with_field thread_name (operand C ops 0) (object_at world o)))
+  names_counted C naming.ConstructWithTargetAndName next world slots ops rest =
+      let o = object_of C ops 2 in
+      not_null_counted (length world.heap) (referent C ops 0) _
+      (λ r. put_count world o (with_field thread_name (operand C ops 0) (with_field thread_target (operand C ops 1) (object_at world o))))
+  names_counted C naming.GetName next world slots ops rest =
+      let o = object_at world (object_of C ops 0) in
+      gives_name_counted C (C.referent (kept_name C o)) (ordinal_text C o) next world slots ops rest
+  names_counted C naming.SetName next world slots ops rest =
+      let o = object_of C ops 1 in
+      not_null_counted (length world.heap) (referent C ops 0) _ (λ r. put_count world o (with_field thread_name (operand C ops 0) (object_at world o)))
+
   pub built_in_counted : (C : Carrier A) (files : Program) (method : BuiltInMethod) (next : ℕ) (event : Event) (world : WorldOf A) (slots : Slots A)
       (ops rest : List A) → OutcomeCounted (length world.heap) (built_in_does C files method next event world slots ops rest)
   built_in_counted C files Construct next event world slots ops rest = unchanged (length world.heap)
@@ -146,10 +219,8 @@ module _ {A : Type 0} where
       let o = object_of C ops 2 in
       let new = with_field throwable_cause (operand C ops 0) (with_field throwable_message (operand C ops 1) (object_at world o)) in
       same_count (length (with_object world o new).heap) (length world.heap) (object_count world o new)
-  built_in_counted C files ConstructWithTarget next event world slots ops rest =
-      let o = object_of C ops 1 in
-      let new = with_field thread_target (operand C ops 0) (object_at world o) in
-      same_count (length (with_object world o new).heap) (length world.heap) (object_count world o new)
+  built_in_counted C files ObjectClone next event world slots ops rest =
+      cloned_counted C (is_cloneable files (type_of (object_at world (object_of C ops 0)))) (object_at world (object_of C ops 0)) next world slots rest
   built_in_counted C files ObjectWait next event world slots ops rest =
       wait_counted (is_owner world event.thread (object_of C ops 0)) (thread_at world event.thread).interrupted event.thread (object_of C ops 0) world rest
   built_in_counted C files ObjectNotify next event world slots ops rest =
@@ -172,9 +243,13 @@ module _ {A : Type 0} where
   built_in_counted C files ThreadCurrentThread next event world slots ops rest = unchanged (length world.heap)
   built_in_counted C files ThreadJoin next event world slots ops rest = join_counted (is_alive world (object_of C ops 0)) next world slots rest
   built_in_counted C files ThreadIsAlive next event world slots ops rest = unchanged (length world.heap)
+  built_in_counted C files (ThreadNames method) next event world slots ops rest = names_counted C method next world slots ops rest
   built_in_counted C files (PrintStreamPrints print) next event world slots ops rest = unchanged (length world.heap)
   built_in_counted C files (StringAnswers method) next event world slots ops rest =
       answered_counted C (string_answer method (int_operand C ops) (string_operand C world ops)) next world slots ops rest
+  built_in_counted C files (StringWrites method) next event world slots ops rest =
+      writes_counted C (opening_count files) (string_references files)
+      (text_answer method (int_operand C ops) (string_operand C world ops) (units_operand C world ops)) next world slots ops rest
   built_in_counted C files (StringBuilderBuilds method) next event world slots ops rest =
       builds_counted C (string_reference files [])
       (builder_answer method (int_operand C ops 0) (is_none (referent C ops 0)) (string_shown world (referent C ops 0)) (builder_shown C world (referent C ops 0)))

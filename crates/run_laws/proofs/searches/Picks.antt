@@ -12,7 +12,7 @@ use Rattle.model.specs.declared.instr.Returned.{Returned}
 use Rattle.model.specs.declared.instr.Returned.TheVariants as returned
 use Rattle.model.specs.Names.{Name, Member}
 use Rattle.model.specs.Arrays.{load_of, store_of}
-use Rattle.model.specs.BuiltInMethods.{BuiltInMethod, Construct, ConstructWithMessage, ConstructWithCause, ConstructWithTarget, ObjectWait, ObjectNotify, ObjectNotifyAll, ThreadStart, ThreadInterrupt, ThreadIsInterrupted, ThreadInterrupted, ThreadYield, ThreadCurrentThread, ThreadJoin, ThreadIsAlive, PrintStreamPrints, StringAnswers, StringBuilderBuilds, ObjectAnswers, built_in_method, built_in_may, built_in_does, if_owner, object_of}
+use Rattle.model.specs.BuiltInMethods.{BuiltInMethod, Construct, ConstructWithMessage, ConstructWithCause, ObjectClone, ObjectWait, ObjectNotify, ObjectNotifyAll, ThreadStart, ThreadInterrupt, ThreadIsInterrupted, ThreadInterrupted, ThreadYield, ThreadCurrentThread, ThreadJoin, ThreadIsAlive, ThreadNames, PrintStreamPrints, StringAnswers, StringWrites, StringBuilderBuilds, ObjectAnswers, built_in_method, built_in_may, built_in_does, if_owner, object_of}
 use Rattle.model.specs.Calls.{Chosen, Fails, Runs, invoked, runs, may_run, may_invoke, return_of}
 use Rattle.model.specs.Classes.{Program, Body, body_of}
 use Rattle.model.specs.ClassInitialisation.{Look, IsReady, IsNew, IsHeld, HasFailed, look_by, status_of}
@@ -74,7 +74,7 @@ module _ {A : Type 0} where
     built_in_lower files Construct t k next world ops e = none_past k e
     built_in_lower files ConstructWithMessage t k next world ops e = none_past k e
     built_in_lower files ConstructWithCause t k next world ops e = none_past k e
-    built_in_lower files ConstructWithTarget t k next world ops e = none_past k e
+    built_in_lower files ObjectClone t k next world ops e = none_past k e
     built_in_lower files ObjectWait t k next world ops e = none_past k e
     built_in_lower files ObjectNotify t k next world ops e = (
       notify_may (is_owner world t (object_of C ops 0) && nat_lt 0 (length (waiters_of world (object_of C ops 0)))) (length (waiters_of world (object_of C ops 0))) k e,
@@ -90,7 +90,9 @@ module _ {A : Type 0} where
     built_in_lower files ThreadJoin t k next world ops e = none_past k (and_parts _ _ e).0
     built_in_lower files ThreadIsAlive t k next world ops e = none_past k e
     built_in_lower files (PrintStreamPrints print) t k next world ops e = none_past k e
+    built_in_lower files (ThreadNames method) t k next world ops e = none_past k e
     built_in_lower files (StringAnswers method) t k next world ops e = none_past k e
+    built_in_lower files (StringWrites method) t k next world ops e = none_past k e
     built_in_lower files (StringBuilderBuilds method) t k next world ops e = none_past k e
     built_in_lower files (ObjectAnswers method) t k next world ops e = none_past k e
 

@@ -1,5 +1,5 @@
 -- The built-in methods without code: each brings about what a call of it has to.
-use Rattle.std.proofs.Common.{◌≡◌, ℕ, List, [], ◌∷◌, ◌++◌, map, reverse, length, drop, Bool, true, false, Option, Some, refl, sym, ap, ◌∙◌, subst, ⊎_elim}
+use Rattle.std.proofs.Common.{◌≡◌, ℕ, List, [], ◌∷◌, ◌++◌, ◌-◌, ◌&&◌, nat_le, map, reverse, length, take, drop, Bool, true, false, Option, Some, None, refl, sym, ap, ◌∙◌, subst, ⊎_elim}
 use Rattle.std.specs.Prelude.{slice_get, slice_index_or, find, unwrap_or, is_some, codes, if◌then◌else◌}
 use Rattle.std.specs.Option.{option_map, is_none}
 use Rattle.std.specs.List.{AllByRecursion, list_any}
@@ -9,16 +9,16 @@ use Rattle.std.proofs.lemmas.Option.{get_or_from_slice_get}
 use Rattle.model.specs.declared.event.Event.{Event}
 use Rattle.model.specs.declared.value.Value.{Value}
 use Rattle.model.specs.declared.value.Value.TheVariants as value
-use Rattle.model.specs.Names.{Name, Member, java_lang_object, java_lang_class, java_lang_throwable, java_lang_string, java_lang_string_builder, java_lang_runnable, java_lang_thread, java_io_print_stream, constructor_name, thread_target, throwable_message, throwable_cause, name_eq, println_int}
+use Rattle.model.specs.Names.{Name, Member, java_lang_object, java_lang_class, java_lang_throwable, java_lang_string, java_lang_string_builder, java_lang_thread, java_io_print_stream, constructor_name, thread_target, thread_name, thread_ordinal, object_clone, throwable_message, throwable_cause, name_eq, println_int}
 use Rattle.model.specs.DescriptorParts.{returns_void}
 use Rattle.model.specs.Classes.{Program}
-use Rattle.model.specs.ReferenceTypes.{ReferenceType, ClassType, PrimitiveArray, ReferenceArray, is_assignable}
-use Rattle.model.specs.Types.{VerificationType, Unusable, IntType, OfType, UninitialisedThis, is_value_below, is_object_below}
-use Rattle.model.specs.DescribedTypes.{parameters_declared, verification_type, made_type}
+use Rattle.model.specs.ReferenceTypes.{Char, ReferenceType, ClassType, PrimitiveArray, ReferenceArray, is_assignable}
+use Rattle.model.specs.Types.{VerificationType, Unusable, IntType, OfType, is_value_below, is_object_below}
+use Rattle.model.specs.DescribedTypes.{parameters_declared, verification_type}
 use Rattle.model.specs.Operands.{values, reference_of}
-use Rattle.model.specs.State.{ObjectOf, type_of, types_of, Characters, Frame, World, new_thread}
-use Rattle.model.specs.Outcomes.{Cost, OutcomeOf, Makes, Free}
-use Rattle.model.specs.Worlds.{no_object, thread_at, allocated, object_at, with_object, with_field, with_interrupted, is_owner, is_alive, is_interrupted, thread_of}
+use Rattle.model.specs.State.{ObjectOf, Instance, Primitives, References, type_of, types_of, Characters, Frame, World, new_thread}
+use Rattle.model.specs.Outcomes.{Cost, OutcomeOf, Makes, Fills, Free, not_null}
+use Rattle.model.specs.Worlds.{no_object, cells_of, elements_of, thread_at, allocated, object_at, with_object, with_field, with_interrupted, is_owner, is_alive, is_interrupted, thread_of}
 use Rattle.model.specs.Frames.{at_offset, at_call}
 use Rattle.model.specs.Sites.{pushing, pushing_at, operand, referent, int_operand}
 use Rattle.model.specs.Calls.{parameter_count, result_types}
@@ -27,16 +27,22 @@ use Rattle.model.specs.declared.string_method.StringMethod.TheVariants.{Length, 
 use Rattle.model.specs.declared.builder_method.BuilderMethod.TheVariants.{ConstructEmpty, ToString}
 use Rattle.model.specs.BuilderMethods as building
 use Rattle.model.specs.BuilderMethods.{Adds, kept_string, built_text, with_string, with_composed, builds}
-use Rattle.model.specs.Opening.{string_reference, class_reference}
+use Rattle.model.specs.Opening.{string_reference, string_references, opening_count, class_reference}
 use Rattle.model.specs.declared.object_method.ObjectMethod.TheVariants as object_method
 use Rattle.model.specs.ObjectMethods as telling
 use Rattle.model.specs.ObjectMethods.{ObjectAnswer, HasNoClass, IsOf, class_answer, object_answer, tells, type_at}
-use Rattle.model.specs.StringMethods.{StringAnswer, IsNull, IsOutside, Answers, Same, Composes, string_answer}
+use Rattle.model.specs.declared.name_method.NameMethod.TheVariants as naming
+use Rattle.model.specs.declared.text_method.TextMethod.TheVariants as writing_method
+use Rattle.model.specs.Cloning.{is_cloneable, cloned}
+use Rattle.model.specs.TextMethods as writing
+use Rattle.model.specs.TextMethods.{TextAnswer, IsOutsideArray, Becomes, Stores, StandsFor, if_there, if_room, stored_part, unit_in, units_operand, standing_for, gives_standing, with_interned, with_text_at, with_units_at, writes}
+use Rattle.model.specs.ThreadNames.{kept_name, ordinal_text, with_one_unnamed, named, gives_name}
+use Rattle.model.specs.StringMethods.{is_at_most, StringAnswer, IsNull, IsOutside, Answers, Same, Composes, string_answer}
 use Rattle.model.specs.Texts.{Text}
 use Rattle.model.specs.BuiltInMethods
 use Rattle.model.specs.declared.print_method.PrintMethod.{PrintMethod}
 use Rattle.model.specs.declared.print_method.PrintMethod.TheVariants.{Println, PrintlnChar, PrintlnInt, PrintlnString, PrintChar, PrintInt, PrintString}
-use Rattle.model.specs.BuiltInMethods.{BuiltInMethod, Construct, ConstructWithMessage, ConstructWithCause, ConstructWithTarget, PrintStreamPrints, StringAnswers, StringBuilderBuilds, ObjectAnswers, of_object, constructor_of, of_thread, of_print_stream, of_string, of_string_builder, printed_by, built_in_methods, is_row_of, built_in_does, wait_by, notified, notified_all, if_owner, with_started, start_by, interrupted_on, join_by, bit, with_printed, string_operand, answered, object_of}
+use Rattle.model.specs.BuiltInMethods.{BuiltInMethod, Construct, ConstructWithMessage, ConstructWithCause, ObjectClone, ThreadNames, PrintStreamPrints, StringAnswers, StringWrites, StringBuilderBuilds, ObjectAnswers, of_object, constructor_of, of_thread, of_print_stream, of_string, of_string_builder, printed_by, built_in_methods, is_row_of, built_in_does, wait_by, notified, notified_all, if_owner, with_started, start_by, interrupted_on, join_by, bit, with_printed, string_operand, answered, object_of}
 use Rattle.model.specs.Typing.{has_no_receiver, receiver_type, parameter_types, argument_types}
 use Rattle.model.specs.WellTyped.{has_type, is_object_typed, is_object_in, are_typed, Ready, Awaits}
 use Rattle.run_laws.proofs.laws.Lists.{Pairwise, pairs_of, pair_get, get_front}
@@ -50,17 +56,19 @@ use Rattle.run_laws.proofs.typed_runs.Changes.{OutcomeTyped}
 use Rattle.run_laws.proofs.laws.Linked.{Linked}
 use Rattle.run_laws.proofs.laws.LinkedMethods.{returns_nothing}
 use Rattle.run_laws.proofs.typed_runs.Threads.{wait_sets_weaken}
-use Rattle.run_laws.proofs.typed_runs.WorldChanges.{Keeps, self_keeps, object_keeps, allocated_keeps, printed_keeps, interrupted_keeps, goes_on}
+use Rattle.run_laws.proofs.typed_runs.WorldChanges.{Keeps, keeps_trans, self_keeps, allocated_keeps, printed_keeps, interrupted_keeps, goes_on}
 use Rattle.run_laws.proofs.typed_runs.WaitChanges.{notified_keeps, notified_all_keeps, interrupted_on_keeps, waiting_changes, waits_on}
 use Rattle.run_laws.proofs.typed_runs.Builders.{a_builder, Shaped, empty_constructor, string_constructor, append_string, append_int, append_char, append_builder, to_string, string_keeps, composed_keeps, empty_typed}
 use Rattle.run_laws.proofs.typed_runs.Texts.{kept_string_typed}
 use Rattle.run_laws.proofs.typed_runs.Exceptions.{message_typed, cause_typed, changed_keeps}
+use Rattle.run_laws.proofs.typed_runs.Names.{name_typed, ordinal_typed, target_typed, kept_name_typed, referred_typed}
+use Rattle.run_laws.proofs.typed_runs.Changed.{an_object, clone, empty_string, string_of_string, string_of_chars, get_chars, intern, thread_alone, thread_of_target, thread_of_name, thread_of_both, get_name, set_name, text_keeps, units_keep, interned_keeps, standing_typed, copy_keeps, copy_below, unnamed_keeps, named_keeps, name_there}
 use Rattle.run_laws.proofs.typed_runs.OpeningObjects.{class_there}
 use Rattle.run_laws.proofs.typed_runs.Told.{IsIntTold, IsTextTold, a_class, class_is_there, hash_code, get_class, identity_results, name_results, described_results, hash_told, identity_told, name_told, described_told}
 use Rattle.run_laws.proofs.typed_runs.Called.{Called, BuiltInTyped}
-use Rattle.run_laws.proofs.typed_runs.Instructions.{at_typed, at_there, with_field_typed, with_field_same}
+use Rattle.run_laws.proofs.typed_runs.Instructions.{at_typed, with_field_same}
 use Rattle.run_laws.proofs.typed_runs.Callees.{pair_reverse}
-use Rattle.run_laws.proofs.typed_runs.Signatures.{void_results, bit_results, thread_results, target_results, int_printed_results, char_printed_results, string_printed_results, int_answered_results, char_at_results, equals_results, compare_results, index_results, regions_results, concat_results, concat_arguments, substring_results, substring_arguments, int_text_results, char_text_results, wait_arguments, wait_receiver, start_arguments, start_receiver, no_parameters, target_arguments, target_receiver, target_parameters, target_type, message_parameters, cause_parameters}
+use Rattle.run_laws.proofs.typed_runs.Signatures.{void_results, bit_results, thread_results, int_printed_results, char_printed_results, string_printed_results, int_answered_results, char_at_results, equals_results, compare_results, index_results, regions_results, concat_results, concat_arguments, substring_results, substring_arguments, int_text_results, char_text_results, wait_arguments, wait_receiver, start_arguments, start_receiver, no_parameters, message_parameters, cause_parameters}
 use Rattle.run_laws.proofs.typed_runs.StartedThreads.{front_waits, started_go}
 
 module _ (files : Program) (linked : Linked files) (event : Event) (w : World) (f : Frame) (next : ℕ) (method : Member)
@@ -146,19 +154,6 @@ module _ (files : Program) (linked : Linked files) (event : Event) (w : World) (
           ready_after (with_started w r) [] (extends_self (types_of w.heap)) (subst (λ ts. are_typed files (types_of w.heap) ts [] ≡ true) (sym (ap (result_types files) e ∙ void_results files java_lang_thread (codes "start"))) refl),
         ),
       )
-
-  targeted : method ≡ of_thread constructor_name (codes "(Ljava/lang/Runnable;)V") → Typed ConstructWithTarget
-  targeted e =
-      let os = types_of w.heap in
-      let ts = UninitialisedThis java_lang_thread ∷ OfType (made_type files (ClassType java_lang_runnable)) ∷ [] in
-      let args = ap (argument_types files) e ∙ target_arguments files in
-      let r = object_of values ops 1 in
-      let v = operand values ops 0 in
-      let receiver = receiver_in java_lang_thread 1 (ap (has_no_receiver files) e ∙ target_receiver files) (ap parameter_count e ∙ target_parameters files) (typed_operand ts args 1) in
-      let o = object_found files w.heap r (ClassType java_lang_thread) receiver in
-      let typed = subst (λ t. has_type files os t v ≡ true) (sym (target_type files)) (typed_operand ts args 0) in
-      carries [] (with_object w r (with_field thread_target v (object_at w r))) [] (ap (result_types files) e ∙ target_results files)
-      (object_keeps files w c.fits r (object_at w r) (with_field thread_target v (object_at w r)) (at_there w.heap r o.0 o.1) (with_field_same thread_target v (object_at w r)) (with_field_typed files os thread_target v (object_at w r) typed (at_typed files os w.heap r c.fits.heap))) refl
 
   joined : method ≡ of_thread (codes "join") (codes "()V") → (b : Bool)
       → OutcomeTyped files event.thread w f (join_by b next w f.place.slots rest)
@@ -323,7 +318,186 @@ module _ (files : Program) (linked : Linked files) (event : Event) (w : World) (
           let found = object_found files w.heap r (ClassType java_lang_object) h in
           of_type (type_at w r) (subst (λ o. is_assignable files (type_of o) (ClassType java_lang_object) ≡ true) (sym (get_or_from_slice_get w.heap r found.0 no_object found.1)) found.2)
 
-  object_rows : AllByRecursion (λ (row : Member × BuiltInMethod). method ≡ row.0 → Typed row.1) (drop 37 built_in_methods)
+  -- ---- copies
+
+  copied : method ≡ object_clone → Typed ObjectClone
+  copied e =
+      let r = object_of values ops 0 in
+      let below = receiver_in java_lang_object 0 (ap (has_no_receiver files) e ∙ (clone files).receiver) (ap parameter_count e ∙ (clone files).count) (taken (clone files) e 0) in
+      let found = object_found files w.heap r (ClassType java_lang_object) below in
+      let there = subst (λ o. is_assignable files (type_of o) (ClassType java_lang_object) ≡ true) (sym (get_or_from_slice_get w.heap r found.0 no_object found.1)) found.2 in
+      by (is_cloneable files (type_of (object_at w r))) there
+    where
+      by : (b : Bool) → is_assignable files (type_of (object_at w (object_of values ops 0))) (ClassType java_lang_object) ≡ true
+          → OutcomeTyped files event.thread w f (cloned values b (object_at w (object_of values ops 0)) next w f.place.slots rest)
+      by true there =
+          let o = object_at w (object_of values ops 0) in
+          carries_at (Makes (cells_of o)) (an_object ∷ []) (allocated w o) (value.Reference (length w.heap) ∷ []) (gives (clone files) e)
+          (copy_keeps files w c.fits o (at_typed files (types_of w.heap) w.heap (object_of values ops 0) c.fits.heap)) (and_from _ _ (copy_below files w c.fits o there) refl)
+      by false there = tt
+
+  -- ---- names of threads
+
+  -- an object is changed, and nothing is given
+  puts : (r : ℕ) (change : ObjectOf Value → ObjectOf Value) → ((o : ObjectOf Value) → type_of (change o) ≡ type_of o)
+      → ((o : ObjectOf Value) → is_object_typed files (types_of w.heap) o ≡ true → is_object_typed files (types_of w.heap) (change o) ≡ true)
+      → result_types files method ≡ [] → OutcomeTyped files event.thread w f (pushing next [] (with_object w r (change (object_at w r))) f.place.slots rest)
+  puts r change same typed e = carries [] (with_object w r (change (object_at w r))) [] e (changed_keeps files w c.fits r change same typed) refl
+
+  -- and one more Thread has no name
+  puts_one : (r : ℕ) (change : ObjectOf Value → ObjectOf Value) → ((o : ObjectOf Value) → type_of (change o) ≡ type_of o)
+      → ((o : ObjectOf Value) → is_object_typed files (types_of w.heap) o ≡ true → is_object_typed files (types_of w.heap) (change o) ≡ true)
+      → result_types files method ≡ [] → OutcomeTyped files event.thread w f (pushing next [] (with_one_unnamed (with_object w r (change (object_at w r)))) f.place.slots rest)
+  puts_one r change same typed e =
+      let after = with_object w r (change (object_at w r)) in
+      let k = changed_keeps files w c.fits r change same typed in
+      carries [] (with_one_unnamed after) [] e (keeps_trans files w after (with_one_unnamed after) k (unnamed_keeps files after k.fits)) refl
+
+  unless_null : (o : Option ℕ) (x : OutcomeOf Value) → OutcomeTyped files event.thread w f x → OutcomeTyped files event.thread w f (not_null o (λ r. x))
+  unless_null None x h = tt
+  unless_null (Some r) x h = h
+
+  thread_made : method ≡ of_thread constructor_name (codes "()V") → Typed (ThreadNames naming.Construct)
+  thread_made e =
+      puts_one (object_of values ops 0) (with_field thread_ordinal (value.Int w.unnamed)) (with_field_same thread_ordinal (value.Int w.unnamed))
+      (λ o h. ordinal_typed files (types_of w.heap) w.unnamed o h) (gives (thread_alone files) e)
+
+  thread_targeted : method ≡ of_thread constructor_name (codes "(Ljava/lang/Runnable;)V") → Typed (ThreadNames naming.ConstructWithTarget)
+  thread_targeted e =
+      let os = types_of w.heap in
+      let v = operand values ops 0 in
+      let n = value.Int w.unnamed in
+      let target = taken (thread_of_target files) e 0 in
+      puts_one (object_of values ops 1) (λ o. with_field thread_ordinal n (with_field thread_target v o))
+      (λ o. with_field_same thread_ordinal n (with_field thread_target v o) ∙ with_field_same thread_target v o)
+      (λ o h. ordinal_typed files os w.unnamed (with_field thread_target v o) (target_typed files os v o target h)) (gives (thread_of_target files) e)
+
+  thread_named : method ≡ of_thread constructor_name (codes "(Ljava/lang/String;)V") → Typed (ThreadNames naming.ConstructWithName)
+  thread_named e =
+      let v = operand values ops 0 in
+      unless_null (referent values ops 0) _
+      (puts (object_of values ops 1) (with_field thread_name v) (with_field_same thread_name v) (λ o h. name_typed files (types_of w.heap) v o (taken (thread_of_name files) e 0) h) (gives (thread_of_name files) e))
+
+  thread_named_with_target : method ≡ of_thread constructor_name (codes "(Ljava/lang/Runnable;Ljava/lang/String;)V") → Typed (ThreadNames naming.ConstructWithTargetAndName)
+  thread_named_with_target e =
+      let os = types_of w.heap in
+      let v = operand values ops 0 in
+      let u = operand values ops 1 in
+      let name = taken (thread_of_both files) e 0 in
+      let target = taken (thread_of_both files) e 1 in
+      unless_null (referent values ops 0) _
+      (puts (object_of values ops 2) (λ o. with_field thread_name v (with_field thread_target u o))
+      (λ o. with_field_same thread_name v (with_field thread_target u o) ∙ with_field_same thread_target u o)
+      (λ o h. name_typed files os v (with_field thread_target u o) name (target_typed files os u o target h)) (gives (thread_of_both files) e))
+
+  gives_a_name : method ≡ of_thread (codes "getName") (codes "()Ljava/lang/String;") → Typed (ThreadNames naming.GetName)
+  gives_a_name e =
+      let os = types_of w.heap in
+      let o = object_at w (object_of values ops 0) in
+      by (kept_name values o) (kept_name_typed files os o (at_typed files os w.heap (object_of values ops 0) c.fits.heap)) (reference_of (kept_name values o)) refl
+    where
+      by : (v : Value) → has_type files (types_of w.heap) (OfType (ClassType java_lang_string)) v ≡ true → (name : Option ℕ) → reference_of v ≡ name
+          → OutcomeTyped files event.thread w f (gives_name values name (ordinal_text values (object_at w (object_of values ops 0))) next w f.place.slots ops rest)
+      by v typed (Some name) is =
+          carries a_string w (value.Reference name ∷ []) (gives (get_name files) e) (self_keeps files w c.fits) (and_from _ _ (referred_typed files (types_of w.heap) v name is typed) refl)
+      by v typed None is =
+          let r = object_of values ops 0 in
+          let text = ordinal_text values (object_at w r) in
+          carries_at (Makes (length text)) a_string (named values w r text) (value.Reference (length w.heap) ∷ []) (gives (get_name files) e)
+          (named_keeps files w c.fits r text) (and_from _ _ (name_there files w c.fits r text) refl)
+
+  sets_name : method ≡ of_thread (codes "setName") (codes "(Ljava/lang/String;)V") → Typed (ThreadNames naming.SetName)
+  sets_name e =
+      let v = operand values ops 0 in
+      unless_null (referent values ops 0) _
+      (puts (object_of values ops 1) (with_field thread_name v) (with_field_same thread_name v) (λ o h. name_typed files (types_of w.heap) v o (taken (set_name files) e 0) h) (gives (set_name files) e))
+
+  -- ---- Strings that get their texts, and what is read of them
+
+  abbrev opened : ℕ
+  opened = opening_count files
+
+  abbrev constants : List ℕ
+  constants = string_references files
+
+  abbrev Written : TextAnswer → Type 0
+  Written a = OutcomeTyped files event.thread w f (writes values opened constants a next w f.place.slots ops rest)
+
+  becomes : (receiver : ℕ) (text : Text) → result_types files method ≡ [] → Written (Becomes receiver text)
+  becomes receiver text e =
+      let r = object_of values ops receiver in
+      carries_at (Fills (length text)) [] (with_text_at opened w r text) [] e (text_keeps files w c.fits opened r text) refl
+
+  -- by a String or an array that may be null
+  where_there : (o : Option Text) (go : Text → TextAnswer) → ((text : Text) → Written (go text)) → Written (if_there o go)
+  where_there None go h = tt
+  where_there (Some text) go h = h text
+
+  either_written : (b : Bool) (a a' : TextAnswer) → Written a → Written a' → Written (if b then a else a')
+  either_written true a a' h g = h
+  either_written false a a' h g = g
+
+  string_made : method ≡ of_string constructor_name (codes "(Ljava/lang/String;)V") → Typed (StringWrites writing_method.ConstructOfString)
+  string_made e = where_there (texts 0) (Becomes 1) (λ text. becomes 1 text (gives (string_of_string files) e))
+
+  chars_made : method ≡ of_string constructor_name (codes "([CII)V") → Typed (StringWrites writing_method.ConstructOfChars)
+  chars_made e =
+      where_there (units_operand values w ops 2) _
+      (λ units. either_written (is_at_most (length units) (ints 0) && is_at_most (length units - ints 0) (ints 1)) (Becomes 3 (take (ints 0) (drop (ints 1) units))) writing.IsOutside
+      (becomes 3 (take (ints 0) (drop (ints 1) units)) (gives (string_of_chars files) e)) tt)
+
+  -- an array of chars that is there
+  array_there : (r : ℕ) → referent values ops 1 ≡ Some r → has_type files (types_of w.heap) (OfType (PrimitiveArray Char)) (operand values ops 1) ≡ true
+      → is_object_below files (PrimitiveArray Char) (slice_get (types_of w.heap) r) ≡ true
+  array_there r is typed = by (operand values ops 1) is typed
+    where
+      by : (v : Value) → reference_of v ≡ Some r → has_type files (types_of w.heap) (OfType (PrimitiveArray Char)) v ≡ true
+          → is_object_below files (PrimitiveArray Char) (slice_get (types_of w.heap) r) ≡ true
+      by value.Unset q h = absurd cc
+      by (value.Int bits) q h = absurd cc
+      by value.Null q h = absurd cc
+      by (value.Reference s) q h = let same : s ≡ r = cc in subst (λ k. is_object_below files (PrimitiveArray Char) (slice_get (types_of w.heap) k) ≡ true) same h
+
+  chars_stored : method ≡ of_string (codes "getChars") (codes "(II[CI)V") → (r index : ℕ) (text : Text) → referent values ops 1 ≡ Some r → Written (Stores 1 index text)
+  chars_stored e r index text is =
+      let found = object_found files w.heap r (PrimitiveArray Char) (array_there r is (taken (get_chars files) e 1)) in
+      by found.0 (found.1) found.2 (get_or_from_slice_get w.heap r found.0 no_object found.1)
+    where
+      by : (o : ObjectOf Value) → slice_get w.heap r ≡ Some o → is_assignable files (type_of o) (PrimitiveArray Char) ≡ true → object_at w r ≡ o
+          → Written (Stores 1 index text)
+      by (Instance class fields) there below at = absurd (false≢true below)
+      by (References of elements) there below at = absurd (false≢true below)
+      by (Characters other) there below at = absurd (false≢true below)
+      by (Primitives of elements) there below at =
+          let is_r : object_of values ops 1 ≡ r = ap (λ o. unwrap_or o 0) is in
+          let ints = subst (λ o. is_object_typed files (types_of w.heap) o ≡ true) at (at_typed files (types_of w.heap) w.heap r c.fits.heap) in
+          subst (λ k. OutcomeTyped files event.thread w f (pushing next [] (with_units_at values w k index text) f.place.slots rest)) (sym is_r)
+          (carries [] (with_units_at values w r index text) [] (gives (get_chars files) e) (units_keep files w c.fits r index text of elements there ints at) refl)
+
+  chars_got : method ≡ of_string (codes "getChars") (codes "(II[CI)V") → Typed (StringWrites writing_method.GetChars)
+  chars_got e = where_there (texts 4) _ (λ this. by this (referent values ops 1) refl)
+    where
+      by : (this : Text) (o : Option ℕ) → referent values ops 1 ≡ o
+          → Written (if_there (option_map (λ r. map (unit_in values) (elements_of (object_at w r))) o) (λ elements. stored_part (length elements) this (ints 3) (ints 2) (ints 0)))
+      by this None is = tt
+      by this (Some r) is =
+          let n = length (map (unit_in values) (elements_of (object_at w r))) in
+          let text = take (ints 2 - ints 3) (drop (ints 3) this) in
+          either_written (is_at_most (length this) (ints 2) && is_at_most (ints 2) (ints 3)) (if_room n (ints 0) text) writing.IsOutside
+          (either_written (nat_le (length text) n && is_at_most (n - length text) (ints 0)) (Stores 1 (ints 0) text) IsOutsideArray (chars_stored e r (ints 0) text is) tt) tt
+
+  interned : method ≡ of_string (codes "intern") (codes "()Ljava/lang/String;") → Typed (StringWrites writing_method.Intern)
+  interned e = where_there (texts 0) StandsFor (λ text. by text (standing_for constants w text) refl)
+    where
+      by : (text : Text) (o : Option ℕ) → standing_for constants w text ≡ o
+          → OutcomeTyped files event.thread w f (gives_standing values o next w f.place.slots ops rest)
+      by text (Some r) is =
+          carries a_string w (value.Reference r ∷ []) (gives (intern files) e) (self_keeps files w c.fits) (and_from _ _ (standing_typed files w c.fits constants text r is) refl)
+      by text None is =
+          let r = object_of values ops 0 in
+          carries a_string (with_interned w r) (operand values ops 0 ∷ []) (gives (intern files) e) (interned_keeps files w c.fits r) (and_from _ _ (taken (intern files) e 0) refl)
+
+  object_rows : AllByRecursion (λ (row : Member × BuiltInMethod). method ≡ row.0 → Typed row.1) (drop 48 built_in_methods)
   object_rows = (
     λ e. int_told _ (gives (hash_code files) e) (hash_told files (type_at w) (int_operand values ops 0) asked),
     (
@@ -341,7 +515,7 @@ module _ (files : Program) (linked : Linked files) (event : Event) (w : World) (
     ),
   )
 
-  builder_rows : AllByRecursion (λ (row : Member × BuiltInMethod). method ≡ row.0 → Typed row.1) (drop 30 built_in_methods)
+  builder_rows : AllByRecursion (λ (row : Member × BuiltInMethod). method ≡ row.0 → Typed row.1) (drop 41 built_in_methods)
   builder_rows = (
     keeps_empty,
     (
@@ -365,7 +539,25 @@ module _ (files : Program) (linked : Linked files) (event : Event) (w : World) (
     ),
   )
 
-  string_rows : AllByRecursion (λ (row : Member × BuiltInMethod). method ≡ row.0 → Typed row.1) (drop 19 built_in_methods)
+  writing_rows : AllByRecursion (λ (row : Member × BuiltInMethod). method ≡ row.0 → Typed row.1) (drop 36 built_in_methods)
+  writing_rows = (
+    λ e. becomes 0 [] (gives (empty_string files) e),
+    (
+      string_made,
+      (
+        chars_made,
+        (
+          chars_got,
+          (
+            interned,
+            builder_rows,
+          ),
+        ),
+      ),
+    ),
+  )
+
+  string_rows : AllByRecursion (λ (row : Member × BuiltInMethod). method ≡ row.0 → Typed row.1) (drop 25 built_in_methods)
   string_rows = (
     answers_int Length (of_string (codes "length") (codes "()I")) (int_answered_results files (codes "length")) (length_of_int ints texts),
     (
@@ -388,7 +580,7 @@ module _ (files : Program) (linked : Linked files) (event : Event) (w : World) (
                       λ e. composed _ (ap (result_types files) e ∙ int_text_results files),
                       (
                         λ e. composed _ (ap (result_types files) e ∙ char_text_results files),
-                        builder_rows,
+                        writing_rows,
                       ),
                     ),
                   ),
@@ -409,38 +601,56 @@ module _ (files : Program) (linked : Linked files) (event : Event) (w : World) (
       (
         λ e. owner_typed (is_owner w event.thread (object_of values ops 0)) _ (λ q. carries [] (notified_all w event.thread (object_of values ops 0)) [] (ap (result_types files) e ∙ void_results files java_lang_object (codes "notifyAll")) (notified_all_keeps files w c.fits event.thread (object_of values ops 0) q) refl),
         (
-          targeted,
+          copied,
           (
-            λ e. started e (is_some (thread_of w (object_of values ops 0))),
+            thread_made,
             (
-              λ e. carries [] (interrupted_on w (thread_of w (object_of values ops 0))) [] (ap (result_types files) e ∙ void_results files java_lang_thread (codes "interrupt")) (interrupted_on_keeps files w c.fits (thread_of w (object_of values ops 0))) refl,
+              thread_targeted,
               (
-                λ e. carries (IntType ∷ []) w (value.Int (bit (is_interrupted w (object_of values ops 0))) ∷ []) (ap (result_types files) e ∙ bit_results files (codes "isInterrupted")) (self_keeps files w c.fits) refl,
+                thread_named,
                 (
-                  λ e. carries (IntType ∷ []) (with_interrupted w event.thread false) (value.Int (bit (thread_at w event.thread).interrupted) ∷ []) (ap (result_types files) e ∙ bit_results files (codes "interrupted")) (interrupted_keeps files w c.fits event.thread false) refl,
+                  thread_named_with_target,
                   (
-                    λ e. carries [] w [] (ap (result_types files) e ∙ void_results files java_lang_thread (codes "yield")) (self_keeps files w c.fits) refl,
+                    λ e. started e (is_some (thread_of w (object_of values ops 0))),
                     (
-                      λ e. carries (OfType (ClassType java_lang_thread) ∷ []) w (value.Reference (thread_at w event.thread).object ∷ []) (ap (result_types files) e ∙ thread_results files) (self_keeps files w c.fits) (and_from _ _ c.self refl),
+                      λ e. carries [] (interrupted_on w (thread_of w (object_of values ops 0))) [] (ap (result_types files) e ∙ void_results files java_lang_thread (codes "interrupt")) (interrupted_on_keeps files w c.fits (thread_of w (object_of values ops 0))) refl,
                       (
-                        λ e. joined e (is_alive w (object_of values ops 0)),
+                        λ e. carries (IntType ∷ []) w (value.Int (bit (is_interrupted w (object_of values ops 0))) ∷ []) (ap (result_types files) e ∙ bit_results files (codes "isInterrupted")) (self_keeps files w c.fits) refl,
                         (
-                          λ e. carries (IntType ∷ []) w (value.Int (bit (is_alive w (object_of values ops 0))) ∷ []) (ap (result_types files) e ∙ bit_results files (codes "isAlive")) (self_keeps files w c.fits) refl,
+                          λ e. carries (IntType ∷ []) (with_interrupted w event.thread false) (value.Int (bit (thread_at w event.thread).interrupted) ∷ []) (ap (result_types files) e ∙ bit_results files (codes "interrupted")) (interrupted_keeps files w c.fits event.thread false) refl,
                           (
-                            printed Println (of_print_stream (codes "println") (codes "()V")) (void_results files java_io_print_stream (codes "println")),
+                            λ e. carries [] w [] (ap (result_types files) e ∙ void_results files java_lang_thread (codes "yield")) (self_keeps files w c.fits) refl,
                             (
-                              printed PrintlnChar (of_print_stream (codes "println") (codes "(C)V")) (char_printed_results files (codes "println")),
+                              λ e. carries (OfType (ClassType java_lang_thread) ∷ []) w (value.Reference (thread_at w event.thread).object ∷ []) (ap (result_types files) e ∙ thread_results files) (self_keeps files w c.fits) (and_from _ _ c.self refl),
                               (
-                                printed PrintlnInt println_int (int_printed_results files (codes "println")),
+                                λ e. joined e (is_alive w (object_of values ops 0)),
                                 (
-                                  printed PrintlnString (of_print_stream (codes "println") (codes "(Ljava/lang/String;)V")) (string_printed_results files (codes "println")),
+                                  λ e. carries (IntType ∷ []) w (value.Int (bit (is_alive w (object_of values ops 0))) ∷ []) (ap (result_types files) e ∙ bit_results files (codes "isAlive")) (self_keeps files w c.fits) refl,
                                   (
-                                    printed PrintChar (of_print_stream (codes "print") (codes "(C)V")) (char_printed_results files (codes "print")),
+                                    gives_a_name,
                                     (
-                                      printed PrintInt (of_print_stream (codes "print") (codes "(I)V")) (int_printed_results files (codes "print")),
+                                      sets_name,
                                       (
-                                        printed PrintString (of_print_stream (codes "print") (codes "(Ljava/lang/String;)V")) (string_printed_results files (codes "print")),
-                                        string_rows,
+                                        printed Println (of_print_stream (codes "println") (codes "()V")) (void_results files java_io_print_stream (codes "println")),
+                                        (
+                                          printed PrintlnChar (of_print_stream (codes "println") (codes "(C)V")) (char_printed_results files (codes "println")),
+                                          (
+                                            printed PrintlnInt println_int (int_printed_results files (codes "println")),
+                                            (
+                                              printed PrintlnString (of_print_stream (codes "println") (codes "(Ljava/lang/String;)V")) (string_printed_results files (codes "println")),
+                                              (
+                                                printed PrintChar (of_print_stream (codes "print") (codes "(C)V")) (char_printed_results files (codes "print")),
+                                                (
+                                                  printed PrintInt (of_print_stream (codes "print") (codes "(I)V")) (int_printed_results files (codes "print")),
+                                                  (
+                                                    printed PrintString (of_print_stream (codes "print") (codes "(Ljava/lang/String;)V")) (string_printed_results files (codes "print")),
+                                                    string_rows,
+                                                  ),
+                                                ),
+                                              ),
+                                            ),
+                                          ),
+                                        ),
                                       ),
                                     ),
                                   ),

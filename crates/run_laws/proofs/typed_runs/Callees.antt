@@ -11,7 +11,7 @@ use Rattle.model.specs.Names.{Name, name_eq, Member, initialiser_name, java_lang
 use Rattle.model.specs.Tree.{MethodTree}
 use Rattle.model.specs.AccessFlags.{is_abstract_method}
 use Rattle.model.specs.Classes.{Program, superclass_of, is_within, is_subclass, is_interface, lineage}
-use Rattle.model.specs.Lookup.{method_of, first_found, method_in_class, in_class, where_so, find_method, find_interface_method, all_superinterfaces, any_method, is_public_instance_method}
+use Rattle.model.specs.Lookup.{method_of, first_found, method_in_class, in_class, where_so, searched_class, find_method, find_interface_method, all_superinterfaces, any_method, is_public_instance_method}
 use Rattle.model.specs.ReferenceTypes.{ReferenceType, ClassType, is_assignable}
 use Rattle.model.specs.Types.{OfType, UninitialisedThis, Want, value_meets, is_value_below}
 use Rattle.model.specs.DescribedTypes.{DeclaredType, parameters_declared, declared_want, verification_type, made_type}
@@ -203,8 +203,8 @@ module _ (files : Program) (m : Member) where
 
   pub found_name : (x : Member) → find_method files m ≡ Some x → x.name ≡ m.name
   found_name x e =
-      either_same (first_found (method_in_class files any_method m) (lineage files m.class)) (first_found (method_in_class files any_method m) (all_superinterfaces files m.class)) x
-      (first_same any_method (lineage files m.class)) (first_same any_method (all_superinterfaces files m.class)) e
+      either_same (first_found (method_in_class files any_method m) (lineage files (searched_class m.class))) (first_found (method_in_class files any_method m) (all_superinterfaces files (searched_class m.class))) x
+      (first_same any_method (lineage files (searched_class m.class))) (first_same any_method (all_superinterfaces files (searched_class m.class))) e
 
   pub interface_found_name : (x : Member) → find_interface_method files m ≡ Some x → x.name ≡ m.name
   interface_found_name x e =

@@ -15,7 +15,7 @@ use Rattle.model.specs.Types.{OfType, is_object_below}
 use Rattle.model.specs.Operands.{values}
 use Rattle.model.specs.State.{ObjectOf, type_of, types_of, World}
 use Rattle.model.specs.Opening.{first_instance, string_reference, opening_heap}
-use Rattle.model.specs.Outcomes.{MachineException, exception_class, NullPointer, Arithmetic, ArrayIndexOutOfBounds, StringIndexOutOfBounds, NegativeArraySize, ArrayStore, ClassCast, IllegalMonitorState, IllegalThreadState, InterruptedWait, IncompatibleClassChange, AbstractMethod, StackOverflow, NoClassDefFound, ExceptionInInitializer}
+use Rattle.model.specs.Outcomes.{MachineException, exception_class, NullPointer, Arithmetic, ArrayIndexOutOfBounds, StringIndexOutOfBounds, NegativeArraySize, CloneNotSupported, ArrayStore, ClassCast, IllegalMonitorState, IllegalThreadState, InterruptedWait, IncompatibleClassChange, AbstractMethod, StackOverflow, NoClassDefFound, ExceptionInInitializer}
 use Rattle.model.specs.MachineExceptions.{message_of, with_message, with_cause, machine_exception}
 use Rattle.model.specs.Worlds.{object_at, with_object, with_field}
 use Rattle.model.specs.WellTyped.{has_type, is_object_in, is_object_typed}
@@ -77,6 +77,7 @@ message_is Arithmetic text e = cc
 message_is ArrayIndexOutOfBounds text e = absurd cc
 message_is StringIndexOutOfBounds text e = absurd cc
 message_is NegativeArraySize text e = absurd cc
+message_is CloneNotSupported text e = absurd cc
 message_is ArrayStore text e = absurd cc
 message_is ClassCast text e = absurd cc
 message_is IllegalMonitorState text e = absurd cc

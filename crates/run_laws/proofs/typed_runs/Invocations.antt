@@ -6,6 +6,7 @@ use Rattle.model.specs.declared.event.Event.{Event}
 use Rattle.model.specs.declared.instr.Instr.TheVariants.{Invoke, InvokeInterface}
 use Rattle.model.specs.declared.instr.Invocation.TheVariants as invocation
 use Rattle.model.specs.declared.value.Value.{Value}
+use Rattle.model.specs.declared.value.Value.TheVariants as value
 use Rattle.model.specs.Names.{Name, name_eq, Member, initialiser_name, constructor_name}
 use Rattle.model.specs.Pool.{method_at, interface_method_at}
 use Rattle.model.specs.AccessFlags.{is_static_method}
@@ -14,7 +15,7 @@ use Rattle.model.specs.Lookup.{method_of, find_method, find_interface_method}
 use Rattle.model.specs.ReferenceTypes.{ClassType, is_subtype}
 use Rattle.model.specs.Types.{VerificationType, NullType, AReceiver, is_value_below}
 use Rattle.model.specs.InitialisedTypes.{initialised}
-use Rattle.model.specs.DescribedTypes.{made_type, verification_type}
+use Rattle.model.specs.DescribedTypes.{type_named, made_type, verification_type}
 use Rattle.model.specs.Operands.{values, over_types, operands, under}
 use Rattle.model.specs.State.{type_of, types_of, Frame, World}
 use Rattle.model.specs.Opening.{class_reference}
@@ -22,12 +23,13 @@ use Rattle.model.specs.Worlds.{object_at}
 use Rattle.model.specs.Sites.{MeaningOf, Site}
 use Rattle.model.specs.Step.{ops_of}
 use Rattle.model.specs.Typing.{is_static_of, parameter_types, receiver_type}
-use Rattle.model.specs.Calls.{parameter_count, result_types, Chosen, Runs, is_one, selected, its_class, leads_after, constructed_leads, of_class, static_call, virtual_call, if_implements, interface_call, special_class, special_call, constructor_call, is_instance_one}
+use Rattle.model.specs.Calls.{parameter_count, result_types, Chosen, Runs, is_one, selected, its_class, leads_after, constructed_leads, of_class, of_named, static_call, virtual_call, if_implements, interface_call, special_class, special_call, constructor_call, is_instance_one}
 use Rattle.model.specs.WellTyped.{has_type, are_typed}
 use Rattle.run_laws.proofs.laws.Lists.{pairs_of, of_pairs, pair_map_left}
 use Rattle.run_laws.proofs.laws.Classes.{names_same, subclass_self}
 use Rattle.run_laws.proofs.laws.Order.{initialised_typed}
 use Rattle.run_laws.proofs.laws.Linked.{IsCallable}
+use Rattle.run_laws.proofs.laws.NamedTypes.{named_type}
 use Rattle.run_laws.proofs.typed_runs.Called.{BuiltInTyped}
 use Rattle.run_laws.proofs.typed_runs.Going.{Here, Allows, popped_here, under_here, awaits_here}
 use Rattle.run_laws.proofs.typed_runs.Instructions.{Does}
@@ -77,13 +79,14 @@ module _ (files : Program) (built_ins : BuiltInTyped files) (event : Event) (w :
       let sized = sized_as files built_ins event w f site h (Invoke invocation.Virtual index) i in
       let callable = h.linked.callable site.method site.body site.offset h.size invocation.Virtual index named h.is_body h.starts sized e in
       let class = h.linked.calls_class site.method site.body site.offset h.size invocation.Virtual index named h.is_body h.starts sized e in
-      let g = given files (types_of w.heap) method (of_class files named.class) ops (popped_here files event.thread w f site h m a) in
-      call_typed files built_ins event w f site h method (of_class files named.class ∷ []) (leads_after files site method) (λ world r. selected files (its_class world r) method) (result_types files method)
+      let g = given files (types_of w.heap) method (of_named files named.class) ops (popped_here files event.thread w f site h m a) in
+      call_typed files built_ins event w f site h method (of_named files named.class ∷ []) (leads_after files site method) (λ world r. selected files (its_class world r) method) (result_types files method)
       (λ r at.
-      let receiver = subst (λ v. is_value_below files (types_of w.heap) (made_type files (ClassType named.class)) v ≡ true) at g.1 in
+      let receiver = subst (λ v. is_value_below files (types_of w.heap) (made_type files (type_named named.class)) v ≡ true) at g.1 in
       selected_chosen files built_ins event w f site h (its_class w r) method ops r g.0 at (callable_found named method (found_name files named method found) callable) instance
-      (λ t is private. goes_up files built_ins event w f site h named.class method.class r (named_below files h.linked named.class named.class method.class (subclass_self files _ named.class) class (h.linked.private_is_above named method t callable found is private)) receiver)
-      (own_class files built_ins event w f site h r (made_type files (ClassType named.class)) receiver))
+      (λ t is private. goes_up files built_ins event w f site h named.class method.class r (named_below files h.linked named.class named.class method.class (subclass_self files _ named.class) class (h.linked.private_is_above named method t callable found is private))
+      (subst (λ type. is_value_below files (types_of w.heap) (made_type files type) (value.Reference r) ≡ true) (named_type named.class (h.linked.private_is_of_class named method t callable found is private)) receiver))
+      (own_class files built_ins event w f site h r (made_type files (type_named named.class)) receiver))
       (awaits_next files built_ins event w f site h m a (result_types files method) _ a.leads.0) may
 
   -- ---- invokeinterface

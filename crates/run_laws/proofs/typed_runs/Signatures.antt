@@ -1,13 +1,13 @@
 -- What the built-in methods without code take and give, by their descriptors (JVMS 4.3.3).
 use Rattle.std.proofs.Common.{◌≡◌, [], ◌∷◌, map, false, refl}
 use Rattle.std.specs.Prelude.{codes}
-use Rattle.model.specs.Names.{Name, java_lang_object, java_lang_throwable, java_lang_string, java_lang_runnable, java_lang_thread, constructor_name, thread_target}
+use Rattle.model.specs.Names.{Name, java_lang_object, java_lang_throwable, java_lang_string, java_lang_thread}
 use Rattle.model.specs.DescriptorScan.{method_type, field_type, parameters_at, field_at, element_at}
 use Rattle.model.specs.BuiltIn.{built_in_classes}
 use Rattle.model.specs.Classes.{Program}
 use Rattle.model.specs.ReferenceTypes.{ClassType}
-use Rattle.model.specs.Types.{IntType, OfType, UninitialisedThis}
-use Rattle.model.specs.DescribedTypes.{field_declared, parameters_declared, verification_type, made_type}
+use Rattle.model.specs.Types.{IntType, OfType}
+use Rattle.model.specs.DescribedTypes.{parameters_declared, verification_type}
 use Rattle.model.specs.Calls.{parameter_count, result_types}
 use Rattle.model.specs.BuiltInMethods.{of_object, of_thread, of_print_stream, of_string}
 use Rattle.model.specs.Typing.{has_no_receiver, argument_types}
@@ -25,10 +25,6 @@ module _ (files : Program) where
       ≡ OfType (ClassType java_lang_thread) ∷ []
   unfolding method_type parameters_at field_at element_at field_type built_in_classes
   thread_results = refl
-
-  pub target_results : result_types files (of_thread constructor_name (codes "(Ljava/lang/Runnable;)V")) ≡ []
-  unfolding method_type parameters_at field_at element_at field_type
-  target_results = refl
 
   -- methods of PrintStream with a parameter
   pub int_printed_results : (name : Name) → result_types files (of_print_stream name (codes "(I)V")) ≡ []
@@ -113,23 +109,6 @@ module _ (files : Program) where
   pub no_parameters : (class name : Name) → parameter_count (record { class = class; name = name; descriptor = codes "()V" }) ≡ 0
   unfolding method_type parameters_at field_at element_at field_type
   no_parameters class name = refl
-
-  pub target_arguments : argument_types files (of_thread constructor_name (codes "(Ljava/lang/Runnable;)V"))
-      ≡ UninitialisedThis java_lang_thread ∷ OfType (made_type files (ClassType java_lang_runnable)) ∷ []
-  unfolding method_type parameters_at field_at element_at field_type built_in_classes
-  target_arguments = refl
-
-  pub target_receiver : has_no_receiver files (of_thread constructor_name (codes "(Ljava/lang/Runnable;)V")) ≡ false
-  unfolding built_in_classes
-  target_receiver = refl
-
-  pub target_parameters : parameter_count (of_thread constructor_name (codes "(Ljava/lang/Runnable;)V")) ≡ 1
-  unfolding method_type parameters_at field_at element_at field_type
-  target_parameters = refl
-
-  pub target_type : verification_type files (field_declared thread_target.descriptor) ≡ OfType (made_type files (ClassType java_lang_runnable))
-  unfolding field_type field_at element_at
-  target_type = refl
 
   pub message_parameters : map (verification_type files) (parameters_declared (codes "(Ljava/lang/String;)V")) ≡ OfType (ClassType java_lang_string) ∷ []
   unfolding method_type parameters_at field_at element_at field_type built_in_classes

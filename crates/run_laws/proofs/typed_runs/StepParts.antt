@@ -12,7 +12,7 @@ use Rattle.model.specs.Classes.{Program, is_within}
 use Rattle.model.specs.ReferenceTypes.{ClassType}
 use Rattle.model.specs.Types.{OfType, is_object_below}
 use Rattle.model.specs.State.{ObjectOf, type_of, types_of, ThreadStatus, Running, Relock, Thread, StackOf, World}
-use Rattle.model.specs.Outcomes.{MachineException, exception_class, NullPointer, Arithmetic, ArrayIndexOutOfBounds, StringIndexOutOfBounds, NegativeArraySize, ArrayStore, ClassCast, IllegalMonitorState, IllegalThreadState, InterruptedWait, IncompatibleClassChange, AbstractMethod, StackOverflow, NoClassDefFound, ExceptionInInitializer}
+use Rattle.model.specs.Outcomes.{MachineException, exception_class, NullPointer, Arithmetic, ArrayIndexOutOfBounds, StringIndexOutOfBounds, NegativeArraySize, CloneNotSupported, ArrayStore, ClassCast, IllegalMonitorState, IllegalThreadState, InterruptedWait, IncompatibleClassChange, AbstractMethod, StackOverflow, NoClassDefFound, ExceptionInInitializer}
 use Rattle.model.specs.Worlds.{no_thread, thread_at, with_thread, with_pending, with_interrupted, allocated}
 use Rattle.model.specs.Step.{SteppedOf, NotEnabled, WrongKind, Next, PartOf, part, raised_for, raised, raised_by_interrupt}
 use Rattle.model.specs.WellTyped.{is_object_in, is_waiting_for, Failing, IsRunning, IsStackTyped}
@@ -66,6 +66,7 @@ fault_within files Arithmetic = refl
 fault_within files ArrayIndexOutOfBounds = refl
 fault_within files StringIndexOutOfBounds = refl
 fault_within files NegativeArraySize = refl
+fault_within files CloneNotSupported = refl
 fault_within files ArrayStore = refl
 fault_within files ClassCast = refl
 fault_within files IllegalMonitorState = refl

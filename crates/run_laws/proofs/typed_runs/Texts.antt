@@ -1,6 +1,5 @@
 -- The text of a StringBuilder in a well-typed heap: null, or a reference to a String.
 use Rattle.std.proofs.Common.{◌≡◌, List, true, refl, subst}
-use Rattle.std.proofs.lemmas.Bool.{false≢true}
 use Rattle.model.specs.declared.value.Value.{Value}
 use Rattle.model.specs.declared.value.Value.TheVariants as value
 use Rattle.model.specs.Names.{builder_text, java_lang_string}
@@ -10,7 +9,7 @@ use Rattle.model.specs.DescriptorScan.{field_type, field_at, element_at}
 use Rattle.model.specs.DescribedTypes.{field_declared, verification_type}
 use Rattle.model.specs.ReferenceTypes.{ReferenceType, ClassType}
 use Rattle.model.specs.Types.{OfType}
-use Rattle.model.specs.Operands.{values, word_of, reference_of, word_reference}
+use Rattle.model.specs.Operands.{values}
 use Rattle.model.specs.State.{ObjectOf, types_of, World}
 use Rattle.model.specs.Opening.{first_of}
 use Rattle.model.specs.Worlds.{object_at, fields_of, value_in}
@@ -18,6 +17,7 @@ use Rattle.model.specs.BuilderMethods.{kept_string}
 use Rattle.model.specs.WellTyped.{has_type, is_object_typed}
 use Rattle.run_laws.proofs.typed_runs.Objects.{HeapTyped, value_in_typed}
 use Rattle.run_laws.proofs.typed_runs.Instructions.{fields_typed, at_typed}
+use Rattle.run_laws.proofs.typed_runs.Names.{told, names_kept}
 use Rattle.run_laws.proofs.word_runs.WordWorlds.{KeepsTexts}
 
 pub text_type : (files : Program) → verification_type files (field_declared builder_text.descriptor) ≡ OfType (ClassType java_lang_string)
@@ -35,15 +35,10 @@ kept_string_typed files os o h =
     (subst (λ v. has_type files os (verification_type files (field_declared builder_text.descriptor)) (value_in v builder_text (fields_of o)) ≡ true) text_first
     (value_in_typed files os builder_text (fields_of o) (fields_typed files os o h)))
 
--- what is below a class is null or a reference, and its word tells which
-told : (files : Program) (os : List ReferenceType) (v : Value) → has_type files os (OfType (ClassType java_lang_string)) v ≡ true
-    → word_reference (word_of v) ≡ reference_of v
-told files os value.Unset h = absurd (false≢true h)
-told files os (value.Int bits) h = absurd (false≢true h)
-told files os value.Null h = refl
-told files os (value.Reference r) h = refl
-
 pub texts_kept : (files : Program) (world : World) → HeapTyped files world.heap → KeepsTexts world
-texts_kept files world h r =
+texts_kept files world h =
     let os = types_of world.heap in
-    told files os (kept_string values (object_at world r)) (kept_string_typed files os (object_at world r) (at_typed files os world.heap r h))
+    record {
+      texts = λ r. told files os (kept_string values (object_at world r)) (kept_string_typed files os (object_at world r) (at_typed files os world.heap r h));
+      names = names_kept files world h;
+    }

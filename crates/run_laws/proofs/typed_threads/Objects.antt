@@ -13,14 +13,16 @@ use Rattle.model.specs.declared.value.Value.TheVariants as value
 use Rattle.model.specs.Types.{OfType}
 use Rattle.model.specs.Worlds.{object_at}
 use Rattle.model.specs.BuilderMethods.{kept_string}
+use Rattle.model.specs.ThreadNames.{kept_name}
 use Rattle.model.specs.WellTyped.{Extends, has_type}
 use Rattle.model.specs.Words.{AreWellTypedWords}
 use Rattle.run_laws.proofs.word_runs.OpenedWords.{opened_words}
-use Rattle.run_laws.proofs.word_runs.WordWorlds.{types_words, object_at_words, kept_string_words}
+use Rattle.run_laws.proofs.word_runs.WordWorlds.{types_words, object_at_words, kept_string_words, kept_name_words}
 use Rattle.run_laws.proofs.typed_runs.OpeningObjects.{print_stream_there, arguments_there, class_there, string_there, error_stream_there}
 use Rattle.run_laws.proofs.typed_runs.Instructions.{at_typed}
 use Rattle.run_laws.proofs.typed_runs.Texts.{kept_string_typed}
-use Rattle.run_laws.specs.typed_threads.Objects.{HasOpeningObjects, AreOpeningObjectsThere, IsText, AreTextsStrings}
+use Rattle.run_laws.proofs.typed_runs.Names.{kept_name_typed}
+use Rattle.run_laws.specs.typed_threads.Objects.{HasOpeningObjects, AreOpeningObjectsThere, IsText, AreTextsStrings, AreNamesStrings}
 use Rattle.run_laws.proofs.typed_threads.Instances.{types_are, keeps_of, instance_of}
 
 -- the opening heap of words has the types of the one of values
@@ -71,3 +73,14 @@ texts_are_strings files at h r =
     let typed = kept_string_typed files (types_of state.world.heap) o (at_typed files (types_of state.world.heap) state.world.heap r h.1.typed.heap) in
     subst (IsText files at.world.heap) (sym is)
     (text_told files at.world.heap (kept_string values o) (subst (λ os. has_type files os (OfType (ClassType java_lang_string)) (kept_string values o) ≡ true) (sym (types_are files at h)) typed))
+
+pub names_are_strings : AreNamesStrings
+names_are_strings files at h r =
+    let state = h.0 in
+    let o = object_at state.world r in
+    let os = types_of state.world.heap in
+    let is : kept_name words (object_at at.world r) ≡ word_of (kept_name values o) =
+    ap (λ (s : StateOf ℕ). kept_name words (object_at s.world r)) h.1.are ∙ (ap (kept_name words) (object_at_words state.world r) ∙ kept_name_words o) in
+    let typed = kept_name_typed files os o (at_typed files os state.world.heap r h.1.typed.heap) in
+    subst (IsText files at.world.heap) (sym is)
+    (text_told files at.world.heap (kept_name values o) (subst (λ ts. has_type files ts (OfType (ClassType java_lang_string)) (kept_name values o) ≡ true) (sym (types_are files at h)) typed))

@@ -2,7 +2,7 @@
 use Rattle.std.proofs.Common.{◌≡◌, ℕ, suc, ◌+◌, List, [], ◌∷◌, ◌++◌, length, map, reverse, drop, Bool, true, false, ◌&&◌, if◌then◌else◌, Option, Some, None, option_map, refl, sym, ap, ◌∙◌, subst, ⊎_elim, arith}
 use Rattle.std.specs.Prelude.{slice_get, nat_le}
 use Rattle.std.specs.Option.{option_and_then, option_map_or}
-use Rattle.std.proofs.lemmas.Bool.{true≢false, and_parts, or_cases}
+use Rattle.std.proofs.lemmas.Bool.{true≢false, and_parts, or_cases, or_left, or_right}
 use Rattle.std.proofs.lemmas.Option.{same_Some}
 use Rattle.std.proofs.lemmas.List.{length-map, length-reverse}
 use Rattle.model.specs.declared.instr.ArrayKind.{ArrayKind}
@@ -11,13 +11,14 @@ use Rattle.model.specs.declared.instr.FieldAccess.TheVariants as access
 use Rattle.model.specs.declared.instr.Instr.{Instr}
 use Rattle.model.specs.declared.instr.Instr.TheVariants as instr
 use Rattle.model.specs.declared.instr.Invocation.TheVariants as invocation
+use Rattle.model.specs.DescriptorParts.{is_array_class}
 use Rattle.model.specs.Names.{Name, name_eq, Member, member_eq, constructor_name, println_int, java_lang_object, java_lang_throwable, java_io_print_stream}
 use Rattle.model.specs.Tree.{MethodTree}
 use Rattle.model.specs.Pool.{class_name_at, field_at, method_at, interface_method_at}
 use Rattle.model.specs.Classes.{Program, Body, body_of, classes_of, is_within, is_subclass, is_interface, lineage, all_superinterfaces}
 use Rattle.model.specs.Instruction.{Sized, sized_at}
 use Rattle.model.specs.InstructionStarts.{is_start}
-use Rattle.model.specs.Lookup.{find_field, field_of, is_instance_field, method_of, in_class, first_found, method_in_class, any_method, find_method, is_public_instance_method, find_interface_method}
+use Rattle.model.specs.Lookup.{find_field, field_of, is_instance_field, method_of, in_class, first_found, method_in_class, any_method, searched_class, find_method, is_public_instance_method, find_interface_method}
 use Rattle.model.specs.ReferenceTypes.{Char, Short, Int, ReferenceType, ClassType, PrimitiveArray, ReferenceArray, is_assignable}
 use Rattle.model.specs.DescribedTypes.{parameters_declared, declared_want, type_named, made_type}
 use Rattle.model.specs.Types.{Want, AReference, AReceiver, AnOwner, AnArray, AByteArray, is_array_type, is_byte_array_type}
@@ -32,12 +33,13 @@ use Rattle.model.specs.Calls.{parameter_count, argument_wants, is_one, is_instan
 use Rattle.model.specs.Meanings.{get_field_of, put_field_of, owner_want, if_field, field_meaning, println_meaning, invoke_virtual_meaning, meaning_of}
 use Rattle.model.specs.Words.{AreWellTypedWords}
 use Rattle.run_laws.proofs.laws.Found.{some_from}
+use Rattle.run_laws.proofs.laws.NamedTypes.{named_type}
 use Rattle.run_laws.proofs.laws.Classes.{names_same, members_same, more_steps, above_object}
 use Rattle.run_laws.proofs.laws.Order.{assignable_trans}
 use Rattle.run_laws.proofs.laws.Linked.{Linked}
 use Rattle.run_laws.proofs.laws.Unrefused.{Unrefused}
 use Rattle.run_laws.specs.word_operands.Operands.{IsOnTop, HasMeaning, word_meets}
-use Rattle.run_laws.specs.word_operands.Receivers.{AreInstances, is_instance_below, has_class_below, is_array, is_array_of, is_any, is_null_or, Receiver, receiver, receiver_of, IsReceived}
+use Rattle.run_laws.specs.word_operands.Receivers.{AreInstances, is_instance_below, has_class_below, is_called_on, is_array, is_array_of, is_any, is_null_or, Receiver, receiver, receiver_of, IsReceived}
 use Rattle.run_laws.proofs.word_operands.Meant.{meant, operands_found}
 use Rattle.run_laws.proofs.word_operands.Fields.{or_some, where_is, names_field}
 use Rattle.run_laws.proofs.word_operands.Objects.{println_count, of_objects, received, instance_fits, class_fits, array_fits, bytes_fit, ints_fit, chars_fit, shorts_fit, references_fit}
@@ -89,13 +91,13 @@ module _ (files : Program) where
       ⊎_elim (λ here. declared_same wanted m x found here) (λ later. first_same wanted m xs found later)
       (or_some (method_in_class files wanted m x) (first_found (method_in_class files wanted m) xs) found e)
 
-  method_same : (named found : Member) → find_method files named ≡ Some found → found.descriptor ≡ named.descriptor
+  pub method_same : (named found : Member) → find_method files named ≡ Some found → found.descriptor ≡ named.descriptor
   method_same named found e =
-      ⊎_elim (λ above. first_same any_method named (lineage files named.class) found above)
-      (λ aside. first_same any_method named (all_superinterfaces files named.class) found aside)
-      (or_some (first_found (method_in_class files any_method named) (lineage files named.class)) _ found e)
+      ⊎_elim (λ above. first_same any_method named (lineage files (searched_class named.class)) found above)
+      (λ aside. first_same any_method named (all_superinterfaces files (searched_class named.class)) found aside)
+      (or_some (first_found (method_in_class files any_method named) (lineage files (searched_class named.class))) _ found e)
 
-  interface_method_same : (named found : Member) → find_interface_method files named ≡ Some found → found.descriptor ≡ named.descriptor
+  pub interface_method_same : (named found : Member) → find_interface_method files named ≡ Some found → found.descriptor ≡ named.descriptor
   interface_method_same named found e =
       ⊎_elim (λ own. declared_same any_method named named.class found own)
       (λ other. ⊎_elim
@@ -157,6 +159,19 @@ module _ (files : Program) where
         → is_assignable files t (made_type files (ClassType named)) ≡ true → is_assignable files t (ClassType named) ≡ true
     of_named named is_class t e = subst (λ (b : Bool). is_assignable files t (ClassType (if b then java_lang_object else named)) ≡ true) is_class e
 
+    -- of an array class nothing is asked
+    called_word : (named : Name) → is_interface files named ≡ false → (n : ℕ)
+        → word_meets files (types_of heap) (AReference (made_type files (type_named named))) n ≡ true → is_null_or heap (is_called_on files named) n ≡ true
+    called_word named is_class n e =
+        of_objects heap (λ t. is_assignable files t (made_type files (type_named named))) (is_called_on files named) (λ o h. by o (is_array_class named) refl h) n e
+      where
+        by : (o : ObjectOf ℕ) → (b : Bool) → is_array_class named ≡ b → is_assignable files (type_of o) (made_type files (type_named named)) ≡ true
+            → is_called_on files named o ≡ true
+        by o true a h = or_left (is_array_class named) _ a
+        by o false a h =
+            or_right (is_array_class named) _
+            (class_fits files named o (of_named named is_class (type_of o) (subst (λ t. is_assignable files (type_of o) (made_type files t) ≡ true) (named_type named a) h)))
+
     -- ---- each instruction
 
     module _ (linked : Linked files) (ok : Unrefused files) (method : Member) (body : Body) (offset size : ℕ) (is_body : body_of files method ≡ Some body) (start : is_start body.code.code offset ≡ true) where
@@ -209,28 +224,32 @@ module _ (files : Program) where
       abbrev called : Member → Receiver
       called named = receiver (parameter_count named) (has_class_below files named.class)
 
+      abbrev called_on : Member → Receiver
+      called_on named = receiver (parameter_count named) (is_called_on files named.class)
+
       virtual_by : (i : Instr) (m : MeaningOf ℕ) → Meets m → (named : Member) → is_interface files named.class ≡ false → (b : Bool)
           → member_eq named println_int ≡ b
           → (if b then Some (println_meaning words (offset + size)) else virtual_of words files (site_of i) named) ≡ Some m
-          → IsReceived heap stack (called named)
+          → IsReceived heap stack (called_on named)
       virtual_by i m met named is_class true q e =
-          subst (λ (x : Member). IsReceived heap stack (called x)) (sym (members_same named println_int q))
+          subst (λ (x : Member). IsReceived heap stack (called_on x)) (sym (members_same named println_int q))
           (subst (λ k. IsReceived heap stack (receiver k (has_class_below files java_io_print_stream))) (sym println_count)
           (by_want (println_meaning words (offset + size)) m (same_Some _ m e) met 1 (AReference (ClassType java_io_print_stream)) (has_class_below files java_io_print_stream) refl
           (class_word (ClassType java_io_print_stream) java_io_print_stream (λ t h. h))))
       virtual_by i m met named is_class false q e =
           let found = some_from (if_method is_instance_one files (virtual_call words files (site_of i) named.class)) (find_method files named) m e in
           let is = of_if (is_one is_instance_one files found.0) (virtual_call words files (site_of i) named.class found.0) m found.2 in
-          by_want (virtual_call words files (site_of i) named.class found.0) m is.1 met (parameter_count named) (of_class files named.class) (has_class_below files named.class)
-          (receiver_at found.0 named (of_class files named.class) (method_same named found.0 found.1))
-          (class_word (made_type files (ClassType named.class)) named.class (of_named named.class is_class))
+          let want = AReference (made_type files (type_named named.class)) in
+          by_want (virtual_call words files (site_of i) named.class found.0) m is.1 met (parameter_count named) want (is_called_on files named.class)
+          (receiver_at found.0 named want (method_same named found.0 found.1))
+          (called_word named.class is_class)
 
       virtual : (index : ℕ) → Received (instr.Invoke invocation.Virtual index)
       virtual index at m means met of e =
           let i : Instr = instr.Invoke invocation.Virtual index in
           let named = some_from (invoke_virtual_meaning words files (site_of i)) (method_at body.pool index) m means in
           let is_class = linked.calls_class method body offset size invocation.Virtual index named.0 is_body start at named.1 in
-          by_receiver (called named.0) of (sym (ap (option_map (λ (x : Member). called x)) named.1) ∙ e)
+          by_receiver (called_on named.0) of (sym (ap (option_map (λ (x : Member). called_on x)) named.1) ∙ e)
           (virtual_by i m met named.0 is_class (member_eq named.0 println_int) refl named.2)
 
       special_by : (i : Instr) (m : MeaningOf ℕ) → Meets m → (named : Member) → is_interface files named.class ≡ false

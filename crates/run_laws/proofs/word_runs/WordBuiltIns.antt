@@ -1,14 +1,14 @@
 -- Methods of the machine by their words.
 use Rattle.std.proofs.Common.{◌≡◌, ℕ, List, map, length, find, Bool, true, false, not, ◌&&◌, ◌==◌, nat_lt, is_some, if◌then◌else◌, Option, Some, None, option_map, refl, sym, ap, ◌∙◌, subst, zero, suc, [], ◌∷◌, ◌++◌, reverse, ⊎_elim}
 use Rattle.std.specs.Prelude.{unwrap_or, slice_get, codes}
-use Rattle.std.specs.Option.{option_map_or, option_and_then, is_none}
+use Rattle.std.specs.Option.{option_map_or, is_none}
 use Rattle.std.specs.List.{list_all}
 use Rattle.std.proofs.lemmas.Bool.{and_parts, or_cases, not-true, false≢true, eqb-true, cond_both}
 use Rattle.std.proofs.lemmas.List.{length-map}
 use Rattle.model.specs.declared.event.Event.{Event}
 use Rattle.model.specs.declared.value.Value.{Value}
 use Rattle.model.specs.declared.value.Value.TheVariants as value
-use Rattle.model.specs.Names.{Member, name_eq, thread_target, builder_text, throwable_message, throwable_cause, Name}
+use Rattle.model.specs.Names.{Member, name_eq, builder_text, throwable_message, throwable_cause, Name}
 use Rattle.model.specs.AccessFlags.{is_static_method}
 use Rattle.model.specs.BuiltIn.{built_in_classes}
 use Rattle.model.specs.DescriptorScan.{element_at, field_at, field_type, parameters_at, method_type}
@@ -20,7 +20,7 @@ use Rattle.model.specs.Worlds.{allocated, with_monitors, thread_at, object_at, w
 use Rattle.model.specs.Monitors as monitors
 use Rattle.model.specs.Sites.{operand, referent, int_operand}
 use Rattle.model.specs.Calls.{is_one, parameter_count}
-use Rattle.model.specs.BuiltInMethods.{BuiltInMethod, Construct, ConstructWithMessage, ConstructWithCause, ConstructWithTarget, ObjectWait, ObjectNotify, ObjectNotifyAll, ThreadStart, ThreadInterrupt, ThreadIsInterrupted, ThreadInterrupted, ThreadYield, ThreadCurrentThread, ThreadJoin, ThreadIsAlive, PrintStreamPrints, StringAnswers, StringBuilderBuilds, ObjectAnswers, constructor_of, printed_by, built_in_methods, is_row_of, built_in_method, wait_by, notified_one, notified, if_owner, start_by, interrupted_in, interrupted_on, may_join, notified_all, bit, join_by, with_printed, object_of, built_in_may, built_in_does, string_shown, string_text, string_operand, answered}
+use Rattle.model.specs.BuiltInMethods.{BuiltInMethod, Construct, ConstructWithMessage, ConstructWithCause, ObjectClone, ObjectWait, ObjectNotify, ObjectNotifyAll, ThreadStart, ThreadInterrupt, ThreadIsInterrupted, ThreadInterrupted, ThreadYield, ThreadCurrentThread, ThreadJoin, ThreadIsAlive, ThreadNames, PrintStreamPrints, StringAnswers, StringWrites, StringBuilderBuilds, ObjectAnswers, constructor_of, printed_by, built_in_methods, is_row_of, built_in_method, wait_by, notified_one, notified, if_owner, start_by, interrupted_in, interrupted_on, may_join, notified_all, bit, join_by, with_printed, object_of, built_in_may, built_in_does, string_shown, string_operand, answered}
 use Rattle.model.specs.Words.{map_slots}
 use Rattle.model.specs.declared.print_method.PrintMethod.{PrintMethod}
 use Rattle.model.specs.declared.print_method.PrintMethod.TheVariants.{Println, PrintlnChar, PrintlnInt, PrintlnString, PrintChar, PrintInt, PrintString}
@@ -29,7 +29,7 @@ use Rattle.model.specs.declared.builder_method.BuilderMethod.{BuilderMethod}
 use Rattle.model.specs.declared.builder_method.BuilderMethod.TheVariants.{ConstructEmpty, ConstructOfString, AppendString, AppendInt, AppendChar, AppendBuilder, ToString}
 use Rattle.model.specs.BuilderMethods as building
 use Rattle.model.specs.BuilderMethods.{BuilderAnswer, KeepsEmpty, Keeps, Adds, GivesText, builder_answer, kept_string, text_or_empty, built_text, builder_shown, with_string, with_composed, composed, builds}
-use Rattle.model.specs.Opening.{string_reference}
+use Rattle.model.specs.Opening.{string_reference, string_references, opening_count}
 use Rattle.model.specs.declared.object_method.ObjectMethod.{ObjectMethod}
 use Rattle.model.specs.declared.object_method.ObjectMethod.TheVariants as object_method
 use Rattle.model.specs.ObjectMethods as telling
@@ -49,7 +49,9 @@ use Rattle.std.specs.Fmt.{signed_decimal}
 use Rattle.run_laws.specs.word_runs.Words.{map_outcome}
 use Rattle.run_laws.proofs.laws.Found.{found_passes, found_has, every_all}
 use Rattle.run_laws.proofs.laws.Classes.{members_same, names_same}
-use Rattle.run_laws.proofs.word_runs.WordWorlds.{KeepsTexts, type_words, kept_string_words, all_words, world_words, object_words, allocated_words, string_text_words, object_at_words, with_field_words, with_object_words, text_words}
+use Rattle.run_laws.proofs.word_runs.WordWorlds.{KeepsTexts, type_words, kept_string_words, all_words, world_words, object_words, allocated_words, object_at_words, with_field_words, with_object_words, text_words}
+use Rattle.run_laws.proofs.word_runs.WordNames.{name_places, names_words, clone_words}
+use Rattle.run_laws.proofs.word_runs.WordWrites.{text_places, operand_text, writes_words}
 use Rattle.run_laws.proofs.word_runs.WordMeanings.{operand_words, int_words, pushes_words, becomes_words, goes_words, referent_words}
 
 -- ---- what holds of each row holds of the methods
@@ -104,7 +106,7 @@ abbrev pub receiver_place : BuiltInMethod → Option ℕ
 receiver_place Construct = None
 receiver_place ConstructWithMessage = None
 receiver_place ConstructWithCause = None
-receiver_place ConstructWithTarget = Some 1
+receiver_place ObjectClone = Some 0
 receiver_place ObjectWait = Some 0
 receiver_place ObjectNotify = Some 0
 receiver_place ObjectNotifyAll = Some 0
@@ -116,8 +118,10 @@ receiver_place ThreadYield = None
 receiver_place ThreadCurrentThread = None
 receiver_place ThreadJoin = Some 0
 receiver_place ThreadIsAlive = Some 0
+receiver_place (ThreadNames method) = None
 receiver_place (PrintStreamPrints print) = None
 receiver_place (StringAnswers string) = None
+receiver_place (StringWrites method) = None
 receiver_place (StringBuilderBuilds builder) = Some (builder_place builder)
 receiver_place (ObjectAnswers method) = None
 
@@ -161,6 +165,8 @@ builder_places ToString = 0 ∷ []
 abbrev pub object_places : BuiltInMethod → List ℕ
 object_places (PrintStreamPrints print) = print_places print
 object_places (StringAnswers string) = string_places string
+object_places (StringWrites method) = text_places method
+object_places (ThreadNames method) = name_places method
 object_places (StringBuilderBuilds builder) = builder_places builder
 object_places (ObjectAnswers method) = object_place method ∷ []
 object_places ConstructWithMessage = 1 ∷ []
@@ -296,7 +302,7 @@ module _ (event : Event) (world : World) where
   may_words Construct ops a = refl
   may_words ConstructWithMessage ops a = refl
   may_words ConstructWithCause ops a = refl
-  may_words ConstructWithTarget ops a = refl
+  may_words ObjectClone ops a = refl
   may_words ObjectWait ops a = refl
   may_words ObjectNotify ops a =
       ap (λ o. if is_owner world event.thread o && nat_lt 0 (length (waiters_of world o)) then nat_lt event.pick (length (waiters_of world o)) else event.pick == 0) (as_object ops 0 (a 0 refl))
@@ -309,8 +315,10 @@ module _ (event : Event) (world : World) where
   may_words ThreadCurrentThread ops a = refl
   may_words ThreadJoin ops a = ap (λ o. (event.pick == 0) && may_join world event.thread o) (as_object ops 0 (a 0 refl))
   may_words ThreadIsAlive ops a = refl
+  may_words (ThreadNames method) ops a = refl
   may_words (PrintStreamPrints print) ops a = refl
   may_words (StringAnswers string) ops a = refl
+  may_words (StringWrites method) ops a = refl
   may_words (StringBuilderBuilds builder) ops a = refl
   may_words (ObjectAnswers method) ops a = refl
 
@@ -335,9 +343,6 @@ module _ (event : Event) (world : World) where
         ap (λ o. with_object (world_words world) o (with_field field (operand words (map word_of ops) 0) (object_at (world_words world) o))) (as_object ops 1 e)
         ∙ (ap (λ n. with_object (world_words world) r (with_field field n (object_at (world_words world) r))) (operand_words ops 0)
         ∙ with_field_at_words world r field (operand values ops 0))
-
-    target_words : (ops : List Value) → Agrees ConstructWithTarget ops → Carries ConstructWithTarget ops
-    target_words ops a = becomes_words _ _ rest slots.locals next (kept_words thread_target ops (a 1 refl))
 
     message_words : (ops : List Value) → Agrees ConstructWithMessage ops → Carries ConstructWithMessage ops
     message_words ops a = becomes_words _ _ rest slots.locals next (kept_words throwable_message ops (a 1 refl))
@@ -415,21 +420,12 @@ module _ (event : Event) (world : World) where
     printed_words PrintInt ops a = ap (λ n. signed_decimal (signed n)) (int_words ops 0)
     printed_words PrintString ops a = string_words ops (a 0 refl)
 
-    text_if : (o : Option ℕ) → option_and_then (λ r. string_text (object_at (world_words world) r)) o
-        ≡ option_and_then (λ r. string_text (object_at world r)) o
-    text_if None = refl
-    text_if (Some r) = ap string_text (object_at_words world r) ∙ string_text_words (object_at world r)
-
-    operand_text : (ops : List Value) (k : ℕ) → referent words (map word_of ops) k ≡ referent values ops k
-        → string_operand words (world_words world) (map word_of ops) k ≡ string_operand values world ops k
-    operand_text ops k e = ap (option_and_then (λ r. string_text (object_at (world_words world) r))) e ∙ text_if (referent values ops k)
-
     answer_words : (string : StringMethod) (ops : List Value) → Agrees (StringAnswers string) ops
         → string_answer string (int_operand words (map word_of ops)) (string_operand words (world_words world) (map word_of ops))
         ≡ string_answer string (int_operand values ops) (string_operand values world ops)
     answer_words string ops a =
         ap (λ int. string_answer string int (string_operand words (world_words world) (map word_of ops))) (λ i k. int_words ops k i)
-        ∙ same_answers string (int_operand values ops) (string_operand words (world_words world) (map word_of ops)) (string_operand values world ops) (λ k p. operand_text ops k (a k p))
+        ∙ same_answers string (int_operand values ops) (string_operand words (world_words world) (map word_of ops)) (string_operand values world ops) (λ k p. operand_text world ops k (a k p))
 
     answered_words : (ops : List Value) (answer : StringAnswer)
         → answered words answer next (world_words world) (map_slots word_of slots) (map word_of ops) (map word_of rest)
@@ -477,7 +473,7 @@ module _ (event : Event) (world : World) where
     built_text_words r =
         let v = kept_string values (object_at world r) in
         let string : word_reference (kept_string words (object_at (world_words world) r)) ≡ reference_of v =
-        ap (λ o. word_reference (kept_string words o)) (object_at_words world r) ∙ (ap word_reference (kept_string_words (object_at world r)) ∙ texts r) in
+        ap (λ o. word_reference (kept_string words o)) (object_at_words world r) ∙ (ap word_reference (kept_string_words (object_at world r)) ∙ texts.texts r) in
         ap (text_or_empty (world_words world)) string ∙ of_string (reference_of v)
       where
         of_string : (o : Option ℕ) → text_or_empty (world_words world) o ≡ text_or_empty world o
@@ -561,7 +557,7 @@ module _ (event : Event) (world : World) where
     does_words Construct ops a = refl
     does_words ConstructWithMessage ops a = message_words ops a
     does_words ConstructWithCause ops a = cause_words ops a
-    does_words ConstructWithTarget ops a = target_words ops a
+    does_words ObjectClone ops a = clone_words world texts next slots rest files ops (a 0 refl)
     does_words ObjectWait ops a =
         ap (λ o. wait_by (is_owner world event.thread o) (thread_at world event.thread).interrupted event.thread o (world_words world) (map word_of rest)) (as_object ops 0 (a 0 refl))
         ∙ wait_words (is_owner world event.thread (object_of values ops 0)) (thread_at world event.thread).interrupted (object_of values ops 0)
@@ -590,11 +586,13 @@ module _ (event : Event) (world : World) where
         ap (λ o. join_by (is_alive world o) next (world_words world) (map_slots word_of slots) (map word_of rest)) (as_object ops 0 (a 0 refl)) ∙ join_words (is_alive world (object_of values ops 0))
     does_words ThreadIsAlive ops a =
         pushes_words world _ (value.Int (bit (is_alive world (object_of values ops 0)))) rest slots.locals next (ap (λ o. bit (is_alive world o)) (as_object ops 0 (a 0 refl)))
+    does_words (ThreadNames method) ops a = names_words world texts next slots rest method ops a
     does_words (PrintStreamPrints print) ops a =
         becomes_words _ (with_printed world (printed_by values print world ops)) rest slots.locals next (ap (with_printed (world_words world)) (printed_words print ops a))
     does_words (StringAnswers string) ops a =
         ap (λ o. answered words o next (world_words world) (map_slots word_of slots) (map word_of ops) (map word_of rest)) (answer_words string ops a)
         ∙ answered_words ops (string_answer string (int_operand values ops) (string_operand values world ops))
+    does_words (StringWrites method) ops a = writes_words world next slots rest (opening_count files) (string_references files) method ops a
     does_words (StringBuilderBuilds builder) ops a =
         let empty = string_reference files [] in
         ap (λ answer. builds words empty answer next (world_words world) (map_slots word_of slots) (map word_of ops) (map word_of rest)) (builder_answer_words builder ops a)

@@ -24,7 +24,7 @@ use Rattle.model.specs.Worlds.{object_at, class_of_object}
 use Rattle.model.specs.Frames.{locals_with, frame_with, entered_by}
 use Rattle.model.specs.Sites.{Site, referent}
 use Rattle.model.specs.BuiltInMethods.{built_in_method}
-use Rattle.model.specs.Calls.{parameter_count, argument_wants, Chosen, Fails, Runs, is_one, if_concrete, selected, of_receiver, runs, invoked, may_run, may_invoke, call_on, of_class, leads_after, static_call, virtual_call, if_implements, interface_call, special_class, special_call, constructed_leads, constructor_call, value_return, return_of}
+use Rattle.model.specs.Calls.{parameter_count, argument_wants, Chosen, Fails, Runs, is_one, if_concrete, selected, of_receiver, runs, invoked, may_run, may_invoke, call_on, of_class, of_named, leads_after, static_call, virtual_call, if_implements, interface_call, special_class, special_call, constructed_leads, constructor_call, value_return, return_of}
 use Rattle.model.specs.Step.{ops_of}
 use Rattle.model.specs.Words.{map_slots, map_frame}
 use Rattle.run_laws.specs.word_runs.Words.{map_outcome}
@@ -175,11 +175,11 @@ module _ (files : Program) where
   describes_concrete d None f = tt
   describes_concrete d (Some m) f = describes_if d (is_one is_abstract_method files m) (Fails _) (Runs m) tt f
 
-  describes_selected : (class : Name) (m : Member) → Describes m.descriptor (selected files class m)
+  pub describes_selected : (class : Name) (m : Member) → Describes m.descriptor (selected files class m)
   describes_selected class m =
       describes_if m.descriptor (is_one is_private_method files m) (Runs m) (if_concrete files (select files class m)) refl (describes_concrete m.descriptor (select files class m) (found_first _ m _))
 
-  describes_implements : (d : Name) (b : Bool) (c : Chosen) → Describes d c → Describes d (if_implements b c)
+  pub describes_implements : (d : Name) (b : Bool) (c : Chosen) → Describes d c → Describes d (if_implements b c)
   describes_implements d true c f = f
   describes_implements d false c f = tt
 
@@ -204,7 +204,7 @@ module _ (files : Program) where
   pub virtual_same : (site : Site) (named : Name) (method : Member)
       → Same files (virtual_call values files site named method) (virtual_call words files site named method)
   virtual_same site named method =
-      call_same site method (of_class files named) (leads_after files site method) _ _ refl (λ world r. selected_words world r method) (λ world r. describes_selected (class_of_object (object_at world r)) method)
+      call_same site method (of_named files named) (leads_after files site method) _ _ refl (λ world r. selected_words world r method) (λ world r. describes_selected (class_of_object (object_at world r)) method)
 
   pub interface_same : (site : Site) (named : Name) (method : Member)
       → Same files (interface_call values files site named method) (interface_call words files site named method)

@@ -1,10 +1,10 @@
 -- Worlds by their words: what is read of them, and how they change.
-use Rattle.std.proofs.Common.{◌≡◌, ℕ, suc, List, [], ◌∷◌, map, length, cond, filter, Bool, true, false, ◌==◌, if◌then◌else◌, Option, Some, None, option_map, refl, sym, ap, ◌∙◌}
+use Rattle.std.proofs.Common.{◌≡◌, ℕ, suc, ◌+◌, List, [], ◌∷◌, ◌++◌, map, length, cond, filter, Bool, true, false, ◌==◌, if◌then◌else◌, Option, Some, None, option_map, refl, sym, ap, ◌∙◌}
 use Rattle.std.specs.Option.{option_map_or, option_and_then}
 use Rattle.std.proofs.lemmas.List.{map-append, length-map}
 use Rattle.model.specs.declared.value.Value.{Value}
 use Rattle.model.specs.declared.value.Value.TheVariants as value
-use Rattle.model.specs.Names.{Name, Member, member_eq, name_eq, java_lang_string, builder_text}
+use Rattle.model.specs.Names.{Name, Member, member_eq, name_eq, java_lang_string, builder_text, thread_name, thread_ordinal}
 use Rattle.model.specs.Tree.{Entry, Utf8, Integer, Float, Long, Double, Class, String, Field, Method, InterfaceMethod, NameAndType, Unusable, FieldTree, FileTree}
 use Rattle.model.specs.Spelling.{entry_at}
 use Rattle.model.specs.Pool.{utf8_at}
@@ -16,9 +16,14 @@ use Rattle.model.specs.DescribedTypes.{DeclaredType, DeclaredInt, DeclaredRefere
 use Rattle.model.specs.Lookup.{field_member, instance_fields}
 use Rattle.model.specs.Operands.{values, words, word_of, word_reference, reference_of}
 use Rattle.model.specs.BuilderMethods.{kept_string}
+use Rattle.model.specs.ThreadNames.{kept_name, ordinal_text}
+use Rattle.model.specs.Texts.{Text}
+use Rattle.model.specs.Ints.{signed}
+use Rattle.std.specs.Fmt.{signed_decimal}
+use Rattle.std.specs.Prelude.{codes}
 use Rattle.model.specs.State.{Waiter, WakeCause, ObjectOf, Instance, Primitives, References, InProgress, type_of, types_of, World, WorldOf, Characters}
 use Rattle.model.specs.Opening.{first_value, first_of, with_first, first_instance, new_instance, string_reference}
-use Rattle.model.specs.Worlds.{woken, all_woken, allocated, no_object, object_at, with_object, value_in, with_value, fields_of, with_field, is_cell_field, cells_of, with_static, elements_of, with_element, element_kept, type_kept, put_value, class_of_object, text_of}
+use Rattle.model.specs.Worlds.{woken, all_woken, allocated, no_object, object_at, with_object, value_in, with_value, fields_of, with_field, is_cell_field, cells_of, with_static, elements_of, with_element, with_elements, with_text, element_kept, type_kept, put_value, class_of_object, text_of}
 use Rattle.model.specs.BuiltInMethods.{string_text}
 use Rattle.model.specs.ClassInitialisation.{constant_in, constant_of, constant_value, with_constant, with_constants, with_class_status, with_class_begun}
 use Rattle.model.specs.Words.{map_field, map_object, map_world}
@@ -138,7 +143,19 @@ with_element_words k v (Primitives of elements) = ap (λ l. Primitives of l) (ma
 with_element_words k v (References of elements) = ap (λ l. References of l) (map_set word_of elements k v)
 with_element_words k v (Characters text) = refl
 
+pub with_elements_words : (k : ℕ) (vs : List Value) (o : ObjectOf Value)
+    → with_elements k (map word_of vs) (object_words o) ≡ object_words (with_elements k vs o)
+with_elements_words k [] o = refl
+with_elements_words k (v ∷ vs) o =
+    ap (with_elements (k + 1) (map word_of vs)) (with_element_words k v o) ∙ with_elements_words (k + 1) vs (with_element k v o)
+
 -- ---- texts
+
+pub with_text_words : (text : Text) (o : ObjectOf Value) → with_text text (object_words o) ≡ object_words (with_text text o)
+with_text_words text (Instance class fields) = refl
+with_text_words text (Primitives of elements) = refl
+with_text_words text (References of elements) = refl
+with_text_words text (Characters old) = refl
 
 pub text_words : (o : ObjectOf Value) → text_of (object_words o) ≡ text_of o
 text_words (Instance class fields) = refl
@@ -156,9 +173,18 @@ string_text_words (Characters text) = refl
 pub kept_string_words : (o : ObjectOf Value) → kept_string words (object_words o) ≡ word_of (kept_string values o)
 kept_string_words o = ap (value_in 0 builder_text) (fields_words o) ∙ value_in_words value.Null builder_text (fields_of o)
 
--- it is null or a reference, and its word tells which
-abbrev pub KeepsTexts : World → Type 0
-KeepsTexts world = (r : ℕ) → word_reference (word_of (kept_string values (object_at world r))) ≡ reference_of (kept_string values (object_at world r))
+-- the name of a Thread, and its number
+pub kept_name_words : (o : ObjectOf Value) → kept_name words (object_words o) ≡ word_of (kept_name values o)
+kept_name_words o = ap (value_in 0 thread_name) (fields_words o) ∙ value_in_words value.Null thread_name (fields_of o)
+
+pub ordinal_words : (o : ObjectOf Value) → ordinal_text words (object_words o) ≡ ordinal_text values o
+ordinal_words o =
+    ap (λ n. codes "Thread-" ++ signed_decimal (signed n)) (ap (value_in 0 thread_ordinal) (fields_words o) ∙ value_in_words (value.Int 0) thread_ordinal (fields_of o))
+
+-- each is null or a reference, and its word tells which
+pub record KeepsTexts (world : World) : Type 0 where
+  pub texts : (r : ℕ) → word_reference (word_of (kept_string values (object_at world r))) ≡ reference_of (kept_string values (object_at world r))
+  pub names : (r : ℕ) → word_reference (word_of (kept_name values (object_at world r))) ≡ reference_of (kept_name values (object_at world r))
 
 -- ---- what a put keeps
 

@@ -95,9 +95,10 @@ pub record OpeningObjects : Type 0 where
   pub types : types_of (let s : State = opening values (only_returns_file ∷ []) in s).world.heap
       ≡ ClassType java_io_print_stream ∷ ReferenceArray (ClassType java_lang_string)
       ∷ ClassType java_lang_thread
-      ∷ (replicate 38 (ClassType java_lang_class) ++ (replicate 17 (ClassType java_lang_string) ++ ClassType java_io_print_stream ∷ []))
+      ∷ (replicate 38 (ClassType java_lang_class) ++ (replicate 20 (ClassType java_lang_string) ++ ClassType java_io_print_stream ∷ []))
   pub texts : string_texts (only_returns_file ∷ [])
-      ≡ codes "null" ∷ codes "true" ∷ codes "false" ∷ codes "class " ∷ codes "\n" ∷ codes "a null" ∷ codes "Can't overwrite cause with "
+      ≡ codes "Thread[" ∷ codes "," ∷ codes ",main]"
+      ∷ codes "null" ∷ codes "true" ∷ codes "false" ∷ codes "class " ∷ codes "\n" ∷ codes "a null" ∷ codes "Can't overwrite cause with "
       ∷ codes "Self-causation not permitted" ∷ codes ": " ∷ codes "Caused by: " ∷ codes "Self-suppression not permitted"
       ∷ codes "Cannot suppress a null exception." ∷ codes "Array index out of range: " ∷ codes "String index out of range: " ∷ []
       ∷ codes "main" ∷ codes "/ by zero" ∷ []

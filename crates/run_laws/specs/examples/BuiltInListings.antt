@@ -1,17 +1,58 @@
--- Object, Class, System and PrintStream, as a listing shows them.
-use Rattle.std.specs.Prelude.{ℕ, List, [], ◌∷◌, ◌++◌, codes}
+-- Object, Thread, Class, System and PrintStream, as a listing shows them.
+use Rattle.std.specs.Prelude.{ℕ, List, [], ◌∷◌, codes}
 use Rattle.std.specs.List.{flat_map}
 
 abbrev pub object_listing : List ℕ
 object_listing =
-    codes "class java/lang/Object extends #0\nmethod equals(Ljava/lang/Object;)Z flags 0001 stack 2 locals 2\n"
-    ++ (codes "00000 2a aload_0\n00001 2b aload_1\n00002 a60007 if_acmpne 9\n00005 04 iconst_1\n00006 a70004 goto 10\n"
-    ++ (codes "00009 03 iconst_0\n00010 ac ireturn\nmethod toString()Ljava/lang/String; flags 0001 stack 2 locals 1\n"
-    ++ (codes "00000 2a aload_0\n00001 2a aload_0\n00002 b60006 invokevirtual java/lang/Object.hashCode:()I\n"
-    ++ (codes "00005 b8000c invokestatic java/lang/String.described:(Ljava/lang/Object;I)Ljava/lang/String;\n"
-    ++ (codes "00008 b0 areturn\nmethod <init>()V flags 0101\nmethod hashCode()I flags 0101\n"
-    ++ (codes "method getClass()Ljava/lang/Class; flags 0111\nmethod wait()V flags 0111\nmethod notify()V flags 0111\n"
-    ++ codes "method notifyAll()V flags 0111\n"))))))
+    flat_map (λ text. text)
+    (codes "class java/lang/Object extends #0\nmethod equals(Ljava/lang/Object;)Z flags 0001 stack 2 locals 2\n"
+    ∷ codes "00000 2a aload_0\n00001 2b aload_1\n00002 a60007 if_acmpne 9\n00005 04 iconst_1\n00006 a70004 goto 10\n"
+    ∷ codes "00009 03 iconst_0\n00010 ac ireturn\nmethod toString()Ljava/lang/String; flags 0001 stack 2 locals 1\n"
+    ∷ codes "00000 2a aload_0\n00001 2a aload_0\n00002 b60006 invokevirtual java/lang/Object.hashCode:()I\n"
+    ∷ codes "00005 b8000c invokestatic java/lang/String.described:(Ljava/lang/Object;I)Ljava/lang/String;\n"
+    ∷ codes "00008 b0 areturn\nmethod <init>()V flags 0101\nmethod hashCode()I flags 0101\n"
+    ∷ codes "method getClass()Ljava/lang/Class; flags 0111\nmethod clone()Ljava/lang/Object; flags 0104\n"
+    ∷ codes "method wait()V flags 0111\nmethod notify()V flags 0111\nmethod notifyAll()V flags 0111\n"
+    ∷ [])
+
+abbrev pub thread_listing : List ℕ
+thread_listing =
+    flat_map (λ text. text)
+    (codes "class java/lang/Thread extends java/lang/Object implements java/lang/Runnable\n"
+    ∷ codes "field target Ljava/lang/Runnable; flags 0002\nfield name Ljava/lang/String; flags 0002\n"
+    ∷ codes "field number I flags 0002\nfield priority I flags 0002\nmethod run()V flags 0001 stack 1 locals 1\n"
+    ∷ codes "00000 2a aload_0\n00001 b40010 getfield java/lang/Thread.target:Ljava/lang/Runnable;\n"
+    ∷ codes "00004 c6000c ifnull 16\n00007 2a aload_0\n"
+    ∷ codes "00008 b40010 getfield java/lang/Thread.target:Ljava/lang/Runnable;\n"
+    ∷ codes "00011 b900140100 invokeinterface java/lang/Runnable.run:()V 1\n00016 b1 return\n"
+    ∷ codes "method getPriority()I flags 0011 stack 1 locals 1\n00000 2a aload_0\n"
+    ∷ codes "00001 b40018 getfield java/lang/Thread.priority:I\n00004 9a0007 ifne 11\n00007 08 iconst_5\n"
+    ∷ codes "00008 a70007 goto 15\n00011 2a aload_0\n00012 b40018 getfield java/lang/Thread.priority:I\n"
+    ∷ codes "00015 ac ireturn\nmethod setPriority(I)V flags 0011 stack 2 locals 2\n00000 1b iload_1\n"
+    ∷ codes "00001 04 iconst_1\n00002 a10009 if_icmplt 11\n00005 1b iload_1\n00006 100a bipush 10\n"
+    ∷ codes "00008 a4000b if_icmple 19\n00011 bb001a new java/lang/IllegalArgumentException\n00014 59 dup\n"
+    ∷ codes "00015 b7001d invokespecial java/lang/IllegalArgumentException.<init>:()V\n00018 bf athrow\n"
+    ∷ codes "00019 2a aload_0\n00020 1b iload_1\n00021 b50018 putfield java/lang/Thread.priority:I\n00024 b1 return\n"
+    ∷ codes "method toString()Ljava/lang/String; flags 0001 stack 2 locals 2\n00000 1208 ldc #8\n00002 2a aload_0\n"
+    ∷ codes "00003 b60021 invokevirtual java/lang/Thread.getName:()Ljava/lang/String;\n"
+    ∷ codes "00006 b60027 invokevirtual java/lang/String.concat:(Ljava/lang/String;)Ljava/lang/String;\n"
+    ∷ codes "00009 120a ldc #10\n"
+    ∷ codes "00011 b60027 invokevirtual java/lang/String.concat:(Ljava/lang/String;)Ljava/lang/String;\n"
+    ∷ codes "00014 4c astore_1\n00015 2b aload_1\n00016 2a aload_0\n"
+    ∷ codes "00017 b6002b invokevirtual java/lang/Thread.getPriority:()I\n"
+    ∷ codes "00020 b8002f invokestatic java/lang/String.valueOf:(I)Ljava/lang/String;\n"
+    ∷ codes "00023 b60027 invokevirtual java/lang/String.concat:(Ljava/lang/String;)Ljava/lang/String;\n"
+    ∷ codes "00026 120c ldc #12\n"
+    ∷ codes "00028 b60027 invokevirtual java/lang/String.concat:(Ljava/lang/String;)Ljava/lang/String;\n"
+    ∷ codes "00031 b0 areturn\nmethod <init>()V flags 0101\nmethod <init>(Ljava/lang/Runnable;)V flags 0101\n"
+    ∷ codes "method <init>(Ljava/lang/String;)V flags 0101\n"
+    ∷ codes "method <init>(Ljava/lang/Runnable;Ljava/lang/String;)V flags 0101\n"
+    ∷ codes "method getName()Ljava/lang/String; flags 0111\nmethod setName(Ljava/lang/String;)V flags 0111\n"
+    ∷ codes "method start()V flags 0101\nmethod interrupt()V flags 0101\nmethod isInterrupted()Z flags 0101\n"
+    ∷ codes "method interrupted()Z flags 0109\nmethod yield()V flags 0109\n"
+    ∷ codes "method currentThread()Ljava/lang/Thread; flags 0109\nmethod join()V flags 0111\n"
+    ∷ codes "method isAlive()Z flags 0111\n"
+    ∷ [])
 
 abbrev pub class_listing : List ℕ
 class_listing =
@@ -126,15 +167,21 @@ print_stream_listing =
     ∷ codes "00000 2a aload_0\n00001 1b iload_1\n"
     ∷ codes "00002 b8000a invokestatic java/lang/String.valueOf:(Z)Ljava/lang/String;\n"
     ∷ codes "00005 b6000e invokevirtual java/io/PrintStream.println:(Ljava/lang/String;)V\n00008 b1 return\n"
+    ∷ codes "method println([C)V flags 0001 stack 2 locals 2\n00000 2a aload_0\n00001 2b aload_1\n"
+    ∷ codes "00002 b80011 invokestatic java/lang/String.valueOf:([C)Ljava/lang/String;\n"
+    ∷ codes "00005 b6000e invokevirtual java/io/PrintStream.println:(Ljava/lang/String;)V\n00008 b1 return\n"
     ∷ codes "method println(Ljava/lang/Object;)V flags 0001 stack 2 locals 2\n00000 2a aload_0\n00001 2b aload_1\n"
-    ∷ codes "00002 b80011 invokestatic java/lang/String.valueOf:(Ljava/lang/Object;)Ljava/lang/String;\n"
+    ∷ codes "00002 b80014 invokestatic java/lang/String.valueOf:(Ljava/lang/Object;)Ljava/lang/String;\n"
     ∷ codes "00005 b6000e invokevirtual java/io/PrintStream.println:(Ljava/lang/String;)V\n00008 b1 return\n"
     ∷ codes "method print(Z)V flags 0001 stack 2 locals 2\n00000 2a aload_0\n00001 1b iload_1\n"
     ∷ codes "00002 b8000a invokestatic java/lang/String.valueOf:(Z)Ljava/lang/String;\n"
-    ∷ codes "00005 b60014 invokevirtual java/io/PrintStream.print:(Ljava/lang/String;)V\n00008 b1 return\n"
+    ∷ codes "00005 b60017 invokevirtual java/io/PrintStream.print:(Ljava/lang/String;)V\n00008 b1 return\n"
+    ∷ codes "method print([C)V flags 0001 stack 2 locals 2\n00000 2a aload_0\n00001 2b aload_1\n"
+    ∷ codes "00002 b80011 invokestatic java/lang/String.valueOf:([C)Ljava/lang/String;\n"
+    ∷ codes "00005 b60017 invokevirtual java/io/PrintStream.print:(Ljava/lang/String;)V\n00008 b1 return\n"
     ∷ codes "method print(Ljava/lang/Object;)V flags 0001 stack 2 locals 2\n00000 2a aload_0\n00001 2b aload_1\n"
-    ∷ codes "00002 b80011 invokestatic java/lang/String.valueOf:(Ljava/lang/Object;)Ljava/lang/String;\n"
-    ∷ codes "00005 b60014 invokevirtual java/io/PrintStream.print:(Ljava/lang/String;)V\n00008 b1 return\n"
+    ∷ codes "00002 b80014 invokestatic java/lang/String.valueOf:(Ljava/lang/Object;)Ljava/lang/String;\n"
+    ∷ codes "00005 b60017 invokevirtual java/io/PrintStream.print:(Ljava/lang/String;)V\n00008 b1 return\n"
     ∷ codes "method flush()V flags 0001 stack 0 locals 1\n00000 b1 return\nmethod println()V flags 0101\n"
     ∷ codes "method println(C)V flags 0101\nmethod println(I)V flags 0101\n"
     ∷ codes "method println(Ljava/lang/String;)V flags 0101\nmethod print(C)V flags 0101\n"

@@ -15,7 +15,7 @@ use Rattle.model.specs.Classes.{name_of, class_of, is_subclass}
 use Rattle.model.specs.Listing.{listing}
 use Rattle.model.specs.Profile.{method_name, method_descriptor}
 use Rattle.run_laws.specs.examples.StringListing.{methods_with_code}
-use Rattle.run_laws.specs.examples.BuiltInListings.{object_listing, class_listing, system_listing, print_stream_listing}
+use Rattle.run_laws.specs.examples.BuiltInListings.{object_listing, thread_listing, class_listing, system_listing, print_stream_listing}
 use Rattle.run_laws.specs.examples.Conditions.{malformed_as, names_of, of_operands, of_code, of_hierarchy, of_resolution}
 
 -- the conditions of linking that stand in a built-in class; that its methods are native, and its names built in, is no
@@ -88,24 +88,19 @@ throwables = filter (λ file. is_subclass [] (name_of file) java_lang_throwable)
 pub record BuiltInMembers : Type 0 where
   pub object : listing object_class ≡ object_listing
   pub runnable : listing runnable_class ≡ codes "interface java/lang/Runnable extends java/lang/Object\nmethod run()V flags 0401\n"
-  pub thread : listing thread_class
-      ≡ codes "class java/lang/Thread extends java/lang/Object implements java/lang/Runnable\nfield target Ljava/lang/Runnable; flags 0002\n"
-      ++ (codes "method run()V flags 0001 stack 1 locals 1\n00000 2a aload_0\n00001 b4000a getfield java/lang/Thread.target:Ljava/lang/Runnable;\n"
-      ++ (codes "00004 c6000c ifnull 16\n00007 2a aload_0\n00008 b4000a getfield java/lang/Thread.target:Ljava/lang/Runnable;\n"
-      ++ (codes "00011 b9000e0100 invokeinterface java/lang/Runnable.run:()V 1\n00016 b1 return\n"
-      ++ (codes "method <init>()V flags 0101\nmethod <init>(Ljava/lang/Runnable;)V flags 0101\nmethod start()V flags 0101\nmethod interrupt()V flags 0101\n"
-      ++ (codes "method isInterrupted()Z flags 0101\nmethod interrupted()Z flags 0109\nmethod yield()V flags 0109\n"
-      ++ codes "method currentThread()Ljava/lang/Thread; flags 0109\nmethod join()V flags 0111\nmethod isAlive()Z flags 0111\n")))))
+  pub thread : listing thread_class ≡ thread_listing
   pub string : listing string_class
       ≡ codes "class java/lang/String extends java/lang/Object implements java/lang/Comparable java/lang/CharSequence\n"
-      ++ (methods_with_code ++ (codes "method length()I flags 0101\nmethod charAt(I)C flags 0101\n"
+      ++ (methods_with_code ++ (codes "method <init>()V flags 0101\nmethod <init>(Ljava/lang/String;)V flags 0101\n"
+      ++ (codes "method <init>([CII)V flags 0101\nmethod length()I flags 0101\nmethod charAt(I)C flags 0101\n"
       ++ (codes "method equals(Ljava/lang/Object;)Z flags 0101\nmethod hashCode()I flags 0101\n"
       ++ (codes "method compareTo(Ljava/lang/String;)I flags 0101\n"
       ++ (codes "method concat(Ljava/lang/String;)Ljava/lang/String; flags 0101\n"
       ++ (codes "method substring(II)Ljava/lang/String; flags 0101\nmethod indexOf(II)I flags 0101\n"
-      ++ (codes "method regionMatches(ILjava/lang/String;II)Z flags 0101\n"
-      ++ (codes "method valueOf(I)Ljava/lang/String; flags 0109\nmethod valueOf(C)Ljava/lang/String; flags 0109\n"
-      ++ codes "method described(Ljava/lang/Object;I)Ljava/lang/String; flags 010a\n"))))))))
+      ++ (codes "method regionMatches(ILjava/lang/String;II)Z flags 0101\nmethod getChars(II[CI)V flags 0101\n"
+      ++ (codes "method intern()Ljava/lang/String; flags 0101\nmethod valueOf(I)Ljava/lang/String; flags 0109\n"
+      ++ (codes "method valueOf(C)Ljava/lang/String; flags 0109\n"
+      ++ codes "method described(Ljava/lang/Object;I)Ljava/lang/String; flags 010a\n"))))))))))
   pub class : listing class_class ≡ class_listing
   pub comparable : listing comparable_class
       ≡ codes "interface java/lang/Comparable extends java/lang/Object\nmethod compareTo(Ljava/lang/Object;)I flags 0401\n"
@@ -130,8 +125,8 @@ pub record BuiltInMembers : Type 0 where
       ∷ (0x0001, codes "getException", codes "()Ljava/lang/Throwable;") ∷ []
   -- that Object has no superclass is what no file may say
   pub whole : flat_map malformed_as built_in_classes ≡ codes "Index" ∷ codes "Name" ∷ []
-  -- Object.toString and System.arraycopy call methods that no file may name; Thread.run and methods of Throwable and of
-  -- StringBuilder name such fields
+  -- Object.toString, methods of String and System.arraycopy call methods that no file may name; methods of Thread, of
+  -- Throwable and of StringBuilder name such fields
   pub no_other : flat_map standing_in built_in_classes
-      ≡ codes "names_hidden_method" ∷ codes "names_hidden_field" ∷ codes "names_hidden_method" ∷ codes "names_hidden_field"
-      ∷ codes "names_hidden_field" ∷ []
+      ≡ codes "names_hidden_method" ∷ codes "names_hidden_field" ∷ codes "names_hidden_method" ∷ codes "names_hidden_method"
+      ∷ codes "names_hidden_field" ∷ codes "names_hidden_field" ∷ []

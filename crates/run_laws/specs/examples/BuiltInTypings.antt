@@ -37,9 +37,41 @@ thread_run_types =
     with_locals (thread ∷ []) ((0, []) ∷ (1, thread ∷ []) ∷ (4, object ∷ []) ∷ (7, []) ∷ (8, thread ∷ [])
     ∷ (11, object ∷ []) ∷ (16, []) ∷ [])
 
+-- Thread.getPriority()I
+abbrev pub thread_get_priority_types : List (ℕ × FrameType)
+thread_get_priority_types =
+    with_locals (thread ∷ []) ((0, []) ∷ (1, thread ∷ []) ∷ (4, IntType ∷ []) ∷ (7, []) ∷ (8, IntType ∷ [])
+    ∷ (11, []) ∷ (12, thread ∷ []) ∷ (15, IntType ∷ []) ∷ [])
+
+-- Thread.setPriority(I)V
+abbrev pub thread_set_priority_types : List (ℕ × FrameType)
+thread_set_priority_types =
+    with_locals (thread ∷ IntType ∷ []) ((0, []) ∷ (1, IntType ∷ []) ∷ (2, IntType ∷ IntType ∷ []) ∷ (5, [])
+    ∷ (6, IntType ∷ []) ∷ (8, IntType ∷ IntType ∷ []) ∷ (11, [])
+    ∷ (14, Uninitialised 11 (codes "java/lang/IllegalArgumentException") ∷ [])
+    ∷ (
+      15,
+      Uninitialised 11 (codes "java/lang/IllegalArgumentException")
+          ∷ Uninitialised 11 (codes "java/lang/IllegalArgumentException")
+          ∷ [],
+    ) ∷ (18, of (codes "java/lang/IllegalArgumentException") ∷ []) ∷ (19, []) ∷ (20, thread ∷ [])
+    ∷ (21, IntType ∷ thread ∷ []) ∷ (24, []) ∷ [])
+
+-- Thread.toString()Ljava/lang/String;
+abbrev pub thread_to_string_types : List (ℕ × FrameType)
+thread_to_string_types =
+    with_locals (thread ∷ Unusable ∷ []) ((0, []) ∷ (2, string ∷ []) ∷ (3, thread ∷ string ∷ [])
+    ∷ (6, string ∷ string ∷ []) ∷ (9, string ∷ []) ∷ (11, string ∷ string ∷ []) ∷ (14, string ∷ []) ∷ [])
+    ++ with_locals (thread ∷ string ∷ []) ((15, []) ∷ (16, string ∷ []) ∷ (17, thread ∷ string ∷ [])
+    ∷ (20, IntType ∷ string ∷ []) ∷ (23, string ∷ string ∷ []) ∷ (26, string ∷ []) ∷ (28, string ∷ string ∷ [])
+    ∷ (31, string ∷ []) ∷ [])
+
 abbrev pub thread_typings : List (Member × List (ℕ × FrameType))
 thread_typings =
     (member java_lang_thread (codes "run") (codes "()V"), thread_run_types)
+    ∷ (member java_lang_thread (codes "getPriority") (codes "()I"), thread_get_priority_types)
+    ∷ (member java_lang_thread (codes "setPriority") (codes "(I)V"), thread_set_priority_types)
+    ∷ (member java_lang_thread (codes "toString") (codes "()Ljava/lang/String;"), thread_to_string_types)
     ∷ []
 
 -- Class.getSimpleName()Ljava/lang/String;
@@ -298,9 +330,15 @@ print_stream_println_types =
     with_locals (stream ∷ IntType ∷ []) ((0, []) ∷ (1, stream ∷ []) ∷ (2, IntType ∷ stream ∷ [])
     ∷ (5, string ∷ stream ∷ []) ∷ (8, []) ∷ [])
 
--- PrintStream.println(Ljava/lang/Object;)V
+-- PrintStream.println([C)V
 abbrev pub print_stream_println_2_types : List (ℕ × FrameType)
 print_stream_println_2_types =
+    with_locals (stream ∷ OfType (PrimitiveArray Char) ∷ []) ((0, []) ∷ (1, stream ∷ [])
+    ∷ (2, OfType (PrimitiveArray Char) ∷ stream ∷ []) ∷ (5, string ∷ stream ∷ []) ∷ (8, []) ∷ [])
+
+-- PrintStream.println(Ljava/lang/Object;)V
+abbrev pub print_stream_println_3_types : List (ℕ × FrameType)
+print_stream_println_3_types =
     with_locals (stream ∷ object ∷ []) ((0, []) ∷ (1, stream ∷ []) ∷ (2, object ∷ stream ∷ [])
     ∷ (5, string ∷ stream ∷ []) ∷ (8, []) ∷ [])
 
@@ -310,9 +348,15 @@ print_stream_print_types =
     with_locals (stream ∷ IntType ∷ []) ((0, []) ∷ (1, stream ∷ []) ∷ (2, IntType ∷ stream ∷ [])
     ∷ (5, string ∷ stream ∷ []) ∷ (8, []) ∷ [])
 
--- PrintStream.print(Ljava/lang/Object;)V
+-- PrintStream.print([C)V
 abbrev pub print_stream_print_2_types : List (ℕ × FrameType)
 print_stream_print_2_types =
+    with_locals (stream ∷ OfType (PrimitiveArray Char) ∷ []) ((0, []) ∷ (1, stream ∷ [])
+    ∷ (2, OfType (PrimitiveArray Char) ∷ stream ∷ []) ∷ (5, string ∷ stream ∷ []) ∷ (8, []) ∷ [])
+
+-- PrintStream.print(Ljava/lang/Object;)V
+abbrev pub print_stream_print_3_types : List (ℕ × FrameType)
+print_stream_print_3_types =
     with_locals (stream ∷ object ∷ []) ((0, []) ∷ (1, stream ∷ []) ∷ (2, object ∷ stream ∷ [])
     ∷ (5, string ∷ stream ∷ []) ∷ (8, []) ∷ [])
 
@@ -324,9 +368,11 @@ print_stream_flush_types =
 abbrev pub print_stream_typings : List (Member × List (ℕ × FrameType))
 print_stream_typings =
     (member java_io_print_stream (codes "println") (codes "(Z)V"), print_stream_println_types)
-    ∷ (member java_io_print_stream (codes "println") (codes "(Ljava/lang/Object;)V"), print_stream_println_2_types)
+    ∷ (member java_io_print_stream (codes "println") (codes "([C)V"), print_stream_println_2_types)
+    ∷ (member java_io_print_stream (codes "println") (codes "(Ljava/lang/Object;)V"), print_stream_println_3_types)
     ∷ (member java_io_print_stream (codes "print") (codes "(Z)V"), print_stream_print_types)
-    ∷ (member java_io_print_stream (codes "print") (codes "(Ljava/lang/Object;)V"), print_stream_print_2_types)
+    ∷ (member java_io_print_stream (codes "print") (codes "([C)V"), print_stream_print_2_types)
+    ∷ (member java_io_print_stream (codes "print") (codes "(Ljava/lang/Object;)V"), print_stream_print_3_types)
     ∷ (member java_io_print_stream (codes "flush") (codes "()V"), print_stream_flush_types)
     ∷ []
 

@@ -1,7 +1,7 @@
 -- Which fields and methods are found in a program of interfaces and classes, and which methods are selected.
 use Rattle.std.specs.Prelude.{◌≡◌, ℕ, List, [], ◌∷◌, Option, Some, None, Bool, true, false, map, codes}
 use Rattle.std.specs.Option.{option_map}
-use Rattle.model.specs.Names.{Name, Member, java_lang_object, java_lang_thread, thread_target}
+use Rattle.model.specs.Names.{Name, Member, java_lang_object, java_lang_thread, thread_target, thread_name, thread_priority}
 use Rattle.model.specs.Tree.{Entry, Utf8, Class, FieldTree, MethodTree, FileTree}
 use Rattle.model.specs.Classes.{Program, superinterfaces_of, all_superinterfaces, is_interface, package_of}
 use Rattle.model.specs.ReferenceTypes.{ReferenceType, ClassType, PrimitiveArray, ReferenceArray, Int, is_subtype, is_assignable}
@@ -90,7 +90,8 @@ pub record Lookups : Type 0 where
   pub fields : instance_fields family (codes "Q")
       ≡ int_field (codes "P") (codes "x") ∷ int_field (codes "P") (codes "y") ∷ int_field (codes "P") (codes "c")
       ∷ int_field (codes "Q") (codes "x") ∷ []
-  pub thread_fields : instance_fields family (codes "T") ≡ thread_target ∷ int_field (codes "T") (codes "x") ∷ []
+  pub thread_fields : instance_fields family (codes "T")
+      ≡ thread_target ∷ thread_name ∷ int_field java_lang_thread (codes "number") ∷ thread_priority ∷ int_field (codes "T") (codes "x") ∷ []
   pub no_fields : instance_fields family (codes "Upper") ≡ []
   -- interfaces and packages
   pub interfaces : map (is_interface family) (codes "Lower" ∷ codes "Q" ∷ codes "java/lang/Runnable" ∷ codes "Missing" ∷ [])

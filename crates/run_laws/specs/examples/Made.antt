@@ -24,7 +24,7 @@ pool =
     ∷ Utf8 (codes "wait") ∷ Utf8 java_lang_string ∷ Class 62 ∷ Utf8 (codes "p/B") ∷ Class 64
     ∷ Utf8 (codes "ConstantValue") ∷ Long 0 ∷ Unusable ∷ Utf8 (codes "V") ∷ Utf8 (codes "p//B")
     ∷ Utf8 (codes "described") ∷ Utf8 (codes "(Ljava/lang/Object;I)Ljava/lang/String;") ∷ NameAndType 71 72 ∷ Method 63 73 ∷ Utf8 java_lang_throwable
-    ∷ Class 75 ∷ []
+    ∷ Class 75 ∷ Method 21 38 ∷ []
 
 abbrev pub class : ℕ → ℕ → ℕ → List ℕ → List FieldTree → List MethodTree → FileTree
 class flags this super interfaces fields methods =

@@ -41,10 +41,11 @@ pub record OutsideProfiles : Type 0 where
   pub float_array : Meets (doing (codes "03 bc06 57 b1")) (codes "left_out_array")
   pub float : Meets (doing (codes "1213 57 b1")) (codes "float_constant")
   pub array_class : Meets (doing (codes "1215 57 b1")) (codes "array_class_constant")
-  -- clone of an int[], which is not found either
-  pub clone : standing (doing (codes "01 b60019 57 b1"))
-      ≡ codes "method_of_array_class" ∷ codes "operand_class_missing" ∷ codes "method_missing" ∷ []
-  pub clone_answered : answered_as (doing (codes "01 b60019 57 b1")) ≡ codes "OutsideProfile" ∷ []
+  -- f of an int[], which is not found either; clone of one by invokespecial; by invokevirtual no condition stands
+  pub array_method : standing (doing (codes "01 b6004d b1")) ≡ codes "method_of_array_class" ∷ codes "method_missing" ∷ []
+  pub array_method_answered : answered_as (doing (codes "01 b6004d b1")) ≡ codes "OutsideProfile" ∷ []
+  pub special_clone : standing (doing (codes "01 b70019 57 b1")) ≡ codes "method_of_array_class" ∷ codes "special_of_class_aside" ∷ []
+  pub clone : standing (doing (codes "01 b60019 57 b1")) ≡ []
 
 -- ---- Malformed, cause Code
 

@@ -2,7 +2,8 @@
 -- Made by `tools/build-built-in` of the class files of builtin/classes. Not to be edited.
 use Rattle.std.specs.Prelude.{ℕ, List, [], ◌∷◌, ◌++◌, codes}
 use Rattle.model.specs.Names.{Member, java_lang_string_builder}
-use Rattle.model.specs.Types.{Unusable, IntType, Uninitialised, UninitialisedThis}
+use Rattle.model.specs.ReferenceTypes.{PrimitiveArray, Char}
+use Rattle.model.specs.Types.{Unusable, IntType, OfType, Uninitialised, UninitialisedThis}
 use Rattle.model.specs.TypeOrder.{FrameType}
 use Rattle.run_laws.specs.examples.Typings.{object}
 use Rattle.run_laws.specs.examples.FrameTypes.{string, builder, of, with_locals, before_this, member}
@@ -42,16 +43,31 @@ string_builder_append_2_types =
     with_locals (builder ∷ IntType ∷ []) ((0, []) ∷ (1, builder ∷ []) ∷ (2, IntType ∷ builder ∷ [])
     ∷ (5, string ∷ builder ∷ []) ∷ (8, builder ∷ []) ∷ [])
 
--- StringBuilder.append(Ljava/lang/CharSequence;)Ljava/lang/StringBuilder;
+-- StringBuilder.append([C)Ljava/lang/StringBuilder;
 abbrev pub string_builder_append_3_types : List (ℕ × FrameType)
 string_builder_append_3_types =
+    with_locals (builder ∷ OfType (PrimitiveArray Char) ∷ []) ((0, []) ∷ (1, builder ∷ [])
+    ∷ (2, OfType (PrimitiveArray Char) ∷ builder ∷ []) ∷ (5, string ∷ builder ∷ []) ∷ (8, builder ∷ []) ∷ [])
+
+-- StringBuilder.append([CII)Ljava/lang/StringBuilder;
+abbrev pub string_builder_append_4_types : List (ℕ × FrameType)
+string_builder_append_4_types =
+    with_locals (builder ∷ OfType (PrimitiveArray Char) ∷ IntType ∷ IntType ∷ []) ((0, []) ∷ (1, builder ∷ [])
+    ∷ (2, OfType (PrimitiveArray Char) ∷ builder ∷ [])
+    ∷ (3, IntType ∷ OfType (PrimitiveArray Char) ∷ builder ∷ [])
+    ∷ (4, IntType ∷ IntType ∷ OfType (PrimitiveArray Char) ∷ builder ∷ []) ∷ (7, string ∷ builder ∷ [])
+    ∷ (10, builder ∷ []) ∷ [])
+
+-- StringBuilder.append(Ljava/lang/CharSequence;)Ljava/lang/StringBuilder;
+abbrev pub string_builder_append_5_types : List (ℕ × FrameType)
+string_builder_append_5_types =
     with_locals (builder ∷ object ∷ []) ((0, []) ∷ (1, builder ∷ []) ∷ (2, object ∷ builder ∷ [])
     ∷ (5, builder ∷ []) ∷ (7, string ∷ builder ∷ []) ∷ (10, builder ∷ []) ∷ (11, object ∷ builder ∷ [])
     ∷ (16, string ∷ builder ∷ []) ∷ (19, builder ∷ []) ∷ [])
 
 -- StringBuilder.append(Ljava/lang/CharSequence;II)Ljava/lang/StringBuilder;
-abbrev pub string_builder_append_4_types : List (ℕ × FrameType)
-string_builder_append_4_types =
+abbrev pub string_builder_append_6_types : List (ℕ × FrameType)
+string_builder_append_6_types =
     with_locals (builder ∷ object ∷ IntType ∷ IntType ∷ Unusable ∷ []) ((0, []) ∷ (1, object ∷ []) ∷ (4, [])
     ∷ (6, string ∷ []) ∷ (9, []) ∷ (10, object ∷ []) ∷ (15, string ∷ []) ∷ [])
     ++ with_locals (builder ∷ object ∷ IntType ∷ IntType ∷ string ∷ []) ((17, []) ∷ (18, IntType ∷ []) ∷ (21, [])
@@ -111,6 +127,14 @@ string_builder_set_length_types =
     ∷ (33, string ∷ builder ∷ []) ∷ (36, []) ∷ (37, builder ∷ []) ∷ (40, string ∷ []) ∷ (43, IntType ∷ [])
     ∷ (44, IntType ∷ IntType ∷ []) ∷ (47, []) ∷ (48, builder ∷ []) ∷ (49, IntType ∷ builder ∷ [])
     ∷ (52, builder ∷ []) ∷ (53, []) ∷ (56, []) ∷ [])
+
+-- StringBuilder.getChars(II[CI)V
+abbrev pub string_builder_get_chars_types : List (ℕ × FrameType)
+string_builder_get_chars_types =
+    with_locals (builder ∷ IntType ∷ IntType ∷ OfType (PrimitiveArray Char) ∷ IntType ∷ []) ((0, [])
+    ∷ (1, builder ∷ []) ∷ (4, string ∷ []) ∷ (5, IntType ∷ string ∷ []) ∷ (6, IntType ∷ IntType ∷ string ∷ [])
+    ∷ (7, OfType (PrimitiveArray Char) ∷ IntType ∷ IntType ∷ string ∷ [])
+    ∷ (9, IntType ∷ OfType (PrimitiveArray Char) ∷ IntType ∷ IntType ∷ string ∷ []) ∷ (12, []) ∷ [])
 
 -- StringBuilder.setCharAt(IC)V
 abbrev pub string_builder_set_char_at_types : List (ℕ × FrameType)
@@ -188,9 +212,27 @@ string_builder_insert_2_types =
     with_locals (builder ∷ IntType ∷ object ∷ []) ((0, []) ∷ (1, builder ∷ []) ∷ (2, IntType ∷ builder ∷ [])
     ∷ (3, object ∷ IntType ∷ builder ∷ []) ∷ (6, string ∷ IntType ∷ builder ∷ []) ∷ (9, builder ∷ []) ∷ [])
 
--- StringBuilder.insert(ILjava/lang/CharSequence;)Ljava/lang/StringBuilder;
+-- StringBuilder.insert(I[C)Ljava/lang/StringBuilder;
 abbrev pub string_builder_insert_3_types : List (ℕ × FrameType)
 string_builder_insert_3_types =
+    with_locals (builder ∷ IntType ∷ OfType (PrimitiveArray Char) ∷ []) ((0, []) ∷ (1, builder ∷ [])
+    ∷ (2, IntType ∷ builder ∷ []) ∷ (3, IntType ∷ IntType ∷ builder ∷ [])
+    ∷ (4, OfType (PrimitiveArray Char) ∷ IntType ∷ IntType ∷ builder ∷ [])
+    ∷ (7, string ∷ IntType ∷ IntType ∷ builder ∷ []) ∷ (10, builder ∷ []) ∷ [])
+
+-- StringBuilder.insert(I[CII)Ljava/lang/StringBuilder;
+abbrev pub string_builder_insert_4_types : List (ℕ × FrameType)
+string_builder_insert_4_types =
+    with_locals (builder ∷ IntType ∷ OfType (PrimitiveArray Char) ∷ IntType ∷ IntType ∷ []) ((0, [])
+    ∷ (1, builder ∷ []) ∷ (2, IntType ∷ builder ∷ []) ∷ (3, IntType ∷ IntType ∷ builder ∷ [])
+    ∷ (4, OfType (PrimitiveArray Char) ∷ IntType ∷ IntType ∷ builder ∷ [])
+    ∷ (5, IntType ∷ OfType (PrimitiveArray Char) ∷ IntType ∷ IntType ∷ builder ∷ [])
+    ∷ (7, IntType ∷ IntType ∷ OfType (PrimitiveArray Char) ∷ IntType ∷ IntType ∷ builder ∷ [])
+    ∷ (10, string ∷ IntType ∷ IntType ∷ builder ∷ []) ∷ (13, builder ∷ []) ∷ [])
+
+-- StringBuilder.insert(ILjava/lang/CharSequence;)Ljava/lang/StringBuilder;
+abbrev pub string_builder_insert_5_types : List (ℕ × FrameType)
+string_builder_insert_5_types =
     with_locals (builder ∷ IntType ∷ object ∷ []) ((0, []) ∷ (1, builder ∷ []) ∷ (2, IntType ∷ builder ∷ [])
     ∷ (3, IntType ∷ IntType ∷ builder ∷ []) ∷ (4, object ∷ IntType ∷ IntType ∷ builder ∷ [])
     ∷ (7, IntType ∷ IntType ∷ builder ∷ []) ∷ (9, string ∷ IntType ∷ IntType ∷ builder ∷ [])
@@ -198,8 +240,8 @@ string_builder_insert_3_types =
     ∷ (18, string ∷ IntType ∷ IntType ∷ builder ∷ []) ∷ (21, builder ∷ []) ∷ [])
 
 -- StringBuilder.insert(ILjava/lang/CharSequence;II)Ljava/lang/StringBuilder;
-abbrev pub string_builder_insert_4_types : List (ℕ × FrameType)
-string_builder_insert_4_types =
+abbrev pub string_builder_insert_6_types : List (ℕ × FrameType)
+string_builder_insert_6_types =
     with_locals (builder ∷ IntType ∷ object ∷ IntType ∷ IntType ∷ Unusable ∷ []) ((0, []) ∷ (1, object ∷ [])
     ∷ (4, []) ∷ (6, string ∷ []) ∷ (9, []) ∷ (10, object ∷ []) ∷ (15, string ∷ []) ∷ [])
     ++ with_locals (builder ∷ IntType ∷ object ∷ IntType ∷ IntType ∷ string ∷ []) ((17, []) ∷ (18, IntType ∷ [])
@@ -220,22 +262,22 @@ string_builder_insert_4_types =
     ∷ (71, string ∷ IntType ∷ IntType ∷ builder ∷ []) ∷ (74, builder ∷ []) ∷ [])
 
 -- StringBuilder.insert(IC)Ljava/lang/StringBuilder;
-abbrev pub string_builder_insert_5_types : List (ℕ × FrameType)
-string_builder_insert_5_types =
+abbrev pub string_builder_insert_7_types : List (ℕ × FrameType)
+string_builder_insert_7_types =
     with_locals (builder ∷ IntType ∷ IntType ∷ []) ((0, []) ∷ (1, builder ∷ []) ∷ (2, IntType ∷ builder ∷ [])
     ∷ (3, IntType ∷ IntType ∷ builder ∷ []) ∷ (4, IntType ∷ IntType ∷ IntType ∷ builder ∷ [])
     ∷ (7, string ∷ IntType ∷ IntType ∷ builder ∷ []) ∷ (10, builder ∷ []) ∷ [])
 
 -- StringBuilder.insert(II)Ljava/lang/StringBuilder;
-abbrev pub string_builder_insert_6_types : List (ℕ × FrameType)
-string_builder_insert_6_types =
+abbrev pub string_builder_insert_8_types : List (ℕ × FrameType)
+string_builder_insert_8_types =
     with_locals (builder ∷ IntType ∷ IntType ∷ []) ((0, []) ∷ (1, builder ∷ []) ∷ (2, IntType ∷ builder ∷ [])
     ∷ (3, IntType ∷ IntType ∷ builder ∷ []) ∷ (4, IntType ∷ IntType ∷ IntType ∷ builder ∷ [])
     ∷ (7, string ∷ IntType ∷ IntType ∷ builder ∷ []) ∷ (10, builder ∷ []) ∷ [])
 
 -- StringBuilder.insert(IZ)Ljava/lang/StringBuilder;
-abbrev pub string_builder_insert_7_types : List (ℕ × FrameType)
-string_builder_insert_7_types =
+abbrev pub string_builder_insert_9_types : List (ℕ × FrameType)
+string_builder_insert_9_types =
     with_locals (builder ∷ IntType ∷ IntType ∷ []) ((0, []) ∷ (1, builder ∷ []) ∷ (2, IntType ∷ builder ∷ [])
     ∷ (3, IntType ∷ IntType ∷ builder ∷ []) ∷ (4, IntType ∷ IntType ∷ IntType ∷ builder ∷ [])
     ∷ (7, string ∷ IntType ∷ IntType ∷ builder ∷ []) ∷ (10, builder ∷ []) ∷ [])
@@ -315,25 +357,30 @@ string_builder_typings =
     ∷ (member java_lang_string_builder (codes "<init>") (codes "(Ljava/lang/CharSequence;)V"), string_builder_init_2_types)
     ∷ (member java_lang_string_builder (codes "append") (codes "(Ljava/lang/Object;)Ljava/lang/StringBuilder;"), string_builder_append_types)
     ∷ (member java_lang_string_builder (codes "append") (codes "(Z)Ljava/lang/StringBuilder;"), string_builder_append_2_types)
-    ∷ (member java_lang_string_builder (codes "append") (codes "(Ljava/lang/CharSequence;)Ljava/lang/StringBuilder;"), string_builder_append_3_types)
-    ∷ (member java_lang_string_builder (codes "append") (codes "(Ljava/lang/CharSequence;II)Ljava/lang/StringBuilder;"), string_builder_append_4_types)
+    ∷ (member java_lang_string_builder (codes "append") (codes "([C)Ljava/lang/StringBuilder;"), string_builder_append_3_types)
+    ∷ (member java_lang_string_builder (codes "append") (codes "([CII)Ljava/lang/StringBuilder;"), string_builder_append_4_types)
+    ∷ (member java_lang_string_builder (codes "append") (codes "(Ljava/lang/CharSequence;)Ljava/lang/StringBuilder;"), string_builder_append_5_types)
+    ∷ (member java_lang_string_builder (codes "append") (codes "(Ljava/lang/CharSequence;II)Ljava/lang/StringBuilder;"), string_builder_append_6_types)
     ∷ (member java_lang_string_builder (codes "length") (codes "()I"), string_builder_length_types)
     ∷ (member java_lang_string_builder (codes "charAt") (codes "(I)C"), string_builder_char_at_types)
     ∷ (member java_lang_string_builder (codes "capacity") (codes "()I"), string_builder_capacity_types)
     ∷ (member java_lang_string_builder (codes "ensureCapacity") (codes "(I)V"), string_builder_ensure_capacity_types)
     ∷ (member java_lang_string_builder (codes "trimToSize") (codes "()V"), string_builder_trim_to_size_types)
     ∷ (member java_lang_string_builder (codes "setLength") (codes "(I)V"), string_builder_set_length_types)
+    ∷ (member java_lang_string_builder (codes "getChars") (codes "(II[CI)V"), string_builder_get_chars_types)
     ∷ (member java_lang_string_builder (codes "setCharAt") (codes "(IC)V"), string_builder_set_char_at_types)
     ∷ (member java_lang_string_builder (codes "deleteCharAt") (codes "(I)Ljava/lang/StringBuilder;"), string_builder_delete_char_at_types)
     ∷ (member java_lang_string_builder (codes "delete") (codes "(II)Ljava/lang/StringBuilder;"), string_builder_delete_types)
     ∷ (member java_lang_string_builder (codes "replace") (codes "(IILjava/lang/String;)Ljava/lang/StringBuilder;"), string_builder_replace_types)
     ∷ (member java_lang_string_builder (codes "insert") (codes "(ILjava/lang/String;)Ljava/lang/StringBuilder;"), string_builder_insert_types)
     ∷ (member java_lang_string_builder (codes "insert") (codes "(ILjava/lang/Object;)Ljava/lang/StringBuilder;"), string_builder_insert_2_types)
-    ∷ (member java_lang_string_builder (codes "insert") (codes "(ILjava/lang/CharSequence;)Ljava/lang/StringBuilder;"), string_builder_insert_3_types)
-    ∷ (member java_lang_string_builder (codes "insert") (codes "(ILjava/lang/CharSequence;II)Ljava/lang/StringBuilder;"), string_builder_insert_4_types)
-    ∷ (member java_lang_string_builder (codes "insert") (codes "(IC)Ljava/lang/StringBuilder;"), string_builder_insert_5_types)
-    ∷ (member java_lang_string_builder (codes "insert") (codes "(II)Ljava/lang/StringBuilder;"), string_builder_insert_6_types)
-    ∷ (member java_lang_string_builder (codes "insert") (codes "(IZ)Ljava/lang/StringBuilder;"), string_builder_insert_7_types)
+    ∷ (member java_lang_string_builder (codes "insert") (codes "(I[C)Ljava/lang/StringBuilder;"), string_builder_insert_3_types)
+    ∷ (member java_lang_string_builder (codes "insert") (codes "(I[CII)Ljava/lang/StringBuilder;"), string_builder_insert_4_types)
+    ∷ (member java_lang_string_builder (codes "insert") (codes "(ILjava/lang/CharSequence;)Ljava/lang/StringBuilder;"), string_builder_insert_5_types)
+    ∷ (member java_lang_string_builder (codes "insert") (codes "(ILjava/lang/CharSequence;II)Ljava/lang/StringBuilder;"), string_builder_insert_6_types)
+    ∷ (member java_lang_string_builder (codes "insert") (codes "(IC)Ljava/lang/StringBuilder;"), string_builder_insert_7_types)
+    ∷ (member java_lang_string_builder (codes "insert") (codes "(II)Ljava/lang/StringBuilder;"), string_builder_insert_8_types)
+    ∷ (member java_lang_string_builder (codes "insert") (codes "(IZ)Ljava/lang/StringBuilder;"), string_builder_insert_9_types)
     ∷ (member java_lang_string_builder (codes "indexOf") (codes "(Ljava/lang/String;)I"), string_builder_index_of_types)
     ∷ (member java_lang_string_builder (codes "indexOf") (codes "(Ljava/lang/String;I)I"), string_builder_index_of_2_types)
     ∷ (member java_lang_string_builder (codes "lastIndexOf") (codes "(Ljava/lang/String;)I"), string_builder_last_index_of_types)

@@ -95,7 +95,7 @@ files = class_a ∷ []
 
 -- the constant of `/ by zero` among the objects of the opening
 abbrev pub division : ℕ
-division = 59
+division = 62
 
 -- a throwable of a class, with a message and a cause
 abbrev pub throwable : Name → Value → Value → ObjectOf Value

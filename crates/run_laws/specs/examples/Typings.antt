@@ -92,7 +92,7 @@ ForkTyped = IsMainTyped (printing.file_with 2 2 fork_code ∷ []) (body_with pri
 -- Thread.run, which is built in: 0 aload_0, 1 getfield target, 4 ifnull 16, 7 aload_0, 8 getfield target, 11 invokeinterface
 -- Runnable.run, 16 return
 abbrev pub run_body : Body
-run_body = body_with thread_class.pool 1 1 (hex (codes "2a b4000a c6000c 2a b4000a b9000e0100 b1"))
+run_body = body_with thread_class.pool 1 1 (hex (codes "2a b40010 c6000c 2a b40010 b900140100 b1"))
 
 abbrev pub thread : VerificationType
 thread = OfType (ClassType java_lang_thread)

@@ -5,7 +5,7 @@ use Rattle.model.specs.declared.event.Event.{Event}
 use Rattle.model.specs.Classes.{Program}
 use Rattle.model.specs.Operands.{Carrier, words, values}
 use Rattle.model.specs.State.{Waiter, Monitor, ThreadStatus, Running, Waiting, Relock, Ended, Thread, WorldOf, StateOf, State}
-use Rattle.model.specs.Outcomes.{Cost, Free, Makes, Starts, Enters, Joins}
+use Rattle.model.specs.Outcomes.{Cost, Free, Makes, Fills, Starts, Enters, Joins}
 use Rattle.model.specs.Monitors.{monitor_at}
 use Rattle.model.specs.Worlds.{no_thread}
 use Rattle.model.specs.Opening.{opening}
@@ -24,6 +24,7 @@ is_inflated objects object = list_any (λ o. o == object) objects
 abbrev pub is_fat_after : Cost → (ℕ → Bool) → ℕ → Bool
 is_fat_after Free fat = fat
 is_fat_after (Makes cells) fat = fat
+is_fat_after (Fills cells) fat = fat
 is_fat_after Starts fat = fat
 is_fat_after (Enters entered count) fat = λ object. fat object || (is_inflating_entry count && (entered == object))
 is_fat_after (Joins joined) fat = λ object. fat object || (joined == object)

@@ -8,7 +8,7 @@ use Rattle.model.specs.Types.{VerificationType, is_reference}
 use Rattle.model.specs.Operands.{Carrier, words, values, word_of}
 use Rattle.model.specs.State.{ObjectOf, types_of, StateOf, State}
 use Rattle.model.specs.Opening.{opening_heap}
-use Rattle.model.specs.Outcomes.{Cost, Free, Makes, Starts, Enters, Joins}
+use Rattle.model.specs.Outcomes.{Cost, Free, Makes, Fills, Starts, Enters, Joins}
 use Rattle.model.specs.Step.{Next, stepped}
 use Rattle.model.specs.Run.{run}
 use Rattle.model.specs.LimitStands.{Bounds, within_limits}
@@ -21,6 +21,7 @@ use Rattle.model.specs.WellTyped.{has_type}
 abbrev pub made : Cost → ℕ
 made Free = 0
 made (Makes cells) = 1
+made (Fills cells) = 0
 made Starts = 0
 made (Enters object count) = 0
 made (Joins object) = 0

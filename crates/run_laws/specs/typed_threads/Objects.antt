@@ -13,6 +13,7 @@ use Rattle.model.specs.Outcomes.{Cost}
 use Rattle.model.specs.Opening.{print_stream_reference, arguments_reference, main_thread_reference, class_reference, string_reference, error_stream_reference, opening_heap}
 use Rattle.model.specs.Worlds.{object_at}
 use Rattle.model.specs.BuilderMethods.{kept_string}
+use Rattle.model.specs.ThreadNames.{kept_name}
 use Rattle.model.specs.Step.{Next, stepped}
 use Rattle.model.specs.WellTyped.{Extends}
 use Rattle.model.specs.Words.{AreWellTypedWords}
@@ -49,7 +50,7 @@ pub record HasOpeningObjects (files : Program) (heap : List (ObjectOf ℕ)) : Ty
 abbrev pub AreOpeningObjectsThere : Type 0
 AreOpeningObjectsThere = (files : Program) (at : StateOf ℕ) → AreWellTypedWords files at → HasOpeningObjects files at.world.heap
 
--- ---- the texts of StringBuilders
+-- ---- the texts of StringBuilders, and the names of Threads
 
 -- null, or a reference to a String that is there, by its word
 abbrev pub IsText : Program → List (ObjectOf ℕ) → ℕ → Type 0
@@ -61,6 +62,12 @@ abbrev pub AreTextsStrings : Type 0
 AreTextsStrings =
     (files : Program) (at : StateOf ℕ) → AreWellTypedWords files at → (r : ℕ)
     → IsText files at.world.heap (kept_string words (object_at at.world r))
+
+-- so is what it keeps as its name
+abbrev pub AreNamesStrings : Type 0
+AreNamesStrings =
+    (files : Program) (at : StateOf ℕ) → AreWellTypedWords files at → (r : ℕ)
+    → IsText files at.world.heap (kept_name words (object_at at.world r))
 
 -- ---- events
 

@@ -1,6 +1,6 @@
 -- What the object is to which an instruction is done, at the words of a well-typed state (JVMS 4.10.1.9, 6.5): null, or there and
 -- of the class or kind that the instruction needs.
-use Rattle.std.specs.Prelude.{◌≡◌, ℕ, zero, suc, ◌<◌, List, Option, Some, None, Bool, true, false, length, slice_get, slice_index_or, IsTrue, IsFalse}
+use Rattle.std.specs.Prelude.{◌≡◌, ℕ, zero, suc, ◌<◌, List, Option, Some, None, Bool, true, false, length, slice_get, slice_index_or, IsTrue, IsFalse, ◌||◌}
 use Rattle.std.specs.Option.{option_map, option_map_or, option_and_then}
 use Rattle.model.specs.declared.instr.ArrayKind.{ArrayKind}
 use Rattle.model.specs.declared.instr.ArrayKind.TheVariants as array_kind
@@ -8,6 +8,7 @@ use Rattle.model.specs.declared.instr.FieldAccess.TheVariants as access
 use Rattle.model.specs.declared.instr.Instr.{Instr}
 use Rattle.model.specs.declared.instr.Instr.TheVariants as instr
 use Rattle.model.specs.declared.instr.Invocation.TheVariants as invocation
+use Rattle.model.specs.DescriptorParts.{is_array_class}
 use Rattle.model.specs.Names.{Name, name_eq, Member, java_lang_object, java_lang_throwable, java_lang_string}
 use Rattle.model.specs.Pool.{field_at, method_at, interface_method_at}
 use Rattle.model.specs.Classes.{Program, Body, body_of, is_interface, is_subclass}
@@ -90,6 +91,14 @@ abbrev pub with_method_at : Program → Site → ℕ → Option Receiver
 with_method_at files site index =
     option_map (λ (named : Member). receiver (parameter_count named) (has_class_below files named.class)) (method_at site.body.pool index)
 
+-- the same for an invokevirtual, or any object where that names an array class, whose methods are Object's
+abbrev pub is_called_on : {A : Type 0} → Program → Name → ObjectOf A → Bool
+is_called_on files class object = is_array_class class || has_class_below files class object
+
+abbrev pub with_virtual_at : Program → Site → ℕ → Option Receiver
+with_virtual_at files site index =
+    option_map (λ (named : Member). receiver (parameter_count named) (is_called_on files named.class)) (method_at site.body.pool index)
+
 -- any object for a call on an interface, which the verifier takes for Object (JVMS 4.10.1.2)
 abbrev pub with_interface_at : Site → ℕ → Option Receiver
 with_interface_at site index = option_map (λ (named : Member). receiver (parameter_count named) is_any) (interface_method_at site.body.pool index)
@@ -98,7 +107,7 @@ with_interface_at site index = option_map (λ (named : Member). receiver (parame
 abbrev pub receiver_of : Program → Site → Instr → Option Receiver
 receiver_of files site (instr.Field access.GetField index) = with_field_at files site 0 index
 receiver_of files site (instr.Field access.PutField index) = with_field_at files site 1 index
-receiver_of files site (instr.Invoke invocation.Virtual index) = with_method_at files site index
+receiver_of files site (instr.Invoke invocation.Virtual index) = with_virtual_at files site index
 receiver_of files site (instr.Invoke invocation.Special index) = with_method_at files site index
 receiver_of files site (instr.InvokeInterface index count last) = with_interface_at site index
 receiver_of files site instr.ArrayLength = Some (receiver 0 is_array)

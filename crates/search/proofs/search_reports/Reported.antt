@@ -18,7 +18,12 @@ use Rattle.machine.specs.machine_replay.Replays.{IsReplay, EndFits, text_of}
 use Rattle.search.specs.declared.searching.Verdict.{Verdict}
 use Rattle.search.specs.declared.searching.Verdict.TheVariants as verdict
 use Rattle.search.specs.declared.search_reports.answers.Answer.{Answer}
-use Rattle.search.specs.search_reports.Answers.{IsReportOf, IsAnswerTo}
+use Rattle.search.specs.declared.search_reports.answers.Answer.TheVariants as answer
+use Rattle.search.specs.declared.kinds.Kinds.{Kinds}
+use Rattle.search.specs.RacyStates.{TellsRace}
+use Rattle.search.specs.Verdicts.{Says}
+use Rattle.search.specs.search_reports.Answers.{Answers, IsAnswerTo, IsRaceKept, IsReportOf, IsRunTold, TellsRaceOf}
+use Rattle.run_laws.specs.interleavings.Ends.{Outcome}
 
 -- the report of a replay to whose end all events were done
 module _ (trees : Program) (events : List Event) (limits : Limits) (r : Report) (end : End) (replay : IsReplay trees events limits r end) where
@@ -52,8 +57,19 @@ module _ (trees : Program) (events : List Event) (limits : Limits) (r : Report) 
       }
 
 -- where there was memory for it
-pub answered_if : (trees : Program) (limits : Limits) (v : Verdict) (schedule : List ScheduleEntry) → v ≡ verdict.Found schedule
-    → {E : Type 0} (result : Result Answer E)
-    → IfOk result (IsAnswerTo trees limits (verdict.Found schedule)) → IfOk result (IsAnswerTo trees limits v)
-answered_if trees limits v schedule is (Ok a) answers = subst (λ x. IsAnswerTo trees limits x a) (sym is) answers
-answered_if trees limits v schedule is (Err e) answers = tt
+pub told_if : (trees : Program) (limits : Limits) (v : Verdict) (schedule : List ScheduleEntry) → v ≡ verdict.Found schedule → {E : Type 0} (result : Result Answer E)
+    → IfOk result (IsRunTold trees limits schedule) → IfOk result (IsAnswerTo trees limits v)
+told_if trees limits v schedule is (Ok a) told =
+    λ goal may_stop most states says. subst (Answers trees limits goal may_stop most states) (sym told.2) (subst (Says trees limits goal may_stop most states) is says, told.3)
+told_if trees limits v schedule is (Err e) told = tt
+
+-- ---- what is told of races beside it
+
+pub found_race : (trees : Program) (limits : Limits) (v : Verdict) (schedule : List ScheduleEntry) → {E : Type 0} (result : Result Answer E)
+    → IfOk result (IsRunTold trees limits schedule) → IfOk result (IsRaceKept trees limits v)
+found_race trees limits v schedule (Ok a) told = λ race tells. subst (λ (x : Answer). TellsRaceOf trees limits x race) (sym told.2) tt
+found_race trees limits v schedule (Err e) told = tt
+
+pub race_kept : (trees : Program) (limits : Limits) (v : Verdict) (outcomes : List Outcome) (kinds : Kinds) → v ≡ verdict.Complete outcomes kinds
+    → IsRaceKept trees limits v (answer.Complete outcomes kinds)
+race_kept trees limits v outcomes kinds is race tells = subst (λ x. TellsRace trees limits x race) is tells

@@ -1,8 +1,9 @@
 -- What a search over all schedules answers, with the report of the run that it finds (own; JLS 17).
-use Rattle.std.specs.Prelude.{◌≡◌, ◌⊎◌, ℕ, Bool, List, Some, IsTrue, IsFalse}
+use Rattle.std.specs.Prelude.{◌≡◌, ◌⊎◌, ℕ, Bool, List, Option, Some, IsTrue, IsFalse}
 use Rattle.model.specs.declared.end.End.{End}
 use Rattle.model.specs.declared.end.End.TheVariants as ends
 use Rattle.model.specs.declared.event.Event.{Event}
+use Rattle.model.specs.declared.event.ScheduleEntry.{ScheduleEntry}
 use Rattle.model.specs.declared.limits.Limits.{Limits}
 use Rattle.model.specs.declared.report.Report.{Report}
 use Rattle.model.specs.Classes.{Program}
@@ -14,6 +15,7 @@ use Rattle.machine.specs.machine_replay.Replays.{text_of}
 use Rattle.search.specs.declared.kinds.Goal.{Goal}
 use Rattle.search.specs.declared.searching.Verdict.{Verdict}
 use Rattle.search.specs.GivingUp.{GivesUp}
+use Rattle.search.specs.RacyStates.{IsRaceShown, TellsRace}
 use Rattle.search.specs.Verdicts.{IsFoundBy, IsComplete, Says}
 use Rattle.search.specs.declared.search_reports.answers.Answer.{Answer}
 use Rattle.search.specs.declared.search_reports.answers.Answer.TheVariants as answer
@@ -29,6 +31,11 @@ pub record IsReportOf (trees : Program) (frames : ℕ) (events : List Event) (en
   pub means : meaning trees frames events end ≡ Some (text_of r end)
   pub ends : (state : State) → run trees frames events ≡ Some state → EndsSo trees frames state end
 
+-- the schedule is found, with the report of the run that it is
+abbrev pub IsRunTold : Program → Limits → List ScheduleEntry → Answer → Type 0
+IsRunTold trees limits schedule a =
+    (r : Report) × (end : End) × (a ≡ answer.Found schedule r end) × IsReportOf trees limits.frames (events_of schedule) end r
+
 -- Found: the schedule is that of a run that is to be found, and the report is the run's. Complete: these are the outcomes of all runs that
 -- end, and the kinds of the states that any run comes to, and none is to be found. A search gives up only where so many states are met as
 -- may be, or where some run can't be gone on with, or where it may be stopped.
@@ -43,3 +50,12 @@ abbrev pub IsAnswerTo : Program → Limits → Verdict → Answer → Type 0
 IsAnswerTo trees limits v a =
     (goal : Goal) (may_stop : Bool) (most states : ℕ) → Says trees limits goal may_stop most states v
     → Answers trees limits goal may_stop most states a
+
+-- a schedule to a racy state beside a complete answer, where that tells a race
+abbrev pub TellsRaceOf : Program → Limits → Answer → Option (List ScheduleEntry) → Type 0
+TellsRaceOf trees limits (answer.Complete outcomes kinds) race = IsRaceShown trees limits kinds.race race
+TellsRaceOf trees limits a race = Unit {0}
+
+-- what is told beside what the search says is told beside the answer
+abbrev pub IsRaceKept : Program → Limits → Verdict → Answer → Type 0
+IsRaceKept trees limits v a = (race : Option (List ScheduleEntry)) → TellsRace trees limits v race → TellsRaceOf trees limits a race

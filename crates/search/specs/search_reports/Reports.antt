@@ -29,17 +29,23 @@ abbrev pub line_if : Bool → List ℕ → List ℕ
 line_if Bool.true text = line text
 line_if false text = []
 
+-- that a race is told: the line of one is behind the word
+abbrev pub race_kind : (is_told : Bool) → (race : List ℕ) → List ℕ
+race_kind Bool.true race = codes "kind " ++ race
+race_kind false race = []
+
 -- a line for each kind that is told
-abbrev pub kind_lines : Kinds → List ℕ
-kind_lines kinds =
-    line_if kinds.race (codes "kind race")
+abbrev pub kind_lines : Kinds → (race : List ℕ) → List ℕ
+kind_lines kinds race =
+    race_kind kinds.race race
     ++ (line_if kinds.uncaught (codes "kind uncaught") ++ (line_if kinds.deadlock (codes "kind deadlock") ++ line_if kinds.endless (codes "kind endless")))
 
 -- where a run was found its report, else all outcomes and kinds
-abbrev pub found_text : Answer → List ℕ
-found_text (answer.Found schedule r end) = report_text r.printed.items (map end_state_of r.threads.items) r.events end
-found_text (answer.Complete outcomes kinds) = outcome_texts 1 outcomes ++ (line (codes "outcomes " ++ number (length outcomes)) ++ kind_lines kinds)
-found_text answer.GaveUp = []
+abbrev pub found_text : Answer → (race : List ℕ) → List ℕ
+found_text (answer.Found schedule r end) race = report_text r.printed.items (map end_state_of r.threads.items) r.events end
+found_text (answer.Complete outcomes kinds) race =
+    outcome_texts 1 outcomes ++ (line (codes "outcomes " ++ number (length outcomes)) ++ kind_lines kinds race)
+found_text answer.GaveUp race = []
 
 abbrev pub answer_word : Answer → List ℕ
 answer_word (answer.Found schedule r end) = codes "found"
@@ -60,9 +66,9 @@ scope_text (answer.Complete outcomes kinds) own_edges = line (codes "of runs tha
 scope_text answer.GaveUp own_edges = []
 
 -- that, how many states were met, of which runs it is told, and what the answer is
-abbrev pub search_text : Answer → (own_edges : Bool) → ℕ → List ℕ
-search_text a own_edges states =
-    found_text a ++ (line (codes "states " ++ number states) ++ (scope_text a own_edges ++ line (codes "search " ++ answer_word a)))
+abbrev pub search_text : Answer → (race : List ℕ) → (own_edges : Bool) → ℕ → List ℕ
+search_text a race own_edges states =
+    found_text a race ++ (line (codes "states " ++ number states) ++ (scope_text a own_edges ++ line (codes "search " ++ answer_word a)))
 
 -- ---- examples
 
@@ -75,21 +81,21 @@ two_kinds = record { race = Bool.true; uncaught = false; deadlock = false; endle
 two_ended : ℕ → Outcome
 two_ended n = record { printed = number_line (pos n); ends = Ended ∷ Ended ∷ [] }
 
-lists_both : search_text (answer.Complete (two_ended 1 ∷ two_ended 2 ∷ []) two_kinds) false 40
-    ≡ codes "outcome 1\n1\nthread 0 ended\nthread 1 ended\noutcome 2\n2\nthread 0 ended\nthread 1 ended\noutcomes 2\nkind race\nkind endless\nstates 40\nof runs that end\nsearch complete\n"
+lists_both : search_text (answer.Complete (two_ended 1 ∷ two_ended 2 ∷ []) two_kinds) (codes "race A.n\n") false 40
+    ≡ codes "outcome 1\n1\nthread 0 ended\nthread 1 ended\noutcome 2\n2\nthread 0 ended\nthread 1 ended\noutcomes 2\nkind race A.n\nkind endless\nstates 40\nof runs that end\nsearch complete\n"
 unfolding digits two_ended two_kinds utf16_chars encode_utf8
 lists_both = refl
 
-lists_none : search_text (answer.Complete [] no_kinds) false 3
+lists_none : search_text (answer.Complete [] no_kinds) [] false 3
     ≡ codes "outcomes 0\nstates 3\nof runs that end\nno data race: correctly synchronized\nsearch complete\n"
 unfolding digits no_kinds
 lists_none = refl
 
-by_own_edges : search_text (answer.Complete [] no_kinds) Bool.true 3
+by_own_edges : search_text (answer.Complete [] no_kinds) [] Bool.true 3
     ≡ codes "outcomes 0\nstates 3\nof runs that end\nno data race, by edges of this machine's own\nsearch complete\n"
 unfolding digits no_kinds
 by_own_edges = refl
 
-gives_up : search_text answer.GaveUp false 1000 ≡ codes "states 1000\nsearch gave up\n"
+gives_up : search_text answer.GaveUp [] false 1000 ≡ codes "states 1000\nsearch gave up\n"
 unfolding digits
 gives_up = refl

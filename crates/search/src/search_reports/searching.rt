@@ -4,8 +4,7 @@ ghost use Rattle.std.specs.Prelude.{◌≡◌, ◌≤◌, IfOk};
 ghost use Rattle.std.specs.Arc.{arc_value};
 ghost use Rattle.search.specs.OwnEdges as own;
 ghost use Rattle.machine.specs.Machines.{IsProgramOf};
-ghost use Rattle.search.specs.declared.searching.Verdict.TheVariants as verdicts;
-ghost use Rattle.search.specs.search_reports.Answers.{Answers, IsAnswerTo};
+ghost use Rattle.search.specs.search_reports.Answers.{Answers, IsAnswerTo, IsRaceKept, IsRunTold, TellsRaceOf};
 
 use crate::kinds::Goal;
 use crate::own_edges::names_own_edges;
@@ -29,7 +28,7 @@ fn found(
     schedule: Schedule,
 ) -> Result<Answer, AllocError>
     requires { IsProgramOf classes.now (arc_value program) }
-    ensures { IfOk result (IsAnswerTo classes.now limits (verdicts.Found schedule)) }
+    ensures { IfOk result (IsRunTold classes.now limits schedule) }
 {
     let (report, end) = replay(alloc, classes, program, &schedule, limits)?;
     match end {
@@ -49,7 +48,8 @@ fn answer_to(
     verdict: Verdict,
 ) -> Result<Answer, AllocError>
     requires { IsProgramOf classes.now (arc_value program) }
-    ensures { IfOk result (IsAnswerTo classes.now limits verdict) }
+    ensures answers { IfOk result (IsAnswerTo classes.now limits verdict) }
+    ensures race { IfOk result (IsRaceKept classes.now limits verdict) }
 {
     match verdict {
         Verdict::Found(schedule) => found(alloc, classes, program, limits, schedule),
@@ -73,6 +73,7 @@ pub fn search_report<P: Progress>(
     requires { IsProgramOf linked.now (arc_value program) }
     ensures answers { IfOk result (λ r. Answers linked.now limits goal.now (P.may_stop progress.now) most r.states
         r.answer) }
+    ensures race { IfOk result (λ r. TellsRaceOf linked.now limits r.answer r.race) }
     ensures own_edges { IfOk result (λ r. r.own_edges ≡ own.names_own_edges linked.now) }
     ensures few { IfOk result (λ r. 1 ≤ most → r.states ≤ most) }
 {
@@ -91,6 +92,7 @@ pub fn search_report<P: Progress>(
     Ok(SearchReport {
         answer,
         states,
+        race: searched.race,
         own_edges: names_own_edges(linked),
     })
 }

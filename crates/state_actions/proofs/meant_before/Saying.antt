@@ -20,15 +20,22 @@ use Rattle.model.specs.Types.{VerificationType, Want, AReceiver, AReference, ABy
 use Rattle.model.specs.Operands.{Slots, words, word_reference, under}
 use Rattle.model.specs.Rows.{Row, local_row, after_row, row_target}
 use Rattle.model.specs.State.{type_of, ObjectOf, FrameOf, WorldOf}
-use Rattle.model.specs.Opening.{class_reference, string_reference}
+use Rattle.model.specs.Opening.{class_reference, opening_count, string_reference, string_references}
 use Rattle.model.specs.Outcomes.{Arithmetic, Free, OutcomeOf, Goes, Raises, Throws, Interrupts, Calls, Returns, Waits, not_null}
 use Rattle.model.specs.Worlds.{object_at, is_owner, thread_at, is_alive}
 use Rattle.model.specs.Sites.{Leads, pushing, MeaningOf, Site, operand, referent, int_operand}
-use Rattle.model.specs.Calls.{leads_after, constructed_leads, call_on, selected, its_class, special_class, if_implements, Chosen, Fails, Runs, is_one, runs, invoked, of_receiver, parameter_count, argument_wants, of_class, return_of}
+use Rattle.model.specs.Calls.{leads_after, constructed_leads, call_on, selected, its_class, special_class, if_implements, Chosen, Fails, Runs, is_one, runs, invoked, of_receiver, parameter_count, argument_wants, of_class, of_named, return_of}
 use Rattle.model.specs.StringMethods.{StringAnswer, IsNull, IsOutside, Answers, Same, Composes, string_answer}
 use Rattle.model.specs.BuilderMethods as builder
 use Rattle.model.specs.BuilderMethods.{BuilderAnswer, KeepsEmpty, Keeps, Adds, GivesText, builds, builder_does}
-use Rattle.model.specs.BuiltInMethods.{BuiltInMethod, Construct, ConstructWithMessage, ConstructWithCause, ConstructWithTarget, ObjectWait, ObjectNotify, ObjectNotifyAll, ThreadStart, ThreadInterrupt, ThreadIsInterrupted, ThreadInterrupted, ThreadYield, ThreadCurrentThread, ThreadJoin, ThreadIsAlive, PrintStreamPrints, StringAnswers, StringBuilderBuilds, ObjectAnswers, built_in_method, built_in_does, wait_by, if_owner, start_by, join_by, answered, string_operand, object_of}
+use Rattle.model.specs.BuiltInMethods.{BuiltInMethod, Construct, ConstructWithMessage, ConstructWithCause, ObjectClone, ObjectWait, ObjectNotify, ObjectNotifyAll, ThreadStart, ThreadInterrupt, ThreadIsInterrupted, ThreadInterrupted, ThreadYield, ThreadCurrentThread, ThreadJoin, ThreadIsAlive, ThreadNames, PrintStreamPrints, StringAnswers, StringWrites, StringBuilderBuilds, ObjectAnswers, built_in_method, built_in_does, wait_by, if_owner, start_by, join_by, answered, string_operand, object_of}
+use Rattle.model.specs.Cloning.{is_cloneable, cloned}
+use Rattle.model.specs.declared.name_method.NameMethod.{NameMethod}
+use Rattle.model.specs.declared.name_method.NameMethod.TheVariants as names
+use Rattle.model.specs.TextMethods as text
+use Rattle.model.specs.TextMethods.{TextAnswer, text_answer, gives_standing, standing_for, units_operand, writes}
+use Rattle.model.specs.Texts.{Text}
+use Rattle.model.specs.ThreadNames.{gives_name, kept_name, ordinal_text, thread_names}
 use Rattle.model.specs.ObjectMethods as telling
 use Rattle.model.specs.ObjectMethods.{ObjectAnswer, HasNoClass, IsOf, tells, type_at, object_place, object_answer}
 use Rattle.model.specs.Objects.{any_object, cast}
@@ -147,12 +154,47 @@ module _ (i : Instr) (stack ops : List ℕ) where
     tells_says files (IsOf class) next world slots rest = inl plain
     tells_says files (telling.Composes text) next world slots rest = inl plain
 
+    clone_says : (may : Bool) (object : ObjectOf ℕ) (next : ℕ) (world : WorldOf ℕ) (slots : Slots ℕ) (rest : List ℕ)
+        → Says (cloned words may object next world slots rest)
+    clone_says true object next world slots rest = inl plain
+    clone_says false object next world slots rest = tt
+
+    given_says : (name : Option ℕ) (text : Text) (next : ℕ) (world : WorldOf ℕ) (slots : Slots ℕ) (rest : List ℕ)
+        → Says (gives_name words name text next world slots ops rest)
+    given_says None text next world slots rest = inl plain
+    given_says (Some name) text next world slots rest = inl plain
+
+    names_says : (called : NameMethod) (next : ℕ) (world : WorldOf ℕ) (slots : Slots ℕ) (rest : List ℕ)
+        → Says (thread_names words called next world slots ops rest)
+    names_says names.Construct next world slots rest = inl plain
+    names_says names.ConstructWithTarget next world slots rest = inl plain
+    names_says names.ConstructWithName next world slots rest = null_says (referent words ops 0) _ (λ r. inl plain)
+    names_says names.ConstructWithTargetAndName next world slots rest = null_says (referent words ops 0) _ (λ r. inl plain)
+    names_says names.GetName next world slots rest =
+        given_says (words.referent (kept_name words (object_at world (object_of words ops 0)))) (ordinal_text words (object_at world (object_of words ops 0))) next world slots rest
+    names_says names.SetName next world slots rest = null_says (referent words ops 0) _ (λ r. inl plain)
+
+    standing_says : (string : Option ℕ) (next : ℕ) (world : WorldOf ℕ) (slots : Slots ℕ) (rest : List ℕ)
+        → Says (gives_standing words string next world slots ops rest)
+    standing_says None next world slots rest = inl plain
+    standing_says (Some string) next world slots rest = inl plain
+
+    writes_says : (answer : TextAnswer) (opened : ℕ) (constants : List ℕ) (next : ℕ) (world : WorldOf ℕ) (slots : Slots ℕ) (rest : List ℕ)
+        → Says (writes words opened constants answer next world slots ops rest)
+    writes_says text.IsNull opened constants next world slots rest = tt
+    writes_says text.IsOutside opened constants next world slots rest = tt
+    writes_says text.IsOutsideArray opened constants next world slots rest = tt
+    writes_says (text.Becomes receiver units) opened constants next world slots rest = inl plain
+    writes_says (text.Stores array index units) opened constants next world slots rest = inl plain
+    writes_says (text.StandsFor units) opened constants next world slots rest = standing_says (standing_for constants world units) next world slots rest
+
     built_in_says : (files : Program) (b : BuiltInMethod) → (b ≡ ObjectWait → (is_return i ≡ false) × IsTop stack ops) → (next : ℕ) (event : Event) (world : WorldOf ℕ) (slots : Slots ℕ)
         (rest : List ℕ) → Says (built_in_does words files b next event world slots ops rest)
     built_in_says files Construct h next event world slots rest = inl plain
     built_in_says files ConstructWithMessage h next event world slots rest = inl plain
     built_in_says files ConstructWithCause h next event world slots rest = inl plain
-    built_in_says files ConstructWithTarget h next event world slots rest = inl plain
+    built_in_says files ObjectClone h next event world slots rest =
+        clone_says (is_cloneable files (type_of (object_at world (object_of words ops 0)))) (object_at world (object_of words ops 0)) next world slots rest
     built_in_says files ObjectWait h next event world slots rest =
         wait_says (h refl) (is_owner world event.thread (object_of words ops 0)) (thread_at world event.thread).interrupted event.thread (object_of words ops 0) world rest
     built_in_says files ObjectNotify h next event world slots rest = owner_says (is_owner world event.thread (object_of words ops 0)) _ (inl plain)
@@ -165,9 +207,12 @@ module _ (i : Instr) (stack ops : List ℕ) where
     built_in_says files ThreadCurrentThread h next event world slots rest = inl plain
     built_in_says files ThreadJoin h next event world slots rest = join_says (is_alive world (object_of words ops 0)) next world slots rest
     built_in_says files ThreadIsAlive h next event world slots rest = inl plain
+    built_in_says files (ThreadNames called) h next event world slots rest = names_says called next world slots rest
     built_in_says files (PrintStreamPrints print) h next event world slots rest = inl plain
     built_in_says files (StringAnswers called) h next event world slots rest =
         answered_says (string_answer called (int_operand words ops) (string_operand words world ops)) next world slots rest
+    built_in_says files (StringWrites called) h next event world slots rest =
+        writes_says (text_answer called (int_operand words ops) (string_operand words world ops) (units_operand words world ops)) (opening_count files) (string_references files) next world slots rest
     built_in_says files (StringBuilderBuilds called) h next event world slots rest = builds_says (string_reference files []) _ next world slots rest
     built_in_says files (ObjectAnswers called) h next event world slots rest =
         tells_says files (object_answer files called (referent words ops (object_place called)) (type_at world) (int_operand words ops 0)) next world slots rest
@@ -297,7 +342,7 @@ module _ (files : Program) (site : Site) where
       at_its (operation words files site (Println call e))
       (λ event world slots ops rest. null_says site.instr slots.stack ops (referent words ops 1) _ (λ r. inl (plain_of _ call.instruction refl)))
   operation_says (CallVirtual call e m) =
-      call_says _ call.instruction refl refl m.method (of_class files call.named.class) (leads_after files site m.method)
+      call_says _ call.instruction refl refl m.method (of_named files call.named.class) (leads_after files site m.method)
       (λ world r. selected files (its_class world r) m.method)
   operation_says (CallConstructor call e passes) =
       call_says _ call.instruction refl refl call.named (AReceiver call.named.class) (constructed_leads site call.named) (λ world r. Runs call.named)

@@ -125,7 +125,6 @@ pub nothing_of : (world : World) (t u : ℕ) (b : Called) → (b ≡ called.Thre
 nothing_of world t u called.Construct a e i s j = refl
 nothing_of world t u called.ConstructWithMessage a e i s j = refl
 nothing_of world t u called.ConstructWithCause a e i s j = refl
-nothing_of world t u called.ConstructWithTarget a e i s j = refl
 nothing_of world t u called.ObjectWait a e i s j = refl
 nothing_of world t u called.ObjectNotify a e i s j = refl
 nothing_of world t u called.ObjectNotifyAll a e i s j = refl
@@ -141,13 +140,15 @@ nothing_of world t u (called.PrintStreamPrints print) a e i s j = refl
 nothing_of world t u (called.StringAnswers method) a e i s j = refl
 nothing_of world t u (called.StringBuilderBuilds method) a e i s j = refl
 nothing_of world t u (called.ObjectAnswers method) a e i s j = refl
+nothing_of world t u called.ObjectClone a e i s j = refl
+nothing_of world t u (called.ThreadNames method) a e i s j = refl
+nothing_of world t u (called.StringWrites method) a e i s j = refl
 
 pub on_thread : (world : World) (t object : ℕ) (b : Called) → (b ≡ called.ObjectWait → ⊥) → (b ≡ called.ThreadInterrupted → ⊥)
     → found_on world t object (built_in_of b) ≡ of_thread (worlds.thread_of world object) (λ u. found_of world t u (built_in_of b))
 on_thread world t object called.Construct w i = nobody (worlds.thread_of world object)
 on_thread world t object called.ConstructWithMessage w i = nobody (worlds.thread_of world object)
 on_thread world t object called.ConstructWithCause w i = nobody (worlds.thread_of world object)
-on_thread world t object called.ConstructWithTarget w i = nobody (worlds.thread_of world object)
 on_thread world t object called.ObjectWait w i = absurd (w refl)
 on_thread world t object called.ObjectNotify w i = nobody (worlds.thread_of world object)
 on_thread world t object called.ObjectNotifyAll w i = nobody (worlds.thread_of world object)
@@ -163,12 +164,14 @@ on_thread world t object (called.PrintStreamPrints print) w i = nobody (worlds.t
 on_thread world t object (called.StringAnswers method) w i = nobody (worlds.thread_of world object)
 on_thread world t object (called.StringBuilderBuilds method) w i = nobody (worlds.thread_of world object)
 on_thread world t object (called.ObjectAnswers method) w i = nobody (worlds.thread_of world object)
+on_thread world t object called.ObjectClone w i = nobody (worlds.thread_of world object)
+on_thread world t object (called.ThreadNames method) w i = nobody (worlds.thread_of world object)
+on_thread world t object (called.StringWrites method) w i = nobody (worlds.thread_of world object)
 
 pub no_interrupt_on : (world : World) (object : ℕ) (b : Called) → (b ≡ called.ThreadInterrupt → ⊥) → interrupts_on world object (built_in_of b) ≡ []
 no_interrupt_on world object called.Construct n = refl
 no_interrupt_on world object called.ConstructWithMessage n = refl
 no_interrupt_on world object called.ConstructWithCause n = refl
-no_interrupt_on world object called.ConstructWithTarget n = refl
 no_interrupt_on world object called.ObjectWait n = refl
 no_interrupt_on world object called.ObjectNotify n = refl
 no_interrupt_on world object called.ObjectNotifyAll n = refl
@@ -184,6 +187,9 @@ no_interrupt_on world object (called.PrintStreamPrints print) n = refl
 no_interrupt_on world object (called.StringAnswers method) n = refl
 no_interrupt_on world object (called.StringBuilderBuilds method) n = refl
 no_interrupt_on world object (called.ObjectAnswers method) n = refl
+no_interrupt_on world object called.ObjectClone n = refl
+no_interrupt_on world object (called.ThreadNames method) n = refl
+no_interrupt_on world object (called.StringWrites method) n = refl
 
 -- what is told in place of other actions, or of another method
 module _ (heap : Heap) (table : ThreadTable) where

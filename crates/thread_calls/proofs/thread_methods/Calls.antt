@@ -8,17 +8,19 @@ use Rattle.std.proofs.lemmas.Option.{none-some, get_or_from_slice_get}
 use Rattle.thread_calls.specs.declared.thread_methods.ThreadMethod.{ThreadMethod}
 use Rattle.model.specs.BuiltIn.{built_in_classes}
 use Rattle.model.specs.Calls.{Chosen, Runs, parameter_count, selected, if_implements, special_class}
-use Rattle.model.specs.Classes.{Program, classes_of, lineage_of, lineage, superclass_of, all_superinterfaces}
+use Rattle.model.specs.Classes.{Program, class_of, classes_of, declared_in, lineage_of, lineage, superclass_of, all_superinterfaces}
 use Rattle.model.specs.Lookup.{method_of, where_so, first_found, method_in_class, any_method, find_method, find_interface_method}
 use Rattle.model.specs.Names.{Name, name_eq, Member, constructor_name}
 use Rattle.model.specs.ReferenceTypes.{ClassType, is_subtype}
 use Rattle.model.specs.State.{ObjectOf, type_of}
-use Rattle.model.specs.Tree.{MethodTree}
+use Rattle.model.specs.Linkable.{IsLinkable}
+use Rattle.model.specs.Tree.{FileTree, MethodTree}
 use Rattle.model.specs.Worlds.{no_object, class_of_object}
 use Rattle.linked_code.specs.declared.program.LinkedProgram.{LinkedProgram}
 use Rattle.heap.specs.Heap.{Object}
 use Rattle.method_tables.specs.method_links.Methods.{Names}
 use Rattle.next_accesses.specs.accesses.Accesses.{object_under}
+use Rattle.thread_calls.proofs.thread_methods.ClassNames.{searched_is}
 use Rattle.thread_calls.specs.thread_methods.Called.{method_told, receiver_depth, run_on, object_in, TellsVirtual, TellsInterface, TellsOwn, TellsAbove, CallsVirtual, CallsInterface, CallsSpecial, CallsStatic}
 use Rattle.thread_calls.proofs.thread_methods.Named.{runs_same, counted, method_described, interface_described, selected_describes, implements_describes, on_null, on_object, never, found_number, some_found, none_found}
 
@@ -122,6 +124,9 @@ built_in_count : length built_in_classes ≡ 37
 unfolding built_in_classes
 built_in_count = refl
 
+abbrev IsLinkedFrom : Program → Type 0
+IsLinkedFrom trees = (bytes : List (List ℕ)) × IsLinkable bytes trees
+
 -- a class comes first among those above it
 next_number : (n : ℕ) → 37 + n ≡ suc (36 + n)
 next_number n = omega arith
@@ -133,7 +138,7 @@ first_above : (trees : Program) (class : Name) → lineage trees class ≡ class
 first_above trees class = ap (λ n. lineage_of trees n class) (counted_classes trees)
 
 -- a constructor that its class declares is found
-module _ (trees : Program) (named : Member) where
+module _ (trees : Program) (program : IsLinkedFrom trees) (named : Member) where
   abbrev look : Name → Option Member
   look class = method_in_class trees any_method named class
 
@@ -145,10 +150,20 @@ module _ (trees : Program) (named : Member) where
   declared_by None e = absurd (false≢true e)
   declared_by (Some tree) e = refl
 
+  -- its class is there
+  class_there : (o : Option FileTree) → is_some (option_and_then (λ (file : FileTree). declared_in file named.name named.descriptor) o) ≡ true → (file : FileTree) × (o ≡ Some file)
+  class_there None h = absurd (false≢true h)
+  class_there (Some file) h = (file, refl)
+
+  abbrev found_in : Name → Option Member
+  found_in class = option_or (first_found look (lineage trees class)) (first_found look (all_superinterfaces trees class))
+
   declared_found : is_some (method_of trees named) ≡ true → find_method trees named ≡ Some named
   declared_found h =
-      ap (λ classes. option_or (first_found look classes) (first_found look (all_superinterfaces trees named.class))) (first_above trees named.class)
-      ∙ declared_by (method_of trees named) h
+      let c = class_there (class_of trees named.class) h in
+      ap found_in (searched_is program.0 trees program.1 named.class c.0 c.1)
+      ∙ (ap (λ classes. option_or (first_found look classes) (first_found look (all_superinterfaces trees named.class))) (first_above trees named.class)
+      ∙ declared_by (method_of trees named) h)
 
 module _ (trees : Program) (p : LinkedProgram) (operands : List ℕ) (current : Name) (named : Member) (told : Option ThreadMethod) where
   abbrev above_choice : Member → ℕ → Chosen
@@ -192,14 +207,14 @@ module _ (trees : Program) (p : LinkedProgram) (operands : List ℕ) (current : 
       found = none_found trees (find_method trees named) none
 
       by : (b : Bool) → name_eq named.name constructor_name ≡ b → told ≡ by_name (name_eq named.name constructor_name)
-      by true e = absurd (none-some named (sym found ∙ declared_found trees named (declared e)))
+      by true e = absurd (none-some named (sym found ∙ declared_found trees (program.files, program.linkable) named (declared e)))
       by false e = is ∙ sym (ap by_name e ∙ ap (option_and_then (λ (m : Member). run_on trees operands m (above_choice m))) found)
 
   module _ (k : ℕ) (e : Some k ≡ receiver_depth named.descriptor) (r : ℕ) (at : Some r ≡ object_under operands k) (callee : ℕ)
       (names : Names trees (Some callee) (find_method trees named)) where
     pub special_constructor : name_eq named.name constructor_name ≡ true → TellsOwn trees p callee told → CallsSpecial trees p operands current named told
     special_constructor constructs tells program declared begins =
-        tells program named (found_number trees (find_method trees named) callee names named (declared_found trees named (declared constructs)))
+        tells program named (found_number trees (find_method trees named) callee names named (declared_found trees (program.files, program.linkable) named (declared constructs)))
         ∙ (sym (on_object trees operands named (λ x. Runs named) r (under_is trees operands named k (Some r) e at named refl)) ∙ sym (ap by_name constructs))
 
     pub special_above : name_eq named.name constructor_name ≡ false → TellsAbove trees p (special_class trees current named.class) callee told

@@ -11,7 +11,7 @@ use Rattle.model.specs.Calls.{Chosen, Fails, Runs, parameter_count, selected, of
 use Rattle.model.specs.Classes.{Program, Body, body_of, lineage, all_superinterfaces}
 use Rattle.model.specs.DescribedTypes.{parameters_declared}
 use Rattle.model.specs.DescriptorScan.{element_at, field_at, field_type, parameters_at, method_type}
-use Rattle.model.specs.Lookup.{method_of, where_so, in_class, first_found, method_in_class, any_method, find_method, is_public_instance_method, find_interface_method}
+use Rattle.model.specs.Lookup.{method_of, where_so, in_class, first_found, method_in_class, any_method, searched_class, find_method, is_public_instance_method, find_interface_method}
 use Rattle.model.specs.Names.{Name, name_eq, Member, java_lang_object}
 use Rattle.model.specs.Tree.{MethodTree}
 use Rattle.run_laws.proofs.laws.Classes.{names_same}
@@ -98,8 +98,8 @@ module _ (trees : Program) (named : Member) where
 
   pub method_described : (x : Member) → find_method trees named ≡ Some x → x.descriptor ≡ named.descriptor
   method_described x e =
-      or_described (first_found (method_in_class trees any_method named) (lineage trees named.class)) (first_found (method_in_class trees any_method named) (all_superinterfaces trees named.class)) x
-      (first_described any_method (lineage trees named.class) x) (first_described any_method (all_superinterfaces trees named.class) x) e
+      or_described (first_found (method_in_class trees any_method named) (lineage trees (searched_class named.class))) (first_found (method_in_class trees any_method named) (all_superinterfaces trees (searched_class named.class))) x
+      (first_described any_method (lineage trees (searched_class named.class)) x) (first_described any_method (all_superinterfaces trees (searched_class named.class)) x) e
 
   pub interface_described : (x : Member) → find_interface_method trees named ≡ Some x → x.descriptor ≡ named.descriptor
   interface_described x e =

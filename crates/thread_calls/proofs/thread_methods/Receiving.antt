@@ -13,7 +13,7 @@ use Rattle.model.specs.declared.instr.Invocation.TheVariants as invocation
 use Rattle.model.specs.declared.value.Value.{Value}
 use Rattle.model.specs.BuiltIn.{built_in_classes}
 use Rattle.model.specs.BuiltInMethods.{built_in_method, built_in_methods}
-use Rattle.model.specs.Calls.{Chosen, Runs, parameter_count, argument_wants, is_one, is_instance_one, if_method, selected, its_class, of_receiver, if_implements, special_class, call_on, of_class, leads_after, constructed_leads, static_call, virtual_call, virtual_of, special_call, constructor_call, special_of, interface_call, interface_of}
+use Rattle.model.specs.Calls.{Chosen, Runs, parameter_count, argument_wants, is_one, is_instance_one, if_method, selected, its_class, of_receiver, if_implements, special_class, call_on, of_class, of_named, leads_after, constructed_leads, static_call, virtual_call, virtual_of, special_call, constructor_call, special_of, interface_call, interface_of}
 use Rattle.model.specs.Classes.{Program, Body, body_of}
 use Rattle.model.specs.DescribedTypes.{declared_want, parameters_declared}
 use Rattle.model.specs.Lookup.{method_of, find_method, find_interface_method, is_static_method}
@@ -275,7 +275,7 @@ module _ (trees : Program) (site : Site) (world : World) (max_stack : ℕ) (slot
     virtual_same f =
         ap virtual_found f.found
         ∙ (chosen_same trees world (referent values ops (parameter_count f.method)) (object_under operands (parameter_count f.method)) (virtual_choice f.method world) (virtual_there f.method)
-        (reads_receiver f.method (of_class trees named.class) (leads_after trees site f.method) (virtual_choice f.method) f.is refl)
+        (reads_receiver f.method (of_named trees named.class) (leads_after trees site f.method) (virtual_choice f.method) f.is refl)
         (λ r. ap (λ c. selected trees c f.method) (class_same trees world r))
         ∙ sym (ap virtual_called f.found))
 
@@ -400,7 +400,7 @@ module _ (trees : Program) (site : Site) (world : World) (max_stack : ℕ) (slot
             at_top f.method
             (no_parameters f.method (virtual_choice f.method world) (referent values ops (parameter_count f.method)) b (λ r x h. selected_describes trees (its_class world r) f.method x h)
             (sym (ap virtual_found f.found) ∙ found))
-            (reads_receiver f.method (of_class trees named.class) (leads_after trees site f.method) (virtual_choice f.method) f.is refl)
+            (reads_receiver f.method (of_named trees named.class) (leads_after trees site f.method) (virtual_choice f.method) f.is refl)
 
     pub interface_top : (count last : ℕ) → site.instr ≡ instr.InvokeInterface index count last → interface_method_at site.body.pool index ≡ Some named → (b : ThreadMethod) → told ≡ Some b
         → IsReference ops operands 0

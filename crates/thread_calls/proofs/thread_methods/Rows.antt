@@ -45,7 +45,7 @@ use Rattle.thread_calls.specs.thread_methods.Called.{as_thread_method, method_to
 
 same_method : (b : BuiltInMethod) → thread_method_of b ≡ as_thread_method (built_in_of b)
 same_method called.Construct = refl
-same_method called.ConstructWithTarget = refl
+same_method called.ObjectClone = refl
 same_method called.ConstructWithMessage = refl
 same_method called.ConstructWithCause = refl
 same_method called.ObjectWait = refl
@@ -59,8 +59,10 @@ same_method called.ThreadYield = refl
 same_method called.ThreadCurrentThread = refl
 same_method called.ThreadJoin = refl
 same_method called.ThreadIsAlive = refl
+same_method (called.ThreadNames names) = refl
 same_method (called.PrintStreamPrints print) = refl
 same_method (called.StringAnswers answer) = refl
+same_method (called.StringWrites writes) = refl
 same_method (called.StringBuilderBuilds method) = refl
 same_method (called.ObjectAnswers method) = refl
 

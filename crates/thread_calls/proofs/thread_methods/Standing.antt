@@ -8,7 +8,7 @@ use Rattle.model.specs.declared.instr.Instr.{Instr}
 use Rattle.model.specs.declared.instr.Instr.TheVariants as instr
 use Rattle.model.specs.declared.instr.Invocation.TheVariants as invocation
 use Rattle.model.specs.Calls.{parameter_count, special_class}
-use Rattle.model.specs.Classes.{Program, Body, body_of, body_in, with_pool, name_of, class_of}
+use Rattle.model.specs.Classes.{Program, Body, body_of, body_in, with_pool, name_of, class_of, is_subclass}
 use Rattle.model.specs.Instruction.{Sized, sized_at}
 use Rattle.model.specs.LimitStands.{Bounds}
 use Rattle.model.specs.Names.{name_eq, Member, constructor_name}
@@ -17,9 +17,9 @@ use Rattle.model.specs.Pool.{method_at, interface_method_at}
 use Rattle.model.specs.Sites.{Site, site_with, referent}
 use Rattle.model.specs.State.{ObjectOf, types_of, State}
 use Rattle.model.specs.Tree.{FileTree, CodeTree, MethodTree}
-use Rattle.model.specs.Words.{map_world}
+use Rattle.model.specs.Words.{map_frame, map_world, words_of}
 use Rattle.run_laws.specs.soundness.Runs.{IsNoEventWrong}
-use Rattle.run_laws.specs.word_operands.Receivers.{receiver, receiver_of, has_class_below, is_any, AreReceived}
+use Rattle.run_laws.specs.word_operands.Receivers.{receiver, receiver_of, is_called_on, is_any, AreReceived}
 use Rattle.run_laws.proofs.laws.Unrefused.{names_differ}
 use Rattle.hierarchy.specs.Places.{class_at, place_of}
 use Rattle.hierarchy.specs.declared.place.MemberPlace.{MemberPlace}
@@ -40,7 +40,8 @@ use Rattle.thread_calls.specs.thread_methods.Called.{as_thread_method, is_on_rec
 use Rattle.next_accesses.specs.next_access.Next.{IsReached}
 use Rattle.next_accesses.specs.accesses.Accesses.{object_under}
 use Rattle.next_accesses.specs.read_operands.Reads.{AreOperandsRead, IsReference}
-use Rattle.thread_calls.proofs.thread_methods.Receiving.{receiver_there, virtual_told, interface_told, special_told, virtual_names, interface_names, special_names, constructor_there, special_is, static_names, static_told, virtual_top, interface_top, special_top, static_off}
+use Rattle.thread_calls.proofs.thread_methods.SpecialSites.{above}
+use Rattle.thread_calls.proofs.thread_methods.Receiving.{receiver_there, virtual_told, interface_told, special_told, virtual_names, interface_names, special_names, constructor_there, static_names, static_told, virtual_top, interface_top, special_top, static_off}
 use Rattle.next_accesses.proofs.next_access.Meant.{operands_are, numbered, body_is, finds, received}
 
 -- ---- the class of a method, by the place of its number
@@ -145,7 +146,7 @@ module _ (wrong : IsNoEventWrong) (receives : AreReceived) (reads : AreOperandsR
           by None e = absurd (virtual_names trees site instruction.meaning at.stands.means index method i e)
           by (Some named) e =
               calls named (in_file index named e) r.program heap shows
-              (there named (has_class_below trees named.class) (ap (receiver_of trees site) i ∙ ap (option_map (λ (m : Member). receiver (parameter_count m) (has_class_below trees m.class))) e))
+              (there named (is_called_on trees named.class) (ap (receiver_of trees site) i ∙ ap (option_map (λ (m : Member). receiver (parameter_count m) (is_called_on trees m.class))) e))
               ∙ sym (subst (λ ns. told_of ≡ called_virtual trees heap ns named) words_are
               (virtual_told trees site state.world max instruction.slots instruction.meaning all_found at.stands.means index named i e))
 
@@ -171,8 +172,11 @@ module _ (wrong : IsNoEventWrong) (receives : AreReceived) (reads : AreOperandsR
           by : (o : Option ℕ) → place_of trees (special_class trees (name_of c.file) named.class) ≡ o → is_some o ≡ true
           by (Some n) q = refl
           by None q =
-              let f = special_is trees site instruction.meaning at.stands.means index named i e other in
-              absurd (special_there trees (r.program.files, r.program.linkable) place.class c.file c.class_is named f.method f.found q)
+              let above_it : is_subclass trees (name_of c.file) named.class ≡ true =
+              ap (λ n. is_subclass trees n named.class) c.named
+              ∙ above trees p bounds r.inflated t shared stack (words_of state) (map_frame word_of at.stands.frame) at.rest at.code site at.meaning at.linked at.runs index named i e other
+              in
+              absurd (special_there trees (r.program.files, r.program.linkable) place.class c.file c.class_is named above_it q)
 
       special : (index : ℕ) → site.instr ≡ instr.Invoke invocation.Special index
           → ((named : Member) → method_at c.file.pool index ≡ Some named → CallsSpecial trees p frame.operands (name_of c.file) named told) → told ≡ told_of

@@ -1,13 +1,13 @@
 //! What calls of methods did that have no code.
 
 ghost use Rattle.std.specs.Prelude.{◌≡◌};
-ghost use Rattle.traces.specs.traced_events.Answered.{answered, built};
+ghost use Rattle.traces.specs.traced_events.Answered.{answered, built, named, wrote};
 
 use crate::traced_events::before::Before;
 use crate::traced_events::deed::Deed;
 use linked_code::{BuiltInMethod, LinkedProgram, MethodBody};
 use machine_state::method_selection::method_at;
-use model::{BuilderMethod, PrintMethod};
+use model::{BuilderMethod, NameMethod, PrintMethod, TextMethod};
 
 /// The built-in method of a number, if it is one.
 pub(crate) fn built_in_called(
@@ -68,6 +68,34 @@ fn builder_deed(builder: BuilderMethod, method: u32, word: u32) -> Deed
     }
 }
 
+/// What a method did that names a Thread: `getName` gave the name, which it may have made; the others gave nothing.
+fn naming_deed(before: &Before, method: u32, names: NameMethod, answer: Answer) -> Deed
+    ensures { result ≡ named names before.now.objects answer.objects method answer.word }
+{
+    match names {
+        NameMethod::Construct
+        | NameMethod::ConstructWithTarget
+        | NameMethod::ConstructWithName
+        | NameMethod::ConstructWithTargetAndName
+        | NameMethod::SetName => Deed::Runs { method },
+        NameMethod::GetName => answer_deed(before.objects, answer),
+    }
+}
+
+/// What a constructor of String did, or a method that takes its text apart: `intern` gave a String that was there, the
+/// others gave nothing.
+fn writing_deed(method: u32, writes: TextMethod, word: u32) -> Deed
+    ensures { result ≡ wrote writes method word }
+{
+    match writes {
+        TextMethod::ConstructEmpty
+        | TextMethod::ConstructOfString
+        | TextMethod::ConstructOfChars
+        | TextMethod::GetChars => Deed::Runs { method },
+        TextMethod::Intern => Deed::Pushes { word },
+    }
+}
+
 /// What a call of a built-in method did, by what is there after it and the pick of its event.
 pub(crate) fn built_in_deed(
     before: &Before,
@@ -79,9 +107,11 @@ pub(crate) fn built_in_deed(
     let object = before.receiver.saturating_sub(1);
     match built_in {
         BuiltInMethod::Construct
-        | BuiltInMethod::ConstructWithTarget
         | BuiltInMethod::ConstructWithMessage
         | BuiltInMethod::ConstructWithCause => Deed::Runs { method },
+        BuiltInMethod::ObjectClone => answer_deed(before.objects, answer),
+        BuiltInMethod::ThreadNames(names) => naming_deed(before, method, names, answer),
+        BuiltInMethod::StringWrites(writes) => writing_deed(method, writes, answer.word),
         BuiltInMethod::ObjectWait => Deed::Waits { object },
         BuiltInMethod::ObjectNotify => Deed::Notifies {
             thread: before.waiting.get(usize::from(pick)).copied(),

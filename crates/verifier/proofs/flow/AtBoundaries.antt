@@ -1,15 +1,16 @@
 -- What linking gives of an instruction at a boundary of a method's code: what its operands name is found.
 use Rattle.std.proofs.Common.{◌≡◌, ℕ, List, Bool, true, false, not, Option, Some, None, refl, sym, ap, ◌∙◌, subst}
-use Rattle.std.specs.Option.{option_map_or}
+use Rattle.std.specs.Option.{option_map, option_map_or}
 use Rattle.std.specs.List.{list_any, list_all}
 use Rattle.std.proofs.lemmas.Bool.{and_parts, or_parts, not-true}
 use Rattle.model.specs.declared.instr.Instr.{Instr}
-use Rattle.model.specs.declared.instr.Instr.TheVariants.{LoadConstant, New, NewReferenceArray, CheckCast, InstanceOf}
-use Rattle.model.specs.Names.{Name, spells}
+use Rattle.model.specs.declared.instr.Instr.TheVariants.{LoadConstant, New, NewReferenceArray, CheckCast, InstanceOf, Invoke}
+use Rattle.model.specs.declared.instr.Invocation.TheVariants as invocation
+use Rattle.model.specs.Names.{Name, spells, Member}
 use Rattle.model.specs.Tree.{Entry, Utf8, Integer, Float, Long, Double, Class, String, Field, Method, InterfaceMethod, NameAndType, Unusable, MethodTree, CodeTree, FileTree}
 use Rattle.model.specs.Spelling.{entry_at}
 use Rattle.model.specs.Spells.{IsWhole}
-use Rattle.model.specs.Pool.{class_name_of, class_name_at}
+use Rattle.model.specs.Pool.{NameAndDescriptor, class_name_of, class_name_at, name_and_type_at, reference, method_of_entry}
 use Rattle.model.specs.Conditions.{is_class_or_array, entry_names}
 use Rattle.model.specs.BuiltIn.{built_in_classes}
 use Rattle.model.specs.Classes.{Program, class_of, is_method, declared_in, code_in}
@@ -17,7 +18,7 @@ use Rattle.model.specs.DescriptorScan.{element_at, field_at, field_type}
 use Rattle.model.specs.Instruction.{instr_at, wide_at, table_switch_at, lookup_switch_at}
 use Rattle.model.specs.InstructionStarts.{starts_from, is_start}
 use Rattle.model.specs.OpcodeTable.{low_form, high_form}
-use Rattle.model.specs.CodeParts.{decodes, any_code, any_instruction, any_decoded, class_operand}
+use Rattle.model.specs.CodeParts.{decodes, any_code, any_instruction, any_decoded}
 use Rattle.model.specs.CodeConditions.{jump_off_boundary, unsorted_matches, local_above_max, operand_of_wrong_kind, wrong_interface_count, wrong_interface_end, constructor_not_by_special, calls_initialiser, special_of_class_aside, new_of_array, too_many_dimensions, too_few_locals, ends_in_instruction, malformed_instruction, malformed_code}
 use Rattle.model.specs.Resolution.{is_missing, operand_classes}
 use Rattle.run_laws.proofs.laws.Lists.{every_weaken}
@@ -32,6 +33,7 @@ use Rattle.types.specs.declared.method_code.declaration.MethodCode.{MethodCode}
 use Rattle.types.specs.method_code.Linked.{IsLinked}
 use Rattle.types.specs.method_code.View.{files_of, member_of, body_of}
 use Rattle.verifier.proofs.flow.LinkedTypes.{unrefused}
+use Rattle.instruction_types.specs.Answers.{named_constant}
 use Rattle.run_laws.proofs.laws.Classes.{name_self}
 
 -- ---- a condition that stands at no boundary
@@ -71,8 +73,31 @@ no_other pool index h = by (class_name_at pool index) refl
     by None e = ap (λ o. option_map_or is_no_type o false) e
     by (Some name) e = map_or_at is_no_type (class_name_at pool index) false name e ∙ ap (λ b. not b) (names_type pool (entry_at pool index) name (entry_right (entry_names pool) pool index refl h) e)
 
+-- so is the class of a Methodref
+method_type_right : (pool : List Entry) (e : Entry) → list_all (entry_names pool) pool ≡ true
+    → option_map_or is_no_type (option_map (λ (m : Member). m.class) (method_of_entry pool e)) false ≡ false
+method_type_right pool (Method class nat) h = by (class_name_at pool class) (name_and_type_at pool nat) (no_other pool class h)
+  where
+    by : (o : Option Name) (p : Option NameAndDescriptor) → option_map_or is_no_type o false ≡ false
+        → option_map_or is_no_type (option_map (λ (m : Member). m.class) (reference o p)) false ≡ false
+    by None p h = refl
+    by (Some name) None h = refl
+    by (Some name) (Some member) h = h
+method_type_right pool (Utf8 text) h = refl
+method_type_right pool (Integer bits) h = refl
+method_type_right pool (Float bits) h = refl
+method_type_right pool (Long bits) h = refl
+method_type_right pool (Double bits) h = refl
+method_type_right pool (Class index) h = refl
+method_type_right pool (String text) h = refl
+method_type_right pool (Field class nat) h = refl
+method_type_right pool (InterfaceMethod class nat) h = refl
+method_type_right pool (NameAndType index descriptor) h = refl
+method_type_right pool Unusable h = refl
+
 operand_type : (pool : List Entry) (i : Instr) → list_all (entry_names pool) pool ≡ true
-    → option_map_or is_no_type (class_operand pool i) false ≡ false
+    → option_map_or is_no_type (named_constant pool i) false ≡ false
+operand_type pool (Invoke invocation.Virtual index) h = method_type_right pool (entry_at pool index) h
 operand_type pool (LoadConstant index) h = no_other pool index h
 operand_type pool (New index) h = no_other pool index h
 operand_type pool (NewReferenceArray index) h = no_other pool index h
@@ -156,5 +181,5 @@ module _ (m : MethodCode) (linked : IsLinked (files_of m)) (offset : ℕ) (i : I
   pub dimensions_few : too_many_dimensions (body_of m).pool i ≡ false
   dimensions_few = few_dimensions (files_of m) (unrefused (files_of m) linked) _ _ m.declared.is_class _ _ _ _ offset i m.declared.is_method m.declared.is_code start is
 
-  pub operand_names_type : option_map_or (λ name. not (is_class_or_array name)) (class_operand (body_of m).pool i) false ≡ false
+  pub operand_names_type : option_map_or (λ name. not (is_class_or_array name)) (named_constant (body_of m).pool i) false ≡ false
   operand_names_type = operand_type (body_of m).pool i (names_right (files_of m) (unrefused (files_of m) linked) _ _ m.declared.is_class)

@@ -1,7 +1,7 @@
 -- What invokevirtual and invokeinterface need.
 use Rattle.std.proofs.Common.{◌≡◌, ◌+◌, ℕ, List, ◌∷◌, Option, Some, None, Bool, true, refl, sym, ap, subst, ◌∙◌}
 use Rattle.std.proofs.lemmas.Option.{get_or_from_slice_get}
-use Rattle.model.specs.Calls.{Chosen, Fails, selected, its_class, if_implements, of_class, leads_after}
+use Rattle.model.specs.Calls.{Chosen, Fails, selected, its_class, if_implements, of_class, of_named, leads_after}
 use Rattle.model.specs.Classes.{Program}
 use Rattle.model.specs.DescribedTypes.{made_type}
 use Rattle.model.specs.LimitStands.{Bounds}
@@ -52,7 +52,7 @@ module _ (trees : Program) (p : LinkedProgram) (bounds : Bounds) (inflated : Lis
     pub virtual_null : None ≡ object_under parameters from → needs None entered
     virtual_null none =
         ap (frame_need words trees frames t state.world (Invocation frame ∷ rest))
-        (null_enters trees p bounds inflated t old from state frame rest code site meaning (linked.InvokeVirtual parameters place) is callee (of_class trees is.stands.linked.named) (leads_after trees site callee) choose
+        (null_enters trees p bounds inflated t old from state frame rest code site meaning (linked.InvokeVirtual parameters place) is callee (of_named trees is.stands.linked.named) (leads_after trees site callee) choose
         is.stands.linked.is parameters is.stands.linked.counted none)
         ∙ none_needed trees frames t state.world (Invocation frame ∷ rest)
 
@@ -61,7 +61,7 @@ module _ (trees : Program) (p : LinkedProgram) (bounds : Bounds) (inflated : Lis
     virtual_needs r found number chooses result call =
         let invokes = virtual_invoking trees p bounds inflated t old from state frame rest code site meaning parameters place is r found number chooses (parameters + 1) refl in
         subst (needs result)
-        (sym (object_enters trees p bounds inflated t old from state frame rest code site meaning (linked.InvokeVirtual parameters place) is callee (of_class trees is.stands.linked.named) (leads_after trees site callee) choose
+        (sym (object_enters trees p bounds inflated t old from state frame rest code site meaning (linked.InvokeVirtual parameters place) is callee (of_named trees is.stands.linked.named) (leads_after trees site callee) choose
         is.stands.linked.is parameters is.stands.linked.counted r found))
         (call trees (Invocation frame ∷ rest) (choose state.world r) is.program is.lent.shows_stack invokes.chooses t state.world)
 

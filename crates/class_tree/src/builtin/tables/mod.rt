@@ -41,8 +41,8 @@ use crate::builtin::tables::thread::THREAD;
 use crate::builtin::tables::throwable::THROWABLE;
 use crate::builtin::tables::virtual_machine_error::VIRTUAL_MACHINE_ERROR;
 
-/// The built-in classes by their numbers: 0 to 2.
-pub(crate) static FROM_OBJECT: [BuiltInClass; 3] = [
+/// The built-in classes by their numbers: 0 to 1.
+pub(crate) static FROM_OBJECT: [BuiltInClass; 2] = [
     OBJECT,
     BuiltInClass {
         flags: 0x0601,
@@ -54,8 +54,10 @@ pub(crate) static FROM_OBJECT: [BuiltInClass; 3] = [
         coded: &[],
         natives: &[Declared(0x0401, b"run", b"()V")],
     },
-    THREAD,
 ];
+
+/// The built-in classes by their numbers: 2.
+pub(crate) static FROM_THREAD: [BuiltInClass; 1] = [THREAD];
 
 /// The built-in classes by their numbers: 3.
 pub(crate) static FROM_STRING: [BuiltInClass; 1] = [STRING];

@@ -41,6 +41,7 @@ pub(crate) const OBJECT: BuiltInClass = BuiltInClass {
         Declared(0x0101, b"<init>", b"()V"),
         Declared(0x0101, b"hashCode", b"()I"),
         Declared(0x0111, b"getClass", b"()Ljava/lang/Class;"),
+        Declared(0x0104, b"clone", b"()Ljava/lang/Object;"),
         Declared(0x0111, b"wait", b"()V"),
         Declared(0x0111, b"notify", b"()V"),
         Declared(0x0111, b"notifyAll", b"()V"),

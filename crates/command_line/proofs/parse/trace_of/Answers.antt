@@ -1,5 +1,7 @@
+use Rattle.std.proofs.Common.{◌∙◌, ap, map, string_bytes, sym, Some}
 use Rattle.clap.specs.Words.{found_of, rows_of}
 use Rattle.command_line.proofs.ProgramLemmas.{handed_on, no_trace}
+use Rattle.command_line.proofs.TraceLemmas.{same_page}
 use Rattle.command_line.proofs.parse.trace_of.Goals as goal
 
 pub returns-in_err-schedule-clause-none : goal.returns-in_err-schedule-clause-none
@@ -32,9 +34,18 @@ returns-in_err-program-clause-none c =
     handed_on c.from_residual-in_err-program.result c.in_err-program.field-0.0 _ _ c.from_residual-in_err-program.ensures.1 c.in_err-program.ensures.none
     (no_trace (rows_of (found_of c.args.matches.now)))
 
+pub returns-in_err-html-clause-none : goal.returns-in_err-html-clause-none
+returns-in_err-html-clause-none c =
+    let schedule = c.in_ok-schedule.ensures.path ∙ ap Some (sym c.as_str.ensures.value) in
+    let files = c.in_ok-program.ensures.values.files ∙ ap (λ l. Some (map string_bytes l)) (sym c.deref.ensures.value) in
+    handed_on c.from_residual-in_err-html.result c.in_err-html.field-0.0 _ _ c.from_residual-in_err-html.ensures.1 c.in_err-html.ensures.none
+    (λ none trace are. none _ (same_page (rows_of (found_of c.args.matches.now)) _ _ _ _ are.schedule schedule are.files files _ are.page))
+
 pub returns-clause-values : goal.returns-clause-values
 returns-clause-values c =
     let program = c.in_ok-program.ensures.values in
+    let schedule = c.in_ok-schedule.ensures.path ∙ ap Some (sym c.as_str.ensures.value) in
+    let files = program.files ∙ ap (λ l. Some (map string_bytes l)) (sym c.deref.ensures.value) in
     record {
       schedule = c.in_ok-schedule.ensures.path;
       any_files = c.is_set.ensures;
@@ -42,6 +53,7 @@ returns-clause-values c =
       to = c.in_ok-to.ensures.number;
       only = c.in_ok-only.ensures.numbers;
       form = c.in_ok-form.ensures.form;
+      page = same_page (rows_of (found_of c.args.matches.now)) _ _ _ _ schedule c.in_ok-schedule.ensures.path files program.files _ c.in_ok-html.ensures.page;
       summary = c.is_set-2.ensures;
       limits = program.limits;
       main = program.main;

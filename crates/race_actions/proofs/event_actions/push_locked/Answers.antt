@@ -1,12 +1,11 @@
 use Rattle.std.proofs.Common.{◌++◌, refl}
 use Rattle.table_actions.specs.tables.Told.{listed}
-use Rattle.next_accesses.specs.builder_texts.Texts.{accesses_in}
 use Rattle.race_actions.proofs.event_actions.Adding.{three_added}
 use Rattle.race_actions.proofs.event_actions.push_locked.Goals as goal
 
 pub returns : goal.returns
 returns c = (
-  listed c.locked.result ++ accesses_in c.args.before.accesses ++ listed c.unlocked.result,
+  listed c.locked.result ++ c.args.accesses.now ++ listed c.unlocked.result,
   three_added _ _ _ _ _ _ _ c.in_ok-push.ensures c.in_ok-push_accesses.ensures c.in_ok-push-2.ensures,
   record {
     lock = c.locked.result;

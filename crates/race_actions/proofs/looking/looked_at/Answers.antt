@@ -1,5 +1,4 @@
-use Rattle.std.proofs.Common.{refl, subst}
-use Rattle.next_accesses.specs.next_access.Next.{TellsNext}
+use Rattle.std.proofs.Common.{refl}
 use Rattle.race_actions.proofs.looking.Events.{event_known}
 use Rattle.race_actions.proofs.looking.looked_at.Goals as goal
 
@@ -7,6 +6,5 @@ pub returns : goal.returns
 returns c =
     event_known c.rules_are_meant.ensures.holds c.args.tables.now.linked.now c.args.program.now c.args.shared.now c.args.thread c.args.stack.now c.next_rule-rule.result c.next_rule-rule.ensures
     c.standing_by-standing.result c.standing_by-standing.ensures c.class_needed_by-needed.result c.class_needed_by-needed.ensures _ c.found_class.ensures c.finds_of.ensures
-    (subst (λ files. TellsNext files c.args.program.now c.args.shared.now c.args.thread c.next_access.result) c.args.tables.now.accesses_are c.next_access.ensures)
     c.interrupt_of.ensures c.meant_before-object.ensures c.owns.ensures c.len.ensures c.len-2.ensures.length c.interrupted.ensures
     c.class_on_top-class.ensures c.was_finished.ensures refl

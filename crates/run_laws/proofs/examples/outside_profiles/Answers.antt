@@ -29,7 +29,9 @@ returns c =
         float_array = refl;
         float = refl;
         array_class = refl;
+        array_method = refl;
+        array_method_answered = refl;
+        special_clone = refl;
         clone = refl;
-        clone_answered = refl;
       };
     }

@@ -1,4 +1,4 @@
-use Rattle.std.proofs.Common.{◌∙◌, List, ℕ, None, ap, inl, inr, map, refl, subst, take, vec_items}
+use Rattle.std.proofs.Common.{None, inl, inr, map, refl, subst, take, vec_items}
 use Rattle.std.proofs.lemmas.Result.{err_from_is_err_and}
 use Rattle.engines.specs.Files.{IsWith}
 use Rattle.engines.specs.OutcomeFiles.{written_in}

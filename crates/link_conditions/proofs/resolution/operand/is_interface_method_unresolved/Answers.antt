@@ -24,4 +24,4 @@ returns-in-Some-find_interface_method c =
     c.fails_call.ensures
     ∙ ap (λ f. fails_call f false (member_in f m c.in-Some-find_interface_method.place)) c.set-set.ensures
     ∙ ap (λ (o : Option Member). option_map_or (fails_call files false) o true) c.in-Some-find_interface_method.ensures.found in
-    fails ∙ sym (asked ∙ ap (λ (o : Option Member). option_map_or (call_fails files (find_interface_method files) false true) o false) named ∙ rw (complete, plain) refl)
+    fails ∙ sym (asked ∙ ap (λ (o : Option Member). option_map_or (λ m. call_fails files (member_lacks_class files m) (find_interface_method files) false true m) o false) named ∙ rw (complete, plain) refl)

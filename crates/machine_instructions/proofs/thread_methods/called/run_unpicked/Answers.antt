@@ -33,10 +33,20 @@ returns-in-Construct c =
     (sym is) (c.pass.ensures.yields c.args.shared.now c.args.thread c.args.program.now))
     c.in-Construct.is
 
-pub returns-in-ConstructWithTarget : goal.returns-in-ConstructWithTarget
-returns-in-ConstructWithTarget c =
-    subst (λ m. DoesCall c.args.program.now m c.args.operands c.args.next (record { thread = c.args.thread; pick = 0 }) c.set_target.result c.args.shared.now c.set_target.new.shared c.args.stack.now c.set_target.new.stack)
-    (sym c.in-ConstructWithTarget.is) (c.set_target.ensures c.args.thread c.args.program.now)
+pub returns-in-ObjectClone : goal.returns-in-ObjectClone
+returns-in-ObjectClone c =
+    subst (λ m. DoesCall c.args.program.now m c.args.operands c.args.next (record { thread = c.args.thread; pick = 0 }) c.clone.result c.args.shared.now c.clone.new.shared c.args.stack.now c.clone.new.stack)
+    (sym c.in-ObjectClone.is) (c.clone.ensures c.args.thread)
+
+pub returns-in-ThreadNames : goal.returns-in-ThreadNames
+returns-in-ThreadNames c =
+    subst (λ m. DoesCall c.args.program.now m c.args.operands c.args.next (record { thread = c.args.thread; pick = 0 }) c.name_call.result c.args.shared.now c.name_call.new.shared c.args.stack.now c.name_call.new.stack)
+    (sym c.in-ThreadNames.is) (c.name_call.ensures c.args.thread c.args.program.now)
+
+pub returns-in-StringWrites : goal.returns-in-StringWrites
+returns-in-StringWrites c =
+    subst (λ m. DoesCall c.args.program.now m c.args.operands c.args.next (record { thread = c.args.thread; pick = 0 }) c.write_call.result c.args.shared.now c.write_call.new.shared c.args.stack.now c.write_call.new.stack)
+    (sym c.in-StringWrites.is) (c.write_call.ensures c.args.thread)
 
 pub returns-in-ObjectWait : goal.returns-in-ObjectWait
 returns-in-ObjectWait c =

@@ -8,7 +8,7 @@ use Rattle.model.specs.BuiltInMethods.{object_of, start_by, with_started}
 use Rattle.model.specs.Classes.{Program}
 use Rattle.model.specs.LimitStands.{Bounds}
 use Rattle.model.specs.Operands.{words}
-use Rattle.model.specs.Outcomes.{Makes, Starts}
+use Rattle.model.specs.Outcomes.{Makes, Fills, Starts}
 use Rattle.model.specs.State.{Invocation, FrameOf, StackOf, StateOf, WorldOf}
 use Rattle.model.specs.Worlds.{thread_of}
 use Rattle.model.specs.Step.{part, become}
@@ -116,6 +116,8 @@ returns c = λ t p trees bounds inflated state frame rest offset is frames.
             ready = r.world_is.ready;
             threads = r.world_is.threads;
             printed = r.world_is.printed;
+            interned = r.world_is.interned;
+            unnamed = r.world_is.unnamed;
           };
           limits = record {
             opening = r.limits.opening;

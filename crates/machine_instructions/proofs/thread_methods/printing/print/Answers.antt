@@ -60,6 +60,8 @@ returns c = λ t p trees bounds inflated state frame rest offset is frames.
         ready = world_is.ready;
         threads = world_is.threads;
         printed = c.push_printed.ensures ∙ (λ i. (c.take_room.ensures.same ∙ world_is.printed) i ++ text_is i);
+        interned = world_is.interned;
+        unnamed = world_is.unnamed;
       };
       limits = record { opening = limits.opening; objects = limits.objects; cells = limits.cells; monitors = limits.monitors; threads = limits.threads };
     })

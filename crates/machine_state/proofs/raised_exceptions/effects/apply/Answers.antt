@@ -1,6 +1,5 @@
 use Rattle.std.proofs.Common.{List, Ok, sym, subst, ◌∙◌}
 use Rattle.model.specs.Operands.{words}
-use Rattle.model.specs.State.{WorldOf}
 use Rattle.model.specs.Step.{SteppedOf, PartOf, raised}
 use Rattle.thread_stacks.specs.Stacks.{ShownEntry}
 use Rattle.machine_state.specs.declared.answers.Effect.{Effect}

@@ -1,4 +1,4 @@
-use Rattle.std.proofs.Common.{List, ◌+◌, None, refl, sym, ap, subst, ◌∙◌}
+use Rattle.std.proofs.Common.{List, None, refl, ap, subst}
 use Rattle.model.specs.Lookup.{instance_fields}
 use Rattle.model.specs.MachineExceptions.{message_of}
 use Rattle.model.specs.Outcomes.{exception_class}

@@ -1,4 +1,4 @@
-use Rattle.std.proofs.Common.{◌≡◌, List, suc, None, Some, refl, sym, ap, subst, ◌∙◌, arith}
+use Rattle.std.proofs.Common.{◌≡◌, List, suc, None, Some, refl, ap, subst, ◌∙◌, arith}
 use Rattle.model.specs.BuiltInNumbers.{exception_in_initializer_error}
 use Rattle.model.specs.Lookup.{instance_fields}
 use Rattle.model.specs.Outcomes.{exception_class, ExceptionInInitializer}

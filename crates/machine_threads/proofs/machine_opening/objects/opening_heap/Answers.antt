@@ -15,6 +15,6 @@ returns c =
     let stream = fresh (kind.Instance print_stream_number) 0 in
     let behind = adds_both strings (stream ∷ []) c.add_instances.new.heap c.add_strings.new.heap c.add_instances-2.new.heap third c.in_ok-add_instances-2.ensures in
     let rest = adds_both classes (strings ++ stream ∷ []) c.add_first.new.heap c.add_instances.new.heap c.add_instances-2.new.heap second behind in
-    let all = adds_both (first_objects c.args.program.now.string_component)
+    let all = adds_both (first_objects c.args.program.now.string_component c.args.program.now.main_text)
     (classes ++ (strings ++ stream ∷ [])) c.new-heap.result c.add_first.new.heap c.add_instances-2.new.heap c.in_ok-add_first.ensures rest in
     all.are c.args.limits [] c.new-heap.ensures

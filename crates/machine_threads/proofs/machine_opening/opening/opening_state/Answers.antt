@@ -1,3 +1,4 @@
+use Rattle.std.proofs.Common.{refl}
 use Rattle.machine_state.specs.declared.state.Shared.{Shared}
 use Rattle.machine_threads.proofs.machine_opening.OpenedHeap.{few_objects}
 use Rattle.machine_threads.proofs.machine_opening.OpenedClasses.{enough}
@@ -23,7 +24,9 @@ returns c = λ trees program.
       ready = c.in_ok-opening_ready.field-0;
       threads = c.in_ok-new.field-0;
       printed = c.new-2.result;
+      interned = c.new-3.result;
+      unnamed = 0;
       stacks = c.in_ok-opening_stacks.field-0;
     } in
     is_shown trees c.args.program.now program c.args.limits shared c.in_ok-opening_heap.ensures c.in_ok-opening_statics.ensures c.in_ok-opening_statuses.ensures c.in_ok-opening_ready.ensures
-    c.in_ok-new.ensures c.new-2.ensures.items c.in_ok-opening_stacks.ensures
+    c.in_ok-new.ensures c.new-2.ensures.items c.new-3.ensures.items refl c.in_ok-opening_stacks.ensures

@@ -40,7 +40,7 @@ returns-in_default c = λ trees p bounds inflated state frame rest operands next
   where
     not_notify : (m : BuiltInMethod) → (m ≡ method.ObjectNotify → ⊥) → built_in_of m ≡ built_in.ObjectNotify → ⊥
     not_notify method.Construct n e = cc
-    not_notify method.ConstructWithTarget n e = cc
+    not_notify method.ObjectClone n e = cc
     not_notify method.ConstructWithMessage n e = cc
     not_notify method.ConstructWithCause n e = cc
     not_notify method.ObjectWait n e = cc
@@ -54,7 +54,9 @@ returns-in_default c = λ trees p bounds inflated state frame rest operands next
     not_notify method.ThreadCurrentThread n e = cc
     not_notify method.ThreadJoin n e = cc
     not_notify method.ThreadIsAlive n e = cc
+    not_notify (method.ThreadNames names) n e = cc
     not_notify (method.PrintStreamPrints print) n e = cc
     not_notify (method.StringAnswers answer) n e = cc
+    not_notify (method.StringWrites writes) n e = cc
     not_notify (method.StringBuilderBuilds builds) n e = cc
     not_notify (method.ObjectAnswers builds) n e = cc

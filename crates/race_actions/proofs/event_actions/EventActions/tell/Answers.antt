@@ -1,6 +1,6 @@
 use Rattle.std.proofs.Common.{◌++◌, sym, ap, subst, ◌∙◌}
 use Rattle.state_actions.specs.wait_ends.Ends.{TellsEnd}
-use Rattle.race_actions.specs.event_actions.Told.{found_in}
+use Rattle.race_actions.specs.event_actions.Told.{AreLocked, found_in}
 use Rattle.race_actions.proofs.event_actions.Adding.{not_looked, nobody_looked}
 use Rattle.race_actions.proofs.event_actions.Telling.{all_told}
 use Rattle.race_actions.proofs.event_actions.EventActions.tell.Goals as goal
@@ -25,11 +25,12 @@ returns-clause-told c =
       stack = c.in-Some-stack_of.stack.now;
       there = sym c.in-Some-stack_of.ensures;
       locked = locked.0;
-      are_locked = locked.2;
+      are_locked = subst (λ accesses. AreLocked c.args.thread c.args.shared.now.heap.locks.monitors c.in-Some-stack_of.stack.now c.in-Some.before accesses locked.0)
+          c.deref.ensures.value locked.2;
       left = left.0;
       are_left = left.2;
       front = c.push_left.new.actions.items;
       front_is = left.1 ∙ ap (λ l. l ++ left.0) (locked.1 ∙ ap (λ l. l ++ locked.0) (c.in_ok-push_found.ensures ∙ ap (λ l. l ++ found_in c.in-Some.before) c.clear.ensures.items));
       ends = subst (λ waiting. TellsEnd c.args.thread waiting c.args.shared.now.threads.threads c.push_left.new.actions.items c.push_end.new.actions.items)
-          c.deref.ensures.value c.in_ok-push_end.ensures;
+          c.deref-2.ensures.value c.in_ok-push_end.ensures;
     })

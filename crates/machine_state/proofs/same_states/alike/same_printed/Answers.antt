@@ -1,6 +1,0 @@
-use Rattle.std.proofs.lemmas.Bool.Decides.{Decides-eqb}
-use Rattle.std.proofs.lemmas.Slice.Eq.{slice_eq-Decides}
-use Rattle.machine_state.proofs.same_states.alike.same_printed.Goals as goal
-
-pub returns : goal.returns
-returns c = slice_eq-Decides Decides-eqb c.args.one.now c.args.other.now c.eq.result c.eq.ensures

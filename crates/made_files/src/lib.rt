@@ -1,4 +1,0 @@
-//! Class files for tests.
-#![tactic(auto)]
-
-pub mod class_builder;

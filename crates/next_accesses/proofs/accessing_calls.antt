@@ -1,0 +1,7 @@
+pub mod SpecialSites
+pub mod ClassNames
+pub mod Rows
+pub mod Named
+pub mod Receiving
+pub mod Calls
+pub mod Instructions

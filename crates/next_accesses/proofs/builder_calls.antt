@@ -1,5 +1,0 @@
-pub mod Rows
-pub mod Named
-pub mod Receiving
-pub mod Calls
-pub mod Instructions

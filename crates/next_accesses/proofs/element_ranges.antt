@@ -1,0 +1,3 @@
+pub mod Shown
+pub mod Chars
+pub mod Counted

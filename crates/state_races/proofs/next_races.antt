@@ -1,0 +1,3 @@
+pub mod Silent
+pub mod Conflicting
+pub mod Standing

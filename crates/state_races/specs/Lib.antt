@@ -1,0 +1,2 @@
+pub mod next_races
+pub mod reached_races
